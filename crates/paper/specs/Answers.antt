@@ -1,0 +1,193 @@
+-- 01, "Numbers refused": for each entry point its answer and each lent slice at exit, for every input, as the first line that holds in the order of 01.
+use Prim.Native.Nat.{ℕ, zero, suc, _+_, _*_}
+use mathlib.Core.Bool.{Bool, true, false, not, _&&_, _||_, cond}
+use mathlib.Core.List.{List, [], _∷_, _++_}
+use mathlib.Core.Option.{Option, none, some}
+use lib.Dec.{eqb, leb, ltb}
+use lib.ListN.{length, replicate}
+use Rattle.paper.specs.Tools.{when, written}
+use Rattle.paper.specs.Limits.{textLimit, listLimit, itemLimit, nodeLimit, bracketLimit}
+use Rattle.paper.specs.Query.{Test, anyNode, textNode, named, anyElement, Query}
+use Rattle.paper.specs.Names.{namesFault, namesOf, numberOf}
+use Rattle.paper.specs.Reading.{Got, got, refused, readText}
+use Rattle.paper.specs.Items.{Head, stepAt, encode, decode}
+use Rattle.paper.specs.Measures.{size, nesting, height}
+use Rattle.paper.specs.Printing.{printed}
+use Rattle.paper.specs.Document.{Table, nodes, tableFault, marksFault}
+use Rattle.paper.specs.Selection.{kept}
+use Rattle.paper.specs.Extraction.{rank, extracted}
+use Rattle.paper.specs.Composition.{composed}
+
+-- An answer is either the value or a refusal number with a place.
+pub data Answer : Type 0 where
+  value : ℕ → Answer
+  refusal : ℕ → ℕ → Answer
+
+-- One line of 01's table: this number at this place where the line holds, and otherwise what the later lines say.
+abbrev pub line : ℕ → Option ℕ → Answer → Answer
+line number none later = later
+line number (some place) later = refusal number place
+
+-- A line that holds where there is no query, and hands on the query where there is one.
+abbrev pub lineQuery : ℕ → ℕ → Option Query → (Query → Answer) → Answer
+lineQuery number place none later = refusal number place
+lineQuery number place (some q) later = later q
+
+-- What a slice holds at exit: what is written by an accepted call; a refused call writes nothing.
+abbrev pub atExit : Answer → List ℕ → List ℕ → List ℕ
+atExit (value n) new old = written new old
+atExit (refusal number place) new old = old
+
+-- Refusal 1, at place 0.
+abbrev pub tooLong : List ℕ → ℕ → Bool
+tooLong xs limit = ltb limit (length xs)
+
+-- Refusal 10: the number needed, where the room is short.
+abbrev pub short : ℕ → ℕ → Option ℕ
+short room needed = when (ltb room needed) needed
+
+-- The same of items, of which there may be at most 4,096.
+abbrev pub shortOfItems : ℕ → ℕ → Option ℕ
+shortOfItems room needed = when (ltb room needed || ltb itemLimit needed) needed
+
+-- READ. What the syntax says of a text, with any names: refusal 3 or 4 by place.
+abbrev pub anyName : List ℕ → Option ℕ
+anyName word = some 0
+
+abbrev pub lineGot : Got Query → (Query → Answer) → Answer
+lineGot (refused number place) later = refusal number place
+lineGot (got q left) later = later q
+
+-- Lines 5 and 10 of a text whose syntax is right.
+abbrev pub readLast : List ℕ → List ℕ → ℕ → Answer
+readLast text list room =
+    lineGot (readText (numberOf (namesOf list)) text) (λ q. line 10 (shortOfItems room (size q)) (value (size q)))
+
+-- Read: 1, 2, then 3 or 4 by place, 5, 10; it answers the number of items.
+unfoldable pub readAnswer : List ℕ → List ℕ → ℕ → Answer
+readAnswer text list room =
+    line 1 (when (tooLong text textLimit || tooLong list listLimit) 0)
+    (line 2 (namesFault list)
+    (lineGot (readText anyName text) (λ q. readLast text list room)))
+
+-- The items of a text.
+abbrev pub itemsGot : Got Query → List ℕ
+itemsGot (refused number place) = []
+itemsGot (got q left) = encode q
+
+unfoldable pub readItems : List ℕ → List ℕ → List ℕ
+readItems text list = itemsGot (readText (numberOf (namesOf list)) text)
+
+unfoldable pub readOut : List ℕ → List ℕ → List ℕ → List ℕ
+readOut text list out = atExit (readAnswer text list (length out)) (readItems text list) out
+
+-- PRINT. Does the item name what the list has no name for?
+abbrev pub unknownTest : ℕ → Test → Bool
+unknownTest count anyNode = false
+unknownTest count textNode = false
+unknownTest count (named v) = leb count v
+unknownTest count anyElement = false
+
+abbrev pub unknownItem : ℕ → Option Head → Bool
+unknownItem count none = false
+unknownItem count (some h) = unknownTest count (h .test)
+
+-- The index of the first such item, counting from `at`.
+abbrev pub unknownFrom : ℕ → ℕ → List ℕ → Option ℕ
+unknownFrom count at [] = none
+unknownFrom count at (w ∷ ws) = let later = unknownFrom count (suc at) ws in cond (unknownItem count (stepAt w)) (some at) later
+
+-- Print: 1, 2, 6, 5, 10; it answers the number of bytes.
+unfoldable pub printAnswer : List ℕ → List ℕ → ℕ → Answer
+printAnswer query list room =
+    line 1 (when (tooLong query itemLimit || tooLong list listLimit) 0)
+    (line 2 (namesFault list)
+    (lineQuery 6 0 (decode query)
+    (λ q.
+    line 5 (unknownFrom (length (namesOf list)) 0 query)
+    (let needed = length (printed (namesOf list) q) in line 10 (short room needed) (value needed)))))
+
+-- The text of items.
+abbrev pub textGot : List (List ℕ) → Option Query → List ℕ
+textGot names none = []
+textGot names (some q) = printed names q
+
+unfoldable pub printOut : List ℕ → List ℕ → List ℕ → List ℕ
+printOut query list out = atExit (printAnswer query list (length out)) (textGot (namesOf list) (decode query)) out
+
+-- COMPOSE: 1, 6 (outer first), 9, 10; it answers the number of items.
+unfoldable pub composeAnswer : List ℕ → List ℕ → ℕ → Answer
+composeAnswer outer inner room =
+    line 1 (when (tooLong outer itemLimit || tooLong inner itemLimit) 0)
+    (lineQuery 6 0 (decode outer)
+    (λ o.
+    lineQuery 6 1 (decode inner)
+    (λ i.
+    let q = composed o i in
+    line 9 (when (ltb bracketLimit (nesting q)) (nesting q))
+    (line 10 (shortOfItems room (size q)) (value (size q))))))
+
+-- The items of a composition.
+abbrev pub composedGot : Option Query → Option Query → List ℕ
+composedGot none i = []
+composedGot (some o) none = []
+composedGot (some o) (some i) = encode (composed o i)
+
+unfoldable pub composeOut : List ℕ → List ℕ → List ℕ → List ℕ
+composeOut outer inner out = atExit (composeAnswer outer inner (length out)) (composedGot (decode outer) (decode inner)) out
+
+-- RUN. Room means scratch of nodes x 2 x (height + 1) bytes.
+abbrev pub scratchOf : Table → Query → ℕ
+scratchOf t q = nodes t * 2 * (height q + 1)
+
+-- How many nodes are marked.
+abbrev pub markedCount : Table → List ℕ → ℕ
+markedCount t marks = rank marks (nodes t)
+
+-- Run: 1, 6, 7, 8, 10; it answers the number of nodes kept.
+unfoldable pub runAnswer : List ℕ → Table → List ℕ → ℕ → ℕ → Answer
+runAnswer query t given marksRoom scratchRoom =
+    line 1
+    (when
+    (tooLong query itemLimit || ltb nodeLimit (nodes t) || not (eqb (length (t .kinds)) (nodes t)) || not (eqb (length given) (nodes t)) || not (eqb marksRoom (nodes t)))
+    0)
+    (lineQuery 6 0 (decode query)
+    (λ q.
+    line 7 (tableFault t)
+    (line 8 (marksFault t given)
+    (line 10 (short scratchRoom (scratchOf t q)) (value (markedCount t (kept t given q)))))))
+
+-- The marks of a run.
+abbrev pub keptGot : Table → List ℕ → Option Query → List ℕ
+keptGot t given none = []
+keptGot t given (some q) = kept t given q
+
+unfoldable pub runMarks : List ℕ → Table → List ℕ → List ℕ → ℕ → List ℕ
+runMarks query t given marks scratchRoom =
+    atExit (runAnswer query t given (length marks) scratchRoom) (keptGot t given (decode query)) marks
+
+-- That part of the scratch is zero after an accepted run and the rest is untouched.
+abbrev pub zerosGot : Table → Option Query → List ℕ
+zerosGot t none = []
+zerosGot t (some q) = replicate (scratchOf t q) 0
+
+unfoldable pub runScratch : List ℕ → Table → List ℕ → ℕ → List ℕ → List ℕ
+runScratch query t given marksRoom scratch =
+    atExit (runAnswer query t given marksRoom (length scratch)) (zerosGot t (decode query)) scratch
+
+-- EXTRACT: 1, 7, 8, 10; it answers the number of marked nodes. The columns written are of one length too.
+unfoldable pub extractAnswer : Table → List ℕ → ℕ → ℕ → Answer
+extractAnswer t marks parentRoom kindRoom =
+    line 1
+    (when
+    (ltb nodeLimit (nodes t) || not (eqb (length (t .kinds)) (nodes t)) || not (eqb (length marks) (nodes t)) || not (eqb parentRoom kindRoom))
+    0)
+    (line 7 (tableFault t)
+    (line 8 (marksFault t marks)
+    (line 10 (short parentRoom (markedCount t marks)) (value (markedCount t marks)))))
+
+unfoldable pub extractParents : Table → List ℕ → List ℕ → ℕ → List ℕ
+extractParents t marks out kindRoom = atExit (extractAnswer t marks (length out) kindRoom) (extracted t marks .parents) out
+
+unfoldable pub extractKinds : Table → List ℕ → ℕ → List ℕ → List ℕ
+extractKinds t marks parentRoom out = atExit (extractAnswer t marks parentRoom (length out)) (extracted t marks .kinds) out

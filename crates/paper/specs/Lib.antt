@@ -1,0 +1,16 @@
+pub mod Tools
+pub mod Limits
+pub mod Query
+pub mod Names
+pub mod Tokens
+pub mod Reading
+pub mod Document
+pub mod Selection
+pub mod Extraction
+pub mod Items
+pub mod Measures
+pub mod Printing
+pub mod Composition
+pub mod Answers
+pub mod Samples
+pub mod Told

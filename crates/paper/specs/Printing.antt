@@ -1,0 +1,117 @@
+-- 01, "Printing": the text of a query, with the axes written out.
+use Prim.Native.Nat.{ℕ, _+_, _-_, max}
+use mathlib.Core.Bool.{Bool, true, false, cond}
+use mathlib.Core.List.{List, [], _∷_, _++_}
+use lib.ListN.{getD}
+use Rattle.paper.specs.Tools.{ascii}
+use Rattle.paper.specs.Query.{Axis, self, child, parent, descendantOrSelf, ancestorOrSelf}
+use Rattle.paper.specs.Query.{Test, anyNode, textNode, named, anyElement}
+use Rattle.paper.specs.Query.{Expr, path, both, either, negated, Steps, stop, step, Preds, bare, pred, Query, paths}
+use Rattle.paper.specs.Measures.{roundLeftOfAnd, roundRightOfAnd, roundRightOfOr}
+
+-- The pieces of a printed text: signs, the three brackets with the two that close them, the operators, an axis, a test.
+pub data Piece : Type 0 where
+  slashSign colonsSign barSign openPred closePred openGroup openNot closeRound andWord orWord : Piece
+  axisWord : Axis → Piece
+  testWord : Test → Piece
+
+-- The text of an axis.
+abbrev pub axisText : Axis → List ℕ
+axisText self = ascii "self"
+axisText child = ascii "child"
+axisText parent = ascii "parent"
+axisText descendantOrSelf = ascii "descendant-or-self"
+axisText ancestorOrSelf = ascii "ancestor-or-self"
+
+-- The text of a test; a name is spelled as its line of the list.
+abbrev pub testText : List (List ℕ) → Test → List ℕ
+testText names anyNode = ascii "node()"
+testText names textNode = ascii "text()"
+testText names (named v) = getD names v []
+testText names anyElement = ascii "*"
+
+-- The text of a piece: `|` without spaces, one space each side of `and` and `or`.
+abbrev pub pieceText : List (List ℕ) → Piece → List ℕ
+pieceText names slashSign = ascii "/"
+pieceText names colonsSign = ascii "::"
+pieceText names barSign = ascii "|"
+pieceText names openPred = ascii "["
+pieceText names closePred = ascii "]"
+pieceText names openGroup = ascii "("
+pieceText names openNot = ascii "not("
+pieceText names closeRound = ascii ")"
+pieceText names andWord = ascii " and "
+pieceText names orWord = ascii " or "
+pieceText names (axisWord a) = axisText a
+pieceText names (testWord t) = testText names t
+
+-- Pieces in round brackets, where these are printed.
+abbrev pub grouped : Bool → List Piece → List Piece
+grouped true ps = openGroup ∷ ps ++ (closeRound ∷ [])
+grouped false ps = ps
+
+-- A step and what follows it.
+abbrev pub stepPieces : Axis → Test → List Piece → List Piece → List Piece
+stepPieces a t preds later = axisWord a ∷ colonsSign ∷ testWord t ∷ preds ++ later
+
+abbrev mutual
+  pub exprPieces : Expr → List Piece
+  exprPieces (path steps) = relativePieces steps
+  exprPieces (both a b) = grouped (roundLeftOfAnd a) (exprPieces a) ++ andWord ∷ grouped (roundRightOfAnd b) (exprPieces b)
+  exprPieces (either a b) = exprPieces a ++ orWord ∷ grouped (roundRightOfOr b) (exprPieces b)
+  exprPieces (negated a) = openNot ∷ exprPieces a ++ (closeRound ∷ [])
+
+  -- A path in a predicate starts with a step.
+  pub relativePieces : Steps → List Piece
+  relativePieces stop = []
+  relativePieces (step a t ps rest) = stepPieces a t (predsPieces ps) (laterPieces rest)
+
+  -- Each later step has its `/`.
+  pub laterPieces : Steps → List Piece
+  laterPieces stop = []
+  laterPieces (step a t ps rest) = slashSign ∷ stepPieces a t (predsPieces ps) (laterPieces rest)
+
+  pub predsPieces : Preds → List Piece
+  predsPieces bare = []
+  predsPieces (pred e ps) = openPred ∷ exprPieces e ++ closePred ∷ predsPieces ps
+
+-- An absolute path is `/` alone, or `/` and steps.
+abbrev pub pathPieces : Steps → List Piece
+pathPieces steps = slashSign ∷ relativePieces steps
+
+abbrev pub pathsPieces : List Steps → List Piece
+pathsPieces [] = []
+pathsPieces (p ∷ ps) = barSign ∷ pathPieces p ++ pathsPieces ps
+
+-- The pieces of a query.
+unfoldable pub pieces : Query → List Piece
+pieces q = pathPieces (q .first) ++ pathsPieces (q .others)
+
+-- The text of pieces, one after the other.
+abbrev pub textOf : List (List ℕ) → List Piece → List ℕ
+textOf names [] = []
+textOf names (p ∷ ps) = pieceText names p ++ textOf names ps
+
+-- The printed text of a query.
+unfoldable pub printed : List (List ℕ) → Query → List ℕ
+printed names q = textOf names (pieces q)
+
+-- How many brackets are open after a piece; those of `node()` and `text()` are no pieces.
+abbrev pub openAfter : Piece → ℕ → ℕ
+openAfter slashSign n = n
+openAfter colonsSign n = n
+openAfter barSign n = n
+openAfter openPred n = 1 + n
+openAfter closePred n = n - 1
+openAfter openGroup n = 1 + n
+openAfter openNot n = 1 + n
+openAfter closeRound n = n - 1
+openAfter andWord n = n
+openAfter orWord n = n
+openAfter (axisWord a) n = n
+openAfter (testWord t) n = n
+
+-- The most brackets open at once, where n are open already.
+abbrev pub mostOpen : ℕ → List Piece → ℕ
+mostOpen n [] = n
+mostOpen n (p ∷ ps) = max n (mostOpen (openAfter p n) ps)

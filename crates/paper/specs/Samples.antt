@@ -1,0 +1,163 @@
+-- 01, "Samples on both sides": P1 to P12 by one table and one statement, then 01's samples of reading and of the printing program by another.
+-- Both tables go by the definitions of the entry points, and by texts.
+use Prim.Native.Nat.{ℕ, zero, suc, _-_}
+use Prim.Native.String.{String}
+use mathlib.Core.Bool.{Bool, true, false, _&&_}
+use mathlib.Core.List.{List, [], _∷_, _++_, map}
+use lib.Dec.{T}
+use lib.ListN.{replicate, take}
+use Rattle.paper.specs.Tools.{ascii, same}
+use Rattle.paper.specs.Names.{namesFault, namesOf, badLine}
+use Rattle.paper.specs.Tokens.{tokens, tokenAt}
+use Rattle.paper.specs.Reading.{readText, readTail, readTested, readStep, readOperand, readTerm, readExpr, readPath}
+use Rattle.paper.specs.Items.{pathAt, stepAt, encode, decode, takeOperand, takeTerm, takeExpr}
+use Rattle.paper.specs.Measures.{size, nesting, height}
+use Rattle.paper.specs.Printing.{printed, pieces}
+use Rattle.paper.specs.Document.{Table, over, goodNode, tableFault, goodMark, marksFault}
+use Rattle.paper.specs.Selection.{reaches, selects, keeps, kept}
+use Rattle.paper.specs.Composition.{reversed, selectedBy, visible, lastStep, composedPath, composed}
+use Rattle.paper.specs.Answers.{Answer, value, refusal, readAnswer, readOut, readItems, composeAnswer, composeOut, runAnswer, runMarks, printAnswer, printOut}
+
+-- The names a b c d, and the table.
+abbrev pub names : List ℕ
+names = ascii "a\nb\nc\nd\n"
+
+abbrev pub table : Table
+table = record { parents = 0 ∷ 0 ∷ 1 ∷ 2 ∷ 3 ∷ 1 ∷ 5 ∷ []; kinds = 0 ∷ 2 ∷ 3 ∷ 4 ∷ 1 ∷ 3 ∷ 5 ∷ [] }
+
+-- What a slice of 100 holds after a call that answers so, up to the answer's count.
+abbrev pub counted : Answer → List ℕ → List ℕ
+counted (value n) out = take n out
+counted (refusal number place) out = []
+
+abbrev pub blank : List ℕ
+blank = replicate 100 7
+
+-- The items of a text, those of a composition, and the marks that a run writes where all given marks are 1.
+abbrev pub itemsOf : String → List ℕ
+itemsOf text = counted (readAnswer (ascii text) names 100) (readOut (ascii text) names blank)
+
+abbrev pub joinedItems : List ℕ → List ℕ → List ℕ
+joinedItems outer inner = counted (composeAnswer outer inner 100) (composeOut outer inner blank)
+
+abbrev pub marksOf : List ℕ → List ℕ
+marksOf query = runMarks query table (replicate 7 1) (replicate 7 7) 1000
+
+-- What a row asks of its two queries: the marks of the outer alone, those of the composition, or what composing answers.
+pub data Question : Type 0 where
+  alone through sized : Question
+
+-- What composing answers, as a list of one number.
+abbrev pub sizeGiven : Answer → List ℕ
+sizeGiven (value n) = n ∷ []
+sizeGiven (refusal number place) = []
+
+abbrev pub answered : Question → String → String → List ℕ
+answered alone outer inner = marksOf (itemsOf outer)
+answered through outer inner = marksOf (joinedItems (itemsOf outer) (itemsOf inner))
+answered sized outer inner = sizeGiven (composeAnswer (itemsOf outer) (itemsOf inner) 100)
+
+-- A row: a question, the outer and the inner text, and the answer expected.
+pub record Row : Type 0 where
+  pub asks : Question
+  pub outer : String
+  pub inner : String
+  pub expected : List ℕ
+
+-- Does the row hold?
+abbrev pub rowHolds : Row → Bool
+rowHolds r = same (answered (r .asks) (r .outer) (r .inner)) (r .expected)
+
+abbrev pub allRows : List Row → Bool
+allRows [] = true
+allRows (r ∷ rs) = rowHolds r && allRows rs
+
+-- Marks from their digits.
+abbrev pub marks : String → List ℕ
+marks s = map (λ d. d - 48) (ascii s)
+
+abbrev row : Question → String → String → List ℕ → Row
+row asks outer inner expected = record { asks = asks; outer = outer; inner = inner; expected = expected }
+
+-- P1 to P12.
+abbrev pub rows : List Row
+rows =
+    row alone "/" "" (marks "1111111") ∷
+    row alone "/b" "" (marks "0000000") ∷
+    row alone "/a/b[c]" "" (marks "1111100") ∷
+    row alone "/a/b[not(c)]" "" (marks "1100011") ∷
+    row alone "//text()" "" (marks "1111100") ∷
+    row alone "//d/../.." "" (marks "1111111") ∷
+    row alone "/.." "" (marks "0000000") ∷
+    row through "/a[not(b/c)]" "/a/b/d" (marks "1100011") ∷
+    row through "/" "/a/b/d" (marks "1100011") ∷
+    row through "/" "/b" (marks "0000000") ∷
+    row sized "/" "/" (9 ∷ []) ∷
+    row sized "//a" "/b|/c" (81 ∷ []) ∷
+    []
+
+-- Every row holds, by computation.
+pub rowsHold : T (allRows rows)
+unfolding readAnswer readOut readItems composeAnswer composeOut runAnswer runMarks namesFault namesOf badLine tokens tokenAt readText readTail readTested readStep readOperand readTerm readExpr readPath pathAt stepAt encode decode takeOperand takeTerm takeExpr size nesting height over goodNode tableFault goodMark marksFault reaches selects keeps kept reversed selectedBy visible lastStep composedPath composed
+rowsHold = tt
+
+-- An answer as numbers: the value, or refusal number and place.
+abbrev pub numbers : Answer → List ℕ
+numbers (value n) = n ∷ []
+numbers (refusal number place) = number ∷ place ∷ []
+
+-- So many round brackets around b, in a predicate.
+abbrev pub bracketed : ℕ → List ℕ
+bracketed n = ascii "/a[" ++ replicate n 40 ++ ascii "b" ++ replicate n 41 ++ ascii "]"
+
+-- What the printing program prints first of two texts and a list.
+abbrev pub room : List ℕ
+room = replicate 400 7
+
+abbrev pub printedItems : List ℕ → List ℕ → List ℕ
+printedItems list query = counted (printAnswer query list 400) (printOut query list room)
+
+abbrev pub composedText : String → String → String → List ℕ
+composedText list outer inner =
+    let items : String → List ℕ = λ text. counted (readAnswer (ascii text) (ascii list) 100) (readOut (ascii text) (ascii list) blank) in
+    printedItems (ascii list) (joinedItems (items outer) (items inner))
+
+-- Does reading the text, with the names a b c d, answer so?
+abbrev pub reads : List ℕ → List ℕ → Bool
+reads text expected = same (numbers (readAnswer text names 100)) expected
+
+-- 01's texts, each with its answer, and the printed sample.
+abbrev pub textsRead : Bool
+textsRead =
+    reads (ascii "") (3 ∷ 0 ∷ []) &&
+    reads (ascii "//") (3 ∷ 2 ∷ []) &&
+    reads (ascii "/.[a]") (3 ∷ 2 ∷ []) &&
+    reads (ascii "/a[/b]") (3 ∷ 3 ∷ []) &&
+    reads (ascii "/a[b|c]") (3 ∷ 4 ∷ []) &&
+    reads (ascii "/a[(b)/c]") (3 ∷ 6 ∷ []) &&
+    reads (ascii "/a/preceding::b") (3 ∷ 12 ∷ []) &&
+    reads (ascii "/e") (5 ∷ 1 ∷ []) &&
+    reads (bracketed 63) (4 ∷ []) &&
+    reads (bracketed 64) (4 ∷ 66 ∷ []) &&
+    reads (ascii "/ and") (5 ∷ 2 ∷ []) &&
+    reads (ascii "/a and") (3 ∷ 3 ∷ []) &&
+    reads (ascii "/a[not(b) or not]") (5 ∷ 13 ∷ []) &&
+    reads (ascii "/a\t| \n/b [ c ]") (6 ∷ [])
+
+abbrev pub textPrinted : Bool
+textPrinted =
+    same (composedText "a\nb\n" "/a" "/b")
+    (ascii "/child::a[descendant-or-self::node()[self::b/parent::node()[not(parent::node())]] or ancestor-or-self::node()[self::b/parent::node()[not(parent::node())]]]/descendant-or-self::node()[ancestor-or-self::node()[self::b/parent::node()[not(parent::node())]]]")
+
+-- `*` selects neither the root nor text.
+abbrev pub starRows : List Row
+starRows =
+    row alone "/self::*" "" (marks "0000000") ∷
+    row alone "//c/*" "" (marks "0000000") ∷
+    row alone "/*" "" (marks "1111111") ∷
+    []
+
+-- All of this holds, by computation.
+pub textsHold : T (textsRead && textPrinted && allRows starRows)
+unfolding height over goodNode tableFault goodMark marksFault reaches selects keeps kept runAnswer runMarks readAnswer readOut readItems composeAnswer composeOut printAnswer printOut printed pieces namesFault namesOf badLine tokens tokenAt readText readTail readTested readStep readOperand readTerm readExpr readPath pathAt stepAt encode decode takeOperand takeTerm takeExpr size nesting reversed selectedBy visible lastStep composedPath composed
+textsHold = tt
