@@ -1,0 +1,63 @@
+-- What an unpacked item tells of its number, case by case; and that packing and unpacking undo each other.
+-- Exactly the numbers whose item is not `Bad` are good items. Assumes nothing.
+use Prim.Native.Nat.{ℕ, zero, suc, _+_, _*_, _%_, _/_, _≤_, _<_}
+use native.Mathlib.Omega.{arith}
+use mathlib.Core.Path.{_≡_, refl, sym, _∙_, ap, subst}
+use mathlib.Core.Bool.{Bool, true, false, cond}
+use mathlib.Core.Option.{Option, none, some}
+use lib.Dec.{eqb}
+use borrow.Author.Tests.{eqb-true, eqb-false}
+use Rattle.paper.specs.Query.{Axis, Test}
+use Rattle.paper.specs.Items.{axisNumber, testNumber, pathAt, Head, stepAt, packPath, packStep, goodTest, andItem, orItem, notItem}
+use Rattle.paper.proofs.Fields.{path-at, step-at, path-found, step-found}
+use Rattle.item.specs.declared.Step.{Step}
+use Rattle.item.specs.declared.Item.{Item}
+use Rattle.item.specs.declared.Item.the-variants.{Path, Step as StepItem, And, Or, Not, Bad}
+use Rattle.item.specs.Unpacked.{operatorOf, stepOf, pathOf, unpacked, packed}
+use Rattle.item.proofs.Unpacking.{no-path, no-step}
+
+-- A step in numbers says the same as a head.
+abbrev pub numbered : Head → Step
+numbered h = record { axis = axisNumber (h .axis); test = testNumber (h .test); count = h .count }
+
+-- What each case tells of the number.
+abbrev pub Said : ℕ → Item → Type 0
+Said w (Path count) = pathAt w ≡ some count
+Said w (StepItem s) = (h : Head) × (stepAt w ≡ some h) × (s ≡ numbered h)
+Said w And = w ≡ andItem
+Said w Or = w ≡ orItem
+Said w Not = w ≡ notItem
+Said w Bad = (pathAt w ≡ none) × (stepAt w ≡ none) × (w ≡ andItem → ⊥) × (w ≡ orItem → ⊥) × (w ≡ notItem → ⊥)
+
+-- WHAT AN ITEM TELLS.
+pub said : (w : ℕ) (i : Item) → i ≡ unpacked w → Said w i
+unfolding unpacked
+said w i e = subst (Said w) (sym e) (go (pathAt w) refl (stepAt w) refl (eqb w andItem) refl (eqb w orItem) refl (eqb w notItem) refl)
+  where
+    go : (p : Option ℕ) → pathAt w ≡ p → (s : Option Head) → stepAt w ≡ s → (a : Bool) → eqb w andItem ≡ a → (o : Bool) → eqb w orItem ≡ o → (n : Bool) → eqb w notItem ≡ n
+        → Said w (pathOf w (pathAt w))
+    go (some c) p s q a x o y n z = rw p p
+    go none p (some h) q a x o y n z = rw (p, q) (h, q, refl)
+    go none p none q true x o y n z = rw (p, q, x) (eqb-true w andItem x)
+    go none p none q false x true y n z = rw (p, q, x, y) (eqb-true w orItem y)
+    go none p none q false x false y true z = rw (p, q, x, y, z) (eqb-true w notItem z)
+    go none p none q false x false y false z = rw (p, q, x, y, z) (p, q, eqb-false w andItem x, eqb-false w orItem y, eqb-false w notItem z)
+
+-- UNPACK AFTER PACK.
+pub unpack-path : (count : ℕ) → count < 8192 → unpacked (packPath count) ≡ Path count
+unfolding unpacked
+unpack-path count l = rw (path-at count l)
+
+pub unpack-step : (a : Axis) (t : Test) (count : ℕ) → goodTest t ≡ true → count < 8192
+    → unpacked (packStep a t count) ≡ StepItem (numbered (record { axis = a; test = t; count = count }))
+unfolding unpacked
+unpack-step a t count g l = rw (no-path (packStep a t count) (λ e. omega arith), step-at a t count g l)
+
+-- PACK AFTER UNPACK.
+pub pack-path : (w count : ℕ) → Said w (Path count) → (w ≡ packPath count) × (count < 8192)
+pack-path w count h = path-found w count h
+
+pub pack-step : (w : ℕ) (s : Step) → Said w (StepItem s) → (w ≡ packed s) × (s .count < 8192)
+pack-step w s h =
+    let f = step-found w (h .0) (h .1) in
+    subst (λ (x : Step). (w ≡ packed x) × (x .count < 8192)) (sym (h .2)) (f .0, f .2)

@@ -1,0 +1,136 @@
+-- What `unpacked` makes of a number, by its kind; and the number that shifted fields make together.
+-- A mask is a remainder and a shift a quotient by a power of two. Assumes nothing.
+use Prim.Native.Nat.{ℕ, zero, suc, _+_, _*_, _/_, _%_, _^_, _-_, _≤_, _<_}
+use native.Mathlib.Omega.{arith}
+use mathlib.Core.Path.{_≡_, refl, sym, _∙_, ap, ap₂}
+use mathlib.Core.Bool.{Bool, true, false, cond}
+use mathlib.Core.Option.{Option, none, some}
+use mathlib.Core.Logic.{by-cases}
+use native.Mathlib.Decide.{decLt}
+use lib.Dec.{eqb, ltb}
+use lib.Bits.{bitAnd, bitOr, and-mask, or-shifted}
+use borrow.Author.Tests.{lt-ltb, le-ltb, eq-eqb, ne-eqb}
+use Rattle.paper.specs.Query.{Axis, self, child, parent, descendantOrSelf, ancestorOrSelf, Test, anyNode, textNode, named, anyElement}
+use Rattle.paper.specs.Items.{axisNumber, axisOf, testNumber, testOf, pathAt, Head, stepAt, packStep}
+use Rattle.paper.proofs.Fields.{axis-found, test-found}
+use Rattle.item.specs.declared.Step.{Step}
+use Rattle.item.specs.declared.Item.{Item}
+use Rattle.item.specs.declared.Item.the-variants.{Path, Step as StepItem, And, Or, Not, Bad}
+use Rattle.item.specs.Unpacked.{operatorOf, stepOf, pathOf, unpacked, packed}
+
+-- A number of another kind is no path, or no step.
+pub no-path : (w : ℕ) → (w % 8 ≡ 0 → ⊥) → pathAt w ≡ none
+unfolding pathAt
+no-path w h = rw (ne-eqb (w % 8) 0 h)
+
+pub no-step : (w : ℕ) → (w % 8 ≡ 1 → ⊥) → stepAt w ≡ none
+unfolding stepAt
+no-step w h = rw (ne-eqb (w % 8) 1 h)
+
+-- A number that is no operator's and neither path nor step says nothing.
+no-item : (w : ℕ) → pathAt w ≡ none → stepAt w ≡ none → (w ≡ 2 → ⊥) → (w ≡ 3 → ⊥) → (w ≡ 4 → ⊥) → unpacked w ≡ Bad
+unfolding unpacked
+no-item w p s a o n = rw (p, s, ne-eqb w 2 a, ne-eqb w 3 o, ne-eqb w 4 n)
+
+-- Kind 0.
+pub path-kind : (w : ℕ) → w % 8 ≡ 0 → w < 65536 → unpacked w ≡ Path (w / 8)
+unfolding unpacked pathAt
+path-kind w k l = rw (eq-eqb (w % 8) 0 k, lt-ltb w 65536 l)
+
+pub path-long : (w : ℕ) → w % 8 ≡ 0 → 65536 ≤ w → unpacked w ≡ Bad
+unfolding pathAt
+path-long w k l = no-item w (rw (eq-eqb (w % 8) 0 k, le-ltb w 65536 l)) (no-step w (λ e. omega arith)) (λ e. omega arith) (λ e. omega arith) (λ e. omega arith)
+
+-- Kind 1: there is an axis up to 4, and a test up to 258.
+axis-some : (n : ℕ) → n ≤ 4 → (a : Axis) × (axisOf n ≡ some a)
+axis-some zero l = (self, refl)
+axis-some (suc zero) l = (child, refl)
+axis-some (suc (suc zero)) l = (parent, refl)
+axis-some (suc (suc (suc zero))) l = (descendantOrSelf, refl)
+axis-some (suc (suc (suc (suc zero)))) l = (ancestorOrSelf, refl)
+axis-some (suc (suc (suc (suc (suc n))))) l = absurd (omega arith)
+
+axis-none : (n : ℕ) → 4 < n → axisOf n ≡ none
+axis-none zero l = absurd (omega arith)
+axis-none (suc zero) l = absurd (omega arith)
+axis-none (suc (suc zero)) l = absurd (omega arith)
+axis-none (suc (suc (suc zero))) l = absurd (omega arith)
+axis-none (suc (suc (suc (suc zero)))) l = absurd (omega arith)
+axis-none (suc (suc (suc (suc (suc n))))) l = refl
+
+test-some : (n : ℕ) → n ≤ 258 → (t : Test) × (testOf n ≡ some t)
+test-some zero l = (anyNode, refl)
+test-some (suc zero) l = (textNode, refl)
+test-some (suc (suc v)) l =
+    by-cases (decLt v 256) (λ h. (named v, rw (lt-ltb v 256 h))) (λ h. let e : v ≡ 256 = omega arith in (anyElement, rw (le-ltb v 256 (omega arith), eq-eqb v 256 e)))
+
+test-none : (n : ℕ) → 258 < n → testOf n ≡ none
+test-none zero l = absurd (omega arith)
+test-none (suc zero) l = absurd (omega arith)
+test-none (suc (suc v)) l = rw (le-ltb v 256 (omega arith), ne-eqb v 256 (λ e. omega arith))
+
+-- A step that lacks something is no item.
+bad-step : (w : ℕ) → w % 8 ≡ 1 → stepAt w ≡ none → unpacked w ≡ Bad
+bad-step w k s = no-item w (no-path w (λ e. omega arith)) s (λ e. omega arith) (λ e. omega arith) (λ e. omega arith)
+
+pub step-long : (w : ℕ) → w % 8 ≡ 1 → 268435456 ≤ w → unpacked w ≡ Bad
+unfolding stepAt
+step-long w k l = bad-step w k (rw (eq-eqb (w % 8) 1 k, le-ltb w 268435456 l))
+
+pub step-axis : (w : ℕ) → w % 8 ≡ 1 → 4 < bitAnd (w / 8) 7 → unpacked w ≡ Bad
+unfolding stepAt
+step-axis w k l =
+    bad-step w k (go (ltb w 268435456) refl)
+  where
+    none-there : axisOf (w / 8 % 8) ≡ none
+    none-there = axis-none (w / 8 % 8) (rw (and-mask (w / 8) 3) at l)
+
+    go : (b : Bool) → ltb w 268435456 ≡ b → stepAt w ≡ none
+    go true p = rw (eq-eqb (w % 8) 1 k, p, none-there)
+    go false p = rw (eq-eqb (w % 8) 1 k, p)
+
+pub step-test : (w : ℕ) → w % 8 ≡ 1 → 258 < bitAnd (w / 64) 511 → unpacked w ≡ Bad
+unfolding stepAt
+step-test w k l =
+    bad-step w k (go (ltb w 268435456) refl (axisOf (w / 8 % 8)) refl)
+  where
+    none-there : testOf (w / 64 % 512) ≡ none
+    none-there = test-none (w / 64 % 512) (rw (and-mask (w / 64) 9) at l)
+
+    go : (b : Bool) → ltb w 268435456 ≡ b → (o : Option Axis) → axisOf (w / 8 % 8) ≡ o → stepAt w ≡ none
+    go true p none q = rw (eq-eqb (w % 8) 1 k, p, q)
+    go true p (some a) q = rw (eq-eqb (w % 8) 1 k, p, q, none-there)
+    go false p o q = rw (eq-eqb (w % 8) 1 k, p)
+
+pub step-kind : (w : ℕ) → w % 8 ≡ 1 → w < 268435456 → bitAnd (w / 8) 7 ≤ 4 → bitAnd (w / 64) 511 ≤ 258
+    → unpacked w ≡ StepItem (record { axis = bitAnd (w / 8) 7; test = bitAnd (w / 64) 511; count = w / 32768 })
+unfolding unpacked stepAt
+step-kind w k l ha ht =
+    let ea : bitAnd (w / 8) 7 ≡ w / 8 % 8 = and-mask (w / 8) 3 in
+    let et : bitAnd (w / 64) 511 ≡ w / 64 % 512 = and-mask (w / 64) 9 in
+    let a = axis-some (w / 8 % 8) (rw ea at ha) in
+    let t = test-some (w / 64 % 512) (rw et at ht) in
+    rw (no-path w (λ e. omega arith), eq-eqb (w % 8) 1 k, lt-ltb w 268435456 l, a .1, t .1)
+    (ap₂ (λ (x y : ℕ). StepItem (record { axis = x; test = y; count = w / 32768 })) (sym (axis-found _ (a .0) (a .1)) ∙ sym ea) (sym (test-found _ (t .0) (t .1) .0) ∙ sym et))
+
+-- Kinds from 2: the operators and `not`.
+pub operator-kind : (w : ℕ) → 2 ≤ w % 8 → unpacked w ≡ operatorOf w
+unfolding unpacked
+operator-kind w k = rw (no-path w (λ e. omega arith), no-step w (λ e. omega arith))
+
+-- Shifted fields, put together.
+pub together : (s : Step) → s .axis < 8 → s .test < 512 → s .count < 8192
+    → bitOr (bitOr (bitOr (s .count * 32768 % 4294967296) (s .test * 64 % 4294967296)) (s .axis * 8 % 4294967296)) 1 ≡ packed s
+together s ha ht hc =
+    let a = s .axis in
+    let t = s .test in
+    let n = s .count in
+    let fa : a * 8 % 4294967296 ≡ a * 8 = omega arith in
+    let ft : t * 64 % 4294967296 ≡ t * 64 = omega arith in
+    let fn : n * 32768 % 4294967296 ≡ n * 32768 = omega arith in
+    let one : bitOr (n * 32768) (t * 64) ≡ n * 32768 + t * 64 = or-shifted n 15 (t * 64) (omega arith) in
+    let e : n * 32768 + t * 64 ≡ (n * 512 + t) * 64 = omega arith in
+    let two : bitOr ((n * 512 + t) * 64) (a * 8) ≡ (n * 512 + t) * 64 + a * 8 = or-shifted (n * 512 + t) 6 (a * 8) (omega arith) in
+    let f : (n * 512 + t) * 64 + a * 8 ≡ (n * 4096 + t * 8 + a) * 8 = omega arith in
+    let three : bitOr ((n * 4096 + t * 8 + a) * 8) 1 ≡ (n * 4096 + t * 8 + a) * 8 + 1 = or-shifted (n * 4096 + t * 8 + a) 3 1 (omega arith) in
+    rw (fa, ft, fn, one, e, two, f, three) (omega arith)

@@ -1,0 +1,134 @@
+// One item of a query: its fields by shifts and masks. Only this crate knows bit positions.
+ghost use mathlib.Core.Path.{_≡_};
+ghost use mathlib.Core.Bool.{true};
+ghost use Prim.Native.Nat.{_%_, _≤_, _<_};
+ghost use Rattle.paper.specs.Query.{Axis, Test};
+ghost use Rattle.paper.specs.Items.{axisNumber, testNumber, packPath, goodTest};
+ghost use Rattle.paper.specs.Composition.{turned};
+ghost use Rattle.paper.specs.Selection.{meets};
+ghost use Rattle.item.specs.Unpacked.{unpacked, packed};
+
+// The item of `and`, that of `or` and that of `not`.
+pub const AND: u32 = 2;
+
+pub const OR: u32 = 3;
+
+pub const NOT: u32 = 4;
+
+// What a step item says: the numbers of its axis and its test, and how many predicates follow.
+pub struct Step {
+    pub axis: u32,
+    pub test: u32,
+    pub count: usize,
+}
+
+// What an item says; a path says how many steps follow.
+pub enum Item {
+    Path(usize),
+    Step(Step),
+    And,
+    Or,
+    Not,
+    Bad,
+}
+
+// Bits 3 to 15 of a path are its step count; it has no others.
+fn path_item(w: u32) -> Item
+    requires { ⌜ w % 8 ≡ 0 ⌝ }
+    ensures { λ r. ⌜ r ≡ unpacked w ⌝ }
+{
+    if w < 65536 {
+        Item::Path((w >> 3) as usize)
+    } else {
+        Item::Bad
+    }
+}
+
+// Bits 3 to 5 of a step are its axis, 6 to 14 its test, 15 to 27 its predicate count; it has no others.
+fn step_item(w: u32) -> Item
+    requires { ⌜ w % 8 ≡ 1 ⌝ }
+    ensures { λ r. ⌜ r ≡ unpacked w ⌝ }
+{
+    if 268435456 <= w {
+        return Item::Bad;
+    }
+    let axis = w >> 3 & 7;
+    if 4 < axis {
+        return Item::Bad;
+    }
+    let test = w >> 6 & 511;
+    if 258 < test {
+        return Item::Bad;
+    }
+    Item::Step(Step {
+        axis,
+        test,
+        count: (w >> 15) as usize,
+    })
+}
+
+// What a number says as an item, by its kind in bits 0 to 2.
+pub fn unpack(w: u32) -> Item
+    ensures { λ r. ⌜ r ≡ unpacked w ⌝ }
+{
+    let kind = w & 7;
+    match kind {
+        0 => path_item(w),
+        1 => step_item(w),
+        _ => operator(w),
+    }
+}
+
+// The items of the operators and of `not` have no field.
+fn operator(w: u32) -> Item
+    requires { ⌜ 2 ≤ w % 8 ⌝ }
+    ensures { λ r. ⌜ r ≡ unpacked w ⌝ }
+{
+    match w {
+        2 => Item::And,
+        3 => Item::Or,
+        4 => Item::Not,
+        _ => Item::Bad,
+    }
+}
+
+// The item of a path.
+pub fn pack_path(count: usize) -> u32
+    requires { ⌜ count < 8192 ⌝ }
+    ensures { λ r. ⌜ r ≡ packPath count ⌝ }
+{
+    (count as u32) << 3
+}
+
+// The item of a step.
+pub fn pack_step(step: Step) -> u32
+    requires { ⌜ (step .axis < 8) × (step .test < 512) × (step .count < 8192) ⌝ }
+    ensures { λ r. ⌜ r ≡ packed step ⌝ }
+{
+    (step.count as u32) << 15 | step.test << 6 | step.axis << 3 | 1
+}
+
+// The axis that leads back: child turns into parent, parent into child, the two long axes into each other, and self stays.
+pub fn turn(axis: u32) -> u32
+    ensures { λ r. ⌜ ((a : Axis) → axis ≡ axisNumber a → r ≡ axisNumber (turned a)) ⌝ }
+{
+    match axis {
+        1 => 2,
+        2 => 1,
+        3 => 4,
+        4 => 3,
+        _ => axis,
+    }
+}
+
+// Is the test met by a node of this kind?
+pub fn meets(test: u32, kind: u32) -> bool
+    ensures { λ r. ⌜ ((t : Test) → goodTest t ≡ true → test ≡ testNumber t → r ≡ meets t kind) ⌝ }
+{
+    match test {
+        0 => true,
+        1 => kind == 1,
+        258 => 2 <= kind,
+        _ => kind == test,
+    }
+}
