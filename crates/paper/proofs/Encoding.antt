@@ -74,7 +74,7 @@ begun w (x ∷ xs) h = ap (λ y. y ∷ xs) (sym (eqb-true w x h))
 -- `within` takes well what stands in a bracket, where d brackets may be opened.
 module _ (d : ℕ) (within : List ℕ → Taken Expr)
     (sound : (ws : List ℕ) (r : Expr × List ℕ) → within ws ≡ some r → From ws (r .0) (r .1) (1 + nestExpr (r .0)) d) where
-  from-preds : (n : ℕ) (ws : List ℕ) (r : Preds × List ℕ) → takePreds within n ws ≡ some r → FromPreds ws n (r .0) (r .1) d
+  pub from-preds : (n : ℕ) (ws : List ℕ) (r : Preds × List ℕ) → takePreds within n ws ≡ some r → FromPreds ws n (r .0) (r .1) d
   from-preds zero ws r h =
       subst (λ (x : Preds × List ℕ). FromPreds ws 0 (x .0) (x .1) d) (some-inj h)
       (record { items = refl; count = refl; fine = refl; nested = omega arith })
@@ -93,7 +93,7 @@ module _ (d : ℕ) (within : List ℕ → Taken Expr)
         nested = omega (arith, f .nested, g .nested);
       })))
 
-  from-steps : (n : ℕ) (ws : List ℕ) (r : Steps × List ℕ) → takeSteps within n ws ≡ some r → FromSteps ws n (r .0) (r .1) d
+  pub from-steps : (n : ℕ) (ws : List ℕ) (r : Steps × List ℕ) → takeSteps within n ws ≡ some r → FromSteps ws n (r .0) (r .1) d
   from-steps zero ws r h =
       subst (λ (x : Steps × List ℕ). FromSteps ws 0 (x .0) (x .1) d) (some-inj h)
       (record { items = refl; count = refl; fine = refl; nested = omega arith })
@@ -119,7 +119,7 @@ module _ (d : ℕ) (within : List ℕ → Taken Expr)
       }))))
 
   -- A path, with at least one step unless it may be bare.
-  from-path : (bareToo : Bool) (ws : List ℕ) (r : Steps × List ℕ) → takePath within bareToo ws ≡ some r
+  pub from-path : (bareToo : Bool) (ws : List ℕ) (r : Steps × List ℕ) → takePath within bareToo ws ≡ some r
       → (ws ≡ packPath (stepCount (r .0)) ∷ encodeSteps (r .0) ++ r .1) × (stepCount (r .0) < 8192) × (goodSteps (r .0) ≡ true) × (nestSteps (r .0) ≤ d)
       × ((leb 1 (stepCount (r .0)) || bareToo) ≡ true)
   from-path bareToo [] r h = none-some h
@@ -135,7 +135,7 @@ module _ (d : ℕ) (within : List ℕ → Taken Expr)
       go n p q false e = none-some (rw e at q)
 
   -- An operand of `and`.
-  from-operand : (ws : List ℕ) (r : Expr × List ℕ) → takeOperand within ws ≡ some r → From ws (r .0) (r .1) (inBrackets (isOr (r .0) || isAnd (r .0)) (nestExpr (r .0))) d
+  pub from-operand : (ws : List ℕ) (r : Expr × List ℕ) → takeOperand within ws ≡ some r → From ws (r .0) (r .1) (inBrackets (isOr (r .0) || isAnd (r .0)) (nestExpr (r .0))) d
   unfolding takeOperand
   from-operand ws r h = denied (begins notItem ws) refl h
     where
@@ -190,7 +190,7 @@ module _ (d : ℕ) (within : List ℕ → Taken Expr)
       })
 
   -- An operand of `or`.
-  from-term : (ws : List ℕ) (r : Expr × List ℕ) → takeTerm within ws ≡ some r → From ws (r .0) (r .1) (inBrackets (isOr (r .0)) (nestExpr (r .0))) d
+  pub from-term : (ws : List ℕ) (r : Expr × List ℕ) → takeTerm within ws ≡ some r → From ws (r .0) (r .1) (inBrackets (isOr (r .0)) (nestExpr (r .0))) d
   unfolding takeTerm
   from-term ws r h =
       found-some (takeOperand within (drop (leading andItem ws) ws)) _ r h
@@ -222,7 +222,7 @@ module _ (d : ℕ) (within : List ℕ → Taken Expr)
       })
 
   -- A whole expression.
-  from-expr : (ws : List ℕ) (r : Expr × List ℕ) → takeExpr within ws ≡ some r → From ws (r .0) (r .1) (nestExpr (r .0)) d
+  pub from-expr : (ws : List ℕ) (r : Expr × List ℕ) → takeExpr within ws ≡ some r → From ws (r .0) (r .1) (nestExpr (r .0)) d
   unfolding takeExpr
   from-expr ws r h =
       found-some (takeTerm within (drop (leading orItem ws) ws)) _ r h

@@ -1,0 +1,248 @@
+-- What an operand of `and` is, by its first item. Assumes nothing.
+use Prim.Native.Nat.{ℕ, zero, suc, _+_, _-_, _*_, _^_, _≤_, _<_, max}
+use native.Mathlib.Omega.{arith}
+use native.Mathlib.Numerals.{add-one}
+use mathlib.Core.Path.{_≡_, refl, sym, _∙_, ap, ap₂, subst}
+use mathlib.Core.Bool.{Bool, true, false, _||_, false≢true}
+use mathlib.Core.List.{List, [], _∷_, _++_}
+use mathlib.Core.Option.{Option, none, some}
+use lib.Dec.{eqb}
+use lib.ListN.{length, getD, drop, drop-of-length-le}
+use lib.Seq.{drop-cons}
+use borrow.Author.Tests.{ne-eqb, le-leb}
+use Rattle.paper.specs.Tools.{found, begins}
+use Rattle.paper.specs.Query.{Expr, path, both, either, negated, Steps}
+use Rattle.paper.specs.Items.{andItem, orItem, notItem, pathAt, Head, stepAt, packPath, stepCount, encodeExpr, Taken, takeSteps, takePath, takeOperand, takeTerm, takeOrs, takeExpr, takeWithin}
+use Rattle.paper.specs.Measures.{isAnd, isOr, inBrackets, nestExpr, nestSteps, heightExpr, heightSteps}
+use Rattle.paper.proofs.Tests.{some-inj}
+use Rattle.paper.proofs.Fields.{path-found, step-found}
+use Rattle.paper.proofs.Decoding.{orsFrom, andsFrom, whole, term, one-or, one-and}
+use Rattle.paper.proofs.Encoding.{From, from-operand, from-within}
+use Rattle.item.specs.declared.Item.{Item}
+use Rattle.item.specs.declared.Item.the-variants.{Path, Step as StepItem, And, Or, Not, Bad}
+use Rattle.item.proofs.Saying.{Said}
+use Rattle.item.proofs.Unpacking.{no-path, no-step}
+use Rattle.item.proofs.Item.{the-type}
+use denote.Enum.Declared.{tagOf}
+use types.Run.{OneOf, miss}
+use Rattle.shape.specs.declared.Walked.{Walked}
+use Rattle.shape.specs.declared.Walked.the-variants.{Done, Malformed}
+use Rattle.shape.specs.Walks.{nestTerm, nestOperand, Walk, Walks, raisedBy, Small}
+use Rattle.shape.proofs.Walking.{begins-and, begins-or}
+
+-- A number that is a path's is no operator's and not `not`.
+path-other : (w n count : ℕ) → pathAt w ≡ some count → 0 < n → n < 8 → eqb n w ≡ false
+path-other w n count h p q = ne-eqb n w (λ e. omega (arith, path-found w count h .0))
+
+-- A path of at least one step.
+pub operand-path : (within : List ℕ → Taken Expr) (w count : ℕ) (ws : List ℕ) → pathAt w ≡ some count → 1 ≤ count
+    → takeOperand within (w ∷ ws) ≡ found (takeSteps within count ws) (λ r. some (path (r .0), r .1))
+unfolding takeOperand
+operand-path within w count ws h l =
+    rw (path-other w 4 count h (omega arith) (omega arith), path-other w 2 count h (omega arith) (omega arith), path-other w 3 count h (omega arith) (omega arith), h, le-leb 1 count l)
+
+pub operand-bare : (within : List ℕ → Taken Expr) (w : ℕ) (ws : List ℕ) → pathAt w ≡ some 0 → takeOperand within (w ∷ ws) ≡ none
+unfolding takeOperand
+operand-bare within w ws h =
+    rw (path-other w 4 0 h (omega arith) (omega arith), path-other w 2 0 h (omega arith) (omega arith), path-other w 3 0 h (omega arith) (omega arith), h)
+
+-- Neither path nor operator nor `not`.
+pub operand-other : (within : List ℕ → Taken Expr) (w : ℕ) (ws : List ℕ) → pathAt w ≡ none → (w ≡ andItem → ⊥) → (w ≡ orItem → ⊥) → (w ≡ notItem → ⊥)
+    → takeOperand within (w ∷ ws) ≡ none
+unfolding takeOperand
+operand-other within w ws h a o n = rw (ne-eqb 4 w (λ e. n (sym e)), ne-eqb 2 w (λ e. a (sym e)), ne-eqb 3 w (λ e. o (sym e)), h)
+
+-- A step is no operand.
+pub operand-step : (within : List ℕ → Taken Expr) (w : ℕ) (ws : List ℕ) (h : Head) → stepAt w ≡ some h → takeOperand within (w ∷ ws) ≡ none
+operand-step within w ws h e =
+    let f = step-found w h e .0 in
+    operand-other within w ws (no-path w (λ z. omega arith)) (λ z. omega arith) (λ z. omega arith) (λ z. omega arith)
+
+-- The operators and `not`, where a bracket may be opened.
+pub operand-and : (d : ℕ) (ws : List ℕ) → takeOperand (takeWithin (suc d)) (andItem ∷ ws) ≡ andsFrom (takeWithin d) 1 ws
+unfolding takeOperand takeExpr
+operand-and d ws = go (takeTerm (takeWithin d) (andItem ∷ ws)) ∙ term (takeWithin d) (andItem ∷ ws) ∙ one-and (takeWithin d) 0 ws
+  where
+    go : (o : Taken Expr) → found o (λ r. takeOrs (takeWithin d) 0 (r .0) (r .1)) ≡ o
+    go none = refl
+    go (some r) = refl
+
+pub operand-or : (d : ℕ) (ws : List ℕ) → takeOperand (takeWithin (suc d)) (orItem ∷ ws) ≡ orsFrom (takeWithin d) 1 ws
+unfolding takeOperand
+operand-or d ws = whole (takeWithin d) (orItem ∷ ws) ∙ one-or (takeWithin d) 0 ws
+
+pub operand-not : (d : ℕ) (ws : List ℕ) → takeOperand (takeWithin (suc d)) (notItem ∷ ws) ≡ found (orsFrom (takeWithin d) 0 ws) (λ r. some (negated (r .0), r .1))
+unfolding takeOperand
+operand-not d ws = rw (whole (takeWithin d) ws)
+
+-- None of them where no bracket may be opened, for an item that is no path.
+pub operand-deep : (w : ℕ) (i : Item) (ws : List ℕ) → Said w i → OneOf (1 ∷ 2 ∷ 3 ∷ 4 ∷ 5 ∷ []) (tagOf the-type i) → takeOperand (takeWithin 0) (w ∷ ws) ≡ none
+unfolding takeOperand
+operand-deep w (Path count) ws s k = absurd (miss (1 ∷ 2 ∷ 3 ∷ 4 ∷ 5 ∷ []) 0 tt k)
+operand-deep w (StepItem st) ws s k = operand-step (takeWithin 0) w ws (s .0) (s .1)
+operand-deep w And ws s k = rw s
+operand-deep w Or ws s k = rw s
+operand-deep w Not ws s k = rw s
+operand-deep w Bad ws s k = operand-other (takeWithin 0) w ws (s .0) (s .2) (s .3) (s .4)
+
+-- An item that is neither a path nor an operator nor `not`.
+pub operand-rest : (within : List ℕ → Taken Expr) (w : ℕ) (i : Item) (ws : List ℕ) → Said w i → OneOf (1 ∷ 2 ∷ 3 ∷ 4 ∷ 5 ∷ []) (tagOf the-type i) → OneOf (0 ∷ 1 ∷ 5 ∷ []) (tagOf the-type i)
+    → takeOperand within (w ∷ ws) ≡ none
+operand-rest within w (Path count) ws s k l = absurd (miss (1 ∷ 2 ∷ 3 ∷ 4 ∷ 5 ∷ []) 0 tt k)
+operand-rest within w (StepItem st) ws s k l = operand-step within w ws (s .0) (s .1)
+operand-rest within w And ws s k l = absurd (miss (0 ∷ 1 ∷ 5 ∷ []) 2 tt l)
+operand-rest within w Or ws s k l = absurd (miss (0 ∷ 1 ∷ 5 ∷ []) 3 tt l)
+operand-rest within w Not ws s k l = absurd (miss (0 ∷ 1 ∷ 5 ∷ []) 4 tt l)
+operand-rest within w Bad ws s k l = operand-other within w ws (s .0) (s .2) (s .3) (s .4)
+
+-- What stands at a place of the items.
+at-place : (items : List ℕ) (at : ℕ) → at < length items → drop at items ≡ getD items at 0 ∷ drop (at + 1) items
+at-place items at l = drop-cons items at 0 l ∙ ap (λ (k : ℕ). getD items at 0 ∷ drop k items) (sym (add-one at))
+
+-- The walks of an operand, from those of what it holds.
+module _ (items : List ℕ) (at depth : ℕ) (l : at < length items) where
+  pub walk-path : (count : ℕ) → pathAt (getD items at 0) ≡ some count → 1 ≤ count → (r : Walked)
+      → Walks items (at + 1) 0 depth (takeSteps (takeWithin depth) count (drop (at + 1) items)) nestSteps heightSteps r
+      → Walks items at 0 depth (takeOperand (takeWithin depth) (drop at items)) nestOperand heightExpr (raisedBy r 0 1)
+  walk-path count p some-step (Done next nest high) w =
+      record {
+        what = path (w .what);
+        reads = rw (at-place items at l, operand-path (takeWithin depth) (getD items at 0) count (drop (at + 1) items) p some-step, w .reads);
+        nests = omega (arith, w .nests);
+        heights = omega (arith, w .heights);
+        onward = omega (arith, w .onward);
+        inside = w .inside;
+        shallow = omega (arith, w .shallow);
+        low = omega (arith, w .low)
+      }
+  walk-path count p some-step Malformed w =
+      rw (at-place items at l, operand-path (takeWithin depth) (getD items at 0) count (drop (at + 1) items) p some-step, w)
+
+  pub walk-not : getD items at 0 ≡ notItem → (r : Walked)
+      → Walks items (at + 1) 0 depth (orsFrom (takeWithin depth) 0 (drop (at + 1) items)) nestExpr heightExpr r
+      → Walks items at 0 (suc depth) (takeOperand (takeWithin (suc depth)) (drop at items)) nestOperand heightExpr (raisedBy r 1 1)
+  walk-not e (Done next nest high) w =
+      record {
+        what = negated (w .what);
+        reads = rw (at-place items at l, e, operand-not depth (drop (at + 1) items), w .reads);
+        nests = omega (arith, w .nests);
+        heights = omega (arith, w .heights);
+        onward = omega (arith, w .onward);
+        inside = w .inside;
+        shallow = omega (arith, w .shallow);
+        low = omega (arith, w .low)
+      }
+  walk-not e Malformed w = rw (at-place items at l, e, operand-not depth (drop (at + 1) items), w)
+
+  -- A bracket of `and` holds an `and`, a bracket of `or` an `or`.
+  and-there : (e : Expr) (next : ℕ) → getD items at 0 ≡ andItem → takeOperand (takeWithin (suc depth)) (drop at items) ≡ some (e, drop next items) → isAnd e ≡ true
+  and-there e next i h =
+      let f = from-operand (suc depth) (takeWithin (suc depth)) (from-within (suc depth)) (drop at items) (e, drop next items) h in
+      sym (begins-and e (drop next items)) ∙ ap (begins andItem) (sym (f .items) ∙ at-place items at l) ∙ rw i
+
+  or-there : (e : Expr) (next : ℕ) → getD items at 0 ≡ orItem → takeOperand (takeWithin (suc depth)) (drop at items) ≡ some (e, drop next items) → isOr e ≡ true
+  or-there e next i h =
+      let f = from-operand (suc depth) (takeWithin (suc depth)) (from-within (suc depth)) (drop at items) (e, drop next items) h in
+      sym (begins-or e (drop next items)) ∙ ap (begins orItem) (sym (f .items) ∙ at-place items at l) ∙ rw i
+
+  pub walk-or : getD items at 0 ≡ orItem → (r : Walked)
+      → Walks items (at + 1) 1 depth (orsFrom (takeWithin depth) 1 (drop (at + 1) items)) nestExpr heightExpr r
+      → Walks items at 0 (suc depth) (takeOperand (takeWithin (suc depth)) (drop at items)) nestOperand heightExpr (raisedBy r 1 0)
+  walk-or i (Done next nest high) w =
+      let read : takeOperand (takeWithin (suc depth)) (drop at items) ≡ some (w .what, drop next items) =
+        rw (at-place items at l, i, operand-or depth (drop (at + 1) items), w .reads) in
+      let is : isOr (w .what) ≡ true = or-there (w .what) next i read in
+      record {
+        what = w .what;
+        reads = read;
+        nests = rw is (omega (arith, w .nests));
+        heights = omega (arith, w .heights);
+        onward = omega (arith, w .onward);
+        inside = w .inside;
+        shallow = omega (arith, w .shallow);
+        low = omega (arith, w .low)
+      }
+  walk-or i Malformed w = rw (at-place items at l, i, operand-or depth (drop (at + 1) items), w)
+
+  pub walk-and : getD items at 0 ≡ andItem → (r : Walked)
+      → Walks items (at + 1) 1 depth (andsFrom (takeWithin depth) 1 (drop (at + 1) items)) nestTerm heightExpr r
+      → Walks items at 0 (suc depth) (takeOperand (takeWithin (suc depth)) (drop at items)) nestOperand heightExpr (raisedBy r 1 0)
+  walk-and i (Done next nest high) w =
+      let read : takeOperand (takeWithin (suc depth)) (drop at items) ≡ some (w .what, drop next items) =
+        rw (at-place items at l, i, operand-and depth (drop (at + 1) items), w .reads) in
+      let is : isAnd (w .what) ≡ true = and-there (w .what) next i read in
+      record {
+        what = w .what;
+        reads = read;
+        nests = omega (arith, w .nests, lone (w .what) is);
+        heights = omega (arith, w .heights);
+        onward = omega (arith, w .onward);
+        inside = w .inside;
+        shallow = omega (arith, w .shallow);
+        low = omega (arith, w .low)
+      }
+    where
+      lone : (e : Expr) → isAnd e ≡ true → nestOperand e ≡ 1 + nestTerm e
+      lone (path s) h = absurd (false≢true h)
+      lone (both a b) h = refl
+      lone (either a b) h = absurd (false≢true h)
+      lone (negated a) h = absurd (false≢true h)
+  walk-and i Malformed w = rw (at-place items at l, i, operand-and depth (drop (at + 1) items), w)
+
+  -- What is no operand.
+  pub walk-none : (d : ℕ) → takeOperand (takeWithin d) (getD items at 0 ∷ drop (at + 1) items) ≡ none → takeOperand (takeWithin d) (drop at items) ≡ none
+  walk-none d h = ap (takeOperand (takeWithin d)) (at-place items at l) ∙ h
+
+-- Nothing is read past the end.
+pub operand-past : (within : List ℕ → Taken Expr) (items : List ℕ) (at : ℕ) → length items ≤ at → takeOperand within (drop at items) ≡ none
+unfolding takeOperand
+operand-past within items at l = rw (drop-of-length-le items l)
+
+-- Where an item is no step, no step stands there.
+pub not-step : (w : ℕ) (i : Item) → Said w i → OneOf (0 ∷ 2 ∷ 3 ∷ 4 ∷ 5 ∷ []) (tagOf the-type i) → stepAt w ≡ none
+not-step w (Path count) s k = no-step w (λ e. omega (arith, path-found w count s .0))
+not-step w (StepItem st) s k = absurd (miss (0 ∷ 2 ∷ 3 ∷ 4 ∷ 5 ∷ []) 1 tt k)
+not-step w And s k = no-step w (λ e. omega arith)
+not-step w Or s k = no-step w (λ e. omega arith)
+not-step w Not s k = no-step w (λ e. omega arith)
+not-step w Bad s k = s .1
+
+-- What can be raised: walks are no deeper than 64 and no higher than the items.
+pub small : {A : Type 0} (items : List ℕ) (at counted depth : ℕ) (taken : Taken A) (nestOf heightOf : A → ℕ) (r : Walked) → depth ≤ 64 → length items * 4 < 2 ^ 63 → counted ≤ 1
+    → Walks items at counted depth taken nestOf heightOf r → Small r
+small items at counted depth taken nestOf heightOf (Done next nest high) d l k w = (omega (arith, w .shallow), omega (arith, w .low, w .inside))
+small items at counted depth taken nestOf heightOf Malformed d l k w = tt
+
+-- What holds of each number and the next one holds of any number but 0 and the one before it.
+deeper : (P : ℕ → ℕ → Type 0) → ((d : ℕ) → P d (suc d)) → (depth : ℕ) → (depth ≡ 0 → ⊥) → P (depth - 1) depth
+deeper P next zero z = absurd (z refl)
+deeper P next (suc d) z = subst (λ (k : ℕ). P k (suc d)) (let e : d ≡ suc d - 1 = omega arith in e) (next d)
+
+-- The brackets, where d brackets may be opened and d is not 0.
+module _ (items : List ℕ) (at depth : ℕ) (l : at < length items) (z : depth ≡ 0 → ⊥) (r : Walked) where
+  pub opens-and : getD items at 0 ≡ andItem → Walks items (at + 1) 1 (depth - 1) (andsFrom (takeWithin (depth - 1)) 1 (drop (at + 1) items)) nestTerm heightExpr r
+      → Walks items at 0 depth (takeOperand (takeWithin depth) (drop at items)) nestOperand heightExpr (raisedBy r 1 0)
+  opens-and e =
+      deeper
+      (λ less d.
+        Walks items (at + 1) 1 less (andsFrom (takeWithin less) 1 (drop (at + 1) items)) nestTerm heightExpr r
+        → Walks items at 0 d (takeOperand (takeWithin d) (drop at items)) nestOperand heightExpr (raisedBy r 1 0))
+      (λ d. walk-and items at d l e r) depth z
+
+  pub opens-or : getD items at 0 ≡ orItem → Walks items (at + 1) 1 (depth - 1) (orsFrom (takeWithin (depth - 1)) 1 (drop (at + 1) items)) nestExpr heightExpr r
+      → Walks items at 0 depth (takeOperand (takeWithin depth) (drop at items)) nestOperand heightExpr (raisedBy r 1 0)
+  opens-or e =
+      deeper
+      (λ less d.
+        Walks items (at + 1) 1 less (orsFrom (takeWithin less) 1 (drop (at + 1) items)) nestExpr heightExpr r
+        → Walks items at 0 d (takeOperand (takeWithin d) (drop at items)) nestOperand heightExpr (raisedBy r 1 0))
+      (λ d. walk-or items at d l e r) depth z
+
+  pub opens-not : getD items at 0 ≡ notItem → Walks items (at + 1) 0 (depth - 1) (orsFrom (takeWithin (depth - 1)) 0 (drop (at + 1) items)) nestExpr heightExpr r
+      → Walks items at 0 depth (takeOperand (takeWithin depth) (drop at items)) nestOperand heightExpr (raisedBy r 1 1)
+  opens-not e =
+      deeper
+      (λ less d.
+        Walks items (at + 1) 0 less (orsFrom (takeWithin less) 0 (drop (at + 1) items)) nestExpr heightExpr r
+        → Walks items at 0 d (takeOperand (takeWithin d) (drop at items)) nestOperand heightExpr (raisedBy r 1 1))
+      (λ d. walk-not items at d l e r) depth z

@@ -1,0 +1,53 @@
+-- What walking over items tells: where it ends, and nesting and height of what stands there.
+use Prim.Native.Nat.{ℕ, _+_, _^_, _≤_, _<_}
+use mathlib.Core.Path.{_≡_}
+use mathlib.Core.Bool.{_||_}
+use mathlib.Core.List.{List}
+use mathlib.Core.Option.{Option, none, some}
+use lib.ListN.{length, drop}
+use Rattle.paper.specs.Query.{Expr, Query}
+use Rattle.paper.specs.Items.{Taken}
+use Rattle.paper.specs.Measures.{isOr, isAnd, inBrackets, nestExpr}
+use Rattle.paper.specs.Measures.{nesting as nestingOf, height as heightOf}
+use Rattle.shape.specs.declared.Walked.{Walked}
+use Rattle.shape.specs.declared.Walked.the-variants.{Done, Malformed}
+use Rattle.shape.specs.declared.Shape.{Shape}
+use Rattle.shape.specs.declared.Shape.the-variants.{Query as IsQuery, Malformed as NoQuery}
+
+-- The nesting of an expression as a term of `or` and as an operand of `and`: with the bracket that it gets there.
+abbrev pub nestTerm : Expr → ℕ
+nestTerm e = inBrackets (isOr e) (nestExpr e)
+
+abbrev pub nestOperand : Expr → ℕ
+nestOperand e = inBrackets (isOr e || isAnd e) (nestExpr e)
+
+-- The walk from `at` took something, and ended at `next` with these measures of it; `counted` operators stood before `at`.
+pub record Walk {A : Type 0} (items : List ℕ) (at counted depth : ℕ) (taken : Taken A) (nestOf heightOf : A → ℕ) (next nest high : ℕ) : Type 0 where
+  pub what : A
+  pub reads : taken ≡ some (what, drop next items)
+  pub nests : nest ≡ nestOf what
+  pub heights : high ≡ heightOf what
+  pub onward : at ≤ next
+  pub inside : next ≤ length items
+  pub shallow : nest ≤ depth
+  pub low : high + at ≤ next + counted
+
+-- What an answer says of the walk.
+abbrev pub Walks : {A : Type 0} → List ℕ → ℕ → ℕ → ℕ → Taken A → (A → ℕ) → (A → ℕ) → Walked → Type 0
+Walks items at counted depth taken nestOf heightOf (Done next nest high) = Walk items at counted depth taken nestOf heightOf next nest high
+Walks items at counted depth taken nestOf heightOf Malformed = taken ≡ none
+
+-- The shape of items: nesting and height of the query that they are.
+abbrev pub shapeOf : Option Query → Shape
+shapeOf none = NoQuery
+shapeOf (some q) = IsQuery (nestingOf q) (heightOf q)
+
+-- The walk with more nesting and height.
+abbrev pub raisedBy : Walked → ℕ → ℕ → Walked
+raisedBy (Done next nest high) nesting height = Done next (nest + nesting) (high + height)
+raisedBy Malformed nesting height = Malformed
+
+-- Measures that can be raised.
+abbrev pub Small : Walked → Type 0
+Small (Done next nest high) = (nest ≤ 64) × (high < 2 ^ 63)
+Small Malformed = Unit {0}

@@ -1,0 +1,218 @@
+// A query in memory: is it one, and then its nesting and height. Recursion opens a bracket each time, so at most 65 deep.
+use item::Item;
+ghost use mathlib.Core.Path.{_≡_};
+ghost use Prim.Native.Nat.{_+_, _≤_, max};
+ghost use lib.ListN.{length, drop};
+ghost use Rattle.paper.specs.Items.{leading, takePreds, takeSteps, takeOperand, takeWithin, decode};
+ghost use Rattle.paper.specs.Measures.{nestExpr, nestSteps, nestPreds, heightExpr, heightSteps, heightPreds};
+ghost use Rattle.paper.proofs.Decoding.{orsFrom, andsFrom};
+ghost use Rattle.shape.specs.Walks.{Small, raisedBy, Walks, nestTerm, nestOperand, shapeOf};
+
+// What a walk over items finds: where it ends, with nesting and height, or that the items are malformed.
+pub enum Walked {
+    Done { next: usize, nesting: usize, height: usize },
+    Malformed,
+}
+
+// What a slice is: a query with its nesting and height, or none.
+pub enum Shape {
+    Query { nesting: usize, height: usize },
+    Malformed,
+}
+
+// The larger of two numbers.
+fn larger(a: usize, b: usize) -> usize
+    ensures { λ r. ⌜ r ≡ max a b ⌝ }
+{
+    if a < b { b } else { a }
+}
+
+// A walk with more nesting and height.
+fn raised(walked: Walked, nesting: usize, height: usize) -> Walked
+    requires { ⌜ (Small walked) × (nesting ≤ 1) × (height ≤ 1) ⌝ }
+    ensures { λ r. ⌜ r ≡ raisedBy walked nesting height ⌝ }
+{
+    match walked {
+        Walked::Done { next, nesting: deep, height: high } => Walked::Done {
+            next,
+            nesting: deep + nesting,
+            height: high + height,
+        },
+        Walked::Malformed => Walked::Malformed,
+    }
+}
+
+// How many of the items from `at` on are this one.
+pub fn run_of(items: &[u32], at: usize, item: u32) -> usize
+    requires { ⌜ at ≤ length (now items) ⌝ }
+    ensures { λ r. ⌜ (r ≡ leading item (drop at (now (items .entry)))) × (at + r ≤ length (now (items .entry))) ⌝ }
+{
+    let mut end = at;
+    while end < items.len() {
+        if items[end] != item {
+            return end - at;
+        }
+        end += 1;
+    }
+    end - at
+}
+
+// An expression, of whose `or` items so many stand before `at`.
+fn expression(items: &[u32], at: usize, counted: usize, depth: usize) -> Walked
+    requires { ⌜ (at ≤ length (now items)) × (counted ≤ 1) × (depth ≤ 64) ⌝ }
+    ensures { λ r. ⌜ Walks (now (items .entry)) at counted depth (orsFrom (takeWithin depth) counted (drop at (now (items .entry)))) nestExpr heightExpr r ⌝ }
+{
+    let run = run_of(items, at, item::OR);
+    let first = term(items, at + run, 0, depth);
+    let Walked::Done { next, nesting, height } = first else {
+        return Walked::Malformed;
+    };
+    let mut place = next;
+    let mut deep = nesting;
+    let mut high = height;
+    let mut owed = run + counted;
+    while 0 < owed {
+        let more = term(items, place, 0, depth);
+        let Walked::Done { next, nesting, height } = more else {
+            return Walked::Malformed;
+        };
+        place = next;
+        deep = larger(deep, nesting);
+        high = larger(high, height) + 1;
+        owed -= 1;
+    }
+    Walked::Done { next: place, nesting: deep, height: high }
+}
+
+// A term of `or`, of whose `and` items so many stand before `at`.
+fn term(items: &[u32], at: usize, counted: usize, depth: usize) -> Walked
+    requires { ⌜ (at ≤ length (now items)) × (counted ≤ 1) × (depth ≤ 64) ⌝ }
+    ensures { λ r. ⌜ Walks (now (items .entry)) at counted depth (andsFrom (takeWithin depth) counted (drop at (now (items .entry)))) nestTerm heightExpr r ⌝ }
+{
+    let run = run_of(items, at, item::AND);
+    let first = operand(items, at + run, depth);
+    let Walked::Done { next, nesting, height } = first else {
+        return Walked::Malformed;
+    };
+    let mut place = next;
+    let mut deep = nesting;
+    let mut high = height;
+    let mut owed = run + counted;
+    while 0 < owed {
+        let more = operand(items, place, depth);
+        let Walked::Done { next, nesting, height } = more else {
+            return Walked::Malformed;
+        };
+        place = next;
+        deep = larger(deep, nesting);
+        high = larger(high, height) + 1;
+        owed -= 1;
+    }
+    Walked::Done { next: place, nesting: deep, height: high }
+}
+
+// An operand of `and`: a path, or what stands in a bracket of `not`, `and` or `or`.
+fn operand(items: &[u32], at: usize, depth: usize) -> Walked
+    requires { ⌜ (at ≤ length (now items)) × (depth ≤ 64) ⌝ }
+    ensures { λ r. ⌜ Walks (now (items .entry)) at 0 depth (takeOperand (takeWithin depth) (drop at (now (items .entry)))) nestOperand heightExpr r ⌝ }
+{
+    if items.len() <= at {
+        return Walked::Malformed;
+    }
+    let item = item::unpack(items[at]);
+    if let Item::Path(count) = item {
+        if count == 0 {
+            return Walked::Malformed;
+        }
+        return raised(steps(items, at + 1, count, depth), 0, 1);
+    }
+    if depth == 0 {
+        return Walked::Malformed;
+    }
+    match item {
+        Item::And => raised(term(items, at + 1, 1, depth - 1), 1, 0),
+        Item::Or => raised(expression(items, at + 1, 1, depth - 1), 1, 0),
+        Item::Not => raised(expression(items, at + 1, 0, depth - 1), 1, 1),
+        _ => Walked::Malformed,
+    }
+}
+
+// So many steps of a path, each with its predicates.
+fn steps(items: &[u32], at: usize, count: usize, depth: usize) -> Walked
+    requires { ⌜ (at ≤ length (now items)) × (depth ≤ 64) ⌝ }
+    ensures { λ r. ⌜ Walks (now (items .entry)) at 0 depth (takeSteps (takeWithin depth) count (drop at (now (items .entry)))) nestSteps heightSteps r ⌝ }
+{
+    let mut place = at;
+    let mut deep = 0;
+    let mut high = 0;
+    let mut owed = count;
+    while 0 < owed {
+        if items.len() <= place {
+            return Walked::Malformed;
+        }
+        let item = item::unpack(items[place]);
+        let Item::Step(step) = item else {
+            return Walked::Malformed;
+        };
+        let more = predicates(items, place + 1, step.count, depth);
+        let Walked::Done { next, nesting, height } = more else {
+            return Walked::Malformed;
+        };
+        place = next;
+        deep = larger(deep, nesting);
+        high = larger(high, height);
+        owed -= 1;
+    }
+    Walked::Done { next: place, nesting: deep, height: high }
+}
+
+// So many predicates, each an expression in its bracket.
+fn predicates(items: &[u32], at: usize, count: usize, depth: usize) -> Walked
+    requires { ⌜ (at ≤ length (now items)) × (depth ≤ 64) ⌝ }
+    ensures { λ r. ⌜ Walks (now (items .entry)) at 0 depth (takePreds (takeWithin depth) count (drop at (now (items .entry)))) nestPreds heightPreds r ⌝ }
+{
+    let mut place = at;
+    let mut deep = 0;
+    let mut high = 0;
+    let mut owed = count;
+    while 0 < owed {
+        if depth == 0 {
+            return Walked::Malformed;
+        }
+        let more = expression(items, place, 0, depth - 1);
+        let Walked::Done { next, nesting, height } = more else {
+            return Walked::Malformed;
+        };
+        place = next;
+        deep = larger(deep, nesting + 1);
+        high = larger(high, height);
+        owed -= 1;
+    }
+    Walked::Done { next: place, nesting: deep, height: high }
+}
+
+// What a slice of at most 4,096 items is.
+pub fn measure(items: &[u32]) -> Shape
+    ensures { λ r. ⌜ r ≡ shapeOf (decode (now (items .entry))) ⌝ }
+{
+    if items.len() == 0 {
+        return Shape::Malformed;
+    }
+    let mut place = 0;
+    let mut deep = 0;
+    let mut high = 0;
+    while place < items.len() {
+        let item = item::unpack(items[place]);
+        let Item::Path(count) = item else {
+            return Shape::Malformed;
+        };
+        let more = steps(items, place + 1, count, paper::BRACKET_LIMIT);
+        let Walked::Done { next, nesting, height } = more else {
+            return Shape::Malformed;
+        };
+        place = next;
+        deep = larger(deep, nesting);
+        high = larger(high, height + 1);
+    }
+    Shape::Query { nesting: deep, height: high }
+}
