@@ -113,7 +113,7 @@ module _ (items : List ℕ) (at depth : ℕ) (l : at < length items) where
         onward = omega (arith, w .onward);
         inside = w .inside;
         shallow = omega (arith, w .shallow);
-        low = omega (arith, w .low)
+        low = omega (arith, w .low);
       }
   walk-path count p some-step Malformed w =
       rw (at-place items at l, operand-path (takeWithin depth) (getD items at 0) count (drop (at + 1) items) p some-step, w)
@@ -130,7 +130,7 @@ module _ (items : List ℕ) (at depth : ℕ) (l : at < length items) where
         onward = omega (arith, w .onward);
         inside = w .inside;
         shallow = omega (arith, w .shallow);
-        low = omega (arith, w .low)
+        low = omega (arith, w .low);
       }
   walk-not e Malformed w = rw (at-place items at l, e, operand-not depth (drop (at + 1) items), w)
 
@@ -150,7 +150,7 @@ module _ (items : List ℕ) (at depth : ℕ) (l : at < length items) where
       → Walks items at 0 (suc depth) (takeOperand (takeWithin (suc depth)) (drop at items)) nestOperand heightExpr (raisedBy r 1 0)
   walk-or i (Done next nest high) w =
       let read : takeOperand (takeWithin (suc depth)) (drop at items) ≡ some (w .what, drop next items) =
-        rw (at-place items at l, i, operand-or depth (drop (at + 1) items), w .reads) in
+      rw (at-place items at l, i, operand-or depth (drop (at + 1) items), w .reads) in
       let is : isOr (w .what) ≡ true = or-there (w .what) next i read in
       record {
         what = w .what;
@@ -160,7 +160,7 @@ module _ (items : List ℕ) (at depth : ℕ) (l : at < length items) where
         onward = omega (arith, w .onward);
         inside = w .inside;
         shallow = omega (arith, w .shallow);
-        low = omega (arith, w .low)
+        low = omega (arith, w .low);
       }
   walk-or i Malformed w = rw (at-place items at l, i, operand-or depth (drop (at + 1) items), w)
 
@@ -169,7 +169,7 @@ module _ (items : List ℕ) (at depth : ℕ) (l : at < length items) where
       → Walks items at 0 (suc depth) (takeOperand (takeWithin (suc depth)) (drop at items)) nestOperand heightExpr (raisedBy r 1 0)
   walk-and i (Done next nest high) w =
       let read : takeOperand (takeWithin (suc depth)) (drop at items) ≡ some (w .what, drop next items) =
-        rw (at-place items at l, i, operand-and depth (drop (at + 1) items), w .reads) in
+      rw (at-place items at l, i, operand-and depth (drop (at + 1) items), w .reads) in
       let is : isAnd (w .what) ≡ true = and-there (w .what) next i read in
       record {
         what = w .what;
@@ -179,7 +179,7 @@ module _ (items : List ℕ) (at depth : ℕ) (l : at < length items) where
         onward = omega (arith, w .onward);
         inside = w .inside;
         shallow = omega (arith, w .shallow);
-        low = omega (arith, w .low)
+        low = omega (arith, w .low);
       }
     where
       lone : (e : Expr) → isAnd e ≡ true → nestOperand e ≡ 1 + nestTerm e
@@ -225,8 +225,8 @@ module _ (items : List ℕ) (at depth : ℕ) (l : at < length items) (z : depth 
   opens-and e =
       deeper
       (λ less d.
-        Walks items (at + 1) 1 less (andsFrom (takeWithin less) 1 (drop (at + 1) items)) nestTerm heightExpr r
-        → Walks items at 0 d (takeOperand (takeWithin d) (drop at items)) nestOperand heightExpr (raisedBy r 1 0))
+      Walks items (at + 1) 1 less (andsFrom (takeWithin less) 1 (drop (at + 1) items)) nestTerm heightExpr r
+      → Walks items at 0 d (takeOperand (takeWithin d) (drop at items)) nestOperand heightExpr (raisedBy r 1 0))
       (λ d. walk-and items at d l e r) depth z
 
   pub opens-or : getD items at 0 ≡ orItem → Walks items (at + 1) 1 (depth - 1) (orsFrom (takeWithin (depth - 1)) 1 (drop (at + 1) items)) nestExpr heightExpr r
@@ -234,8 +234,8 @@ module _ (items : List ℕ) (at depth : ℕ) (l : at < length items) (z : depth 
   opens-or e =
       deeper
       (λ less d.
-        Walks items (at + 1) 1 less (orsFrom (takeWithin less) 1 (drop (at + 1) items)) nestExpr heightExpr r
-        → Walks items at 0 d (takeOperand (takeWithin d) (drop at items)) nestOperand heightExpr (raisedBy r 1 0))
+      Walks items (at + 1) 1 less (orsFrom (takeWithin less) 1 (drop (at + 1) items)) nestExpr heightExpr r
+      → Walks items at 0 d (takeOperand (takeWithin d) (drop at items)) nestOperand heightExpr (raisedBy r 1 0))
       (λ d. walk-or items at d l e r) depth z
 
   pub opens-not : getD items at 0 ≡ notItem → Walks items (at + 1) 0 (depth - 1) (orsFrom (takeWithin (depth - 1)) 0 (drop (at + 1) items)) nestExpr heightExpr r
@@ -243,6 +243,15 @@ module _ (items : List ℕ) (at depth : ℕ) (l : at < length items) (z : depth 
   opens-not e =
       deeper
       (λ less d.
-        Walks items (at + 1) 0 less (orsFrom (takeWithin less) 0 (drop (at + 1) items)) nestExpr heightExpr r
-        → Walks items at 0 d (takeOperand (takeWithin d) (drop at items)) nestOperand heightExpr (raisedBy r 1 1))
+      Walks items (at + 1) 0 less (orsFrom (takeWithin less) 0 (drop (at + 1) items)) nestExpr heightExpr r
+      → Walks items at 0 d (takeOperand (takeWithin d) (drop at items)) nestOperand heightExpr (raisedBy r 1 1))
       (λ d. walk-not items at d l e r) depth z
+
+-- Where an item is no path, no path stands there.
+pub not-path : (w : ℕ) (i : Item) → Said w i → OneOf (1 ∷ 2 ∷ 3 ∷ 4 ∷ 5 ∷ []) (tagOf the-type i) → pathAt w ≡ none
+not-path w (Path count) s k = absurd (miss (1 ∷ 2 ∷ 3 ∷ 4 ∷ 5 ∷ []) 0 tt k)
+not-path w (StepItem st) s k = no-path w (λ e. omega (arith, step-found w (s .0) (s .1) .0))
+not-path w And s k = no-path w (λ e. omega arith)
+not-path w Or s k = no-path w (λ e. omega arith)
+not-path w Not s k = no-path w (λ e. omega arith)
+not-path w Bad s k = s .0

@@ -28,7 +28,6 @@ module _ (one : List ℕ → Taken Expr) (more : ℕ → Expr → List ℕ → T
     (goes : (n : ℕ) (e : Expr) (ws : List ℕ) → more (suc n) e ws ≡ found (one ws) (λ r. more n (join e (r .0)) (r .1)))
     (nest-join : (a b : Expr) → nestLeft (join a b) ≡ max (nestLeft a) (nestRight b))
     (height-join : (a b : Expr) → heightExpr (join a b) ≡ 1 + max (heightExpr a) (heightExpr b)) where
-
   -- What has been read of the run, with so many operands owed.
   pub record Left (items : List ℕ) (at counted depth : ℕ) (whole : Taken Expr) (place deep high owed : ℕ) : Type 0 where
     pub so-far : Expr
@@ -49,14 +48,14 @@ module _ (one : List ℕ → Taken Expr) (more : ℕ → Expr → List ℕ → T
       record {
         so-far = join (l .so-far) (w .what);
         goes-on =
-          l .goes-on ∙ goes owed (l .so-far) (drop place items) ∙ ap (λ (o : Taken Expr). found o (λ r. more owed (join (l .so-far) (r .0)) (r .1))) (w .reads) ∙
-          ap (λ (n : ℕ). more n (join (l .so-far) (w .what)) (drop next items)) (let e : owed ≡ suc owed - 1 = omega arith in e);
+            l .goes-on ∙ goes owed (l .so-far) (drop place items) ∙ ap (λ (o : Taken Expr). found o (λ r. more owed (join (l .so-far) (r .0)) (r .1))) (w .reads) ∙
+            ap (λ (n : ℕ). more n (join (l .so-far) (w .what)) (drop next items)) (let e : owed ≡ suc owed - 1 = omega arith in e);
         nests = ed ∙ ap₂ max (l .nests) (w .nests) ∙ sym (nest-join (l .so-far) (w .what));
         heights = omega (arith, eh, l .heights, w .heights, height-join (l .so-far) (w .what));
         onward = omega (arith, l .onward, w .onward);
         inside = w .inside;
         shallow = omega (arith, l .shallow, w .shallow);
-        low = omega (arith, l .low, w .low, w .onward)
+        low = omega (arith, l .low, w .low, w .onward);
       }
 
   -- An operand that is malformed.
@@ -78,7 +77,7 @@ module _ (one : List ℕ → Taken Expr) (more : ℕ → Expr → List ℕ → T
         onward = l .onward;
         inside = l .inside;
         shallow = l .shallow;
-        low = omega (arith, l .low)
+        low = omega (arith, l .low);
       }
   left-done items at counted depth whole place deep high (suc owed) z l = absurd (omega arith)
 
@@ -135,7 +134,7 @@ unfolding andsFrom
 ands-start depth items at counted run next nesting height e w =
     let there : drop (leading andItem (drop at items)) (drop at items) ≡ drop (at + run) items = ap (λ (k : ℕ). drop k (drop at items)) (sym e) ∙ drop-drop run at items in
     let read : takeOperand (takeWithin depth) (drop (leading andItem (drop at items)) (drop at items)) ≡ some (w .what, drop next items) =
-      ap (takeOperand (takeWithin depth)) there ∙ w .reads in
+    ap (takeOperand (takeWithin depth)) there ∙ w .reads in
     record {
       so-far = w .what;
       goes-on = rw (read, ← e);
@@ -144,7 +143,7 @@ ands-start depth items at counted run next nesting height e w =
       onward = omega (arith, w .onward);
       inside = w .inside;
       shallow = w .shallow;
-      low = omega (arith, w .low)
+      low = omega (arith, w .low);
     }
   where
     plain : (b : Bool) (n : ℕ) → inBrackets (b || false) n ≡ inBrackets b n
@@ -158,9 +157,9 @@ unfolding orsFrom
 ors-start depth items at counted run next nesting height e w =
     let there : drop (leading orItem (drop at items)) (drop at items) ≡ drop (at + run) items = ap (λ (k : ℕ). drop k (drop at items)) (sym e) ∙ drop-drop run at items in
     let read : andsFrom (takeWithin depth) 0 (drop (leading orItem (drop at items)) (drop at items)) ≡ some (w .what, drop next items) =
-      ap (andsFrom (takeWithin depth) 0) there ∙ w .reads in
+    ap (andsFrom (takeWithin depth) 0) there ∙ w .reads in
     let taken : takeTerm (takeWithin depth) (drop (leading orItem (drop at items)) (drop at items)) ≡ some (w .what, drop next items) =
-      term (takeWithin depth) (drop (leading orItem (drop at items)) (drop at items)) ∙ read in
+    term (takeWithin depth) (drop (leading orItem (drop at items)) (drop at items)) ∙ read in
     record {
       so-far = w .what;
       goes-on = rw (taken, ← e);
@@ -169,7 +168,7 @@ ors-start depth items at counted run next nesting height e w =
       onward = omega (arith, w .onward);
       inside = w .inside;
       shallow = w .shallow;
-      low = omega (arith, w .low)
+      low = omega (arith, w .low);
     }
 
 -- A run whose first operand is malformed.
@@ -230,7 +229,6 @@ module _ {A : Type 0} (rows : ℕ → List ℕ → Taken A) (join : A → A → 
     (empty : A) (stops : (ws : List ℕ) → rows 0 ws ≡ some (empty, ws)) (join-empty : (a : A) → join a empty ≡ a)
     (join-join : (a b c : A) → join (join a b) c ≡ join a (join b c)) (empty-join : (a : A) → join empty a ≡ a)
     (nest-join : (a b : A) → nestOf (join a b) ≡ max (nestOf a) (nestOf b)) (height-join : (a b : A) → heightOf (join a b) ≡ max (heightOf a) (heightOf b)) where
-
   -- What has been read of the row, with so many owed.
   pub record Row (items : List ℕ) (at depth : ℕ) (whole : Taken A) (place deep high owed : ℕ) : Type 0 where
     pub so-far : A
@@ -254,7 +252,7 @@ module _ {A : Type 0} (rows : ℕ → List ℕ → Taken A) (join : A → A → 
         onward = omega arith;
         inside = l;
         shallow = omega arith;
-        low = omega arith
+        low = omega arith;
       }
     where
       go : (o : Taken A) → o ≡ ahead (join empty) o
@@ -272,14 +270,14 @@ module _ {A : Type 0} (rows : ℕ → List ℕ → Taken A) (join : A → A → 
       record {
         so-far = join (l .so-far) one;
         goes-on =
-          l .goes-on ∙ ap (ahead (join (l .so-far))) (goes owed) ∙ go (rows owed (drop next items)) ∙
-          ap (λ (n : ℕ). ahead (join (join (l .so-far) one)) (rows n (drop next items))) (let e : owed ≡ suc owed - 1 = omega arith in e);
+            l .goes-on ∙ ap (ahead (join (l .so-far))) (goes owed) ∙ go (rows owed (drop next items)) ∙
+            ap (λ (n : ℕ). ahead (join (join (l .so-far) one)) (rows n (drop next items))) (let e : owed ≡ suc owed - 1 = omega arith in e);
         nests = ed ∙ ap₂ max (l .nests) en ∙ sym (nest-join (l .so-far) one);
         heights = ei ∙ ap₂ max (l .heights) eh ∙ sym (height-join (l .so-far) one);
         onward = omega (arith, l .onward);
         inside = i;
         shallow = omega (arith, l .shallow);
-        low = omega (arith, l .low, l .onward)
+        low = omega (arith, l .low, l .onward);
       }
     where
       go : (t : Taken A) → ahead (join (l .so-far)) (ahead (join one) t) ≡ ahead (join (join (l .so-far) one)) t
@@ -299,14 +297,14 @@ module _ {A : Type 0} (rows : ℕ → List ℕ → Taken A) (join : A → A → 
       record {
         what = l .so-far;
         reads =
-          l .goes-on ∙ ap (ahead (join (l .so-far))) (stops (drop place items)) ∙
-          ap (λ (a : A). some (a, drop place items)) (join-empty (l .so-far));
+            l .goes-on ∙ ap (ahead (join (l .so-far))) (stops (drop place items)) ∙
+            ap (λ (a : A). some (a, drop place items)) (join-empty (l .so-far));
         nests = l .nests;
         heights = l .heights;
         onward = l .onward;
         inside = l .inside;
         shallow = l .shallow;
-        low = omega (arith, l .low)
+        low = omega (arith, l .low);
       }
   row-done items at depth whole place deep high (suc owed) z l = absurd (omega arith)
 
@@ -398,7 +396,7 @@ unfolding appendPreds
 pred-row zero items place e next d p n = absurd (d refl)
 pred-row (suc depth) items place e next d p n =
     let q : orsFrom (takeWithin depth) 0 (drop place items) ≡ some (e, drop next items) =
-      ap (λ (k : ℕ). orsFrom (takeWithin k) 0 (drop place items)) (let k : depth ≡ suc depth - 1 = omega arith in k) ∙ p in
+    ap (λ (k : ℕ). orsFrom (takeWithin k) 0 (drop place items)) (let k : depth ≡ suc depth - 1 = omega arith in k) ∙ p in
     rw (whole (takeWithin depth) (drop place items), q) (found-ahead (pred e) (takePreds (takeWithin (suc depth)) n (drop next items)))
 
 pub bad-pred-row : (depth : ℕ) (items : List ℕ) (place : ℕ) → (depth ≡ 0 → ⊥) → orsFrom (takeWithin (depth - 1)) 0 (drop place items) ≡ none → (n : ℕ)
@@ -406,7 +404,7 @@ pub bad-pred-row : (depth : ℕ) (items : List ℕ) (place : ℕ) → (depth ≡
 bad-pred-row zero items place d p n = absurd (d refl)
 bad-pred-row (suc depth) items place d p n =
     let q : orsFrom (takeWithin depth) 0 (drop place items) ≡ none =
-      ap (λ (k : ℕ). orsFrom (takeWithin k) 0 (drop place items)) (let k : depth ≡ suc depth - 1 = omega arith in k) ∙ p in
+    ap (λ (k : ℕ). orsFrom (takeWithin k) 0 (drop place items)) (let k : depth ≡ suc depth - 1 = omega arith in k) ∙ p in
     rw (whole (takeWithin depth) (drop place items), q)
 
 -- How each begins, goes on and ends.

@@ -10,7 +10,11 @@ ghost use Rattle.shape.specs.Walks.{Small, raisedBy, Walks, nestTerm, ne
 
 // What a walk over items finds: where it ends, with nesting and height, or that the items are malformed.
 pub enum Walked {
-    Done { next: usize, nesting: usize, height: usize },
+    Done {
+        next: usize,
+        nesting: usize,
+        height: usize,
+    },
     Malformed,
 }
 
@@ -33,7 +37,11 @@ fn raised(walked: Walked, nesting: usize, height: usize) -> Walked
     ensures { λ r. ⌜ r ≡ raisedBy walked nesting height ⌝ }
 {
     match walked {
-        Walked::Done { next, nesting: deep, height: high } => Walked::Done {
+        Walked::Done {
+            next,
+            nesting: deep,
+            height: high,
+        } => Walked::Done {
             next,
             nesting: deep + nesting,
             height: high + height,
@@ -64,7 +72,12 @@ fn expression(items: &[u32], at: usize, counted: usize, depth: usize) -> Walked
 {
     let run = run_of(items, at, item::OR);
     let first = term(items, at + run, 0, depth);
-    let Walked::Done { next, nesting, height } = first else {
+    let Walked::Done {
+        next,
+        nesting,
+        height,
+    } = first
+    else {
         return Walked::Malformed;
     };
     let mut place = next;
@@ -73,7 +86,12 @@ fn expression(items: &[u32], at: usize, counted: usize, depth: usize) -> Walked
     let mut owed = run + counted;
     while 0 < owed {
         let more = term(items, place, 0, depth);
-        let Walked::Done { next, nesting, height } = more else {
+        let Walked::Done {
+            next,
+            nesting,
+            height,
+        } = more
+        else {
             return Walked::Malformed;
         };
         place = next;
@@ -81,7 +99,11 @@ fn expression(items: &[u32], at: usize, counted: usize, depth: usize) -> Walked
         high = larger(high, height) + 1;
         owed -= 1;
     }
-    Walked::Done { next: place, nesting: deep, height: high }
+    Walked::Done {
+        next: place,
+        nesting: deep,
+        height: high,
+    }
 }
 
 // A term of `or`, of whose `and` items so many stand before `at`.
@@ -91,7 +113,12 @@ fn term(items: &[u32], at: usize, counted: usize, depth: usize) -> Walked
 {
     let run = run_of(items, at, item::AND);
     let first = operand(items, at + run, depth);
-    let Walked::Done { next, nesting, height } = first else {
+    let Walked::Done {
+        next,
+        nesting,
+        height,
+    } = first
+    else {
         return Walked::Malformed;
     };
     let mut place = next;
@@ -100,7 +127,12 @@ fn term(items: &[u32], at: usize, counted: usize, depth: usize) -> Walked
     let mut owed = run + counted;
     while 0 < owed {
         let more = operand(items, place, depth);
-        let Walked::Done { next, nesting, height } = more else {
+        let Walked::Done {
+            next,
+            nesting,
+            height,
+        } = more
+        else {
             return Walked::Malformed;
         };
         place = next;
@@ -108,7 +140,11 @@ fn term(items: &[u32], at: usize, counted: usize, depth: usize) -> Walked
         high = larger(high, height) + 1;
         owed -= 1;
     }
-    Walked::Done { next: place, nesting: deep, height: high }
+    Walked::Done {
+        next: place,
+        nesting: deep,
+        height: high,
+    }
 }
 
 // An operand of `and`: a path, or what stands in a bracket of `not`, `and` or `or`.
@@ -155,7 +191,12 @@ fn steps(items: &[u32], at: usize, count: usize, depth: usize) -> Walked
             return Walked::Malformed;
         };
         let more = predicates(items, place + 1, step.count, depth);
-        let Walked::Done { next, nesting, height } = more else {
+        let Walked::Done {
+            next,
+            nesting,
+            height,
+        } = more
+        else {
             return Walked::Malformed;
         };
         place = next;
@@ -163,7 +204,11 @@ fn steps(items: &[u32], at: usize, count: usize, depth: usize) -> Walked
         high = larger(high, height);
         owed -= 1;
     }
-    Walked::Done { next: place, nesting: deep, height: high }
+    Walked::Done {
+        next: place,
+        nesting: deep,
+        height: high,
+    }
 }
 
 // So many predicates, each an expression in its bracket.
@@ -180,7 +225,12 @@ fn predicates(items: &[u32], at: usize, count: usize, depth: usize) -> Walked
             return Walked::Malformed;
         }
         let more = expression(items, place, 0, depth - 1);
-        let Walked::Done { next, nesting, height } = more else {
+        let Walked::Done {
+            next,
+            nesting,
+            height,
+        } = more
+        else {
             return Walked::Malformed;
         };
         place = next;
@@ -188,7 +238,11 @@ fn predicates(items: &[u32], at: usize, count: usize, depth: usize) -> Walked
         high = larger(high, height);
         owed -= 1;
     }
-    Walked::Done { next: place, nesting: deep, height: high }
+    Walked::Done {
+        next: place,
+        nesting: deep,
+        height: high,
+    }
 }
 
 // What a slice of at most 4,096 items is.
@@ -207,12 +261,20 @@ pub fn measure(items: &[u32]) -> Shape
             return Shape::Malformed;
         };
         let more = steps(items, place + 1, count, paper::BRACKET_LIMIT);
-        let Walked::Done { next, nesting, height } = more else {
+        let Walked::Done {
+            next,
+            nesting,
+            height,
+        } = more
+        else {
             return Shape::Malformed;
         };
         place = next;
         deep = larger(deep, nesting);
         high = larger(high, height + 1);
     }
-    Shape::Query { nesting: deep, height: high }
+    Shape::Query {
+        nesting: deep,
+        height: high,
+    }
 }

@@ -29,7 +29,7 @@ sub-result : tie.Need-sub-result Inv-loop μ-loop
 sub-result c = omega arith
 
 returns : tie.Need-returns Inv-loop μ-loop
-returns c = 
+returns c =
     let a = c .before .before .before .before .args in
     let e = c .before .before .before .loop .end in
     omega (arith, run-other (now (a .items)) e (a .item) (omega arith) (c .if1 .taken))
@@ -41,18 +41,18 @@ loop-less : tie.Need-loop-less Inv-loop μ-loop
 loop-less c = omega arith
 
 loop-again : tie.Need-loop-again Inv-loop μ-loop
-loop-again c = 
+loop-again c =
     let a = c .before .before .before .before .args in
     let e = c .before .before .before .loop .end in
     let m : leading (a .item) (drop e (now (a .items))) ≡ suc (leading (a .item) (drop (e + 1) (now (a .items)))) =
-      rw (add-one e) (run-more (now (a .items)) e (a .item) (omega arith) (c .if1 .left)) in
+    rw (add-one e) (run-more (now (a .items)) e (a .item) (omega arith) (c .if1 .left)) in
     omega arith
 
 sub-result-2 : tie.Need-sub-result-2 Inv-loop μ-loop
 sub-result-2 c = omega arith
 
 returns-2 : tie.Need-returns-2 Inv-loop μ-loop
-returns-2 c = 
+returns-2 c =
     let a = c .before .before .args in
     omega (arith, run-end (now (a .items)) (c .before .loop .end) (a .item) (omega arith))
 
