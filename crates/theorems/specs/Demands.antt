@@ -1,0 +1,91 @@
+-- What composition owes, in full, for every document and every pair of queries. The proofs are in proofs/, one file a concept.
+use Prim.Native.Nat.{ℕ, _+_, _≤_, _<_, max}
+use mathlib.Core.Path.{_≡_}
+use mathlib.Core.Bool.{Bool, true, false, _&&_}
+use mathlib.Core.List.{List, [], _∷_}
+use mathlib.Core.Option.{Option, none, some}
+use lib.ListN.{length}
+use Rattle.paper.specs.Tools.{column}
+use Rattle.paper.specs.Limits.{itemLimit, bracketLimit}
+use Rattle.paper.specs.Query.{Axis, Expr, Steps, Query, paths}
+use Rattle.paper.specs.Document.{Table, nodes, tableFault, marked, marksFault}
+use Rattle.paper.specs.Selection.{leads, holds, arrives, keeps, kept}
+use Rattle.paper.specs.Extraction.{extracted}
+use Rattle.paper.specs.Items.{encode, decode, good}
+use Rattle.paper.specs.Measures.{size, nesting, height}
+use Rattle.paper.specs.Composition.{turned, reversed, visible, guardExpr, guardSteps, composed, composedSize, composedNesting}
+
+-- Every node marked.
+abbrev pub allMarked : Table → List ℕ
+allMarked t = column (nodes t) (λ i. 1)
+
+-- EXACTNESS: the composed query keeps, inside any marks, what the outer query keeps inside what the inner query keeps.
+abbrev pub Exactness : Type 0
+Exactness =
+    (t : Table) (marks : List ℕ) (outer inner : Query) → tableFault t ≡ none → marksFault t marks ≡ none
+    → kept t marks (composed outer inner) ≡ kept t (kept t marks inner) outer
+
+-- EXTRACTION: a query run inside marks keeps the same sub-document as the query run on the extracted table with every mark 1.
+abbrev pub Extraction : Type 0
+Extraction =
+    (t : Table) (marks : List ℕ) (q : Query) → tableFault t ≡ none → marksFault t marks ≡ none
+    → extracted t (kept t marks q) ≡ extracted (extracted t marks) (kept (extracted t marks) (allMarked (extracted t marks)) q)
+
+-- What a query keeps of a whole document, as a table of its own.
+abbrev pub view : Table → Query → Table
+view t q = extracted t (kept t (allMarked t) q)
+
+-- SECRECY: of two documents that the inner query shows alike, the composed query shows the same, whatever the outer query is.
+abbrev pub Secrecy : Type 0
+Secrecy =
+    (t u : Table) (outer inner : Query) → tableFault t ≡ none → tableFault u ≡ none
+    → view t inner ≡ view u inner → view t (composed outer inner) ≡ view u (composed outer inner)
+
+-- CONVERSE: an axis leads from i to j exactly if its turned axis leads from j to i.
+abbrev pub Converse : Type 0
+Converse = (t : Table) (a : Axis) (i j : ℕ) → leads t (turned a) i j ≡ leads t a j i
+
+-- REVERSE: the reverse of a path holds at a node exactly if the path leads there from the root, inside marks.
+abbrev pub Reverse : Type 0
+Reverse =
+    (t : Table) (marks : List ℕ) (p : Steps) (k : ℕ) → tableFault t ≡ none → marksFault t marks ≡ none → k < nodes t → marked marks k ≡ true
+    → holds t marks (reversed p) k ≡ (marked marks 0 && arrives t marks p 0 k)
+
+-- VISIBLE: V holds at a node exactly if the inner query keeps it.
+abbrev pub Visible : Type 0
+Visible =
+    (t : Table) (marks : List ℕ) (inner : Query) (i : ℕ) → tableFault t ≡ none → marksFault t marks ≡ none → i < nodes t → marked marks i ≡ true
+    → holds t marks (visible inner) i ≡ keeps t marks inner i
+
+-- GUARD: a guarded expression holds inside the given marks exactly where the plain one holds inside what the inner query keeps.
+abbrev pub GuardedExpr : Type 0
+GuardedExpr =
+    (t : Table) (marks : List ℕ) (inner : Query) (e : Expr) (i : ℕ) → tableFault t ≡ none → marksFault t marks ≡ none
+    → holds t marks (guardExpr e (visible inner)) i ≡ holds t (kept t marks inner) e i
+
+-- Guarded steps lead, inside the given marks, where the plain ones lead inside what the inner query keeps.
+abbrev pub GuardedSteps : Type 0
+GuardedSteps =
+    (t : Table) (marks : List ℕ) (inner : Query) (p : Steps) (i k : ℕ) → tableFault t ≡ none → marksFault t marks ≡ none
+    → arrives t marks (guardSteps p (visible inner)) i k ≡ arrives t (kept t marks inner) p i k
+
+-- SIZE, NESTING, HEIGHT: those of a composition are 01's formulas, and its height has a bound.
+abbrev pub Size : Type 0
+Size = (outer inner : Query) → size (composed outer inner) ≡ composedSize outer inner
+
+abbrev pub Nesting : Type 0
+Nesting = (outer inner : Query) → nesting (composed outer inner) ≡ composedNesting outer inner
+
+abbrev pub Height : Type 0
+Height = (outer inner : Query) → height (composed outer inner) ≤ height outer + max 3 (height inner) + length (paths inner) + 1
+
+-- WELL FORMED: the composition of queries that can stand in memory can stand there, where its size is within the limit;
+abbrev pub WellFormed : Type 0
+WellFormed =
+    (outer inner : Query) → good outer ≡ true → good inner ≡ true → size (composed outer inner) ≤ itemLimit → good (composed outer inner) ≡ true
+
+-- and where its nesting is too, it is read back from its items.
+abbrev pub ReadBack : Type 0
+ReadBack =
+    (outer inner : Query) → good outer ≡ true → good inner ≡ true → size (composed outer inner) ≤ itemLimit → nesting (composed outer inner) ≤ bracketLimit
+    → decode (encode (composed outer inner)) ≡ some (composed outer inner)
