@@ -1,0 +1,3 @@
+pub mod Axes
+pub mod Stepping
+pub mod Reverse

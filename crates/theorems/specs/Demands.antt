@@ -4,8 +4,7 @@ use mathlib.Core.Path.{_≡_}
 use mathlib.Core.Bool.{Bool, true, false, _&&_}
 use mathlib.Core.List.{List, [], _∷_}
 use mathlib.Core.Option.{Option, none, some}
-use lib.ListN.{length}
-use Rattle.paper.specs.Tools.{column}
+use lib.ListN.{length, replicate}
 use Rattle.paper.specs.Limits.{itemLimit, bracketLimit}
 use Rattle.paper.specs.Query.{Axis, Expr, Steps, Query, paths}
 use Rattle.paper.specs.Document.{Table, nodes, tableFault, marked, marksFault}
@@ -17,7 +16,7 @@ use Rattle.paper.specs.Composition.{turned, reversed, visible, guardExpr, guard
 
 -- Every node marked.
 abbrev pub allMarked : Table → List ℕ
-allMarked t = column (nodes t) (λ i. 1)
+allMarked t = replicate (nodes t) 1
 
 -- EXACTNESS: the composed query keeps, inside any marks, what the outer query keeps inside what the inner query keeps.
 abbrev pub Exactness : Type 0
