@@ -1,6 +1,9 @@
+pub mod Renumber
 pub mod Axes
 pub mod Stepping
 pub mod Reverse
 pub mod Visible
 pub mod Guard
 pub mod Exact
+pub mod Extract
+pub mod Secrecy
