@@ -7,3 +7,7 @@ pub mod Guard
 pub mod Exact
 pub mod Extract
 pub mod Secrecy
+pub mod Sizes
+pub mod Nesting
+pub mod Height
+pub mod Forms

@@ -6,11 +6,11 @@ use mathlib.Core.List.{List, [], _∷_}
 use mathlib.Core.Option.{Option, none, some}
 use lib.ListN.{length, replicate}
 use Rattle.paper.specs.Limits.{itemLimit, bracketLimit}
-use Rattle.paper.specs.Query.{Axis, Expr, Steps, Query, paths}
+use Rattle.paper.specs.Query.{Axis, Expr, path, both, either, negated, Steps, stop, step, Preds, bare, pred, Query, paths}
 use Rattle.paper.specs.Document.{Table, nodes, tableFault, marked, marksFault}
 use Rattle.paper.specs.Selection.{leads, holds, arrives, keeps, kept}
 use Rattle.paper.specs.Extraction.{extracted}
-use Rattle.paper.specs.Items.{encode, decode, good}
+use Rattle.paper.specs.Items.{encode, decode, stepCount, goodTest, good}
 use Rattle.paper.specs.Measures.{size, nesting, height}
 use Rattle.paper.specs.Composition.{turned, reversed, visible, guardExpr, guardSteps, composed, composedSize, composedNesting}
 
@@ -68,17 +68,44 @@ GuardedSteps =
     (t : Table) (marks : List ℕ) (inner : Query) (p : Steps) (i k : ℕ) → tableFault t ≡ none → marksFault t marks ≡ none
     → arrives t marks (guardSteps p (visible inner)) i k ≡ arrives t (kept t marks inner) p i k
 
+-- 01's rules on a query of any size: names are below 256, and each path of a predicate has a step.
+abbrev mutual
+  pub ProperExpr : Expr → Type 0
+  ProperExpr (path steps) = (1 ≤ stepCount steps) × ProperSteps steps
+  ProperExpr (both a b) = ProperExpr a × ProperExpr b
+  ProperExpr (either a b) = ProperExpr a × ProperExpr b
+  ProperExpr (negated a) = ProperExpr a
+
+  pub ProperSteps : Steps → Type 0
+  ProperSteps stop = Unit
+  ProperSteps (step a x ps rest) = (goodTest x ≡ true) × (ProperPreds ps × ProperSteps rest)
+
+  pub ProperPreds : Preds → Type 0
+  ProperPreds bare = Unit
+  ProperPreds (pred e ps) = ProperExpr e × ProperPreds ps
+
+abbrev pub ProperPaths : List Steps → Type 0
+ProperPaths [] = Unit
+ProperPaths (p ∷ ps) = ProperSteps p × ProperPaths ps
+
+abbrev pub Proper : Query → Type 0
+Proper q = ProperPaths (paths q)
+
 -- SIZE, NESTING, HEIGHT: those of a composition are 01's formulas, and its height has a bound.
 abbrev pub Size : Type 0
 Size = (outer inner : Query) → size (composed outer inner) ≡ composedSize outer inner
 
 abbrev pub Nesting : Type 0
-Nesting = (outer inner : Query) → nesting (composed outer inner) ≡ composedNesting outer inner
+Nesting = (outer inner : Query) → Proper outer → nesting (composed outer inner) ≡ composedNesting outer inner
 
 abbrev pub Height : Type 0
 Height = (outer inner : Query) → height (composed outer inner) ≤ height outer + max 3 (height inner) + length (paths inner) + 1
 
--- WELL FORMED: the composition of queries that can stand in memory can stand there, where its size is within the limit;
+-- WELL FORMED: the composition of queries that keep 01's rules keeps them;
+abbrev pub ProperComposed : Type 0
+ProperComposed = (outer inner : Query) → Proper outer → Proper inner → Proper (composed outer inner)
+
+-- the composition of queries that can stand in memory can stand there, where its size is within the limit;
 abbrev pub WellFormed : Type 0
 WellFormed =
     (outer inner : Query) → good outer ≡ true → good inner ≡ true → size (composed outer inner) ≤ itemLimit → good (composed outer inner) ≡ true
