@@ -132,7 +132,7 @@ module _ (t : Table) (m : List ℕ) (inner : Query) (ft : tableFault t ≡ none)
 
 -- THE COMPOSED QUERY KEEPS WHAT THE OUTER QUERY KEEPS INSIDE WHAT THE INNER QUERY KEEPS.
 pub exactness : Exactness
-unfolding kept
+unfolding kept composed composedPath
 exactness t m outer inner ft fm =
     column-same (nodes t) 0 (λ x. cond (keeps t m (composed outer inner) x) 1 0) (λ x. cond (keeps t (kept t m inner) outer x) 1 0)
     (λ x z l.

@@ -15,7 +15,7 @@ use Rattle.paper.specs.Extraction.{rank, extracted}
 use Rattle.paper.proofs.Tests.{and-true}
 use Rattle.paper.proofs.Trees.{Tree, Closed, tree, closed}
 use Rattle.paper.proofs.Keeping.{marked-kept}
-use Rattle.theorems.specs.Demands.{allMarked, Extraction}
+use Rattle.theorems.specs.Demands.{allMarked, Extraction, SameNodes}
 use Rattle.theorems.proofs.Renumber.{rank-same, extracted-inside, extracted-kind, some-renumbered, over-renumbered, marks-root, extracted-twice}
 use Rattle.theorems.proofs.Axes.{leads-renumbered}
 use Rattle.theorems.proofs.Visible.{selects-marked}
@@ -99,14 +99,16 @@ module _ (t : Table) (w : Tree t) (m : List ℕ) (c : Closed t m) (root : marked
       ap₂ (λ a b. a && b) (selects-renumbered q k hk)
       (ap₂ (λ a b. a || b) (over-renumbered t w m c root k hk i l h) (over-renumbered t w m c root i h k lk hk))))
 
+-- THE SAME NODES ARE KEPT.
+pub same-nodes : SameNodes
+same-nodes t m q i ft fm l h =
+    let w = tree t ft in
+    let c = closed t m fm in
+    keeps-renumbered t w m c (marks-root t w m c i l h) q i l h
+
 -- EXTRACTING AFTER THE RUN IS THE SAME TABLE EITHER WAY.
 pub extraction : Extraction
 extraction t m q ft fm =
-    let w = tree t ft in
-    let c = closed t m fm in
     let u = extracted t m in
-    extracted-twice t w m (kept t m q) (kept u (allMarked u) q) (kept-marked t m q)
-    (λ i l h.
-    marked-kept u (allMarked u) q (rank m i) (extracted-inside t m i l h) ∙
-    keeps-renumbered t w m c (marks-root t w m c i l h) q i l h ∙
-    sym (marked-kept t m q i l))
+    extracted-twice t (tree t ft) m (kept t m q) (kept u (allMarked u) q) (kept-marked t m q)
+    (λ i l h. marked-kept u (allMarked u) q (rank m i) (extracted-inside t m i l h) ∙ same-nodes t m q i ft fm l h ∙ sym (marked-kept t m q i l))

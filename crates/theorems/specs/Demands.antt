@@ -9,7 +9,7 @@ use Rattle.paper.specs.Limits.{itemLimit, bracketLimit}
 use Rattle.paper.specs.Query.{Axis, Expr, path, both, either, negated, Steps, stop, step, Preds, bare, pred, Query, paths}
 use Rattle.paper.specs.Document.{Table, nodes, tableFault, marked, marksFault}
 use Rattle.paper.specs.Selection.{leads, holds, arrives, keeps, kept}
-use Rattle.paper.specs.Extraction.{extracted}
+use Rattle.paper.specs.Extraction.{rank, extracted}
 use Rattle.paper.specs.Items.{encode, decode, stepCount, goodTest, good}
 use Rattle.paper.specs.Measures.{size, nesting, height}
 use Rattle.paper.specs.Composition.{turned, reversed, visible, guardExpr, guardSteps, composed, composedSize, composedNesting}
@@ -29,6 +29,12 @@ abbrev pub Extraction : Type 0
 Extraction =
     (t : Table) (marks : List ℕ) (q : Query) → tableFault t ≡ none → marksFault t marks ≡ none
     → extracted t (kept t marks q) ≡ extracted (extracted t marks) (kept (extracted t marks) (allMarked (extracted t marks)) q)
+
+-- SAME NODES: inside marks, a query keeps the very nodes that it keeps, under their new numbers, on the extracted table with every mark 1.
+abbrev pub SameNodes : Type 0
+SameNodes =
+    (t : Table) (marks : List ℕ) (q : Query) (i : ℕ) → tableFault t ≡ none → marksFault t marks ≡ none → i < nodes t → marked marks i ≡ true
+    → keeps (extracted t marks) (allMarked (extracted t marks)) q (rank marks i) ≡ keeps t marks q i
 
 -- What a query keeps of a whole document, as a table of its own.
 abbrev pub view : Table → Query → Table
