@@ -1,7 +1,7 @@
 -- The laws of an axis: all that the theorems use of it. A new axis needs these laws and nothing else. Assumes nothing.
 use Prim.Native.Nat.{ℕ, _<_}
 use mathlib.Core.Path.{_≡_, refl, sym}
-use mathlib.Core.Bool.{Bool, true, false}
+use mathlib.Core.Bool.{true}
 use mathlib.Core.List.{List}
 use lib.Dec.{eqb}
 use borrow.Author.Tests.{eqb-true, eq-eqb}
@@ -9,7 +9,6 @@ use Rattle.paper.specs.Query.{Axis, self, child, parent, descendantOrSelf, ance
 use Rattle.paper.specs.Document.{Table, nodes, marked}
 use Rattle.paper.specs.Selection.{leads}
 use Rattle.paper.specs.Extraction.{rank, extracted}
-use Rattle.paper.specs.Composition.{turned}
 use Rattle.paper.proofs.Tests.{agree}
 use Rattle.paper.proofs.Trees.{Tree, Closed}
 use Rattle.theorems.specs.Demands.{Converse}

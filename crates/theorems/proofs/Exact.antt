@@ -1,25 +1,25 @@
 -- Composition is exact: the composed query selects the nodes that are below both a node selected by the outer query, inside what the inner query keeps, and a node selected by the inner query; what is kept is the same.
 -- A kept node and both selected ones lie on one way up to the root, so the lowest of them is selected by the composed query. Assumes nothing.
-use Prim.Native.Nat.{ℕ, _+_, _≤_, _<_}
+use Prim.Native.Nat.{ℕ, _<_}
 use native.Mathlib.Omega.{arith}
-use mathlib.Core.Path.{_≡_, refl, sym, _∙_, ap, ap₂, subst}
-use mathlib.Core.Bool.{Bool, true, false, not, _&&_, _||_, cond, false≢true}
+use mathlib.Core.Path.{_≡_, refl, sym, _∙_, ap, subst}
+use mathlib.Core.Bool.{Bool, true, _||_, cond}
 use mathlib.Core.List.{List, [], _∷_, map}
-use mathlib.Core.Logic.{_⊎_, inl, inr, ⊎-elim}
+use mathlib.Core.Logic.{⊎-elim}
 use mathlib.Core.Option.{none}
 use lib.Dec.{eqb}
 use borrow.Author.Tests.{eqb-true, eq-eqb}
-use Rattle.paper.specs.Tools.{someOf, column}
-use Rattle.paper.specs.Query.{descendantOrSelf, ancestorOrSelf, anyNode, Expr, Steps, stop, step, Preds, bare, pred, Query, paths}
+use Rattle.paper.specs.Tools.{someOf}
+use Rattle.paper.specs.Query.{descendantOrSelf, ancestorOrSelf, anyNode, Steps, bare, pred, Query, paths}
 use Rattle.paper.specs.Document.{Table, nodes, over, marked, tableFault, marksFault}
 use Rattle.paper.specs.Selection.{holds, arrives, selects, keeps, kept}
 use Rattle.paper.specs.Composition.{selectedBy, someNode, visible, guardSteps, lastStep, composedPath, composed}
-use Rattle.paper.proofs.Tests.{and-true, true-and, or-true, or-left, or-right, agree}
+use Rattle.paper.proofs.Tests.{and-true, true-and, or-left, or-right, agree}
 use Rattle.paper.proofs.Searches.{column-same}
-use Rattle.paper.proofs.Trees.{Tree, over-self, over-root, over-trans, over-row, over-marked, Closed, tree, closed}
-use Rattle.paper.proofs.Keeping.{marked-kept, keeps-intro, keeps-elim, kept-closed}
+use Rattle.paper.proofs.Trees.{over-self, over-root, over-trans, over-row, tree}
+use Rattle.paper.proofs.Keeping.{marked-kept, keeps-intro, keeps-elim}
 use Rattle.theorems.specs.Demands.{Exactness}
-use Rattle.theorems.proofs.Stepping.{Goes, goes, went, arrives-marked, arrives-on, arrives-apart, some-node, node-some}
+use Rattle.theorems.proofs.Stepping.{goes, went, arrives-marked, arrives-on, arrives-apart, some-node, node-some}
 use Rattle.theorems.proofs.Visible.{some-path, selects-marked, selected}
 use Rattle.theorems.proofs.Guard.{kept-marked, guarded-steps}
 

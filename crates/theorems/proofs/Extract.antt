@@ -1,15 +1,14 @@
 -- A query run inside closed marks keeps the very nodes that it keeps on the extracted table with every mark 1.
 -- Each axis, test and search is kept by renumbering, so all that the definitions build from them is. Assumes nothing.
-use Prim.Native.Nat.{ℕ, zero, suc, _<_}
+use Prim.Native.Nat.{ℕ, _<_}
 use mathlib.Core.Path.{_≡_, refl, sym, _∙_, ap, ap₂}
-use mathlib.Core.Bool.{Bool, true, false, not, _&&_, _||_}
+use mathlib.Core.Bool.{Bool, true, not, _&&_, _||_}
 use mathlib.Core.List.{List, [], _∷_}
-use mathlib.Core.Option.{none}
 use lib.Dec.{eqb}
-use lib.ListN.{getD, getD-replicate}
+use lib.ListN.{getD-replicate}
 use Rattle.paper.specs.Tools.{someBelow, someOf}
 use Rattle.paper.specs.Query.{Axis, Test, Expr, path, both, either, negated, Steps, stop, step, Preds, bare, pred, Query, paths}
-use Rattle.paper.specs.Document.{Table, nodes, kindOf, over, marked, tableFault, marksFault}
+use Rattle.paper.specs.Document.{Table, nodes, kindOf, over, marked}
 use Rattle.paper.specs.Selection.{leads, meets, reaches, holds, finds, allHold, arrives, selects, keeps, kept}
 use Rattle.paper.specs.Extraction.{rank, extracted}
 use Rattle.paper.proofs.Tests.{and-true}

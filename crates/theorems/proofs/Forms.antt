@@ -1,12 +1,10 @@
 -- A composition of well-formed queries is well formed: it keeps 01's rules, and a count in it is no more than its size. Each by induction over the query. Assumes nothing.
-use Prim.Native.Nat.{ℕ, zero, suc, _+_, _*_, _-_, _≤_, _<_, max}
+use Prim.Native.Nat.{suc, _≤_, _<_}
 use native.Mathlib.Omega.{arith}
-use mathlib.Core.Path.{_≡_, refl, sym, _∙_, ap, ap₂}
-use mathlib.Core.Bool.{Bool, true, false, _&&_, _||_}
+use mathlib.Core.Path.{_≡_, refl, ap}
+use mathlib.Core.Bool.{true, _&&_}
 use mathlib.Core.List.{List, [], _∷_, map}
-use lib.ListN.{length}
 use Rattle.paper.specs.Query.{Axis, Test, anyNode, Expr, path, both, either, negated, Steps, stop, step, Preds, bare, pred, Query, paths}
-use mathlib.Core.Option.{some}
 use lib.Dec.{leb, ltb}
 use borrow.Author.Tests.{leb-true, le-leb, lt-ltb}
 use Rattle.paper.specs.Query.{ancestorOrSelf}

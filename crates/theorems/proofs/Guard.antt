@@ -3,11 +3,10 @@
 use Prim.Native.Nat.{ℕ, _<_}
 use mathlib.Core.Path.{_≡_, refl, sym, _∙_, ap, ap₂}
 use mathlib.Core.Bool.{Bool, true, false, not, _&&_, _||_, false≢true}
-use mathlib.Core.List.{List, [], _∷_}
-use mathlib.Core.Option.{none}
-use Rattle.paper.specs.Query.{Axis, Test, Expr, path, both, either, negated, Steps, stop, step, Preds, bare, pred, Query, paths}
-use Rattle.paper.specs.Document.{Table, nodes, kindOf, marked, tableFault, marksFault}
-use Rattle.paper.specs.Selection.{leads, meets, reaches, holds, finds, allHold, arrives, keeps, kept}
+use mathlib.Core.List.{List}
+use Rattle.paper.specs.Query.{Expr, path, both, either, negated, Steps, stop, step, Preds, bare, pred, Query}
+use Rattle.paper.specs.Document.{Table, nodes, kindOf, marked}
+use Rattle.paper.specs.Selection.{leads, meets, reaches, holds, finds, allHold, arrives, kept}
 use Rattle.paper.specs.Composition.{visible, guardExpr, guardSteps, guardPreds}
 use Rattle.paper.proofs.Searches.{some-same}
 use Rattle.paper.proofs.Keeping.{marked-kept, keeps-elim}

@@ -1,11 +1,10 @@
 -- The height of a composition is at most that of the outer query and of V, which is that of S and two more; S has the reverses' height and one more for each `or`. Each by induction over the query. Assumes nothing.
-use Prim.Native.Nat.{ℕ, zero, suc, _+_, _*_, _-_, _≤_, _<_, max}
+use Prim.Native.Nat.{ℕ, suc, _+_, _≤_, max}
 use native.Mathlib.Omega.{arith}
-use mathlib.Core.Path.{_≡_, refl, sym, _∙_, ap, ap₂}
-use mathlib.Core.Bool.{Bool, true, false, _&&_, _||_}
+use mathlib.Core.Path.{_≡_}
 use mathlib.Core.List.{List, [], _∷_, map}
 use lib.ListN.{length}
-use Rattle.paper.specs.Query.{Axis, Test, anyNode, Expr, path, both, either, negated, Steps, stop, step, Preds, bare, pred, Query, paths}
+use Rattle.paper.specs.Query.{Test, anyNode, Expr, path, both, either, negated, Steps, stop, step, Preds, bare, pred, Query, paths}
 use Rattle.paper.specs.Measures.{heightExpr, heightSteps, heightPreds, heightPaths, height}
 use Rattle.paper.specs.Composition.{turned, atRoot, wayBack, reversed, joined, selectedBy, visible, guardExpr, guardSteps, guardPreds, append, lastStep, composedPath, composed}
 use Rattle.theorems.specs.Demands.{Height}

@@ -1,11 +1,10 @@
 -- The nesting of a composition is 01's formula: the deepest place of the outer query is in a step, or in no bracket at all, and there V or the last step stands with its brackets. Each by induction over the query. Assumes nothing.
-use Prim.Native.Nat.{ℕ, zero, suc, _+_, _*_, _-_, _≤_, _<_, max}
+use Prim.Native.Nat.{ℕ, _+_, _≤_, max}
 use native.Mathlib.Omega.{arith}
-use mathlib.Core.Path.{_≡_, refl, sym, _∙_, ap, ap₂}
-use mathlib.Core.Bool.{Bool, true, false, _&&_, _||_}
+use mathlib.Core.Path.{_≡_, refl, _∙_, ap}
+use mathlib.Core.Bool.{Bool, true, false}
 use mathlib.Core.List.{List, [], _∷_, map}
-use lib.ListN.{length}
-use Rattle.paper.specs.Query.{Axis, Test, anyNode, Expr, path, both, either, negated, Steps, stop, step, Preds, bare, pred, Query, paths}
+use Rattle.paper.specs.Query.{Test, anyNode, Expr, path, both, either, negated, Steps, stop, step, Preds, bare, pred, Query}
 use Rattle.paper.specs.Items.{stepCount}
 use Rattle.paper.specs.Measures.{isAnd, isOr, roundLeftOfAnd, roundRightOfAnd, roundRightOfOr, inBrackets, nestExpr, nestSteps, nestPreds, nestPaths, nesting}
 use Rattle.paper.specs.Composition.{turned, atRoot, wayBack, reversed, joined, selectedBy, visible, guardExpr, guardSteps, guardPreds, append, lastStep, composedPath, composed, composedNesting}

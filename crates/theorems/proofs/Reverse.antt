@@ -1,23 +1,22 @@
 -- The reverse of a path holds at a node exactly if the path leads there from the root.
 -- Each step is undone by its turned axis, so by induction the way back from k comes to every node from which the steps lead to k; the root test leaves the root. Assumes nothing.
-use Prim.Native.Nat.{ℕ, zero, suc, _≤_, _<_}
+use Prim.Native.Nat.{ℕ, _<_}
 use native.Mathlib.Omega.{arith}
 use native.Mathlib.Decide.{ℕ-discrete}
 use mathlib.Core.Path.{_≡_, refl, sym, _∙_, ap, subst}
-use mathlib.Core.Bool.{Bool, true, false, not, _&&_, _||_, false≢true}
-use mathlib.Core.List.{List, [], _∷_}
-use mathlib.Core.Logic.{_⊎_, inl, inr, ⊎-elim, by-cases}
-use lib.Dec.{eqb}
+use mathlib.Core.Bool.{true, not, _&&_, false≢true}
+use mathlib.Core.List.{List}
+use mathlib.Core.Logic.{⊎-elim, by-cases}
 use borrow.Author.Tests.{eqb-true, eq-eqb, ne-eqb, not-true}
-use Rattle.paper.specs.Query.{Axis, self, child, parent, Test, anyNode, Expr, path, Steps, stop, step, Preds, bare, pred, Query, paths}
+use Rattle.paper.specs.Query.{self, parent, Test, anyNode, Steps, stop, step, Preds, bare, pred}
 use Rattle.paper.specs.Document.{Table, nodes, parentOf, kindOf, marked}
-use Rattle.paper.specs.Selection.{childOf, leads, meets, reaches, holds, finds, allHold, arrives, selects}
+use Rattle.paper.specs.Selection.{meets, holds, finds, allHold, arrives}
 use Rattle.paper.specs.Composition.{turned, atRoot, wayBack, reversed}
 use Rattle.paper.proofs.Tests.{and-true, true-and, decide, agree}
 use Rattle.paper.proofs.Trees.{Tree, parent-le, Closed, tree, closed}
 use Rattle.theorems.specs.Demands.{Reverse}
 use Rattle.theorems.proofs.Axes.{converse}
-use Rattle.theorems.proofs.Stepping.{Goes, goes, went}
+use Rattle.theorems.proofs.Stepping.{goes, went}
 
 module _ (t : Table) (m : List ℕ) where
   -- The way back from k comes to i, if the steps lead from i to k.

@@ -1,21 +1,20 @@
 -- The composed query tells nothing of what the inner query hides.
 -- By exactness and extraction, what it keeps is what the outer query keeps of the sub-document that the inner query keeps, and so depends on that alone. Assumes nothing.
-use Prim.Native.Nat.{ℕ, _<_}
+use Prim.Native.Nat.{_<_}
 use native.Mathlib.Omega.{arith}
-use mathlib.Core.Path.{_≡_, refl, sym, _∙_, ap}
-use mathlib.Core.Bool.{Bool, true, false, not, _&&_, _||_}
-use mathlib.Core.List.{List, [], _∷_}
+use mathlib.Core.Path.{_≡_, sym, _∙_, ap}
+use mathlib.Core.Bool.{not}
 use mathlib.Core.Option.{none}
 use lib.Dec.{eqb}
 use lib.ListN.{getD}
 use Rattle.paper.specs.Query.{Query}
-use Rattle.paper.specs.Document.{Table, nodes, parentOf, marked, goodMark, tableFault, marksFault}
+use Rattle.paper.specs.Document.{Table, nodes, parentOf, goodMark, tableFault, marksFault}
 use Rattle.paper.specs.Selection.{kept}
 use Rattle.paper.specs.Extraction.{extracted}
 use Rattle.paper.specs.Composition.{composed}
 use Rattle.paper.proofs.Tests.{true-and, or-right}
 use Rattle.paper.proofs.Searches.{none-first}
-use Rattle.paper.proofs.Trees.{Tree, parent-le, tree}
+use Rattle.paper.proofs.Trees.{parent-le, tree}
 use Rattle.paper.proofs.Keeping.{kept-good}
 use Rattle.theorems.specs.Demands.{allMarked, view, Secrecy}
 use Rattle.theorems.proofs.Exact.{exactness}

@@ -1,11 +1,10 @@
 -- The size of a composition is 01's formula: each guarded step gets V more, each path the last step, and S has the inner query's items and five a path less one. Each by induction over the query. Assumes nothing.
-use Prim.Native.Nat.{ℕ, zero, suc, _+_, _*_, _-_, _≤_, _<_, max}
+use Prim.Native.Nat.{_+_, _*_}
 use native.Mathlib.Omega.{arith}
-use mathlib.Core.Path.{_≡_, refl, sym, _∙_, ap, ap₂}
-use mathlib.Core.Bool.{Bool, true, false, _&&_, _||_}
+use mathlib.Core.Path.{_≡_, _∙_, ap, ap₂}
 use mathlib.Core.List.{List, [], _∷_, map}
 use lib.ListN.{length}
-use Rattle.paper.specs.Query.{Axis, Test, anyNode, Expr, path, both, either, negated, Steps, stop, step, Preds, bare, pred, Query, paths}
+use Rattle.paper.specs.Query.{Test, anyNode, Expr, path, both, either, negated, Steps, stop, step, Preds, bare, pred, Query, paths}
 use native.Mathlib.Nat.{add-mul}
 use Rattle.paper.specs.Measures.{sizeExpr, sizeSteps, sizePreds, sizePaths, size}
 use Rattle.paper.specs.Composition.{turned, atRoot, wayBack, reversed, joined, selectedBy, visible, guardExpr, guardSteps, guardPreds, append, lastStep, composedPath, composed}

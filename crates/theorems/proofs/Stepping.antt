@@ -1,17 +1,15 @@
 -- What one step needs and gives, inside marks, whether it stands in a path that finds or in one that arrives. Assumes nothing.
-use Prim.Native.Nat.{ℕ, zero, suc, _≤_, _<_}
-use mathlib.Core.Path.{_≡_, refl, sym, _∙_, ap, subst}
-use mathlib.Core.Bool.{Bool, true, false, not, _&&_, _||_}
-use mathlib.Core.List.{List, [], _∷_}
-use mathlib.Core.Logic.{_⊎_, inl, inr, ⊎-elim}
-use lib.Dec.{eqb}
+use Prim.Native.Nat.{ℕ, _<_}
+use mathlib.Core.Path.{_≡_, refl, _∙_, ap, subst}
+use mathlib.Core.Bool.{Bool, true, _&&_}
+use mathlib.Core.List.{List}
 use borrow.Author.Tests.{eqb-true, eq-eqb}
-use Rattle.paper.specs.Tools.{someBelow, someOf}
-use Rattle.paper.specs.Query.{Axis, Test, anyNode, Expr, path, Steps, stop, step, Preds, bare, pred, Query, paths}
+use Rattle.paper.specs.Tools.{someBelow}
+use Rattle.paper.specs.Query.{Axis, Test, anyNode, Expr, Steps, stop, step, Preds, bare, pred}
 use Rattle.paper.specs.Document.{Table, nodes, kindOf, marked}
-use Rattle.paper.specs.Selection.{leads, meets, reaches, holds, finds, allHold, arrives, selects}
+use Rattle.paper.specs.Selection.{leads, meets, reaches, holds, allHold, arrives}
 use Rattle.paper.specs.Composition.{append, someNode}
-use Rattle.paper.proofs.Tests.{and-true, true-and, or-true, or-left, or-right}
+use Rattle.paper.proofs.Tests.{and-true, true-and}
 use Rattle.paper.proofs.Searches.{some-intro, some-elim}
 
 -- A step leads from i to j: j is marked, on the axis, and meets the test and the predicates.

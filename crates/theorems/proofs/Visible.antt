@@ -2,14 +2,14 @@
 -- S joins the reverses of the inner paths; V looks for S below and above. Assumes nothing.
 use Prim.Native.Nat.{ℕ, _<_}
 use mathlib.Core.Path.{_≡_, refl, sym, _∙_, ap, ap₂}
-use mathlib.Core.Bool.{Bool, true, false, not, _&&_, _||_, false≢true}
+use mathlib.Core.Bool.{Bool, true, false, _&&_, _||_, false≢true}
 use mathlib.Core.List.{List, [], _∷_}
-use mathlib.Core.Logic.{_⊎_, inl, inr, ⊎-elim}
+use mathlib.Core.Logic.{⊎-elim}
 use mathlib.Core.Option.{none}
 use Rattle.paper.specs.Tools.{someOf}
 use Rattle.paper.specs.Query.{descendantOrSelf, ancestorOrSelf, Expr, either, Steps, Query, paths}
 use Rattle.paper.specs.Document.{Table, nodes, over, marked, tableFault, marksFault}
-use Rattle.paper.specs.Selection.{holds, arrives, selects, keeps, kept}
+use Rattle.paper.specs.Selection.{holds, arrives, selects, keeps}
 use Rattle.paper.specs.Composition.{reversed, joined, selectedBy, someNode, visible}
 use Rattle.paper.proofs.Tests.{and-true, or-true, or-left, or-right, agree}
 use Rattle.paper.proofs.Trees.{Tree, tree}

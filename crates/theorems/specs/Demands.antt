@@ -1,9 +1,9 @@
 -- What composition owes, in full, for every document and every pair of queries. The proofs are in proofs/, one file a concept.
 use Prim.Native.Nat.{ℕ, _+_, _≤_, _<_, max}
 use mathlib.Core.Path.{_≡_}
-use mathlib.Core.Bool.{Bool, true, false, _&&_}
+use mathlib.Core.Bool.{true, _&&_}
 use mathlib.Core.List.{List, [], _∷_}
-use mathlib.Core.Option.{Option, none, some}
+use mathlib.Core.Option.{none, some}
 use lib.ListN.{length, replicate}
 use Rattle.paper.specs.Limits.{itemLimit, bracketLimit}
 use Rattle.paper.specs.Query.{Axis, Expr, path, both, either, negated, Steps, stop, step, Preds, bare, pred, Query, paths}
@@ -18,7 +18,7 @@ use Rattle.paper.specs.Composition.{turned, reversed, visible, guardExpr, guard
 abbrev pub allMarked : Table → List ℕ
 allMarked t = replicate (nodes t) 1
 
--- EXACTNESS: the composed query keeps, inside any marks, what the outer query keeps inside what the inner query keeps.
+-- EXACTNESS: the composed query keeps, inside any marks without fault, what the outer query keeps inside what the inner query keeps.
 abbrev pub Exactness : Type 0
 Exactness =
     (t : Table) (marks : List ℕ) (outer inner : Query) → tableFault t ≡ none → marksFault t marks ≡ none
@@ -74,7 +74,7 @@ GuardedSteps =
     (t : Table) (marks : List ℕ) (inner : Query) (p : Steps) (i k : ℕ) → tableFault t ≡ none → marksFault t marks ≡ none
     → arrives t marks (guardSteps p (visible inner)) i k ≡ arrives t (kept t marks inner) p i k
 
--- 01's rules on a query of any size: names are below 256, and each path of a predicate has a step.
+-- 01's rules on a query of any size: names are below 256, and each path of a predicate has a step; only top-level paths may have none.
 abbrev mutual
   pub ProperExpr : Expr → Type 0
   ProperExpr (path steps) = (1 ≤ stepCount steps) × ProperSteps steps
@@ -97,7 +97,7 @@ ProperPaths (p ∷ ps) = ProperSteps p × ProperPaths ps
 abbrev pub Proper : Query → Type 0
 Proper q = ProperPaths (paths q)
 
--- SIZE, NESTING, HEIGHT: those of a composition are 01's formulas, and its height has a bound.
+-- SIZE, NESTING, HEIGHT: size and nesting of a composition are 01's formulas, and its height has a bound.
 abbrev pub Size : Type 0
 Size = (outer inner : Query) → size (composed outer inner) ≡ composedSize outer inner
 
