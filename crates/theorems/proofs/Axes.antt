@@ -1,0 +1,35 @@
+-- The laws of an axis: all that the theorems use of it. A new axis needs these laws and nothing else. Assumes nothing.
+use Prim.Native.Nat.{ℕ, _<_}
+use mathlib.Core.Path.{_≡_, refl, sym}
+use mathlib.Core.Bool.{true}
+use mathlib.Core.List.{List}
+use lib.Dec.{eqb}
+use borrow.Author.Tests.{eqb-true, eq-eqb}
+use Rattle.paper.specs.Query.{Axis, self, child, parent, descendantOrSelf, ancestorOrSelf}
+use Rattle.paper.specs.Document.{Table, nodes, marked}
+use Rattle.paper.specs.Selection.{leads}
+use Rattle.paper.specs.Extraction.{rank, extracted}
+use Rattle.paper.proofs.Tests.{agree}
+use Rattle.paper.proofs.Trees.{Tree, Closed}
+use Rattle.theorems.specs.Demands.{Converse}
+use Rattle.theorems.proofs.Renumber.{rank-same, over-renumbered, child-renumbered}
+
+pub same-turned : (i j : ℕ) → eqb i j ≡ eqb j i
+same-turned i j = agree (eqb i j) (eqb j i) (λ h. eq-eqb j i (sym (eqb-true i j h))) (λ h. eq-eqb i j (sym (eqb-true j i h)))
+
+-- THE TURNED AXIS IS THE CONVERSE.
+pub converse : Converse
+converse t self i j = same-turned i j
+converse t child i j = refl
+converse t parent i j = refl
+converse t descendantOrSelf i j = refl
+converse t ancestorOrSelf i j = refl
+
+-- RENUMBERING KEEPS THE AXIS: it leads from a marked node to a marked node exactly if it leads from the one's new number to the other's.
+pub leads-renumbered : (t : Table) → Tree t → (m : List ℕ) → Closed t m → marked m 0 ≡ true → (a : Axis) (i j : ℕ) → i < nodes t → j < nodes t
+    → marked m i ≡ true → marked m j ≡ true → leads (extracted t m) a (rank m i) (rank m j) ≡ leads t a i j
+leads-renumbered t w m c root self i j li lj hi hj = rank-same m i j hi hj
+leads-renumbered t w m c root child i j li lj hi hj = child-renumbered t w m c root i j lj hi hj
+leads-renumbered t w m c root parent i j li lj hi hj = child-renumbered t w m c root j i li hj hi
+leads-renumbered t w m c root descendantOrSelf i j li lj hi hj = over-renumbered t w m c root i hi j lj hj
+leads-renumbered t w m c root ancestorOrSelf i j li lj hi hj = over-renumbered t w m c root j hj i li hi

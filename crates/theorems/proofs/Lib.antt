@@ -1,0 +1,13 @@
+pub mod Renumber
+pub mod Axes
+pub mod Stepping
+pub mod Reverse
+pub mod Visible
+pub mod Guard
+pub mod Exact
+pub mod Extract
+pub mod Secrecy
+pub mod Sizes
+pub mod Nesting
+pub mod Height
+pub mod Forms
