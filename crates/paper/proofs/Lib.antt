@@ -7,3 +7,4 @@ pub mod Trees
 pub mod Keeping
 pub mod Sizes
 pub mod Extracting
+pub mod Refusing

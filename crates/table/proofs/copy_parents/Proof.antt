@@ -23,49 +23,89 @@ Inv-loop parent marks out₀ last₀ n₀ i₀ out last n i = (i ≤ length mark
 abbrev μ-loop : tie.MeasureT-loop
 μ-loop parent marks out₀ last₀ n₀ i₀ out last n i = length marks - i
 
+-- There is room for the parent of a marked node.
+fits : (c : tie.Then1 Inv-loop μ-loop) → c .before .before .before .loop .n < length (now (c .before .before .before .before .before .before .before .args .out))
+fits c =
+    let head = c .before .before .before in
+    let start = head .before .before .before .before in
+    let marks = now (start .args .marks) in
+    room marks (λ k. rank marks (getD (now (start .args .parent)) k 0)) (now (start .args .out)) (head .loop .n) (head .loop .i) (head .loop .inv .1 .count) (start .pre .1 .1) (omega arith) (c .if1 .taken)
+
 -- src/lib.rt:210:5
 loop-holds : tie.Need-loop-holds Inv-loop μ-loop
-loop-holds c = ?
+loop-holds c =     let start = c .before .before .before in
+    let marks = now (start .args .marks) in
+    (omega arith, nothing marks (λ k. rank marks (getD (now (start .args .parent)) k 0)) (now (start .args .out)), λ z. absurd (omega arith))
 
 -- src/lib.rt:211:12
 shared-slice-read-if1 : tie.Need-shared-slice-read-if1 Inv-loop μ-loop
-shared-slice-read-if1 c = ?
+shared-slice-read-if1 c = omega arith
 
 -- src/lib.rt:212:22
 new-parent-requires : tie.Need-new-parent-requires Inv-loop μ-loop
-new-parent-requires c κs = ?
+new-parent-requires c κs =     let start = c .before .before .before .before .before .before .before .before in
+    let head = c .before .before .before .before in
+    let marks = now (start .args .marks) in
+    let parents = now (start .args .parent) in
+    let so-far = head .loop .inv .1 in
+    (start .pre .0,
+    (record {
+      room = omega (arith, so-far .count, so-far .long, fits (c .before));
+      at = found-at marks (λ k. rank marks (getD parents k 0)) (now (start .args .out)) (head .loop .out) (head .loop .n) (head .loop .i) so-far;
+    },
+    ((omega (arith, start .pre .1 .0), eq-eqb (getD marks (head .loop .i) 0) 1 (c .before .if1 .taken)), (so-far .count, head .loop .inv .2))))
 
 -- src/lib.rt:212:13
 mul-out : tie.Need-mul-out Inv-loop μ-loop
-mul-out c = ?
+mul-out c = omega (arith, fits (c .before .before))
 
 -- src/lib.rt:212:13
 slice-write-out : tie.Need-slice-write-out Inv-loop μ-loop
-slice-write-out c = ?
+slice-write-out c = omega (arith, fits (c .before .before), c .before .before .before .before .before .loop .inv .1 .long)
 
 -- src/lib.rt:214:13
 add-n : tie.Need-add-n Inv-loop μ-loop
-add-n c = ?
+add-n c = omega (arith, fits (c .before .before))
 
 -- src/lib.rt:216:9
 add-i : tie.Need-add-i Inv-loop μ-loop
-add-i c = ?
+add-i c = omega arith
 
 -- src/lib.rt:210:5
 loop-less : tie.Need-loop-less Inv-loop μ-loop
-loop-less c = ?
+loop-less c = omega arith
 
 -- src/lib.rt:210:5
 loop-again : tie.Need-loop-again Inv-loop μ-loop
-loop-again c = ?
+loop-again c =     let head = c .before .before .before in
+    let start = head .before .before .before .before in
+    let marks = now (start .args .marks) in
+    let parents = now (start .args .parent) in
+    let old = now (start .args .out) in
+    let i = head .loop .i in
+    let f : ℕ → ℕ = λ k. rank marks (getD parents k 0) in
+    let so-far = head .loop .inv .1 in
+    ⊎-elim
+    (λ w.
+    (omega arith,
+    one-more marks (λ k. rank marks (getD parents k 0)) old (head .loop .out) (head .loop .n) i so-far (c .if1 .out) (c .if1 .n) (w .2 .result)
+    (room marks (λ k. rank marks (getD parents k 0)) old (head .loop .n) i (so-far .count) (start .pre .1 .1) (omega arith) (w .0 .taken)) (w .0 .taken) (w .2 .ensures) (w .3) (w .5),
+    λ z. subst (Last marks (i + 1)) (sym (w .4)) (last-new marks i (w .0 .taken))))
+    (λ w.
+    (omega arith,
+    no-more marks (λ k. rank marks (getD parents k 0)) old (head .loop .out) (head .loop .n) i so-far (c .if1 .out) (c .if1 .n) (w .0 .left) (w .1) (w .3),
+    λ z. subst (Last marks (i + 1)) (sym (w .2)) (last-kept marks i (head .loop .last) (w .0 .left) (head .loop .inv .2 (omega (arith, w .3)))))) (c .if1 .came)
 
 -- src/lib.rt:202:1
 same-length : tie.Need-same-length Inv-loop μ-loop
-same-length c = ?
+same-length c = c .before .loop .inv .1 .long
 
 -- src/lib.rt:202:1
 returns : tie.Need-returns Inv-loop μ-loop
-returns c = ?
+returns c =     let start = c .before .before .before .before .before in
+    let marks = now (start .args .marks) in
+    let e : c .before .loop .i ≡ length (now (start .args .parent)) = omega (arith, start .pre .1 .0) in
+    c .before .loop .inv .1 .is ∙ ap (λ k. written (pickFrom marks k 0 (λ i. rank marks (getD (now (start .args .parent)) i 0))) (now (start .args .out))) e
 
 pub copy-parents-spec : {M : Type 1} → statement M
 copy-parents-spec =
