@@ -5,20 +5,20 @@ use native.Mathlib.Omega.{arith}
 use native.Mathlib.Nat.{add-zero, zero-add}
 use native.Mathlib.Decide.{ℕ-discrete, decLt}
 use mathlib.Core.Path.{_≡_, refl, sym, _∙_, ap, ap₂, subst}
-use mathlib.Core.Bool.{Bool, true, false, not, _&&_, _||_, cond, false≢true}
+use mathlib.Core.Bool.{true, false, not, _&&_, cond, false≢true}
 use mathlib.Core.List.{List, [], _∷_, _++_, append-assoc, append-nil}
-use mathlib.Core.Logic.{_⊎_, inl, inr, ⊎-elim, by-cases}
-use mathlib.Core.Option.{Option, none, some}
+use mathlib.Core.Logic.{⊎-elim, by-cases}
+use mathlib.Core.Option.{none}
 use lib.Dec.{eqb, leb}
-use lib.ListN.{length, getD, set, drop, replicate, length-append, length-drop, length-replicate, getD-replicate, List·getD-append}
+use lib.ListN.{length, getD, set, drop, replicate, length-append, length-drop, getD-replicate, List·getD-append}
 use lib.Seq.{set-at, getD-at, drop-cons, ext-getD}
-use borrow.Author.Tests.{eqb-true, eqb-false, eq-eqb, ne-eqb, leb-true, not-false, not-true}
-use Rattle.paper.specs.Tools.{firstFrom, firstBelow, columnFrom, column, written}
-use Rattle.paper.specs.Document.{Table, nodes, parentOf, kindOf, climbs, over, goodNode, tableFault, marked, goodMark, marksFault}
+use borrow.Author.Tests.{eqb-true, eq-eqb, ne-eqb}
+use Rattle.paper.specs.Tools.{written}
+use Rattle.paper.specs.Document.{Table, nodes, parentOf, kindOf, over, goodNode, tableFault, marked, marksFault}
 use Rattle.paper.specs.Extraction.{rank, pickFrom, extracted}
-use Rattle.paper.proofs.Tests.{and-true, true-and, or-true, or-left, or-right, decide, none-some}
-use Rattle.paper.proofs.Searches.{first-none, none-first, column-from, length-column}
-use Rattle.paper.proofs.Trees.{Tree, parent-le, over-self, over-parent, over-cases, over-le, over-root, over-trans, climb, Closed, over-marked, good-nodes, tree, closed}
+use Rattle.paper.proofs.Tests.{and-true, true-and, decide}
+use Rattle.paper.proofs.Searches.{none-first}
+use Rattle.paper.proofs.Trees.{Tree, parent-le, over-self, over-parent, over-cases, over-root, over-trans, climb, Closed, over-marked, good-nodes, tree, closed}
 
 -- NEW NUMBERS.
 module _ (marks : List ℕ) where
@@ -91,7 +91,7 @@ module _ (marks : List ℕ) where
         (λ e.
         subst (λ j. getD (pickFrom marks (suc n) 0 f) (rank marks j) d ≡ f j) (sym e)
         (ap (λ p. getD p (rank marks n) d) (pick-marked n (subst (λ j. marked marks j ≡ true) e m))
-            ∙ getD-at (pickFrom marks n 0 f) (f n) [] d (rank marks n) (length-pick n)))
+        ∙ getD-at (pickFrom marks n 0 f) (f n) [] d (rank marks n) (length-pick n)))
         (λ e.
         let there : getD (pickFrom marks n 0 f) (rank marks k) d ≡ f k = pick-at n k d (omega arith) m in
         let short : rank marks k < length (pickFrom marks n 0 f) = omega (arith, length-pick n, rank-less k n (omega arith) m) in
@@ -107,7 +107,7 @@ write-next new old r v e l =
     let rest : drop (length new) old ≡ getD old (length new) 0 ∷ drop (suc (length new)) old = drop-cons old (length new) 0 h in
     let n : length (new ++ v ∷ []) ≡ suc (length new) = omega (arith, length-append new (v ∷ [])) in
     ap (λ l. set (new ++ l) r v) rest ∙ set-at new (getD old (length new) 0) (drop (suc (length new)) old) v r e
-        ∙ sym (append-assoc new (v ∷ []) (drop (suc (length new)) old)) ∙ ap (λ k. (new ++ v ∷ []) ++ drop k old) (sym n)
+    ∙ sym (append-assoc new (v ∷ []) (drop (suc (length new)) old)) ∙ ap (λ k. (new ++ v ∷ []) ++ drop k old) (sym n)
 
 pub length-written : (new old : List ℕ) → length new ≤ length old → length (written new old) ≡ length old
 length-written new old h = omega (arith, length-append new (drop (length new) old), length-drop (length new) old)
@@ -178,12 +178,12 @@ module _ (t : Table) (marks : List ℕ) (w : Tree t) (c : Closed t marks) where
           rooted = omega (arith, nodes-extracted, rank-less marks 0 (nodes t) (w .rooted) m₀);
           root = parent-extracted 0 (w .rooted) m₀ ∙ ap (rank marks) (w .root);
           falls =
-          λ r z l.
-          rank-back marks (nodes t) r (omega (arith, nodes-extracted))
-          (λ i li mi e.
-          let pos : 0 < i = by-cases (ℕ-discrete i 0) (λ q. absurd (omega (arith, ap (rank marks) q))) (λ q. omega arith) in
-          let less = rank-less marks (parentOf t i) i (w .falls i pos li) (c i li mi) in
-          omega (arith, parent-extracted i li mi, ap (parentOf t′) e));
+              λ r z l.
+              rank-back marks (nodes t) r (omega (arith, nodes-extracted))
+              (λ i li mi e.
+              let pos : 0 < i = by-cases (ℕ-discrete i 0) (λ q. absurd (omega (arith, ap (rank marks) q))) (λ q. omega arith) in
+              let less = rank-less marks (parentOf t i) i (w .falls i pos li) (c i li mi) in
+              omega (arith, parent-extracted i li mi, ap (parentOf t′) e));
         }
 
     -- What is over a marked node is over it in the new table.
@@ -215,7 +215,7 @@ module _ (t : Table) (marks : List ℕ) (ft : tableFault t ≡ none) (fm : marks
       true-and (eq-eqb (parentOf u 0) 0 (w′ .root))
       (eq-eqb (kindOf u 0) 0
       (kind-extracted t marks w c 0 (w .rooted) m₀
-          ∙ eqb-true (kindOf t 0) 0 (and-true (eqb (parentOf t 0) 0) (eqb (kindOf t 0) 0) (good-nodes t ft .1 0 (w .rooted)) .1)))
+      ∙ eqb-true (kindOf t 0) 0 (and-true (eqb (parentOf t 0) 0) (eqb (kindOf t 0) 0) (good-nodes t ft .1 0 (w .rooted)) .1)))
 
   -- What the kinds of a node and of its parent must be.
   kinds-good : (i : ℕ) → 0 < i → i < nodes t → ((leb 1 (kindOf t i) && leb (kindOf t i) 257) ≡ true) × (not (eqb (kindOf t (parentOf t i)) 1) ≡ true)

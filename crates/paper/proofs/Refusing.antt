@@ -1,14 +1,14 @@
 -- What an answer that is a value says of the lines before it, and that a refusal leaves what is lent as it was. Assumes nothing.
 use Prim.Native.Nat.{ℕ}
 use native.Mathlib.Omega.{arith}
-use mathlib.Core.Path.{_≡_, refl, sym, _∙_, ap}
+use mathlib.Core.Path.{_≡_, refl, sym}
 use mathlib.Core.Bool.{Bool, true, false, _||_, false≢true}
 use mathlib.Core.List.{List, [], _∷_}
 use mathlib.Core.Option.{Option, none, some}
 use denote.Enum.Declared.{tagOf}
 use types.Run.{OneOf, miss}
 use Rattle.paper.specs.Tools.{when}
-use Rattle.paper.specs.Answers.{value, refusal, line, atExit}
+use Rattle.paper.specs.Answers.{value, line, atExit}
 use Rattle.paper.specs.Answers.{Answer as Told}
 use Rattle.paper.specs.Told.{told}
 use Rattle.paper.specs.declared.Answer.{Answer}

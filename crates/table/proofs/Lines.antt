@@ -1,8 +1,7 @@
 -- The lines of an extract: which lengths make line 1 hold, what comes after it, what an accepted extract has, and what each answer leaves in the columns written. Assumes nothing.
-use Prim.Native.Nat.{ℕ, suc, _≤_, _<_}
-use native.Mathlib.Omega.{arith}
-use mathlib.Core.Path.{_≡_, refl, sym, _∙_, ap, subst}
-use mathlib.Core.Bool.{Bool, true, false, not, _||_}
+use Prim.Native.Nat.{ℕ, _≤_}
+use mathlib.Core.Path.{_≡_, sym, _∙_, ap, subst}
+use mathlib.Core.Bool.{Bool, true, not, _||_}
 use mathlib.Core.List.{List}
 use mathlib.Core.Option.{none}
 use borrow.Author.Tests.{le-ltb, ltb-false, eqb-true, eq-eqb, not-false}
@@ -41,9 +40,12 @@ module _ (t : Table) (marks : List ℕ) (parentRoom kindRoom : ℕ) where
   pub right-lengths : Agree → extractAnswer t marks parentRoom kindRoom ≡ judged
   unfolding extractAnswer
   right-lengths a =
-      rw
-      (le-ltb nodeLimit (nodes t) (a .few), eq-eqb (length (t .kinds)) (nodes t) (a .kinds-long), eq-eqb (length marks) (nodes t) (a .marks-long),
-      eq-eqb parentRoom kindRoom (a .rooms))
+      rw (
+        le-ltb nodeLimit (nodes t) (a .few),
+        eq-eqb (length (t .kinds)) (nodes t) (a .kinds-long),
+        eq-eqb (length marks) (nodes t) (a .marks-long),
+        eq-eqb parentRoom kindRoom (a .rooms),
+      )
 
   -- What an accepted extract has.
   pub record Accepted : Type 0 where
@@ -86,9 +88,10 @@ module _ (t : Table) (marks parents kinds : List ℕ) where
   pub refused : (a : Answer) → told a ≡ extractAnswer t marks (length parents) (length kinds) → Refuses a
       → (parents ≡ extractParents t marks parents (length kinds)) × (kinds ≡ extractKinds t marks (length parents) kinds)
   unfolding extractParents extractKinds
-  refused a said r =
-      (sym (ap (λ x. atExit x (extracted t marks .parents) parents) (sym said) ∙ refused-keeps a (extracted t marks .parents) parents r),
-      sym (ap (λ x. atExit x (extracted t marks .kinds) kinds) (sym said) ∙ refused-keeps a (extracted t marks .kinds) kinds r))
+  refused a said r = (
+    sym (ap (λ x. atExit x (extracted t marks .parents) parents) (sym said) ∙ refused-keeps a (extracted t marks .parents) parents r),
+    sym (ap (λ x. atExit x (extracted t marks .kinds) kinds) (sym said) ∙ refused-keeps a (extracted t marks .kinds) kinds r),
+  )
 
   -- and a value stands for the new table written over them.
   pub wrote : (n : ℕ) → extractAnswer t marks (length parents) (length kinds) ≡ value n

@@ -1,19 +1,19 @@
 -- The way up from a node whose ancestors are good, whatever comes after it in the table: one step up, and where it ends.
 -- Parents are smaller than their children, so a way is no longer than the node's number. Assumes nothing.
-use Prim.Native.Nat.{ℕ, zero, suc, _+_, _≤_, _<_}
+use Prim.Native.Nat.{ℕ, zero, suc, _≤_, _<_}
 use native.Mathlib.Omega.{arith}
 use native.Mathlib.Decide.{ℕ-discrete, decLt}
-use mathlib.Core.Path.{_≡_, refl, sym, _∙_, ap, subst}
-use mathlib.Core.Bool.{Bool, true, false, not, _&&_, _||_, false≢true}
-use mathlib.Core.List.{List, []}
+use mathlib.Core.Path.{_≡_, refl, sym, _∙_, ap}
+use mathlib.Core.Bool.{Bool, true, false, _||_}
+use mathlib.Core.List.{List}
 use mathlib.Core.Logic.{by-cases}
 use mathlib.Core.Option.{none}
 use lib.Dec.{eqb}
 use lib.ListN.{length, getD}
 use borrow.Author.Tests.{eqb-true, eq-eqb, ne-eqb}
-use Rattle.paper.specs.Document.{Table, nodes, parentOf, kindOf, climbs, over, goodNode, tableFault, marksFault, marked}
+use Rattle.paper.specs.Document.{Table, nodes, parentOf, kindOf, climbs, over, goodNode, tableFault, marksFault}
 use Rattle.paper.proofs.Tests.{and-true, or-left}
-use Rattle.paper.proofs.Trees.{Tree, good-nodes, tree, closed}
+use Rattle.paper.proofs.Trees.{Tree, tree, closed}
 use Rattle.paper.proofs.Extracting.{good-later, in-order}
 use Rattle.table.specs.Climbs.{tableOf, shapeOf, Falls, Ordered}
 
@@ -50,7 +50,7 @@ module _ (t : Table) (n : ℕ) (w : Falls (t .parents) n) where
       go zero b = absurd (omega arith)
       go (suc m) b =
           ap (λ x. x || climbs t m (parentOf t i) j) (ne-eqb i j (λ e. omega arith))
-              ∙ sym (enough m (parentOf t i) j (omega (arith, parent-low i l)) (omega (arith, parent-low i l)))
+          ∙ sym (enough m (parentOf t i) j (omega (arith, parent-low i l)) (omega (arith, parent-low i l)))
 
   -- No greater node is over i.
   pub way-end : (i j : ℕ) → i < n → i ≤ j → over t i j ≡ eqb i j
@@ -61,8 +61,8 @@ module _ (t : Table) (n : ℕ) (w : Falls (t .parents) n) where
       go zero i l h = refl
       go (suc far) i l h =
           ap (λ b. eqb i j || b) (go far (parentOf t i) (omega (arith, parent-low i l)) (omega (arith, parent-low i l)))
-              ∙ by-cases (ℕ-discrete i j) (λ e. or-left (eqb (parentOf t i) j) (eq-eqb i j e) ∙ sym (eq-eqb i j e))
-              (λ e. ap (λ b. eqb i j || b) (ne-eqb (parentOf t i) j (λ q. omega (arith, parent-low i l))) ∙ or-no (eqb i j))
+          ∙ by-cases (ℕ-discrete i j) (λ e. or-left (eqb (parentOf t i) j) (eq-eqb i j e) ∙ sym (eq-eqb i j e))
+          (λ e. ap (λ b. eqb i j || b) (ne-eqb (parentOf t i) j (λ q. omega (arith, parent-low i l))) ∙ or-no (eqb i j))
 
   pub way-low : (i j : ℕ) → i < n → over t i j ≡ true → j ≤ i
   way-low i j l h = by-cases (decLt i j) (λ b. absurd (omega (arith, eqb-true i j (sym (way-end i j l (omega arith)) ∙ h)))) (λ b. omega (arith, b))

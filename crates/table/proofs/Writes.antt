@@ -1,17 +1,17 @@
 -- What a pass over the marks has written after each node: the value of each marked node so far, and the rest untouched. Assumes nothing.
-use Prim.Native.Nat.{ℕ, suc, _+_, _≤_, _<_}
+use Prim.Native.Nat.{ℕ, _+_, _≤_, _<_}
 use native.Mathlib.Omega.{arith}
 use native.Mathlib.Numerals.{add-one}
 use mathlib.Core.Path.{_≡_, refl, sym, _∙_, ap, ap₂}
 use mathlib.Core.Bool.{true, false}
-use mathlib.Core.List.{List, [], _∷_, _++_}
+use mathlib.Core.List.{List}
 use borrow.Author.Tests.{eq-eqb, ne-eqb}
 use lib.ListN.{length, getD, set, drop, length-set, List·getD-append}
 use Rattle.paper.specs.Tools.{written}
 use Rattle.paper.specs.Document.{marked}
 use Rattle.paper.specs.Extraction.{rank, pickFrom}
 use Rattle.table.specs.Climbs.{Last}
-use Rattle.paper.proofs.Extracting.{rank-marked, rank-unmarked, rank-mono, rank-less, pick-marked, pick-unmarked, length-pick, pick-at, write-next}
+use Rattle.paper.proofs.Extracting.{rank-marked, rank-unmarked, rank-less, pick-marked, pick-unmarked, length-pick, pick-at, write-next}
 
 -- How far a pass over the marks has come: it has written n values, those of the marked nodes before node i, over `old`.
 pub record Written (marks : List ℕ) (f : ℕ → ℕ) (old out : List ℕ) (n i : ℕ) : Type 0 where
@@ -35,7 +35,7 @@ module _ (marks : List ℕ) (f : ℕ → ℕ) (old : List ℕ) where
         record {
           count = omega (arith, w .count, ap (rank marks) (add-one i), rank-marked marks i on);
           is =
-          eo ∙ ap₂ (λ o x. set o n x) (w .is) e ∙ write-next (pickFrom marks i 0 f) old n (f i) (length-pick marks f i ∙ sym (w .count)) l
+              eo ∙ ap₂ (λ o x. set o n x) (w .is) e ∙ write-next (pickFrom marks i 0 f) old n (f i) (length-pick marks f i ∙ sym (w .count)) l
               ∙ ap (λ p. written p old) (sym (pick-marked marks f i on) ∙ ap (λ k. pickFrom marks k 0 f) (sym (add-one i)));
           long = ap length eo ∙ length-set out n v ∙ w .long;
         }

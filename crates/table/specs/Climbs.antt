@@ -1,8 +1,8 @@
 -- What the code asks of columns that it climbs in.
-use Prim.Native.Nat.{ℕ, zero, suc, _+_, _≤_, _<_}
+use Prim.Native.Nat.{ℕ, suc, _≤_, _<_}
 use mathlib.Core.Path.{_≡_}
-use mathlib.Core.Bool.{Bool, true, false, cond}
-use mathlib.Core.List.{List, [], _∷_}
+use mathlib.Core.Bool.{true}
+use mathlib.Core.List.{List, []}
 use lib.ListN.{length, getD}
 use Rattle.paper.specs.Document.{Table, over, marked}
 use Rattle.paper.specs.Extraction.{rank}

@@ -1,7 +1,6 @@
 // The node table and its marks: are they good, and the marked nodes as a table of their own.
 
 use paper::Answer;
-
 ghost use mathlib.Core.Path.{_≡_};
 ghost use mathlib.Core.Bool.{true};
 ghost use mathlib.Core.List.{List};
@@ -102,11 +101,7 @@ pub fn table_fault(parent: &[u16], kind: &[u16]) -> Fault
 fn mark(marks: &[u8], i: usize) -> u8
     ensures { λ r. ⌜ r ≡ getD (now (marks .entry)) i 0 ⌝ }
 {
-    if i < marks.len() {
-        marks[i]
-    } else {
-        0
-    }
+    if i < marks.len() { marks[i] } else { 0 }
 }
 
 // Is the mark of node i 0, or 1 below a marked parent?
@@ -159,7 +154,14 @@ pub fn count(marks: &[u8]) -> usize
 // EXTRACT.
 
 // The new number of `wanted`, which is the node `from` or an ancestor of it. The way up is taken in the table and in what is written of the new one; `marks` stands for the promise.
-fn new_number(parent: &[u16], marks: &[u8], out: &[u16], from: usize, number: usize, wanted: usize) -> usize
+fn new_number(
+    parent: &[u16],
+    marks: &[u8],
+    out: &[u16],
+    from: usize,
+    number: usize,
+    wanted: usize,
+) -> usize
     requires { ⌜ Ordered (now parent) (now marks) ⌝ }
     requires { ⌜ Numbered (now parent) (now marks) (now out) (from + 1) ⌝ }
     requires { ⌜ (from < length (now parent)) × (marked (now marks) from ≡ true) × (number ≡ rank (now marks) from) ⌝ }
@@ -167,12 +169,12 @@ fn new_number(parent: &[u16], marks: &[u8], out: &[u16], from: usize, number: us
     ensures { λ r. ⌜ r ≡ rank (now (marks .entry)) wanted ⌝ }
 {
     let mut at = from;
-    let mut n = number;
+    let mut new = number;
     while wanted < at {
         at = wide(parent[at]);
-        n = wide(out[n]);
+        new = wide(out[new]);
     }
-    n
+    new
 }
 
 // A number below 65,536 as an entry of a column.
@@ -234,7 +236,13 @@ fn copy_kinds(kind: &[u16], marks: &[u8], out: &mut [u16])
 }
 
 // What `extract` answers, before anything is written.
-fn answer(parent: &[u16], kind: &[u16], marks: &[u8], parent_room: usize, kind_room: usize) -> Answer
+fn answer(
+    parent: &[u16],
+    kind: &[u16],
+    marks: &[u8],
+    parent_room: usize,
+    kind_room: usize,
+) -> Answer
     ensures { λ r. ⌜ told r ≡ extractAnswer (tableOf (now (parent .entry)) (now (kind .entry))) (now (marks .entry)) «parent_room» «kind_room» ⌝ }
 {
     if paper::NODE_LIMIT < parent.len() {
@@ -263,7 +271,13 @@ fn answer(parent: &[u16], kind: &[u16], marks: &[u8], parent_room: usize, kind_r
 }
 
 // Writes the marked nodes in order as a table of their own and answers their number.
-pub fn extract(parent: &[u16], kind: &[u16], marks: &[u8], out_parent: &mut [u16], out_kind: &mut [u16]) -> Answer
+pub fn extract(
+    parent: &[u16],
+    kind: &[u16],
+    marks: &[u8],
+    out_parent: &mut [u16],
+    out_kind: &mut [u16],
+) -> Answer
     ensures { λ r. ⌜ told r ≡ extractAnswer (tableOf (now (parent .entry)) (now (kind .entry))) (now (marks .entry)) (length (now («out_parent» .entry))) (length (now («out_kind» .entry))) ⌝ }
     ensures { λ _. ⌜ now («out_parent» .exit) ≡ extractParents (tableOf (now (parent .entry)) (now (kind .entry))) (now (marks .entry)) (now («out_parent» .entry)) (length (now («out_kind» .entry))) ⌝ }
     ensures { λ _. ⌜ now («out_kind» .exit) ≡ extractKinds (tableOf (now (parent .entry)) (now (kind .entry))) (now (marks .entry)) (length (now («out_parent» .entry))) (now («out_kind» .entry)) ⌝ }

@@ -1,9 +1,7 @@
 -- `table::answer` meets its contract: its tests are the lines of an extract, in their order. Assumes nothing.
-use Prim.Native.Nat.{ℕ, suc, _≤_, _<_}
-use native.Mathlib.Omega.{arith}
-use mathlib.Core.Path.{_≡_, refl, sym, _∙_, ap}
-use mathlib.Core.Bool.{Bool, true, false, not, _||_}
-use mathlib.Core.Option.{Option, none, some}
+use mathlib.Core.Path.{_≡_, sym, _∙_, ap}
+use mathlib.Core.Bool.{not, _||_}
+use mathlib.Core.Option.{none, some}
 use borrow.Author.Needs.{needs}
 use borrow.Author.Tests.{lt-ltb, le-ltb, ne-eqb}
 use lib.Dec.{eqb, ltb}
@@ -13,18 +11,13 @@ use Rattle.paper.specs.Tools.{when}
 use Rattle.paper.specs.Limits.{nodeLimit}
 use Rattle.paper.specs.Document.{nodes, tableFault, marksFault}
 use Rattle.paper.specs.Extraction.{rank}
-use Rattle.paper.specs.Answers.{value, refusal, line, short, markedCount, extractAnswer}
+use Rattle.paper.specs.Answers.{value, line, short, markedCount, extractAnswer}
 use Rattle.paper.proofs.Tests.{or-left, or-right}
 use Rattle.table.specs.Faults.{faultOf}
 use Rattle.table.specs.Climbs.{tableOf}
 use Rattle.table.proofs.Lines.{too-long, Agree, right-lengths}
 use Rattle.table.proofs.answer.Statement.{statement}
 use Rattle.table.proofs.answer.Tie as tie
-use Rattle.table.proofs.answer.Reads as reads
-use Rattle.table.proofs.answer.Lts as lts
-use Rattle.table.proofs.count.Reads as count-reads
-use Rattle.table.proofs.marks_fault.Reads as marks-fault-reads
-use Rattle.table.proofs.table_fault.Reads as table-fault-reads
 
 -- Past the four tests of line 1 the lengths are right.
 agree : (c : tie.Else4) → Agree (tableOf (now (c .before .before .before .before .before .before .before .args .parent)) (now (c .before .before .before .before .before .before .before .args .kind))) (now (c .before .before .before .before .before .before .before .args .marks)) (c .before .before .before .before .before .before .before .args .parent-room) (c .before .before .before .before .before .before .before .args .kind-room)
@@ -49,55 +42,48 @@ reached c =
     let needed : c .count .result ≡ markedCount t marks = c .count .ensures ∙ ap (rank marks) (right .marks-long) in
     let last = line 10 (short a (markedCount t marks)) (value (markedCount t marks)) in
     ap (λ n. line 10 (short a n) (value n)) needed ∙ ap (λ o. line 8 o last) closed ∙ ap (λ o. line 7 o (line 8 (marksFault t marks) last)) (sound table)
-        ∙ sym (right-lengths t marks a b right)
+    ∙ sym (right-lengths t marks a b right)
 
--- src/lib.rt:241:9
 returns : tie.Need-returns
-returns c =     let start = c .before .before .before .before in
+returns c = let start = c .before .before .before .before in
     let t = tableOf (now (start .args .parent)) (now (start .args .kind)) in
     let marks = now (start .args .marks) in
     let a = start .args .parent-room in
     let b = start .args .kind-room in
     sym (too-long t marks a b (or-left (not (eqb a b)) (or-left (not (eqb (length marks) (nodes t))) (or-left (not (eqb (length (t .kinds)) (nodes t))) (lt-ltb nodeLimit (nodes t) (c .if1 .taken))))))
 
--- src/lib.rt:244:9
 returns-2 : tie.Need-returns-2
-returns-2 c =     let start = c .before .before .before .before .before in
+returns-2 c = let start = c .before .before .before .before .before in
     let t = tableOf (now (start .args .parent)) (now (start .args .kind)) in
     let marks = now (start .args .marks) in
     let a = start .args .parent-room in
     let b = start .args .kind-room in
     sym (too-long t marks a b (or-left (not (eqb a b)) (or-left (not (eqb (length marks) (nodes t))) (or-right (ltb nodeLimit (nodes t)) (ap not (ne-eqb (length (t .kinds)) (nodes t) (c .if2 .taken)))))))
 
--- src/lib.rt:247:9
 returns-3 : tie.Need-returns-3
-returns-3 c =     let start = c .before .before .before .before .before .before in
+returns-3 c = let start = c .before .before .before .before .before .before in
     let t = tableOf (now (start .args .parent)) (now (start .args .kind)) in
     let marks = now (start .args .marks) in
     let a = start .args .parent-room in
     let b = start .args .kind-room in
     sym (too-long t marks a b (or-left (not (eqb a b)) (or-right (ltb nodeLimit (nodes t) || not (eqb (length (t .kinds)) (nodes t))) (ap not (ne-eqb (length marks) (nodes t) (c .if3 .taken))))))
 
--- src/lib.rt:250:9
 returns-4 : tie.Need-returns-4
-returns-4 c =     let start = c .before .before .before .before .before .before .before in
+returns-4 c = let start = c .before .before .before .before .before .before .before in
     let t = tableOf (now (start .args .parent)) (now (start .args .kind)) in
     let marks = now (start .args .marks) in
     let a = start .args .parent-room in
     let b = start .args .kind-room in
     sym (too-long t marks a b (or-right (ltb nodeLimit (nodes t) || not (eqb (length (t .kinds)) (nodes t)) || not (eqb (length marks) (nodes t))) (ap not (ne-eqb a b (c .if4 .taken)))))
 
--- src/lib.rt:252:27
 table-fault-requires : tie.Need-table-fault-requires
 table-fault-requires c κs = search needs
 
--- src/lib.rt:252:22
 enum-known-i : tie.Need-enum-known-i
 enum-known-i c = search needs
 
--- src/lib.rt:253:9
 returns-5 : tie.Need-returns-5
-returns-5 c =     let start = c .before .before .before .before .before .before .before .before .before .before .before in
+returns-5 c = let start = c .before .before .before .before .before .before .before .before .before .before .before in
     let t = tableOf (now (start .args .parent)) (now (start .args .kind)) in
     let marks = now (start .args .marks) in
     let a = start .args .parent-room in
@@ -109,17 +95,14 @@ returns-5 c =     let start = c .before .before .before .before .before .before 
 enum-told : tie.Need-enum-told
 enum-told c = search needs
 
--- src/lib.rt:255:27
 marks-fault-requires : tie.Need-marks-fault-requires
 marks-fault-requires c κs = search needs
 
--- src/lib.rt:255:22
 enum-known-i-2 : tie.Need-enum-known-i-2
 enum-known-i-2 c = search needs
 
--- src/lib.rt:256:9
 returns-6 : tie.Need-returns-6
-returns-6 c =     let start = c .before .before .before .before .before .before .before .before .before .before .before .before .before .before in
+returns-6 c = let start = c .before .before .before .before .before .before .before .before .before .before .before .before .before .before in
     let t = tableOf (now (start .args .parent)) (now (start .args .kind)) in
     let marks = now (start .args .marks) in
     let a = start .args .parent-room in
@@ -128,24 +111,21 @@ returns-6 c =     let start = c .before .before .before .before .before .before 
     let fault : some (c .before .i2 .given .0 .0) ≡ marksFault t marks = ap faultOf (sym (c .before .i2 .given .1)) ∙ c .before .before .before .marks-fault .ensures (t .kinds) in
     let later = line 10 (short a (markedCount t marks)) (value (markedCount t marks)) in
     ap (λ o. line 8 o later) fault ∙ ap (λ o. line 7 o (line 8 (marksFault t marks) later)) (sound table)
-        ∙ sym (right-lengths t marks a b (agree (table .before .before .before)))
+    ∙ sym (right-lengths t marks a b (agree (table .before .before .before)))
 
 enum-told-2 : tie.Need-enum-told-2
 enum-told-2 c = search needs
 
--- src/lib.rt:258:9
 count-requires : tie.Need-count-requires
 count-requires c κs = search needs
 
--- src/lib.rt:260:9
 returns-7 : tie.Need-returns-7
-returns-7 c =     let n = c .before .count .result in
+returns-7 c = let n = c .before .count .result in
     let a = c .before .before .before .before .before .before .before .before .before .before .before .before .before .before .before .args .parent-room in
     ap (λ b. line 10 (when b n) (value n)) (sym (lt-ltb a n (c .if5 .taken))) ∙ reached (c .before)
 
--- src/lib.rt:237:1
 returns-8 : tie.Need-returns-8
-returns-8 c =     let n = c .before .count .result in
+returns-8 c = let n = c .before .count .result in
     let a = c .before .before .before .before .before .before .before .before .before .before .before .before .before .before .before .args .parent-room in
     ap (λ b. line 10 (when b n) (value n)) (sym (le-ltb a n (c .if5 .left))) ∙ reached (c .before)
 

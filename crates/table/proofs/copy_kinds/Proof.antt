@@ -1,18 +1,16 @@
 -- `table::copy_kinds` meets its contract. The loop's invariant: the kinds of the marked nodes before `i` are written, `n` of them, and the rest is untouched.
 -- The measure is the marks that are left. Assumes nothing.
-use Prim.Native.Nat.{ℕ, suc, _+_, _-_, _≤_, _<_}
+use Prim.Native.Nat.{_-_, _≤_, _<_}
 use native.Mathlib.Omega.{arith}
-use mathlib.Core.Path.{_≡_, refl, sym, _∙_, ap}
+use mathlib.Core.Path.{_≡_, refl, _∙_, ap}
 use mathlib.Core.Logic.{⊎-elim}
 use lib.ListN.{length, getD}
 use denote.Ref.{now}
 use Rattle.paper.specs.Tools.{written}
-use Rattle.paper.specs.Extraction.{rank, pickFrom}
+use Rattle.paper.specs.Extraction.{pickFrom}
 use Rattle.table.proofs.Writes.{Written, room, nothing, one-more, no-more}
 use Rattle.table.proofs.copy_kinds.Statement.{statement}
 use Rattle.table.proofs.copy_kinds.Tie as tie
-use Rattle.table.proofs.copy_kinds.Reads as reads
-use Rattle.table.proofs.copy_kinds.Lts as lts
 
 abbrev Inv-loop : tie.InvT-loop
 Inv-loop kind marks out₀ n₀ i₀ out n i = (i ≤ length marks) × Written marks (λ k. getD kind k 0) out₀ out n i
@@ -27,62 +25,51 @@ fits c =
     let start = head .before in
     room (now (start .args .marks)) (λ k. getD (now (start .args .kind)) k 0) (now (start .args .out)) (head .loop .n) (head .loop .i) (head .loop .inv .1 .count) (start .pre .1) (omega arith) (c .if1 .taken)
 
--- src/lib.rt:227:5
 loop-holds : tie.Need-loop-holds Inv-loop μ-loop
 loop-holds c = (omega arith, nothing (now (c .args .marks)) (λ k. getD (now (c .args .kind)) k 0) (now (c .args .out)))
 
--- src/lib.rt:228:12
 shared-slice-read-if1 : tie.Need-shared-slice-read-if1 Inv-loop μ-loop
 shared-slice-read-if1 c = omega arith
 
--- src/lib.rt:229:22
 mul-out : tie.Need-mul-out Inv-loop μ-loop
 mul-out c = omega arith
 
--- src/lib.rt:229:22
 shared-slice-read-out : tie.Need-shared-slice-read-out Inv-loop μ-loop
 shared-slice-read-out c = omega arith
 
--- src/lib.rt:229:13
 mul-out-2 : tie.Need-mul-out-2 Inv-loop μ-loop
 mul-out-2 c = omega (arith, fits (c .before))
 
--- src/lib.rt:229:13
 slice-write-out : tie.Need-slice-write-out Inv-loop μ-loop
 slice-write-out c = omega (arith, fits (c .before), c .before .before .before .before .loop .inv .1 .long)
 
--- src/lib.rt:230:13
 add-n : tie.Need-add-n Inv-loop μ-loop
 add-n c = omega (arith, fits (c .before))
 
--- src/lib.rt:232:9
 add-i : tie.Need-add-i Inv-loop μ-loop
 add-i c = omega arith
 
--- src/lib.rt:227:5
 loop-less : tie.Need-loop-less Inv-loop μ-loop
 loop-less c = omega arith
 
--- src/lib.rt:227:5
 loop-again : tie.Need-loop-again Inv-loop μ-loop
-loop-again c =     let head = c .before .before .before in
+loop-again c = let head = c .before .before .before in
     let marks = now (head .before .args .marks) in
     let kinds = now (head .before .args .kind) in
-    let old = now (head .before .args .out) in
-    (omega arith,
-    ⊎-elim
-    (λ w.
-    one-more marks (λ k. getD kinds k 0) old (head .loop .out) (head .loop .n) (head .loop .i) (head .loop .inv .1) (c .if1 .out) (c .if1 .n) (getD kinds (head .loop .i) 0)
-    (room marks (λ k. getD kinds k 0) old (head .loop .n) (head .loop .i) (head .loop .inv .1 .count) (head .before .pre .1) (omega arith) (w .0 .taken)) (w .0 .taken) refl (w .2) (w .3))
-    (λ w. no-more marks (λ k. getD kinds k 0) old (head .loop .out) (head .loop .n) (head .loop .i) (head .loop .inv .1) (c .if1 .out) (c .if1 .n) (w .0 .left) (w .1) (w .2)) (c .if1 .came))
+    let old = now (head .before .args .out) in (
+      omega arith,
+      ⊎-elim
+          (λ w.
+          one-more marks (λ k. getD kinds k 0) old (head .loop .out) (head .loop .n) (head .loop .i) (head .loop .inv .1) (c .if1 .out) (c .if1 .n) (getD kinds (head .loop .i) 0)
+          (room marks (λ k. getD kinds k 0) old (head .loop .n) (head .loop .i) (head .loop .inv .1 .count) (head .before .pre .1) (omega arith) (w .0 .taken)) (w .0 .taken) refl (w .2) (w .3))
+          (λ w. no-more marks (λ k. getD kinds k 0) old (head .loop .out) (head .loop .n) (head .loop .i) (head .loop .inv .1) (c .if1 .out) (c .if1 .n) (w .0 .left) (w .1) (w .2)) (c .if1 .came),
+    )
 
--- src/lib.rt:221:1
 same-length : tie.Need-same-length Inv-loop μ-loop
 same-length c = c .before .loop .inv .1 .long
 
--- src/lib.rt:221:1
 returns : tie.Need-returns Inv-loop μ-loop
-returns c =     let start = c .before .before in
+returns c = let start = c .before .before in
     let e : c .before .loop .i ≡ length (now (start .args .kind)) = omega (arith, start .pre .0) in
     c .before .loop .inv .1 .is ∙ ap (λ k. written (pickFrom (now (start .args .marks)) k 0 (λ i. getD (now (start .args .kind)) i 0)) (now (start .args .out))) e
 

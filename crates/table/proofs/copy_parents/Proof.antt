@@ -1,21 +1,18 @@
 -- `table::copy_parents` meets its contract. The loop's invariant: the new parents of the marked nodes before `i` are written, `n` of them, the rest is untouched, and `last` is the last of those nodes.
 -- The measure is the marks that are left. Assumes nothing.
-use Prim.Native.Nat.{ℕ, suc, _+_, _-_, _≤_, _<_}
+use Prim.Native.Nat.{ℕ, _+_, _-_, _≤_, _<_}
 use native.Mathlib.Omega.{arith}
-use mathlib.Core.Path.{_≡_, refl, sym, _∙_, ap, subst}
+use mathlib.Core.Path.{_≡_, sym, _∙_, ap, subst}
 use mathlib.Core.Logic.{⊎-elim}
 use borrow.Author.Tests.{eq-eqb}
 use lib.ListN.{length, getD}
 use denote.Ref.{now}
 use Rattle.paper.specs.Tools.{written}
 use Rattle.paper.specs.Extraction.{rank, pickFrom}
-use Rattle.table.specs.Climbs.{Ordered, Numbered, Last}
+use Rattle.table.specs.Climbs.{Last}
 use Rattle.table.proofs.Writes.{Written, room, nothing, one-more, no-more, found-at, last-new, last-kept}
 use Rattle.table.proofs.copy_parents.Statement.{statement}
 use Rattle.table.proofs.copy_parents.Tie as tie
-use Rattle.table.proofs.copy_parents.Reads as reads
-use Rattle.table.proofs.copy_parents.Lts as lts
-use Rattle.table.proofs.new_parent.Reads as new-parent-reads
 
 abbrev Inv-loop : tie.InvT-loop
 Inv-loop parent marks out₀ last₀ n₀ i₀ out last n i = (i ≤ length marks) × Written marks (λ k. rank marks (getD parent k 0)) out₀ out n i × (0 < n → Last marks i last)
@@ -31,53 +28,47 @@ fits c =
     let marks = now (start .args .marks) in
     room marks (λ k. rank marks (getD (now (start .args .parent)) k 0)) (now (start .args .out)) (head .loop .n) (head .loop .i) (head .loop .inv .1 .count) (start .pre .1 .1) (omega arith) (c .if1 .taken)
 
--- src/lib.rt:210:5
 loop-holds : tie.Need-loop-holds Inv-loop μ-loop
-loop-holds c =     let start = c .before .before .before in
+loop-holds c = let start = c .before .before .before in
     let marks = now (start .args .marks) in
     (omega arith, nothing marks (λ k. rank marks (getD (now (start .args .parent)) k 0)) (now (start .args .out)), λ z. absurd (omega arith))
 
--- src/lib.rt:211:12
 shared-slice-read-if1 : tie.Need-shared-slice-read-if1 Inv-loop μ-loop
 shared-slice-read-if1 c = omega arith
 
--- src/lib.rt:212:22
 new-parent-requires : tie.Need-new-parent-requires Inv-loop μ-loop
-new-parent-requires c κs =     let start = c .before .before .before .before .before .before .before .before in
+new-parent-requires c κs = let start = c .before .before .before .before .before .before .before .before in
     let head = c .before .before .before .before in
     let marks = now (start .args .marks) in
     let parents = now (start .args .parent) in
-    let so-far = head .loop .inv .1 in
-    (start .pre .0,
-    (record {
-      room = omega (arith, so-far .count, so-far .long, fits (c .before));
-      at = found-at marks (λ k. rank marks (getD parents k 0)) (now (start .args .out)) (head .loop .out) (head .loop .n) (head .loop .i) so-far;
-    },
-    ((omega (arith, start .pre .1 .0), eq-eqb (getD marks (head .loop .i) 0) 1 (c .before .if1 .taken)), (so-far .count, head .loop .inv .2))))
+    let so-far = head .loop .inv .1 in (
+      start .pre .0,
+      (
+        record {
+          room = omega (arith, so-far .count, so-far .long, fits (c .before));
+          at = found-at marks (λ k. rank marks (getD parents k 0)) (now (start .args .out)) (head .loop .out) (head .loop .n) (head .loop .i) so-far;
+        },
+        ((omega (arith, start .pre .1 .0), eq-eqb (getD marks (head .loop .i) 0) 1 (c .before .if1 .taken)), (so-far .count, head .loop .inv .2)),
+      ),
+    )
 
--- src/lib.rt:212:13
 mul-out : tie.Need-mul-out Inv-loop μ-loop
 mul-out c = omega (arith, fits (c .before .before))
 
--- src/lib.rt:212:13
 slice-write-out : tie.Need-slice-write-out Inv-loop μ-loop
 slice-write-out c = omega (arith, fits (c .before .before), c .before .before .before .before .before .loop .inv .1 .long)
 
--- src/lib.rt:214:13
 add-n : tie.Need-add-n Inv-loop μ-loop
 add-n c = omega (arith, fits (c .before .before))
 
--- src/lib.rt:216:9
 add-i : tie.Need-add-i Inv-loop μ-loop
 add-i c = omega arith
 
--- src/lib.rt:210:5
 loop-less : tie.Need-loop-less Inv-loop μ-loop
 loop-less c = omega arith
 
--- src/lib.rt:210:5
 loop-again : tie.Need-loop-again Inv-loop μ-loop
-loop-again c =     let head = c .before .before .before in
+loop-again c = let head = c .before .before .before in
     let start = head .before .before .before .before in
     let marks = now (start .args .marks) in
     let parents = now (start .args .parent) in
@@ -86,23 +77,23 @@ loop-again c =     let head = c .before .before .before in
     let f : ℕ → ℕ = λ k. rank marks (getD parents k 0) in
     let so-far = head .loop .inv .1 in
     ⊎-elim
-    (λ w.
-    (omega arith,
-    one-more marks (λ k. rank marks (getD parents k 0)) old (head .loop .out) (head .loop .n) i so-far (c .if1 .out) (c .if1 .n) (w .2 .result)
-    (room marks (λ k. rank marks (getD parents k 0)) old (head .loop .n) i (so-far .count) (start .pre .1 .1) (omega arith) (w .0 .taken)) (w .0 .taken) (w .2 .ensures) (w .3) (w .5),
-    λ z. subst (Last marks (i + 1)) (sym (w .4)) (last-new marks i (w .0 .taken))))
-    (λ w.
-    (omega arith,
-    no-more marks (λ k. rank marks (getD parents k 0)) old (head .loop .out) (head .loop .n) i so-far (c .if1 .out) (c .if1 .n) (w .0 .left) (w .1) (w .3),
-    λ z. subst (Last marks (i + 1)) (sym (w .2)) (last-kept marks i (head .loop .last) (w .0 .left) (head .loop .inv .2 (omega (arith, w .3)))))) (c .if1 .came)
+    (λ w. (
+      omega arith,
+      one-more marks (λ k. rank marks (getD parents k 0)) old (head .loop .out) (head .loop .n) i so-far (c .if1 .out) (c .if1 .n) (w .2 .result)
+          (room marks (λ k. rank marks (getD parents k 0)) old (head .loop .n) i (so-far .count) (start .pre .1 .1) (omega arith) (w .0 .taken)) (w .0 .taken) (w .2 .ensures) (w .3) (w .5),
+      λ z. subst (Last marks (i + 1)) (sym (w .4)) (last-new marks i (w .0 .taken)),
+    ))
+    (λ w. (
+      omega arith,
+      no-more marks (λ k. rank marks (getD parents k 0)) old (head .loop .out) (head .loop .n) i so-far (c .if1 .out) (c .if1 .n) (w .0 .left) (w .1) (w .3),
+      λ z. subst (Last marks (i + 1)) (sym (w .2)) (last-kept marks i (head .loop .last) (w .0 .left) (head .loop .inv .2 (omega (arith, w .3)))),
+    )) (c .if1 .came)
 
--- src/lib.rt:202:1
 same-length : tie.Need-same-length Inv-loop μ-loop
 same-length c = c .before .loop .inv .1 .long
 
--- src/lib.rt:202:1
 returns : tie.Need-returns Inv-loop μ-loop
-returns c =     let start = c .before .before .before .before .before in
+returns c = let start = c .before .before .before .before .before in
     let marks = now (start .args .marks) in
     let e : c .before .loop .i ≡ length (now (start .args .parent)) = omega (arith, start .pre .1 .0) in
     c .before .loop .inv .1 .is ∙ ap (λ k. written (pickFrom marks k 0 (λ i. rank marks (getD (now (start .args .parent)) i 0))) (now (start .args .out))) e

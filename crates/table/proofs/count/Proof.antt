@@ -1,19 +1,16 @@
 -- `table::count` meets its contract. The loop's invariant: `n` is the number of marked nodes before `i`. The measure is the marks that are left. Assumes nothing.
-use Prim.Native.Nat.{ℕ, suc, _+_, _-_, _≤_, _<_}
+use Prim.Native.Nat.{_-_, _≤_}
 use native.Mathlib.Omega.{arith}
 use native.Mathlib.Numerals.{add-one}
-use mathlib.Core.Path.{_≡_, refl, sym, _∙_, ap}
+use mathlib.Core.Path.{_≡_, refl, _∙_, ap}
 use mathlib.Core.Logic.{⊎-elim}
 use borrow.Author.Tests.{eq-eqb, ne-eqb}
 use lib.ListN.{length, getD}
 use denote.Ref.{now}
-use Rattle.paper.specs.Document.{marked}
 use Rattle.paper.specs.Extraction.{rank}
 use Rattle.paper.proofs.Extracting.{rank-marked, rank-unmarked, rank-le}
 use Rattle.table.proofs.count.Statement.{statement}
 use Rattle.table.proofs.count.Tie as tie
-use Rattle.table.proofs.count.Reads as reads
-use Rattle.table.proofs.count.Lts as lts
 
 abbrev Inv-loop : tie.InvT-loop
 Inv-loop marks n₀ i₀ n i = (i ≤ length marks) × (n ≡ rank marks i)
@@ -21,38 +18,32 @@ Inv-loop marks n₀ i₀ n i = (i ≤ length marks) × (n ≡ rank marks i)
 abbrev μ-loop : tie.MeasureT-loop
 μ-loop marks n₀ i₀ n i = length marks - i
 
--- src/lib.rt:150:5
 loop-holds : tie.Need-loop-holds Inv-loop μ-loop
 loop-holds c = (omega arith, refl)
 
--- src/lib.rt:151:12
 shared-slice-read-if1 : tie.Need-shared-slice-read-if1 Inv-loop μ-loop
 shared-slice-read-if1 c = omega arith
 
--- src/lib.rt:152:13
 add-n : tie.Need-add-n Inv-loop μ-loop
 add-n c = omega (arith, rank-le (now (c .before .before .before .before .args .marks)) (c .before .before .before .loop .i))
 
--- src/lib.rt:154:9
 add-i : tie.Need-add-i Inv-loop μ-loop
 add-i c = omega arith
 
--- src/lib.rt:150:5
 loop-less : tie.Need-loop-less Inv-loop μ-loop
 loop-less c = omega arith
 
--- src/lib.rt:150:5
 loop-again : tie.Need-loop-again Inv-loop μ-loop
-loop-again c =     let head = c .before .before .before in
+loop-again c = let head = c .before .before .before in
     let marks = now (head .before .args .marks) in
-    let i = head .loop .i in
-    (omega arith,
-    ⊎-elim (λ w. omega (arith, ap (rank marks) (add-one i), rank-marked marks i (eq-eqb (getD marks i 0) 1 (w .0 .taken))))
-    (λ w. omega (arith, ap (rank marks) (add-one i), rank-unmarked marks i (ne-eqb (getD marks i 0) 1 (w .0 .left)))) (c .if1 .came))
+    let i = head .loop .i in (
+      omega arith,
+      ⊎-elim (λ w. omega (arith, ap (rank marks) (add-one i), rank-marked marks i (eq-eqb (getD marks i 0) 1 (w .0 .taken))))
+          (λ w. omega (arith, ap (rank marks) (add-one i), rank-unmarked marks i (ne-eqb (getD marks i 0) 1 (w .0 .left)))) (c .if1 .came),
+    )
 
--- src/lib.rt:145:1
 returns : tie.Need-returns Inv-loop μ-loop
-returns c =     let marks = now (c .before .before .args .marks) in
+returns c = let marks = now (c .before .before .args .marks) in
     let e : c .before .loop .i ≡ length marks = omega arith in
     c .before .loop .inv .1 ∙ ap (rank marks) e
 

@@ -1,11 +1,10 @@
-use Prim.Native.Nat.{ℕ, suc, _≤_, _<_}
 use native.Mathlib.Omega.{arith}
-use mathlib.Core.Path.{_≡_, refl, sym, _∙_, ap}
+use mathlib.Core.Path.{_≡_, sym, _∙_, ap}
 use borrow.Author.Needs.{needs}
 use lib.ListN.{length, getD}
 use denote.Ref.{now}
 use Rattle.paper.specs.Tools.{written}
-use Rattle.paper.specs.Extraction.{rank, pickFrom, extracted}
+use Rattle.paper.specs.Extraction.{pickFrom, extracted}
 use Rattle.paper.specs.Answers.{value, extractAnswer}
 use Rattle.paper.specs.Told.{told}
 use Rattle.table.specs.Climbs.{tableOf}
@@ -14,11 +13,6 @@ use Rattle.table.proofs.Lines.{Accepted, accepted, refused, wrote}
 -- `table::extract` meets its contract: where the answer is a value all that the writing asks was found, and where it is a refusal nothing is written. Assumes nothing.
 use Rattle.table.proofs.extract.Statement.{statement}
 use Rattle.table.proofs.extract.Tie as tie
-use Rattle.table.proofs.extract.Reads as reads
-use Rattle.table.proofs.extract.Lts as lts
-use Rattle.table.proofs.answer.Reads as answer-reads
-use Rattle.table.proofs.copy_kinds.Reads as copy-kinds-reads
-use Rattle.table.proofs.copy_parents.Reads as copy-parents-reads
 
 -- The answer was found to be a value.
 valued : (c : tie.After-enum-told)
@@ -32,49 +26,47 @@ at-accepted c =
     let start = c .before .before .before .before .before .before .before .before in
     accepted (tableOf (now (start .args .parent)) (now (start .args .kind))) (now (start .args .marks)) (length (now (start .args .out-parent))) (length (now (start .args .out-kind))) (c .enum-told .given .0 .0) (valued c)
 
--- src/lib.rt:271:9
 answer-requires : tie.Need-answer-requires
 answer-requires c κs = search needs
 
--- src/lib.rt:273:37
 enum-told : tie.Need-enum-told
 enum-told c = search needs
 
--- src/lib.rt:273:9
 copy-parents-requires : tie.Need-copy-parents-requires
-copy-parents-requires c κs =     let start = c .before .before .before .before .before .before .before .before .before in
+copy-parents-requires c κs = let start = c .before .before .before .before .before .before .before .before .before in
     let got = at-accepted (c .before) in
     (ordered (now (start .args .parent)) (now (start .args .kind)) (now (start .args .marks)) (got .table) (got .closed), (got .agree .marks-long, got .fits))
 
--- src/lib.rt:274:9
 copy-kinds-requires : tie.Need-copy-kinds-requires
-copy-kinds-requires c κs =     let got = at-accepted (c .before .before .before .before .before) in
+copy-kinds-requires c κs = let got = at-accepted (c .before .before .before .before .before) in
     (got .agree .marks-long ∙ sym (got .agree .kinds-long), omega (arith, got .fits, got .agree .rooms))
 
--- src/lib.rt:266:1
 same-length : tie.Need-same-length
 same-length c = search needs
 
--- src/lib.rt:266:1
 same-length-2 : tie.Need-same-length-2
 same-length-2 c = search needs
 
--- src/lib.rt:266:1
 returns : tie.Need-returns
 unfolding extracted
-returns c =     let start = c .before .before .before .before .before .before .before .before .before .before .before .before .before .before .before .before in
+returns c = let start = c .before .before .before .before .before .before .before .before .before .before .before .before .before .before .before .before in
     let t = tableOf (now (start .args .parent)) (now (start .args .kind)) in
     let told-value = c .before .before .before .before .before .before .before .before in
-    let both = wrote t (now (start .args .marks)) (now (start .args .out-parent)) (now (start .args .out-kind)) (told-value .enum-told .given .0 .0) (valued told-value) in
-    (c .before .before .before .before .before .before .before .before .before .before .answer .ensures, (c .before .before .before .before .before .before .copy-parents .ensures ∙ both .0, c .before .before .copy-kinds .ensures
-        ∙ ap (λ k. written (pickFrom (now (start .args .marks)) k 0 (λ i. getD (now (start .args .kind)) i 0)) (now (start .args .out-kind))) (at-accepted told-value .agree .kinds-long) ∙ both .1))
+    let both = wrote t (now (start .args .marks)) (now (start .args .out-parent)) (now (start .args .out-kind)) (told-value .enum-told .given .0 .0) (valued told-value) in (
+      c .before .before .before .before .before .before .before .before .before .before .answer .ensures,
+      (
+        c .before .before .before .before .before .before .copy-parents .ensures ∙ both .0,
+        c .before .before .copy-kinds .ensures
+            ∙ ap (λ k. written (pickFrom (now (start .args .marks)) k 0 (λ i. getD (now (start .args .kind)) i 0)) (now (start .args .out-kind))) (at-accepted told-value .agree .kinds-long) ∙ both .1,
+      ),
+    )
 
--- src/lib.rt:266:1
 returns-2 : tie.Need-returns-2
-returns-2 c =     let start = c .before .before .before .before .before .before .before in
-    let t = tableOf (now (start .args .parent)) (now (start .args .kind)) in
-    (c .before .answer .ensures,
-    refused t (now (start .args .marks)) (now (start .args .out-parent)) (now (start .args .out-kind)) (c .before .answer .result) (c .before .answer .ensures) (c .match .keys2))
+returns-2 c = let start = c .before .before .before .before .before .before .before in
+    let t = tableOf (now (start .args .parent)) (now (start .args .kind)) in (
+      c .before .answer .ensures,
+      refused t (now (start .args .marks)) (now (start .args .out-parent)) (now (start .args .out-kind)) (c .before .answer .result) (c .before .answer .ensures) (c .match .keys2),
+    )
 
 pub extract-spec : {M : Type 1} → statement M
 extract-spec =

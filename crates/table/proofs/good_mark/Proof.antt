@@ -1,8 +1,7 @@
 -- `table::good_mark` meets its contract: its tests are those of the definition. Assumes nothing.
 use Prim.Native.Nat.{ℕ}
-use mathlib.Core.Path.{_≡_, refl, sym, _∙_, ap}
-use mathlib.Core.Bool.{Bool, true, false, _&&_, _||_}
-use mathlib.Core.List.{List}
+use mathlib.Core.Path.{_≡_, sym, _∙_, ap}
+use mathlib.Core.Bool.{Bool, false, _&&_, _||_}
 use borrow.Author.Needs.{needs}
 use borrow.Author.Tests.{eq-eqb, ne-eqb}
 use lib.Dec.{eqb}
@@ -10,13 +9,8 @@ use lib.ListN.{getD}
 use denote.Ref.{now}
 use Rattle.paper.specs.Document.{marked, goodMark}
 use Rattle.paper.proofs.Tests.{or-left}
-use Rattle.table.specs.Climbs.{tableOf}
 use Rattle.table.proofs.good_mark.Statement.{statement}
 use Rattle.table.proofs.good_mark.Tie as tie
-use Rattle.table.proofs.good_mark.Reads as reads
-use Rattle.table.proofs.good_mark.Lts as lts
-use Rattle.table.proofs.mark.Reads as mark-reads
-use Rattle.table.proofs.wide.Reads as wide-reads
 
 -- A mark of 1 is as good as the parent's, and a mark that is neither 0 nor 1 is bad.
 one : (above : Bool) (m : ℕ) → m ≡ 1 → (eqb m 0 || eqb m 1 && above) ≡ above
@@ -25,50 +19,42 @@ one above m e = rw e
 neither : (above : Bool) (m : ℕ) → (m ≡ 0 → ⊥) → (m ≡ 1 → ⊥) → (eqb m 0 || eqb m 1 && above) ≡ false
 neither above m z o = rw (ne-eqb m 0 z, ne-eqb m 1 o)
 
--- src/lib.rt:117:9
 mark-requires : tie.Need-mark-requires
 mark-requires c κs = search needs
 
--- src/lib.rt:119:9
 returns : tie.Need-returns
 unfolding goodMark
-returns c =     let start = c .before .before .before .before in
+returns c = let start = c .before .before .before .before in
     let marks = now (start .args .marks) in
     let parents = now (start .args .parent) in
     let i = start .args .i in
     λ kinds. sym (or-left (marked marks i && marked marks (getD parents i 0)) (eq-eqb (getD marks i 0) 0 (sym (c .before .mark .ensures) ∙ c .if1 .taken)))
 
--- src/lib.rt:122:26
 mul-wide : tie.Need-mul-wide
 mul-wide c = search needs
 
--- src/lib.rt:122:26
 shared-slice-read-wide : tie.Need-shared-slice-read-wide
 shared-slice-read-wide c = search needs
 
--- src/lib.rt:122:13
 wide-requires : tie.Need-wide-requires
 wide-requires c κs = search needs
 
--- src/lib.rt:123:9
 mark-requires-2 : tie.Need-mark-requires-2
 mark-requires-2 c κs = search needs
 
--- src/lib.rt:113:1
 returns-2 : tie.Need-returns-2
 unfolding goodMark
-returns-2 c =     let start = c .before .before .before .before .before .before .before .before in
+returns-2 c = let start = c .before .before .before .before .before .before .before .before in
     let marks = now (start .args .marks) in
     let parents = now (start .args .parent) in
     let i = start .args .i in
     λ kinds.
     ap (λ x. eqb x 1) (c .mark2 .ensures ∙ ap (λ k. getD marks k 0) (c .before .wide .ensures))
-        ∙ sym (one (marked marks (getD parents i 0)) (getD marks i 0) (sym (c .before .before .before .before .before .mark .ensures) ∙ c .before .before .before .if2 .taken))
+    ∙ sym (one (marked marks (getD parents i 0)) (getD marks i 0) (sym (c .before .before .before .before .before .mark .ensures) ∙ c .before .before .before .if2 .taken))
 
--- src/lib.rt:113:1
 returns-3 : tie.Need-returns-3
 unfolding goodMark
-returns-3 c =     let start = c .before .before .before .before .before in
+returns-3 c = let start = c .before .before .before .before .before in
     let marks = now (start .args .marks) in
     let parents = now (start .args .parent) in
     let i = start .args .i in

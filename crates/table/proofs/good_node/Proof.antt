@@ -2,23 +2,18 @@
 -- The parent is over the node before, so it is no greater than that node and has a kind. Assumes nothing.
 use Prim.Native.Nat.{ℕ, zero, suc, _+_, _-_, _≤_, _<_}
 use native.Mathlib.Omega.{arith}
-use mathlib.Core.Path.{_≡_, refl, sym, _∙_, ap, subst}
+use mathlib.Core.Path.{_≡_, sym, _∙_, ap, subst}
 use mathlib.Core.Bool.{Bool, true, false, not, _&&_}
 use borrow.Author.Needs.{needs}
-use borrow.Author.Tests.{eqb-true, lt-leb, le-leb}
+use borrow.Author.Tests.{lt-leb, le-leb}
 use lib.Dec.{eqb, leb}
-use lib.ListN.{length, getD}
+use lib.ListN.{length}
 use denote.Ref.{now}
 use Rattle.paper.specs.Document.{Table, parentOf, kindOf, over, goodNode}
 use Rattle.table.specs.Climbs.{tableOf, Falls}
 use Rattle.table.proofs.Ways.{way-low}
 use Rattle.table.proofs.good_node.Statement.{statement}
 use Rattle.table.proofs.good_node.Tie as tie
-use Rattle.table.proofs.good_node.Reads as reads
-use Rattle.table.proofs.good_node.Lts as lts
-use Rattle.table.proofs.good_root.Reads as good-root-reads
-use Rattle.table.proofs.is_over.Reads as is-over-reads
-use Rattle.table.proofs.wide.Reads as wide-reads
 
 -- What a node that is not the root must be.
 later : (t : Table) (i : ℕ) → 0 < i
@@ -49,78 +44,62 @@ low c =
     let i = start .args .i in
     omega (arith, start .pre .0, way-low (tableOf parents (now (start .args .kind))) i (start .pre .1) (i - 1) (c .before .before .wide2 .result) (omega arith) (sym (c .before .is-over .ensures (now (start .args .kind))) ∙ c .if4 .taken))
 
--- src/lib.rt:63:9
 good-root-requires : tie.Need-good-root-requires
 good-root-requires c κs = search needs
 
--- src/lib.rt:63:9
 returns : tie.Need-returns
-returns c =     let start = c .before .before .before .before in
+returns c = let start = c .before .before .before .before in
     c .good-root .ensures ∙ ap (goodNode (tableOf (now (start .args .parent)) (now (start .args .kind)))) (sym (c .before .if1 .taken))
 
--- src/lib.rt:65:20
 mul-wide : tie.Need-mul-wide
 mul-wide c = search needs
 
--- src/lib.rt:65:20
 shared-slice-read-wide : tie.Need-shared-slice-read-wide
 shared-slice-read-wide c = search needs
 
--- src/lib.rt:65:9
 wide-requires : tie.Need-wide-requires
 wide-requires c κs = search needs
 
--- src/lib.rt:67:9
 returns-2 : tie.Need-returns-2
-returns-2 c =     let start = c .before .before .before .before .before .before in
+returns-2 c = let start = c .before .before .before .before .before .before in
     let t = tableOf (now (start .args .parent)) (now (start .args .kind)) in
     let i = start .args .i in
     sym (later t i (omega arith) ∙ too-low (kindOf t i) (over t (i - 1) (parentOf t i)) (not (eqb (kindOf t (parentOf t i)) 1)) (omega (arith, c .before .wide .ensures)))
 
--- src/lib.rt:70:9
 returns-3 : tie.Need-returns-3
-returns-3 c =     let start = c .before .before .before .before .before .before .before in
+returns-3 c = let start = c .before .before .before .before .before .before .before in
     let t = tableOf (now (start .args .parent)) (now (start .args .kind)) in
     let i = start .args .i in
     sym (later t i (omega arith) ∙ too-high (kindOf t i) (over t (i - 1) (parentOf t i)) (not (eqb (kindOf t (parentOf t i)) 1)) (omega (arith, c .before .before .wide .ensures)))
 
--- src/lib.rt:72:22
 mul-wide-2 : tie.Need-mul-wide-2
 mul-wide-2 c = search needs
 
--- src/lib.rt:72:22
 shared-slice-read-wide-2 : tie.Need-shared-slice-read-wide-2
 shared-slice-read-wide-2 c = search needs
 
--- src/lib.rt:72:9
 wide-requires-2 : tie.Need-wide-requires-2
 wide-requires-2 c κs = search needs
 
--- src/lib.rt:73:24
 sub-is-over : tie.Need-sub-is-over
 sub-is-over c = search needs
 
--- src/lib.rt:73:8
 is-over-requires : tie.Need-is-over-requires
-is-over-requires c κs =     let start = c .before .before .before .before .before .before .before .before .before in
+is-over-requires c κs = let start = c .before .before .before .before .before .before .before .before .before in
     let e : start .args .i ≡ start .args .i - 1 + 1 = omega arith in
     subst (Falls (now (start .args .parent))) e (start .pre .1)
 
--- src/lib.rt:74:14
 mul-wide-3 : tie.Need-mul-wide-3
 mul-wide-3 c = omega (arith, low c)
 
--- src/lib.rt:74:14
 shared-slice-read-wide-3 : tie.Need-shared-slice-read-wide-3
 shared-slice-read-wide-3 c = low (c .before)
 
--- src/lib.rt:74:9
 wide-requires-3 : tie.Need-wide-requires-3
 wide-requires-3 c κs = search needs
 
--- src/lib.rt:57:1
 returns-4 : tie.Need-returns-4
-returns-4 c =     let start = c .before .before .before .before .before .before .before .before .before .before .before .before .before in
+returns-4 c = let start = c .before .before .before .before .before .before .before .before .before .before .before .before .before in
     let t = tableOf (now (start .args .parent)) (now (start .args .kind)) in
     let i = start .args .i in
     let own = c .before .before .before .before .before .before .before .before .wide .ensures in
@@ -128,13 +107,12 @@ returns-4 c =     let start = c .before .before .before .before .before .before 
     let up : over t (i - 1) (parentOf t i) ≡ true =
     ap (over t (i - 1)) (sym above) ∙ sym (c .before .before .before .is-over .ensures (now (start .args .kind))) ∙ c .before .before .if4 .taken in
     ap (λ x. not (eqb x 1)) (c .wide3 .ensures ∙ ap (kindOf t) above)
-        ∙ sym
-        (later t i (omega arith) ∙ right (kindOf t i) (over t (i - 1) (parentOf t i)) (not (eqb (kindOf t (parentOf t i)) 1)) (omega (arith, own)) (omega (arith, own))
-            ∙ ap (λ x. x && not (eqb (kindOf t (parentOf t i)) 1)) up)
+    ∙ sym
+    (later t i (omega arith) ∙ right (kindOf t i) (over t (i - 1) (parentOf t i)) (not (eqb (kindOf t (parentOf t i)) 1)) (omega (arith, own)) (omega (arith, own))
+    ∙ ap (λ x. x && not (eqb (kindOf t (parentOf t i)) 1)) up)
 
--- src/lib.rt:57:1
 returns-5 : tie.Need-returns-5
-returns-5 c =     let start = c .before .before .before .before .before .before .before .before .before .before .before in
+returns-5 c = let start = c .before .before .before .before .before .before .before .before .before .before .before in
     let t = tableOf (now (start .args .parent)) (now (start .args .kind)) in
     let i = start .args .i in
     let own = c .before .before .before .before .before .before .wide .ensures in
@@ -142,7 +120,7 @@ returns-5 c =     let start = c .before .before .before .before .before .before 
     ap (over t (i - 1)) (sym (c .before .before .wide2 .ensures)) ∙ sym (c .before .is-over .ensures (now (start .args .kind))) ∙ c .if4 .left in
     sym
     (later t i (omega arith) ∙ right (kindOf t i) (over t (i - 1) (parentOf t i)) (not (eqb (kindOf t (parentOf t i)) 1)) (omega (arith, own)) (omega (arith, own))
-        ∙ ap (λ x. x && not (eqb (kindOf t (parentOf t i)) 1)) up)
+    ∙ ap (λ x. x && not (eqb (kindOf t (parentOf t i)) 1)) up)
 
 pub good-node-spec : {M : Type 1} → statement M
 good-node-spec =

@@ -5,18 +5,13 @@ use lib.ListN.{List·getD-eq-default}
 use denote.Ref.{now}
 use Rattle.table.proofs.mark.Statement.{statement}
 use Rattle.table.proofs.mark.Tie as tie
-use Rattle.table.proofs.mark.Reads as reads
-use Rattle.table.proofs.mark.Lts as lts
 
--- src/lib.rt:106:9
 shared-slice-read-result : tie.Need-shared-slice-read-result
 shared-slice-read-result c = search needs
 
--- src/lib.rt:102:1
 returns : tie.Need-returns
 returns c = search needs
 
--- src/lib.rt:102:1
 returns-2 : tie.Need-returns-2
 returns-2 c = sym (List·getD-eq-default (now (c .before .args .marks)) 0 (c .if1 .left))
 

@@ -1,8 +1,8 @@
 -- `table::marks_fault` meets its contract. The loop's invariant: the marks of all nodes before `i` are good. The measure is the nodes that are left. Assumes nothing.
-use Prim.Native.Nat.{ℕ, _+_, _-_, _≤_, _<_}
+use Prim.Native.Nat.{ℕ, _-_, _≤_, _<_}
 use native.Mathlib.Omega.{arith}
-use mathlib.Core.Path.{_≡_, refl, sym, _∙_, ap}
-use mathlib.Core.Bool.{Bool, true, false, not}
+use mathlib.Core.Path.{_≡_, sym, _∙_}
+use mathlib.Core.Bool.{true}
 use mathlib.Core.List.{List}
 use borrow.Author.Count.{below-more}
 use borrow.Author.Needs.{needs}
@@ -13,9 +13,6 @@ use Rattle.table.specs.Climbs.{tableOf}
 use Rattle.table.proofs.Firsts.{no-fault, fault-at}
 use Rattle.table.proofs.marks_fault.Statement.{statement}
 use Rattle.table.proofs.marks_fault.Tie as tie
-use Rattle.table.proofs.marks_fault.Reads as reads
-use Rattle.table.proofs.marks_fault.Lts as lts
-use Rattle.table.proofs.good_mark.Reads as good-mark-reads
 
 abbrev Inv-loop : tie.InvT-loop
 Inv-loop parent marks i₀ i = (i ≤ length parent) × ((k : ℕ) → k < i → (kinds : List ℕ) → goodMark (tableOf parent kinds) marks k ≡ true)
@@ -23,43 +20,36 @@ Inv-loop parent marks i₀ i = (i ≤ length parent) × ((k : ℕ) → k < i →
 abbrev μ-loop : tie.MeasureT-loop
 μ-loop parent marks i₀ i = length parent - i
 
--- src/lib.rt:134:5
 loop-holds : tie.Need-loop-holds Inv-loop μ-loop
 loop-holds c = (omega arith, λ k l. absurd (omega arith))
 
--- src/lib.rt:135:12
 good-mark-requires : tie.Need-good-mark-requires Inv-loop μ-loop
 good-mark-requires c κs = search needs
 
--- src/lib.rt:136:13
 add-i : tie.Need-add-i Inv-loop μ-loop
 add-i c = omega arith
 
--- src/lib.rt:134:5
 loop-less : tie.Need-loop-less Inv-loop μ-loop
 loop-less c = omega arith
 
--- src/lib.rt:134:5
 loop-again : tie.Need-loop-again Inv-loop μ-loop
-loop-again c =     let start = c .before .before .before .before .before .before in
+loop-again c = let start = c .before .before .before .before .before .before in
     let head = c .before .before .before in
     let good : ℕ → Type 0 = λ k. (kinds : List ℕ) → goodMark (tableOf (now (start .args .parent)) kinds) (now (start .args .marks)) k ≡ true in
     (omega arith, below-more good (head .loop .i) (head .loop .inv .1) (λ kinds. sym (c .before .good-mark .ensures kinds) ∙ c .if1 .taken))
 
--- src/lib.rt:138:13
 returns : tie.Need-returns Inv-loop μ-loop
 unfolding marksFault
-returns c =     let start = c .before .before .before .before .before .before in
+returns c = let start = c .before .before .before .before .before .before in
     let head = c .before .before .before in
     λ kinds.
     sym
     (fault-at (length (now (start .args .parent))) (head .loop .i) (goodMark (tableOf (now (start .args .parent)) kinds) (now (start .args .marks))) (omega arith)
     (λ k l. head .loop .inv .1 k l kinds) (sym (c .before .good-mark .ensures kinds) ∙ c .if1 .left))
 
--- src/lib.rt:130:1
 returns-2 : tie.Need-returns-2 Inv-loop μ-loop
 unfolding marksFault
-returns-2 c =     let start = c .before .before .before .before in
+returns-2 c = let start = c .before .before .before .before in
     let head = c .before in
     λ kinds.
     sym

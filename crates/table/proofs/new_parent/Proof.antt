@@ -1,25 +1,19 @@
 -- `table::new_parent` meets its contract. Below a marked node the root is marked, so there is a marked node before it, and the parent is over that one.
 -- A new number is no greater than the old one, so it fits. Assumes nothing.
-use Prim.Native.Nat.{ℕ, suc, _+_, _-_, _≤_, _<_}
+use Prim.Native.Nat.{_+_, _<_}
 use native.Mathlib.Omega.{arith}
-use mathlib.Core.Path.{_≡_, refl, sym, _∙_, ap}
-use mathlib.Core.Bool.{true}
+use mathlib.Core.Path.{sym, _∙_, ap}
 use borrow.Author.Needs.{needs}
-use lib.ListN.{length, getD}
+use lib.ListN.{getD}
 use denote.Ref.{now}
-use Rattle.paper.specs.Document.{parentOf, over, marked}
+use Rattle.paper.specs.Document.{over}
 use Rattle.paper.specs.Extraction.{rank}
 use Rattle.paper.proofs.Trees.{over-root, over-marked}
 use Rattle.paper.proofs.Extracting.{rank-le, rank-mono, rank-less, over-last}
-use Rattle.table.specs.Climbs.{shapeOf, Falls, Ordered, Numbered, Last}
+use Rattle.table.specs.Climbs.{shapeOf}
 use Rattle.table.proofs.Ways.{shape-tree}
 use Rattle.table.proofs.new_parent.Statement.{statement}
 use Rattle.table.proofs.new_parent.Tie as tie
-use Rattle.table.proofs.new_parent.Reads as reads
-use Rattle.table.proofs.new_parent.Lts as lts
-use Rattle.table.proofs.narrow.Reads as narrow-reads
-use Rattle.table.proofs.new_number.Reads as new-number-reads
-use Rattle.table.proofs.wide.Reads as wide-reads
 
 -- A marked node that is not the root comes after the root, which is marked.
 after-root : (c : tie.Else1) → 0 < c .before .before .before .before .args .n
@@ -33,31 +27,25 @@ after-root c =
     let root = over-marked (shapeOf parents) tree marks (start .pre .0 .closed) 0 i on (start .pre .1 .1 .0 .1) (over-root (shapeOf parents) tree i on) in
     omega (arith, start .pre .1 .1 .1 .0, rank-less marks 0 i (omega arith) root)
 
--- src/lib.rt:195:9
 returns : tie.Need-returns
-returns c =     let start = c .before .before .before .before in
+returns c = let start = c .before .before .before .before in
     let parents = now (start .args .parent) in
     sym (ap (rank (now (start .args .marks))) (ap (λ k. getD parents k 0) (c .if1 .taken) ∙ start .pre .0 .tree .root (omega (arith, start .pre .1 .1 .0 .0))))
 
--- src/lib.rt:197:22
 mul-wide : tie.Need-mul-wide
 mul-wide c = search needs
 
--- src/lib.rt:197:22
 shared-slice-read-wide : tie.Need-shared-slice-read-wide
 shared-slice-read-wide c = search needs
 
--- src/lib.rt:197:9
 wide-requires : tie.Need-wide-requires
 wide-requires c κs = search needs
 
--- src/lib.rt:198:49
 sub-new-number : tie.Need-sub-new-number
 sub-new-number c = omega (arith, after-root (c .before .before))
 
--- src/lib.rt:198:12
 new-number-requires : tie.Need-new-number-requires
-new-number-requires c κs =     let start = c .before .before .before .before .before .before in
+new-number-requires c κs = let start = c .before .before .before .before .before .before in
     let marks = now (start .args .marks) in
     let parents = now (start .args .parent) in
     let ordered = start .pre .0 in
@@ -65,25 +53,28 @@ new-number-requires c κs =     let start = c .before .before .before .before .b
     let on = start .pre .1 .1 .0 in
     let last = start .pre .1 .1 .1 .1 (after-root (c .before .before)) in
     let i = start .args .i in
-    let q = start .args .last in
-    (ordered,
-    (record {
-      room = omega (arith, numbered .room, rank-mono marks (q + 1) i (omega (arith, last .before)));
-      at = λ k l m. numbered .at k (omega (arith, last .before)) m;
-    },
-    ((omega (arith, last .before, on .0), last .on, omega (arith, last .next, start .pre .1 .1 .1 .0)),
-    ap (over (shapeOf parents) q) (c .wide .ensures)
-        ∙ over-last (shapeOf parents) (shape-tree parents marks ordered (omega (arith, on .0))) (ordered .order) marks (ordered .closed) i q (omega arith) (on .0) (on .1) (last .before) (last .on)
-        (last .next))))
+    let q = start .args .last in (
+      ordered,
+      (
+        record {
+          room = omega (arith, numbered .room, rank-mono marks (q + 1) i (omega (arith, last .before)));
+          at = λ k l m. numbered .at k (omega (arith, last .before)) m;
+        },
+        (
+          (omega (arith, last .before, on .0), last .on, omega (arith, last .next, start .pre .1 .1 .1 .0)),
+          ap (over (shapeOf parents) q) (c .wide .ensures)
+              ∙ over-last (shapeOf parents) (shape-tree parents marks ordered (omega (arith, on .0))) (ordered .order) marks (ordered .closed) i q (omega arith) (on .0) (on .1) (last .before) (last .on)
+              (last .next),
+        ),
+      ),
+    )
 
--- src/lib.rt:198:5
 narrow-requires : tie.Need-narrow-requires
-narrow-requires c κs =     let start = c .before .before .before .before .before .before .before in
+narrow-requires c κs = let start = c .before .before .before .before .before .before .before in
     omega (arith, c .new-number .ensures, rank-le (now (start .args .marks)) (c .before .wide .result), c .before .wide .ensures, c .before .before .shared-slice-known4 .given (start .args .i))
 
--- src/lib.rt:187:1
 returns-2 : tie.Need-returns-2
-returns-2 c =     c .narrow .ensures ∙ c .before .new-number .ensures ∙ ap (rank (now (c .before .before .before .before .before .before .before .before .args .marks))) (c .before .before .wide .ensures)
+returns-2 c = c .narrow .ensures ∙ c .before .new-number .ensures ∙ ap (rank (now (c .before .before .before .before .before .before .before .before .args .marks))) (c .before .before .wide .ensures)
 
 pub new-parent-spec : {M : Type 1} → statement M
 new-parent-spec =

@@ -1,8 +1,8 @@
-use Prim.Native.Nat.{ℕ, _+_, _-_, _≤_, _<_}
+use Prim.Native.Nat.{ℕ, _-_, _≤_, _<_}
 use native.Mathlib.Omega.{arith}
-use mathlib.Core.Path.{_≡_, refl, sym, _∙_, ap}
-use mathlib.Core.Bool.{Bool, true, false, not, cond}
-use mathlib.Core.Option.{Option, none, some}
+use mathlib.Core.Path.{_≡_, sym, _∙_, ap}
+use mathlib.Core.Bool.{true, not, cond}
+use mathlib.Core.Option.{some}
 use borrow.Author.Count.{below-more}
 use borrow.Author.Tests.{eq-eqb, ne-eqb}
 use lib.ListN.{length}
@@ -15,9 +15,6 @@ use Rattle.table.proofs.Ways.{falls-good}
 -- `table::table_fault` meets its contract. The loop's invariant: all nodes before `i` are good. The measure is the nodes that are left. Assumes nothing.
 use Rattle.table.proofs.table_fault.Statement.{statement}
 use Rattle.table.proofs.table_fault.Tie as tie
-use Rattle.table.proofs.table_fault.Reads as reads
-use Rattle.table.proofs.table_fault.Lts as lts
-use Rattle.table.proofs.good_node.Reads as good-node-reads
 
 abbrev Inv-loop : tie.InvT-loop
 Inv-loop parent kind i₀ i = (i ≤ length parent) × ((k : ℕ) → k < i → goodNode (tableOf parent kind) k ≡ true)
@@ -30,50 +27,42 @@ of-nodes : (t : Table) → (nodes t ≡ 0 → ⊥) → tableFault t ≡ firstBel
 unfolding tableFault
 of-nodes t h = ap (λ b. cond b (some 0) (firstBelow (nodes t) (λ i. not (goodNode t i)))) (ne-eqb (nodes t) 0 h)
 
--- src/lib.rt:86:9
 returns : tie.Need-returns Inv-loop μ-loop
 unfolding tableFault
-returns c =     let start = c .before .before .before in
+returns c = let start = c .before .before .before in
     let t = tableOf (now (start .args .parent)) (now (start .args .kind)) in
     sym (ap (λ b. cond b (some 0) (firstBelow (nodes t) (λ i. not (goodNode t i)))) (eq-eqb (nodes t) 0 (c .if1 .taken)))
 
--- src/lib.rt:89:5
 loop-holds : tie.Need-loop-holds Inv-loop μ-loop
 loop-holds c = (omega arith, λ k l. absurd (omega arith))
 
--- src/lib.rt:90:12
 good-node-requires : tie.Need-good-node-requires Inv-loop μ-loop
-good-node-requires c κs =     let start = c .before .before .before .before .before in
+good-node-requires c κs = let start = c .before .before .before .before .before in
     let t = tableOf (now (start .args .parent)) (now (start .args .kind)) in
     ((omega arith, start .pre), falls-good t (c .before .loop .i) (omega arith) (c .before .loop .inv .1))
 
--- src/lib.rt:91:13
 add-i : tie.Need-add-i Inv-loop μ-loop
 add-i c = omega arith
 
--- src/lib.rt:89:5
 loop-less : tie.Need-loop-less Inv-loop μ-loop
 loop-less c = omega arith
 
--- src/lib.rt:89:5
 loop-again : tie.Need-loop-again Inv-loop μ-loop
-loop-again c =     let start = c .before .before .before .before .before .before .before in
+loop-again c = let start = c .before .before .before .before .before .before .before in
     let head = c .before .before .before in
     let t = tableOf (now (start .args .parent)) (now (start .args .kind)) in
     (omega arith, below-more (λ k. goodNode t k ≡ true) (head .loop .i) (head .loop .inv .1) (sym (c .before .good-node .ensures) ∙ c .if2 .taken))
 
--- src/lib.rt:93:13
 returns-2 : tie.Need-returns-2 Inv-loop μ-loop
-returns-2 c =     let start = c .before .before .before .before .before .before .before in
+returns-2 c = let start = c .before .before .before .before .before .before .before in
     let head = c .before .before .before in
     let t = tableOf (now (start .args .parent)) (now (start .args .kind)) in
     sym
     (of-nodes t (λ e. omega arith)
-        ∙ fault-at (nodes t) (head .loop .i) (goodNode t) (omega arith) (head .loop .inv .1) (sym (c .before .good-node .ensures) ∙ c .if2 .left))
+    ∙ fault-at (nodes t) (head .loop .i) (goodNode t) (omega arith) (head .loop .inv .1) (sym (c .before .good-node .ensures) ∙ c .if2 .left))
 
--- src/lib.rt:81:1
 returns-3 : tie.Need-returns-3 Inv-loop μ-loop
-returns-3 c =     let start = c .before .before .before .before .before in
+returns-3 c = let start = c .before .before .before .before .before in
     let head = c .before in
     let t = tableOf (now (start .args .parent)) (now (start .args .kind)) in
     sym (of-nodes t (λ e. head .before .if1 .left e) ∙ no-fault (nodes t) (goodNode t) (λ k l. head .loop .inv .1 k (omega arith)))
