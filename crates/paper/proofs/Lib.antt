@@ -6,3 +6,5 @@ pub mod Searches
 pub mod Trees
 pub mod Keeping
 pub mod Sizes
+pub mod Extracting
+pub mod Refusing

@@ -1,0 +1,48 @@
+-- What an answer that is a value says of the lines before it, and that a refusal leaves what is lent as it was. Assumes nothing.
+use Prim.Native.Nat.{ℕ}
+use native.Mathlib.Omega.{arith}
+use mathlib.Core.Path.{_≡_, refl, sym}
+use mathlib.Core.Bool.{Bool, true, false, _||_, false≢true}
+use mathlib.Core.List.{List, [], _∷_}
+use mathlib.Core.Option.{Option, none, some}
+use denote.Enum.Declared.{tagOf}
+use types.Run.{OneOf, miss}
+use Rattle.paper.specs.Tools.{when}
+use Rattle.paper.specs.Answers.{value, line, atExit}
+use Rattle.paper.specs.Answers.{Answer as Told}
+use Rattle.paper.specs.Told.{told}
+use Rattle.paper.specs.declared.Answer.{Answer}
+use Rattle.paper.specs.declared.Answer.the-variants.{Value, TooLong, BadName, NoQuery, TooDeep, UnknownName, BadQuery, BadTable, BadMarks, TooNested, Short}
+use Rattle.paper.proofs.Answer.{the-type}
+
+-- Where a value is answered, no line before it holds.
+pub line-value : (number n : ℕ) (o : Option ℕ) (later : Told) → line number o later ≡ value n → (o ≡ none) × (later ≡ value n)
+line-value number n none later h = (refl, h)
+line-value number n (some place) later h = absurd (let z : _≡_ {A = ℕ} 0 1 = cc in omega arith)
+
+pub when-none : (b : Bool) (place : ℕ) → when b place ≡ none → b ≡ false
+when-none true place h = absurd (let z : _≡_ {A = ℕ} 0 1 = cc in omega arith)
+when-none false place h = refl
+
+-- Of two tests none holds exactly if neither does.
+pub or-none : (a b : Bool) → (a || b) ≡ false → (a ≡ false) × (b ≡ false)
+or-none true b h = absurd (false≢true (sym h))
+or-none false b h = (refl, h)
+
+-- An answer is a refusal: one of the cases of `Answer` after the first, as a branch on the case of an answer says it.
+abbrev pub Refuses : Answer → Type 0
+Refuses a = OneOf (1 ∷ 2 ∷ 3 ∷ 4 ∷ 5 ∷ 6 ∷ 7 ∷ 8 ∷ 9 ∷ 10 ∷ []) (tagOf the-type a)
+
+-- A refused call writes nothing.
+pub refused-keeps : (a : Answer) (new old : List ℕ) → Refuses a → atExit (told a) new old ≡ old
+refused-keeps (Value n) new old h = absurd (miss (1 ∷ 2 ∷ 3 ∷ 4 ∷ 5 ∷ 6 ∷ 7 ∷ 8 ∷ 9 ∷ 10 ∷ []) 0 tt h)
+refused-keeps TooLong new old h = refl
+refused-keeps (BadName place) new old h = refl
+refused-keeps (NoQuery place) new old h = refl
+refused-keeps (TooDeep place) new old h = refl
+refused-keeps (UnknownName place) new old h = refl
+refused-keeps (BadQuery place) new old h = refl
+refused-keeps (BadTable place) new old h = refl
+refused-keeps (BadMarks place) new old h = refl
+refused-keeps (TooNested place) new old h = refl
+refused-keeps (Short place) new old h = refl

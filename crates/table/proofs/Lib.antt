@@ -1,0 +1,4 @@
+pub mod Firsts
+pub mod Ways
+pub mod Writes
+pub mod Lines

@@ -1,0 +1,19 @@
+-- `table::mark` meets its contract. Past the end of a list `getD` gives 0. Assumes nothing.
+use mathlib.Core.Path.{sym}
+use borrow.Author.Needs.{needs}
+use lib.ListN.{List·getD-eq-default}
+use denote.Ref.{now}
+use Rattle.table.proofs.mark.Statement.{statement}
+use Rattle.table.proofs.mark.Tie as tie
+
+shared-slice-read-result : tie.Need-shared-slice-read-result
+shared-slice-read-result c = search needs
+
+returns : tie.Need-returns
+returns c = search needs
+
+returns-2 : tie.Need-returns-2
+returns-2 c = sym (List·getD-eq-default (now (c .before .args .marks)) 0 (c .if1 .left))
+
+pub mark-spec : {M : Type 1} → statement M
+mark-spec = tie.close (tie.spec shared-slice-read-result returns returns-2)

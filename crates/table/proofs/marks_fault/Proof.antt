@@ -1,0 +1,71 @@
+-- `table::marks_fault` meets its contract. The loop's invariant: the marks of all nodes before `i` are good. The measure is the nodes that are left. Assumes nothing.
+use Prim.Native.Nat.{ℕ, _-_, _≤_, _<_}
+use native.Mathlib.Omega.{arith}
+use mathlib.Core.Path.{_≡_, sym, _∙_}
+use mathlib.Core.Bool.{true}
+use mathlib.Core.List.{List}
+use borrow.Author.Count.{below-more}
+use borrow.Author.Needs.{needs}
+use lib.ListN.{length}
+use denote.Ref.{now}
+use Rattle.paper.specs.Document.{goodMark, marksFault}
+use Rattle.table.specs.Climbs.{tableOf}
+use Rattle.table.proofs.Firsts.{no-fault, fault-at}
+use Rattle.table.proofs.marks_fault.Statement.{statement}
+use Rattle.table.proofs.marks_fault.Tie as tie
+
+abbrev Inv-loop : tie.InvT-loop
+Inv-loop parent marks i₀ i = (i ≤ length parent) × ((k : ℕ) → k < i → (kinds : List ℕ) → goodMark (tableOf parent kinds) marks k ≡ true)
+
+abbrev μ-loop : tie.MeasureT-loop
+μ-loop parent marks i₀ i = length parent - i
+
+loop-holds : tie.Need-loop-holds Inv-loop μ-loop
+loop-holds c = (omega arith, λ k l. absurd (omega arith))
+
+good-mark-requires : tie.Need-good-mark-requires Inv-loop μ-loop
+good-mark-requires c κs = search needs
+
+add-i : tie.Need-add-i Inv-loop μ-loop
+add-i c = omega arith
+
+loop-less : tie.Need-loop-less Inv-loop μ-loop
+loop-less c = omega arith
+
+loop-again : tie.Need-loop-again Inv-loop μ-loop
+loop-again c = let start = c .before .before .before .before .before .before in
+    let head = c .before .before .before in
+    let good : ℕ → Type 0 = λ k. (kinds : List ℕ) → goodMark (tableOf (now (start .args .parent)) kinds) (now (start .args .marks)) k ≡ true in
+    (omega arith, below-more good (head .loop .i) (head .loop .inv .1) (λ kinds. sym (c .before .good-mark .ensures kinds) ∙ c .if1 .taken))
+
+returns : tie.Need-returns Inv-loop μ-loop
+unfolding marksFault
+returns c = let start = c .before .before .before .before .before .before in
+    let head = c .before .before .before in
+    λ kinds.
+    sym
+    (fault-at (length (now (start .args .parent))) (head .loop .i) (goodMark (tableOf (now (start .args .parent)) kinds) (now (start .args .marks))) (omega arith)
+    (λ k l. head .loop .inv .1 k l kinds) (sym (c .before .good-mark .ensures kinds) ∙ c .if1 .left))
+
+returns-2 : tie.Need-returns-2 Inv-loop μ-loop
+unfolding marksFault
+returns-2 c = let start = c .before .before .before .before in
+    let head = c .before in
+    λ kinds.
+    sym
+    (no-fault (length (now (start .args .parent))) (goodMark (tableOf (now (start .args .parent)) kinds) (now (start .args .marks)))
+    (λ k l. head .loop .inv .1 k (omega arith) kinds))
+
+pub marks-fault-spec : {M : Type 1} → statement M
+marks-fault-spec =
+    tie.close
+    (tie.spec
+    Inv-loop
+    μ-loop
+    loop-holds
+    good-mark-requires
+    add-i
+    loop-less
+    loop-again
+    returns
+    returns-2)
