@@ -6,3 +6,4 @@ pub mod Searches
 pub mod Trees
 pub mod Keeping
 pub mod Sizes
+pub mod Lexing

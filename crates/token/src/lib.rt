@@ -1,0 +1,174 @@
+// The lexer: a cursor by value that skips white space, takes the longest token and hands itself back.
+use names::{name_part, name_start};
+ghost use Prim.Native.Nat.{suc, _+_, _≤_, _<_};
+ghost use mathlib.Core.Path.{_≡_};
+ghost use mathlib.Core.Bool.{Bool};
+ghost use lib.ListN.{length, getD, drop};
+ghost use Rattle.paper.specs.Tools.{begins};
+ghost use Rattle.paper.specs.Tokens.{white, run};
+ghost use Rattle.token.specs.Taking.{Skips, Longest, Takes, widthOf};
+
+// Where the next token is looked for.
+pub struct Cursor {
+    pub at: usize,
+}
+
+// The tokens; a word holds its number of bytes. Finish is the end of the text, Stray a byte that starts no token.
+pub enum Token {
+    Slash,
+    Slashes,
+    Dot,
+    Dots,
+    Colons,
+    Bar,
+    OpenSquare,
+    CloseSquare,
+    OpenRound,
+    CloseRound,
+    Star,
+    Finish,
+    Stray,
+    Word(usize),
+}
+
+// A token, where it starts, and the cursor past it.
+pub struct Taken {
+    pub place: usize,
+    pub token: Token,
+    pub next: Cursor,
+}
+
+// Is this byte white space?
+pub fn white_space(b: u8) -> bool
+    ensures { λ r. ⌜ r ≡ white b ⌝ }
+{
+    (b == b' ') | (b == b'\t') | (b == b'\n')
+}
+
+// The first place from `from` on where no white space stands.
+fn skip(text: &[u8], from: usize) -> usize
+    requires { ⌜ from ≤ length (now text) ⌝ }
+    ensures { λ r. ⌜ Skips (now (text .entry)) from r ⌝ }
+{
+    let mut at = from;
+    while at < text.len() {
+        if !white_space(text[at]) {
+            return at;
+        }
+        at += 1;
+    }
+    at
+}
+
+// How many bytes from `from` on go on with a name?
+fn run_length(text: &[u8], from: usize) -> usize
+    requires { ⌜ from ≤ length (now text) ⌝ }
+    ensures { λ r. ⌜ r ≡ run (drop from (now (text .entry))) ⌝ }
+{
+    let mut count: usize = 0;
+    while count < text.len() - from {
+        if !name_part(text[from + count]) {
+            return count;
+        }
+        count += 1;
+    }
+    count
+}
+
+// Does this byte stand here?
+fn stands(text: &[u8], at: usize, b: u8) -> bool
+    requires { ⌜ at ≤ length (now text) ⌝ }
+    ensures { λ r. ⌜ r ≡ begins b (drop at (now (text .entry))) ⌝ }
+{
+    if at < text.len() {
+        b == text[at]
+    } else {
+        false
+    }
+}
+
+// The longest token that starts here with another byte than a name does.
+fn mark_at(text: &[u8], place: usize) -> Token
+    requires { ⌜ place < length (now text) ⌝ }
+{
+    let b = text[place];
+    let next = place + 1;
+    match b {
+        b'/' => {
+            if stands(text, next, b'/') {
+                Token::Slashes
+            } else {
+                Token::Slash
+            }
+        }
+        b'.' => {
+            if stands(text, next, b'.') {
+                Token::Dots
+            } else {
+                Token::Dot
+            }
+        }
+        b':' => {
+            if stands(text, next, b':') {
+                Token::Colons
+            } else {
+                Token::Stray
+            }
+        }
+        b'|' => Token::Bar,
+        b'[' => Token::OpenSquare,
+        b']' => Token::CloseSquare,
+        b'(' => Token::OpenRound,
+        b')' => Token::CloseRound,
+        b'*' => Token::Star,
+        _ => Token::Stray,
+    }
+}
+
+// The longest token that starts here.
+fn token_at(text: &[u8], place: usize) -> Token
+    requires { ⌜ place < length (now text) ⌝ }
+    ensures { λ r. ⌜ Longest (now (text .entry)) place r ⌝ }
+{
+    if name_start(text[place]) {
+        return Token::Word(1 + run_length(text, place + 1));
+    }
+    mark_at(text, place)
+}
+
+// How many bytes a token takes.
+fn width(t: Token) -> usize
+    ensures { λ r. ⌜ r ≡ widthOf t ⌝ }
+{
+    match t {
+        Token::Slashes | Token::Dots | Token::Colons => 2,
+        Token::Finish => 0,
+        Token::Word(n) => n,
+        _ => 1,
+    }
+}
+
+impl Cursor {
+    // Skips white space and takes the longest token.
+    pub fn take(self, text: &[u8]) -> Taken
+        requires { ⌜ self .at ≤ length (now text) ⌝ }
+        ensures { λ r. ⌜ Takes (now (text .entry)) (self .at) r ⌝ }
+    {
+        let from = self.at;
+        let place = skip(text, from);
+        if text.len() <= place {
+            return Taken {
+                place,
+                token: Token::Finish,
+                next: Cursor { at: place },
+            };
+        }
+        let token = token_at(text, place);
+        let end = place + width(token);
+        Taken {
+            place,
+            token,
+            next: Cursor { at: end },
+        }
+    }
+}
