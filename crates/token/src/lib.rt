@@ -2,9 +2,10 @@
 use names::{name_part, name_start};
 ghost use Prim.Native.Nat.{suc, _+_, _≤_, _<_};
 ghost use mathlib.Core.Path.{_≡_};
-ghost use mathlib.Core.Bool.{Bool};
+ghost use mathlib.Core.Bool.{false};
 ghost use lib.ListN.{length, getD, drop};
 ghost use Rattle.paper.specs.Tools.{begins};
+ghost use Rattle.paper.specs.Names.{nameStart};
 ghost use Rattle.paper.specs.Tokens.{white, run};
 ghost use Rattle.token.specs.Taking.{Skips, Longest, Takes, widthOf};
 
@@ -60,28 +61,29 @@ fn skip(text: &[u8], from: usize) -> usize
     at
 }
 
-// How many bytes from `from` on go on with a name?
-fn run_length(text: &[u8], from: usize) -> usize
+// Where the bytes that go on with a name end, from `from` on.
+fn run_end(text: &[u8], from: usize) -> usize
     requires { ⌜ from ≤ length (now text) ⌝ }
-    ensures { λ r. ⌜ r ≡ run (drop from (now (text .entry))) ⌝ }
+    ensures { λ r. ⌜ r ≡ from + run (drop from (now (text .entry))) ⌝ }
 {
-    let mut count: usize = 0;
-    while count < text.len() - from {
-        if !name_part(text[from + count]) {
-            return count;
+    let mut at = from;
+    while at < text.len() {
+        if !name_part(text[at]) {
+            return at;
         }
-        count += 1;
+        at += 1;
     }
-    count
+    at
 }
 
-// Does this byte stand here?
-fn stands(text: &[u8], at: usize, b: u8) -> bool
-    requires { ⌜ at ≤ length (now text) ⌝ }
-    ensures { λ r. ⌜ r ≡ begins b (drop at (now (text .entry))) ⌝ }
+// Does this byte stand right after the place?
+fn follows(text: &[u8], place: usize, b: u8) -> bool
+    requires { ⌜ place < length (now text) ⌝ }
+    ensures { λ r. ⌜ r ≡ begins b (drop (suc place) (now (text .entry))) ⌝ }
 {
-    if at < text.len() {
-        b == text[at]
+    let next = place + 1;
+    if next < text.len() {
+        b == text[next]
     } else {
         false
     }
@@ -90,26 +92,27 @@ fn stands(text: &[u8], at: usize, b: u8) -> bool
 // The longest token that starts here with another byte than a name does.
 fn mark_at(text: &[u8], place: usize) -> Token
     requires { ⌜ place < length (now text) ⌝ }
+    requires { ⌜ nameStart (getD (now text) place 0) ≡ false ⌝ }
+    ensures { λ r. ⌜ Longest (now (text .entry)) place r ⌝ }
 {
     let b = text[place];
-    let next = place + 1;
     match b {
         b'/' => {
-            if stands(text, next, b'/') {
+            if follows(text, place, b'/') {
                 Token::Slashes
             } else {
                 Token::Slash
             }
         }
         b'.' => {
-            if stands(text, next, b'.') {
+            if follows(text, place, b'.') {
                 Token::Dots
             } else {
                 Token::Dot
             }
         }
         b':' => {
-            if stands(text, next, b':') {
+            if follows(text, place, b':') {
                 Token::Colons
             } else {
                 Token::Stray
@@ -131,7 +134,7 @@ fn token_at(text: &[u8], place: usize) -> Token
     ensures { λ r. ⌜ Longest (now (text .entry)) place r ⌝ }
 {
     if name_start(text[place]) {
-        return Token::Word(1 + run_length(text, place + 1));
+        return Token::Word(run_end(text, place + 1) - place);
     }
     mark_at(text, place)
 }
@@ -141,10 +144,20 @@ fn width(t: Token) -> usize
     ensures { λ r. ⌜ r ≡ widthOf t ⌝ }
 {
     match t {
-        Token::Slashes | Token::Dots | Token::Colons => 2,
+        Token::Slash => 1,
+        Token::Slashes => 2,
+        Token::Dot => 1,
+        Token::Dots => 2,
+        Token::Colons => 2,
+        Token::Bar => 1,
+        Token::OpenSquare => 1,
+        Token::CloseSquare => 1,
+        Token::OpenRound => 1,
+        Token::CloseRound => 1,
+        Token::Star => 1,
         Token::Finish => 0,
+        Token::Stray => 1,
         Token::Word(n) => n,
-        _ => 1,
     }
 }
 
