@@ -32,7 +32,7 @@ module _ (text : List ℕ) (at : ℕ) (inside : at < length text) where
       let past : suc at + beyond t ≡ at + width = omega arith in
       let room : beyond t ≤ length rest = simp length-drop (omega arith) in
       let later : tokensFrom (beyond t) (suc at) rest ≡ tokensFrom 0 (at + width) (drop (at + width) text) =
-          passed (beyond t) (suc at) rest room ∙ ap (λ l. tokensFrom 0 (suc at + beyond t) l) (drop-drop (beyond t) (suc at) text) ∙ ap (λ n. tokensFrom 0 n (drop n text)) past in
+      passed (beyond t) (suc at) rest room ∙ ap (λ l. tokensFrom 0 (suc at + beyond t) l) (drop-drop (beyond t) (suc at) text) ∙ ap (λ n. tokensFrom 0 n (drop n text)) past in
       rw (drop-cons text at 0 inside, h, ← e) (ap (λ l. record { place = at; token = t } ∷ l) later)
 
   -- A byte that goes on with a name makes the run one longer; another ends it.

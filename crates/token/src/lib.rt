@@ -1,5 +1,6 @@
 // The lexer: a cursor by value that skips white space, takes the longest token and hands itself back.
-use names::{name_part, name_start};
+use names::name_part;
+use names::name_start;
 ghost use Prim.Native.Nat.{suc, _+_, _≤_, _<_};
 ghost use mathlib.Core.Path.{_≡_};
 ghost use mathlib.Core.Bool.{false};
@@ -66,14 +67,14 @@ fn run_end(text: &[u8], from: usize) -> usize
     requires { ⌜ from ≤ length (now text) ⌝ }
     ensures { λ r. ⌜ r ≡ from + run (drop from (now (text .entry))) ⌝ }
 {
-    let mut at = from;
-    while at < text.len() {
-        if !name_part(text[at]) {
-            return at;
+    let mut end = from;
+    while end < text.len() {
+        if !name_part(text[end]) {
+            return end;
         }
-        at += 1;
+        end += 1;
     }
-    at
+    end
 }
 
 // Does this byte stand right after the place?

@@ -1,4 +1,4 @@
--- `token::run_end` meets its contract. The loop's invariant: the run from `at` on ends where the run from `from` on does.
+-- `token::run_end` meets its contract. The loop's invariant: the run from `end` on ends where the run from `from` on does.
 -- The measure is what is left of the text. Assumes nothing.
 use Prim.Native.Nat.{suc, _+_, _-_, _≤_}
 use native.Mathlib.Omega.{arith}
@@ -13,10 +13,10 @@ use Rattle.token.proofs.run_end.Statement.{statement}
 use Rattle.token.proofs.run_end.Tie as tie
 
 abbrev Inv-loop : tie.InvT-loop
-Inv-loop text from at₀ at = (from ≤ at) × (at ≤ length text) × (at + run (drop at text) ≡ from + run (drop from text))
+Inv-loop text from end₀ end = (from ≤ end) × (end ≤ length text) × (end + run (drop end text) ≡ from + run (drop from text))
 
 abbrev μ-loop : tie.MeasureT-loop
-μ-loop text from at₀ at = length text - at
+μ-loop text from end₀ end = length text - end
 
 loop-holds : tie.Need-loop-holds Inv-loop μ-loop
 loop-holds c = (omega arith, omega arith, refl)
@@ -31,11 +31,11 @@ returns : tie.Need-returns Inv-loop μ-loop
 returns c =
     let l = c .before .before .before .before .loop in
     let text = c .before .before .before .before .before .before .args .text .now in
-    let none = run-ends text (l .at) (omega arith) (sym (c .before .name-part .ensures) ∙ not-true _ (c .if1 .taken)) in
+    let none = run-ends text (l .end) (omega arith) (sym (c .before .name-part .ensures) ∙ not-true _ (c .if1 .taken)) in
     omega arith
 
-add-at : tie.Need-add-at Inv-loop μ-loop
-add-at c = omega arith
+add-end : tie.Need-add-end Inv-loop μ-loop
+add-end c = omega arith
 
 loop-less : tie.Need-loop-less Inv-loop μ-loop
 loop-less c = omega arith
@@ -44,7 +44,7 @@ loop-again : tie.Need-loop-again Inv-loop μ-loop
 loop-again c =
     let l = c .before .before .before .before .loop in
     let text = c .before .before .before .before .before .before .args .text .now in
-    let more = run-more text (l .at) (omega arith) (sym (c .before .name-part .ensures) ∙ not-false _ (c .if1 .left)) in
+    let more = run-more text (l .end) (omega arith) (sym (c .before .name-part .ensures) ∙ not-false _ (c .if1 .left)) in
     (omega arith, omega arith, rw (add-one) (omega arith))
 
 returns-2 : tie.Need-returns-2 Inv-loop μ-loop
@@ -63,7 +63,7 @@ run-end-spec =
     shared-slice-read-name-part
     name-part-requires
     returns
-    add-at
+    add-end
     loop-less
     loop-again
     returns-2)

@@ -27,7 +27,7 @@ word-longest text place count inside starts e =
       right = rw (drop-cons text place 0 inside, e, starts);
       wide = rw (drop-cons text place 0 inside, e) (ap suc (sym (length-take-le (run rest) rest room)));
       within = omega (arith, length-drop (suc place) text);
-      goesOn = refl
+      goesOn = refl;
     }
 
 shared-slice-read-name-start : tie.Need-shared-slice-read-name-start

@@ -26,7 +26,7 @@ goes-on text from place width t s inside g e =
       past = ap (_+_ place) e;
       within = l;
       ends = λ h. absurd (false≢true (sym (g .goesOn) ∙ h));
-      advances = λ _. omega arith
+      advances = λ _. omega arith;
     }
 
 skip-requires : tie.Need-skip-requires
@@ -42,7 +42,7 @@ returns c =
       past = sym (add-zero (s .result));
       within = s .ensures .most;
       ends = λ _. omega arith;
-      advances = λ h. absurd (false≢true (sym h))
+      advances = λ h. absurd (false≢true (sym h));
     }
 
 token-at-requires : tie.Need-token-at-requires
