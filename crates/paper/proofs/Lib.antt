@@ -7,3 +7,5 @@ pub mod Trees
 pub mod Keeping
 pub mod Sizes
 pub mod Lexing
+pub mod Same
+pub mod Lines
