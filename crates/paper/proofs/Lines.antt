@@ -36,3 +36,11 @@ first-line (suc n) start list inside room plain ends =
       let rest : drop (suc start) list ≡ [] = drop-of-length-le list end in
       let past : drop (suc (start + suc n)) list ≡ [] = drop-of-length-le list {i = suc (start + suc n)} (omega arith) in
       rw (drop-cons list start 0 inside, other, rest, past, take-nil n, le-ltb (start + suc n) (length list) (omega arith)))
+
+module _ (word : List ℕ) (at : ℕ) (inside : at < length word) where
+  -- A byte that goes on with a name leaves the choice to those after it; another does not.
+  pub parts-more : namePart (getD word at 0) ≡ true → nameParts (drop at word) ≡ nameParts (drop (suc at) word)
+  parts-more h = rw (drop-cons word at 0 inside, h)
+
+  pub parts-end : namePart (getD word at 0) ≡ false → nameParts (drop at word) ≡ false
+  parts-end h = rw (drop-cons word at 0 inside, h)
