@@ -35,7 +35,8 @@ same-turned a b = agree (same a b) (same b a) (λ h. rw (same-equal a b h) (same
 
 -- A part of a list against a word.
 module _ (list word : List ℕ) (from len : ℕ) (inside : from + len ≤ length list) where
-  part-length : length (take len (drop from list)) ≡ len
+  -- It is as long as it says.
+  pub part-length : length (take len (drop from list)) ≡ len
   part-length = length-take-le len (drop from list) (simp length-drop (omega arith))
 
   part-at : (k : ℕ) → k < len → getD (take len (drop from list)) k 0 ≡ getD list (from + k) 0
