@@ -1,5 +1,6 @@
 // The lent list of names: is it good, find a word's number, spell a number's name.
-use paper::{NAMES_LIMIT, NAME_LIMIT};
+use paper::NAME_LIMIT;
+use paper::NAMES_LIMIT;
 ghost use Prim.Native.Nat.{suc, _+_, _-_, _≤_, _<_};
 ghost use mathlib.Core.Path.{_≡_};
 ghost use mathlib.Core.Bool.{false};
@@ -154,6 +155,7 @@ fn bad_line(list: &[u8], starts: &[u16; 257], count: usize, start: usize, end: u
 // Checks the list, and keeps where each line starts; past the last line stands the length of the list.
 pub fn index(list: &[u8], starts: &mut [u16; 257]) -> Listed
     requires { ⌜ length (now list) ≤ listLimit ⌝ }
+    requires { ⌜ length (now starts) ≡ 257 ⌝ }
     ensures { λ r. ⌜ Checked (now (list .entry)) (now (starts .exit)) r ⌝ }
 {
     let mut start: usize = 0;
@@ -172,7 +174,14 @@ pub fn index(list: &[u8], starts: &mut [u16; 257]) -> Listed
 }
 
 // The number of the word of `len` bytes that stands in a text.
-pub fn find(list: &[u8], starts: &[u16; 257], count: usize, text: &[u8], start: usize, len: usize) -> Found
+pub fn find(
+    list: &[u8],
+    starts: &[u16; 257],
+    count: usize,
+    text: &[u8],
+    start: usize,
+    len: usize,
+) -> Found
     requires { ⌜ Indexed (now list) (now starts) count ⌝ }
     requires { ⌜ start + len ≤ length (now text) ⌝ }
     ensures { λ r. ⌜ foundAt r ≡ numberOf (namesOf (now (list .entry))) (take len (drop start (now (text .entry)))) ⌝ }

@@ -1,9 +1,9 @@
 -- How a list of names falls into lines, which of them are bad, and which number a word has. By induction over bytes and lines. Assumes nothing.
-use Prim.Native.Nat.{ℕ, zero, suc, _+_, _-_, _≤_, _<_}
+use Prim.Native.Nat.{ℕ, zero, suc, _+_, _≤_, _<_}
 use native.Mathlib.Omega.{arith}
 use native.Mathlib.Nat.{add-zero}
 use borrow.Author.Tests.{ne-eqb, lt-ltb, le-ltb, le-leb, lt-leb}
-use mathlib.Core.Path.{_≡_, refl, sym, _∙_, ap, subst}
+use mathlib.Core.Path.{_≡_, refl, sym, subst}
 use mathlib.Core.Bool.{Bool, true, false, _||_}
 use mathlib.Core.List.{List, [], _∷_}
 use mathlib.Core.Logic.{by-cases}
@@ -30,15 +30,15 @@ first-line (suc n) start list inside room plain ends =
     let other : eqb b 10 ≡ false = ne-eqb b 10 (plain start (omega arith) (omega arith)) in
     by-cases (decLt (suc start) (length list))
     (λ more.
-      let later =
-          first-line n (suc start) list more (omega arith) (λ k a l. plain k (omega arith) (omega arith))
-          (λ l. subst (λ m. getD list m 0 ≡ 10) (sym e) (ends (omega arith))) in
-      rw (drop-cons list start 0 inside, other, later, e))
+    let later =
+    first-line n (suc start) list more (omega arith) (λ k a l. plain k (omega arith) (omega arith))
+    (λ l. subst (λ m. getD list m 0 ≡ 10) (sym e) (ends (omega arith))) in
+    rw (drop-cons list start 0 inside, other, later, e))
     (λ last.
-      let end : length list ≤ suc start = omega arith in
-      let rest : drop (suc start) list ≡ [] = drop-of-length-le list end in
-      let past : drop (suc (start + suc n)) list ≡ [] = drop-of-length-le list {i = suc (start + suc n)} (omega arith) in
-      rw (drop-cons list start 0 inside, other, rest, past, take-nil n, le-ltb (start + suc n) (length list) (omega arith)))
+    let end : length list ≤ suc start = omega arith in
+    let rest : drop (suc start) list ≡ [] = drop-of-length-le list end in
+    let past : drop (suc (start + suc n)) list ≡ [] = drop-of-length-le list {i = suc (start + suc n)} (omega arith) in
+    rw (drop-cons list start 0 inside, other, rest, past, take-nil n, le-ltb (start + suc n) (length list) (omega arith)))
 
 module _ (word : List ℕ) (at : ℕ) (inside : at < length word) where
   -- A byte that goes on with a name leaves the choice to those after it; another does not.

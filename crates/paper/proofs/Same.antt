@@ -1,9 +1,9 @@
 -- When two lists of numbers agree, byte by byte. By induction over both. Assumes nothing.
-use Prim.Native.Nat.{ℕ, zero, suc, _+_, _≤_, _<_}
+use Prim.Native.Nat.{ℕ, _+_, _≤_, _<_}
 use native.Mathlib.Omega.{arith}
 use borrow.Author.Tests.{eq-eqb, eqb-true}
 use mathlib.Core.Path.{_≡_, refl, sym, _∙_, ap, ap₂, subst}
-use mathlib.Core.Bool.{Bool, true, false, _&&_, false≢true}
+use mathlib.Core.Bool.{true, false, false≢true}
 use mathlib.Core.List.{List, [], _∷_}
 use mathlib.Core.Logic.{⊎-elim}
 use lib.Dec.{eqb}
@@ -46,7 +46,7 @@ module _ (list word : List ℕ) (from len : ℕ) (inside : from + len ≤ length
   pub part-same : len ≡ length word → ((k : ℕ) → k < len → getD list (from + k) 0 ≡ getD word k 0) → same (take len (drop from list)) word ≡ true
   part-same e h =
       let equal : take len (drop from list) ≡ word =
-          ext-getD 0 (take len (drop from list)) word (part-length ∙ e) (λ k l. let b : k < len = subst (λ n. k < n) part-length l in part-at k b ∙ h k b) in
+      ext-getD 0 (take len (drop from list)) word (part-length ∙ e) (λ k l. let b : k < len = subst (λ n. k < n) part-length l in part-at k b ∙ h k b) in
       rw equal (same-refl word)
 
   -- They do not if the lengths differ, or a byte does.

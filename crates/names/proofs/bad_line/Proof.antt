@@ -1,9 +1,9 @@
 -- `names::bad_line` meets its contract: each return is one of the line's faults, and the last asks for a repeat. Assumes nothing.
-use Prim.Native.Nat.{_+_, _-_, _≤_, _<_}
+use Prim.Native.Nat.{_-_}
 use native.Mathlib.Omega.{arith}
 use borrow.Author.Needs.{needs}
 use borrow.Author.Tests.{not-true, not-false, le-ltb, lt-ltb}
-use mathlib.Core.Path.{_≡_, sym, _∙_, ap}
+use mathlib.Core.Path.{sym, _∙_}
 use Rattle.paper.proofs.Same.{part-length}
 use Rattle.paper.proofs.Lines.{bad-name, bad-long, bad-open, bad-many, bad-repeat}
 use Rattle.names.specs.Listing.{earlier, lineTo}
@@ -56,11 +56,11 @@ returns-5 c =
     let long = part-length (a .list .now) (a .list .now) (a .start) (a .end - a .start) (omega arith) in
     let many = earlier-length (a .list .now) (a .starts .now) (a .count) in
     sym (bad-repeat (earlier (a .list .now) (a .starts .now) (a .count)) (lineTo (a .list .now) (a .start) (a .end))
-        (sym (c .before .before .before .before .is-name .ensures) ∙ not-false _ (c .before .before .before .if2 .left))
-        (rw long (c .before .before .if3 .left))
-        (lt-ltb (a .end) _ (omega arith))
-        (rw many (c .before .if4 .left))
-      ∙ repeats-first (a .list .now) (a .starts .now) (a .count) _ (c .first-same .result) (c .first-same .ensures))
+    (sym (c .before .before .before .before .is-name .ensures) ∙ not-false _ (c .before .before .before .if2 .left))
+    (rw long (c .before .before .if3 .left))
+    (lt-ltb (a .end) _ (omega arith))
+    (rw many (c .before .if4 .left))
+    ∙ repeats-first (a .list .now) (a .starts .now) (a .count) _ (c .first-same .result) (c .first-same .ensures))
 
 pub bad-line-spec : {M : Type 1} → statement M
 bad-line-spec =

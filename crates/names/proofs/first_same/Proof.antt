@@ -1,10 +1,9 @@
 -- `names::first_same` meets its contract. The outer loop's invariant: no line before v says the word. The inner loop's: line v is as long
 -- as the word, and its first i bytes agree with the word's. The measures are the lines and the bytes that are left. Assumes nothing.
-use Prim.Native.Nat.{ℕ, suc, _+_, _-_, _≤_, _<_}
+use Prim.Native.Nat.{ℕ, _+_, _-_, _≤_, _<_}
 use native.Mathlib.Omega.{arith}
-use borrow.Author.Needs.{needs}
 use borrow.Author.Count.{below-more}
-use mathlib.Core.Path.{_≡_, refl, sym, _∙_, subst}
+use mathlib.Core.Path.{_≡_}
 use mathlib.Core.Bool.{false}
 use lib.ListN.{length, getD}
 use Rattle.paper.specs.Tools.{same}
@@ -13,9 +12,6 @@ use Rattle.names.specs.Listing.{said}
 use Rattle.names.proofs.Parts.{part-room, part-test}
 use Rattle.names.proofs.first_same.Statement.{statement}
 use Rattle.names.proofs.first_same.Tie as tie
-use Rattle.names.proofs.first_same.Reads as reads
-use Rattle.names.proofs.first_same.Lts as lts
-use Rattle.names.proofs.line_part.Reads as line-part-reads
 
 abbrev Inv-loop : tie.InvT-loop
 Inv-loop list starts count word v from len i₀ i = (i ≤ len) × (from + len ≤ length list) × ((k : ℕ) → k < i → getD list (from + k) 0 ≡ getD word k 0)
@@ -54,7 +50,7 @@ lines-again c =
     let l = c .before .before .before .lines in
     let p = c .before .line-part in
     let other : same (said (a .list .now) (a .starts .now) (l .v)) (a .word .now) ≡ false =
-        part-test (a .list .now) (a .starts .now) (a .word .now) (l .v) (p .ensures) (part-length-differs (a .list .now) (a .word .now) (p .result .start) (p .result .len) (room (c .before)) (c .if1 .taken)) in
+    part-test (a .list .now) (a .starts .now) (a .word .now) (l .v) (p .ensures) (part-length-differs (a .list .now) (a .word .now) (p .result .start) (p .result .len) (room (c .before)) (c .if1 .taken)) in
     (omega arith, below-more (λ u. same (said (a .list .now) (a .starts .now) u) (a .word .now) ≡ false) (l .v) (l .inv .1) other)
 
 loop-holds : tie.Need-loop-holds Inv-loop μ-loop Inv-lines μ-lines
@@ -95,7 +91,7 @@ lines-again-2 c =
     let p = c .before .before .before .before .before .before .line-part in
     let i = c .before .before .before .before .loop in
     let other : same (said (a .list .now) (a .starts .now) (l .v)) (a .word .now) ≡ false =
-        part-test (a .list .now) (a .starts .now) (a .word .now) (l .v) (p .ensures) (part-differs (a .list .now) (a .word .now) (p .result .start) (p .result .len) (i .inv .1) (i .i) (omega arith) (c .if2 .taken)) in
+    part-test (a .list .now) (a .starts .now) (a .word .now) (l .v) (p .ensures) (part-differs (a .list .now) (a .word .now) (p .result .start) (p .result .len) (i .inv .1) (i .i) (omega arith) (c .if2 .taken)) in
     (omega arith, below-more (λ u. same (said (a .list .now) (a .starts .now) u) (a .word .now) ≡ false) (l .v) (l .inv .1) other)
 
 returns : tie.Need-returns Inv-loop μ-loop Inv-lines μ-lines
@@ -112,7 +108,7 @@ returns-2 c =
     record {
       most = l .inv .0;
       before = l .inv .1;
-      here = λ _. part-test (a .list .now) (a .starts .now) (a .word .now) (l .v) (p .ensures) (part-same (a .list .now) (a .word .now) (p .result .start) (p .result .len) (i .inv .1) (omega arith) (λ k b. i .inv .2 k (omega arith)))
+      here = λ _. part-test (a .list .now) (a .starts .now) (a .word .now) (l .v) (p .ensures) (part-same (a .list .now) (a .word .now) (p .result .start) (p .result .len) (i .inv .1) (omega arith) (λ k b. i .inv .2 k (omega arith)));
     }
 
 pub first-same-spec : {M : Type 1} → statement M

@@ -1,54 +1,86 @@
+-- `names::index` meets its contract. The loop's invariant: what is left to check from the line's start gives the answer of the whole (`Upto`),
+-- and the starts stay 257. The measure is what is left of the list. Assumes nothing.
+use Prim.Native.Nat.{_+_, _-_, _<_}
+use native.Mathlib.Omega.{arith}
+use native.Mathlib.Numerals.{add-one}
+use borrow.Author.Needs.{needs}
+use mathlib.Core.Path.{_≡_, sym, _∙_}
+use lib.ListN.{length, set, length-set}
+use lib.Seq.{getD-set-same}
+use Rattle.paper.specs.Limits.{namesLimit}
+use Rattle.names.proofs.Upto.{Upto, at-first, at-last, at-fault, at-next, room}
 use Rattle.names.proofs.index.Statement.{statement}
 use Rattle.names.proofs.index.Tie as tie
-use Rattle.names.proofs.index.Reads as reads
-use Rattle.names.proofs.index.Lts as lts
-use Rattle.names.proofs.bad_line.Reads as bad-line-reads
-use Rattle.names.proofs.line_end.Reads as line-end-reads
 
 abbrev Inv-loop : tie.InvT-loop
-Inv-loop list starts₀ start₀ count₀ starts start count = ?
+Inv-loop list starts₀ start₀ count₀ starts start count = Upto list starts count start × (length starts ≡ 257)
 
 abbrev μ-loop : tie.MeasureT-loop
-μ-loop list starts₀ start₀ count₀ starts start count = ?
+μ-loop list starts₀ start₀ count₀ starts start count = length list - start
 
 element-write-starts : tie.Need-element-write-starts Inv-loop μ-loop
-element-write-starts c = ?
+element-write-starts c = search needs
 
 loop-holds : tie.Need-loop-holds Inv-loop μ-loop
-loop-holds c = let g = c .before .good in let g1 = c .before .good .1 .0 in ?
+loop-holds c =
+    let a = c .before .args in
+    (at-first (a .list .now) (set (a .starts .now) 0 0) (getD-set-same (a .starts .now) 0 0 0 (omega arith)), length-set (a .starts .now) 0 0 ∙ c .before .pre .1)
 
 line-end-requires : tie.Need-line-end-requires Inv-loop μ-loop
-line-end-requires c κs = ?
+line-end-requires c κs = c .before .loop .inv .0 .most
 
 bad-line-requires : tie.Need-bad-line-requires Inv-loop μ-loop
-bad-line-requires c κs = ?
+bad-line-requires c κs =
+    let e = c .before .line-end .ensures in
+    ((e .least, e .most), c .before .before .before .loop .inv .0 .rising)
 
 returns : tie.Need-returns Inv-loop μ-loop
-returns c = ?
+returns c =
+    let l = c .before .before .before .before .before .loop in
+    let e = c .before .before .before .line-end in
+    at-fault (c .before .before .before .before .before .before .before .args .list .now) (l .starts) (l .count) (l .start) (e .result) (l .inv .0) (omega arith) (e .ensures)
+    (sym (c .before .bad-line .ensures) ∙ c .if1 .taken)
+
+-- After a good line there is room for its number, and it is settled.
+few : (c : tie.Else1 Inv-loop μ-loop) → c .before .before .before .before .before .loop .count < namesLimit
+few c =
+    let l = c .before .before .before .before .before .loop in
+    let e = c .before .before .before .line-end in
+    room (c .before .before .before .before .before .before .before .args .list .now) (l .starts) (l .count) (l .start) (e .result) (l .inv .1) (l .inv .0) (omega arith) (e .ensures)
+    (sym (c .before .bad-line .ensures) ∙ c .if1 .left)
 
 add-start : tie.Need-add-start Inv-loop μ-loop
-add-start c = ?
+add-start c = omega arith
 
 add-count : tie.Need-add-count Inv-loop μ-loop
-add-count c = ?
+add-count c = omega (arith, few c)
 
 cast-starts : tie.Need-cast-starts Inv-loop μ-loop
-cast-starts c = ?
+cast-starts c = omega arith
 
 mul-starts : tie.Need-mul-starts Inv-loop μ-loop
-mul-starts c = ?
+mul-starts c = omega (arith, few c)
 
 element-write-starts-2 : tie.Need-element-write-starts-2 Inv-loop μ-loop
-element-write-starts-2 c = ?
+element-write-starts-2 c = omega (arith, few c)
 
 loop-less : tie.Need-loop-less Inv-loop μ-loop
-loop-less c = ?
+loop-less c = omega (arith, c .before .before .before .line-end .ensures .least)
 
 loop-again : tie.Need-loop-again Inv-loop μ-loop
-loop-again c = ?
+loop-again c =
+    let l = c .before .before .before .before .before .loop in
+    let e = c .before .before .before .line-end in (
+      rw (add-one (l .count), add-one (e .result))
+          (at-next (c .before .before .before .before .before .before .before .args .list .now) (l .starts) (l .count) (l .start) (e .result) (l .inv .1) (l .inv .0) (omega arith) (e .ensures)
+          (sym (c .before .bad-line .ensures) ∙ c .if1 .left)),
+      length-set (l .starts) (l .count + 1) (e .result + 1) ∙ l .inv .1,
+    )
 
 returns-2 : tie.Need-returns-2 Inv-loop μ-loop
-returns-2 c = ?
+returns-2 c =
+    let l = c .before .loop in
+    at-last (c .before .before .before .args .list .now) (l .starts) (l .count) (l .start) (l .inv .0) (omega arith)
 
 pub index-spec : {M : Type 1} → statement M
 index-spec =

@@ -1,7 +1,6 @@
 -- `names::is_name` meets its contract: the first byte starts a name, and the others go on with it. Assumes nothing.
 use native.Mathlib.Omega.{arith}
 use borrow.Author.Needs.{needs}
-use mathlib.Core.Path.{_≡_, sym}
 use lib.ListN.{drop-of-length-le}
 use lib.Seq.{drop-cons}
 use Rattle.names.proofs.is_name.Statement.{statement}

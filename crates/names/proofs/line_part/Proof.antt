@@ -1,5 +1,5 @@
 -- `names::line_part` meets its contract: two neighbouring starts and the LF between them. Assumes nothing.
-use Prim.Native.Nat.{suc, _+_}
+use Prim.Native.Nat.{suc}
 use native.Mathlib.Omega.{arith}
 use native.Mathlib.Numerals.{add-one}
 use borrow.Author.Needs.{needs}

@@ -1,6 +1,6 @@
 -- `names::spell` meets its contract: what line v says stands at v among the names. Assumes nothing.
 use native.Mathlib.Omega.{arith}
-use mathlib.Core.Path.{_≡_, sym, _∙_, ap}
+use mathlib.Core.Path.{sym, _∙_, ap}
 use mathlib.Core.List.{[]}
 use lib.ListN.{getD}
 use Rattle.paper.proofs.Searches.{column-at}
@@ -21,7 +21,7 @@ returns c =
     let said-at = sym (column-at (a .count) (said (a .list .now) (a .starts .now)) [] (a .v) (pre .1)) in
     record {
       says = ap (bytesOf (a .list .now)) (c .line-part .ensures) ∙ said-at ∙ ap (λ names. getD names (a .v) []) (sym (pre .0 .names));
-      within = part-room (pre .0 .rising) (a .v) (pre .1) (c .line-part .result) (c .line-part .ensures)
+      within = part-room (pre .0 .rising) (a .v) (pre .1) (c .line-part .result) (c .line-part .ensures);
     }
 
 pub spell-spec : {M : Type 1} → statement M

@@ -1,13 +1,11 @@
 -- `token::mark_at` meets its contract: in each arm the byte is known, and the paper's choice computes. Assumes nothing.
-use Prim.Native.Nat.{ℕ, suc, _+_, _≤_, _<_}
+use Prim.Native.Nat.{suc}
 use native.Mathlib.Omega.{arith}
-use native.Mathlib.Numerals.{add-one}
 use borrow.Author.Needs.{needs}
 use borrow.Author.Tests.{ne-eqb}
 use mathlib.Core.Path.{_≡_, refl, sym, _∙_}
 use mathlib.Core.Bool.{true, false}
-use mathlib.Core.List.{List}
-use lib.ListN.{length, getD, drop}
+use lib.ListN.{getD, drop}
 use Rattle.paper.specs.Tools.{begins}
 use Rattle.paper.specs.Tokens.{tokenAt}
 use Rattle.paper.proofs.Lexing.{begins-within}
