@@ -61,9 +61,10 @@ fn is_name(word: &[u8]) -> bool
     ensures { λ r. ⌜ r ≡ isName (now (word .entry)) ⌝ }
 {
     if word.len() == 0 {
-        return false;
+        false
+    } else {
+        name_start(word[0]) & name_parts(word, 1)
     }
-    name_start(word[0]) & name_parts(word, 1)
 }
 
 // Where the line that starts here ends: at its LF, or at the end of the list.
@@ -81,6 +82,7 @@ fn line_end(list: &[u8], start: usize) -> usize
     at
 }
 
+// A kept start as a place.
 fn wide(x: u16) -> usize
     ensures { λ r. ⌜ r ≡ x ⌝ }
 {

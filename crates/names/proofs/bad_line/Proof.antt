@@ -40,12 +40,12 @@ returns-3 : tie.Need-returns-3
 returns-3 c =
     let a = c .before .before .before .before .before .before .args in
     let long = part-length (a .list .now) (a .list .now) (a .start) (a .end - a .start) (omega arith) in
-    sym (bad-long (earlier (a .list .now) (a .starts .now) (a .count)) (lineTo (a .list .now) (a .start) (a .end)) (rw long (c .if3 .taken)))
+    sym (bad-long (earlier (a .list .now) (a .starts .now) (a .count)) (lineTo (a .list .now) (a .start) (a .end)) (rw long (omega arith)))
 
 returns-4 : tie.Need-returns-4
 returns-4 c =
     let a = c .before .before .before .before .before .before .before .args in
-    sym (bad-many (earlier (a .list .now) (a .starts .now) (a .count)) (lineTo (a .list .now) (a .start) (a .end)) (rw (earlier-length (a .list .now) (a .starts .now) (a .count)) (c .if4 .taken)))
+    sym (bad-many (earlier (a .list .now) (a .starts .now) (a .count)) (lineTo (a .list .now) (a .start) (a .end)) (rw (earlier-length (a .list .now) (a .starts .now) (a .count)) (omega arith)))
 
 first-same-requires : tie.Need-first-same-requires
 first-same-requires c κs = search needs
@@ -57,9 +57,9 @@ returns-5 c =
     let many = earlier-length (a .list .now) (a .starts .now) (a .count) in
     sym (bad-repeat (earlier (a .list .now) (a .starts .now) (a .count)) (lineTo (a .list .now) (a .start) (a .end))
     (sym (c .before .before .before .before .is-name .ensures) ∙ not-false _ (c .before .before .before .if2 .left))
-    (rw long (c .before .before .if3 .left))
+    (rw long (omega arith))
     (lt-ltb (a .end) _ (omega arith))
-    (rw many (c .before .if4 .left))
+    (rw many (omega arith))
     ∙ repeats-first (a .list .now) (a .starts .now) (a .count) _ (c .first-same .result) (c .first-same .ensures))
 
 pub bad-line-spec : {M : Type 1} → statement M

@@ -6,9 +6,6 @@ use lib.Seq.{drop-cons}
 use Rattle.names.proofs.is_name.Statement.{statement}
 use Rattle.names.proofs.is_name.Tie as tie
 
-returns : tie.Need-returns
-returns c = rw (drop-of-length-le (c .before .before .args .word .now) {i = 0} (omega arith))
-
 shared-slice-read-name-start : tie.Need-shared-slice-read-name-start
 shared-slice-read-name-start c = search needs
 
@@ -18,6 +15,9 @@ name-start-requires c κs = search needs
 name-parts-requires : tie.Need-name-parts-requires
 name-parts-requires c κs = search needs
 
+returns : tie.Need-returns
+returns c = rw (drop-of-length-le (c .before .before .args .word .now) {i = 0} (omega arith))
+
 returns-2 : tie.Need-returns-2
 returns-2 c =
     let word = c .before .before .before .before .before .args .word .now in
@@ -25,4 +25,10 @@ returns-2 c =
 
 pub is-name-spec : {M : Type 1} → statement M
 is-name-spec =
-    tie.close (tie.spec returns shared-slice-read-name-start name-start-requires name-parts-requires returns-2)
+    tie.close
+    (tie.spec
+    shared-slice-read-name-start
+    name-start-requires
+    name-parts-requires
+    returns
+    returns-2)
