@@ -1,14 +1,14 @@
 -- What checking a list of names promises, and what the kept starts of its lines say.
 use Prim.Native.Nat.{ℕ, zero, suc, _+_, _-_, _≤_, _<_}
 use mathlib.Core.Path.{_≡_}
-use mathlib.Core.Bool.{true, false}
+use mathlib.Core.Bool.{true, false, cond}
 use mathlib.Core.List.{List, [], _∷_}
 use mathlib.Core.Option.{Option, none, some}
 use lib.Dec.{ltb}
 use lib.ListN.{length, getD, take, drop}
-use Rattle.paper.specs.Tools.{same, column}
+use Rattle.paper.specs.Tools.{same, column, written}
 use Rattle.paper.specs.Limits.{namesLimit}
-use Rattle.paper.specs.Names.{Line, namesFault, namesOf}
+use Rattle.paper.specs.Names.{Line, linesFrom, badLine, namesFault, namesOf}
 use Rattle.names.specs.declared.Listed.{Listed}
 use Rattle.names.specs.declared.Listed.the-variants.{Good, Bad}
 use Rattle.names.specs.declared.Found.{Found}
@@ -65,17 +65,25 @@ abbrev pub faultOf : Listed → Option ℕ
 faultOf (Good count) = none
 faultOf (Bad start) = some start
 
--- The fault is the paper's; where there is none, the starts say the names.
-pub record Checked (list starts : List ℕ) (r : Listed) : Type 0 where
+-- The starts of the lines up to the first bad one, after these; where there is none, the end of the list as well.
+abbrev pub opened : ℕ → List (List ℕ) → List Line → List ℕ
+opened end before [] = end ∷ []
+opened end before (l ∷ ls) =
+    let later = opened end (l .says ∷ before) ls in l .start ∷ cond (badLine before l) [] later
+
+-- The fault is the paper's; where there is none, the starts say the names. What is kept stands first, and the rest is untouched.
+pub record Checked (list old new : List ℕ) (r : Listed) : Type 0 where
   pub fault : faultOf r ≡ namesFault list
-  pub good : (count : ℕ) → r ≡ Good count → Indexed list starts count
+  pub good : (count : ℕ) → r ≡ Good count → Indexed list new count
+  pub kept : new ≡ written (opened (length list) [] (linesFrom 0 list)) old
 
 -- The number found, if there is one.
 abbrev pub foundAt : Found → Option ℕ
 foundAt (At v) = some v
 foundAt Nothing = none
 
--- The part of the list is name v.
-pub record Spelled (list : List ℕ) (v : ℕ) (r : Part) : Type 0 where
+-- The part of the list is name v, where its line stands.
+pub record Spelled (list starts : List ℕ) (v : ℕ) (r : Part) : Type 0 where
+  pub part : r ≡ partOf starts v
   pub says : bytesOf list r ≡ getD (namesOf list) v []
   pub within : r .start + r .len ≤ length list

@@ -158,7 +158,7 @@ fn bad_line(list: &[u8], starts: &[u16; 257], count: usize, start: usize, end: u
 pub fn index(list: &[u8], starts: &mut [u16; 257]) -> Listed
     requires { ⌜ length (now list) ≤ listLimit ⌝ }
     requires { ⌜ length (now starts) ≡ 257 ⌝ }
-    ensures { λ r. ⌜ Checked (now (list .entry)) (now (starts .exit)) r ⌝ }
+    ensures { λ r. ⌜ Checked (now (list .entry)) (now (starts .entry)) (now (starts .exit)) r ⌝ }
 {
     let mut start: usize = 0;
     let mut count: usize = 0;
@@ -200,7 +200,7 @@ pub fn find(
 pub fn spell(list: &[u8], starts: &[u16; 257], count: usize, v: usize) -> Part
     requires { ⌜ Indexed (now list) (now starts) count ⌝ }
     requires { ⌜ v < count ⌝ }
-    ensures { λ r. ⌜ Spelled (now (list .entry)) v r ⌝ }
+    ensures { λ r. ⌜ Spelled (now (list .entry)) (now (starts .entry)) v r ⌝ }
 {
     line_part(starts, v)
 }

@@ -20,6 +20,7 @@ returns c =
     let pre = c .before .before .pre in
     let said-at = sym (column-at (a .count) (said (a .list .now) (a .starts .now)) [] (a .v) (pre .1)) in
     record {
+      part = c .line-part .ensures;
       says = ap (bytesOf (a .list .now)) (c .line-part .ensures) ∙ said-at ∙ ap (λ names. getD names (a .v) []) (sym (pre .0 .names));
       within = part-room (pre .0 .rising) (a .v) (pre .1) (c .line-part .result) (c .line-part .ensures);
     }
