@@ -8,3 +8,6 @@ pub mod Keeping
 pub mod Sizes
 pub mod Extracting
 pub mod Refusing
+pub mod Lexing
+pub mod Same
+pub mod Lines
