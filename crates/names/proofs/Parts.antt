@@ -17,10 +17,9 @@ use Rattle.paper.proofs.Same.{same-turned}
 use Rattle.names.specs.declared.Part.{Part}
 use Rattle.names.specs.Listing.{Rising, FirstSame, Indexed, partOf, bytesOf, said, earlier}
 
-module _ {list starts : List ℕ} {count : ℕ} (rising : Rising list starts count) (v : ℕ) (inside : v < count) (p : Part) (line : p ≡ partOf starts v) where
-  -- The line lies within the list.
-  pub part-room : p .start + p .len ≤ length list
-  part-room = rw line (omega (arith, rising .rises v inside, rising .within v inside))
+-- A line lies within the list.
+pub part-room : {list starts : List ℕ} {count : ℕ} → Rising list starts count → (v : ℕ) → v < count → (p : Part) → p ≡ partOf starts v → p .start + p .len ≤ length list
+part-room rising v inside p line = rw line (omega (arith, rising .rises v inside, rising .within v inside))
 
 -- A test of the part is a test of what the line says.
 pub part-test : (list starts word : List ℕ) (v : ℕ) {p : Part} {b : Bool} → p ≡ partOf starts v → same (bytesOf list p) word ≡ b → same (said list starts v) word ≡ b

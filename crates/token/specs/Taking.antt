@@ -5,7 +5,7 @@ use mathlib.Core.Bool.{Bool, true, false}
 use mathlib.Core.List.{List, [], _∷_}
 use lib.ListN.{length, getD, take, drop}
 use Rattle.paper.specs.Tokens as paper
-use Rattle.paper.specs.Tokens.{white, beyond, tokenAt, tokensFrom, Placed}
+use Rattle.paper.specs.Tokens.{is, white, beyond, tokenAt, tokensFrom, Placed}
 use Rattle.token.specs.declared.Token.{Token}
 use Rattle.token.specs.declared.Token.the-variants.{Slash, Slashes, Dot, Dots, Colons, Bar, OpenSquare, CloseSquare, OpenRound, CloseRound, Star, Finish, Stray, Word}
 use Rattle.token.specs.declared.Taken.{Taken}
@@ -46,20 +46,7 @@ widthOf (Word count) = count
 
 -- Is this the end of the text?
 abbrev pub finished : Token → Bool
-finished Slash = false
-finished Slashes = false
-finished Dot = false
-finished Dots = false
-finished Colons = false
-finished Bar = false
-finished OpenSquare = false
-finished CloseSquare = false
-finished OpenRound = false
-finished CloseRound = false
-finished Star = false
-finished Finish = true
-finished Stray = false
-finished (Word count) = false
+finished t = is (tokenOf [] 0 t) paper.finish
 
 -- White space from `from` up to `at` changes no token.
 pub record Skips (text : List ℕ) (from at : ℕ) : Type 0 where
