@@ -20,15 +20,15 @@ pub record Written (marks : List ℕ) (f : ℕ → ℕ) (old out : List ℕ) (n 
   pub long : length out ≡ length old
 
 module _ (marks : List ℕ) (f : ℕ → ℕ) (old : List ℕ) where
-  -- There is room for one value more.
-  pub room : (n i : ℕ) → n ≡ rank marks i → rank marks (length marks) ≤ length old → i < length marks → getD marks i 0 ≡ 1 → n < length old
-  room n i e h l m = omega (arith, rank-less marks i (length marks) l (eq-eqb (getD marks i 0) 1 m))
-
   pub nothing : Written marks f old old 0 0
   nothing = record { count = refl; is = refl; long = refl }
 
   module _ (out : List ℕ) (n i : ℕ) (w : Written marks f old out n i) where
-    -- A marked node's value is written behind the others,
+    -- There is room for a marked node's value, where there is room for all;
+    pub room : rank marks (length marks) ≤ length old → i < length marks → getD marks i 0 ≡ 1 → n < length old
+    room h l m = omega (arith, w .count, rank-less marks i (length marks) l (eq-eqb (getD marks i 0) 1 m))
+
+    -- it is written behind the others,
     pub one-more : (out′ : List ℕ) (n′ v : ℕ) → n < length old → getD marks i 0 ≡ 1 → v ≡ f i → out′ ≡ set out n v → n′ ≡ n + 1 → Written marks f old out′ n′ (i + 1)
     one-more out′ n′ v l m e eo en =
         let on : marked marks i ≡ true = eq-eqb (getD marks i 0) 1 m in

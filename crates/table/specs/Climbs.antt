@@ -33,7 +33,11 @@ pub record Last (marks : List ℕ) (n last : ℕ) : Type 0 where
   pub on : marked marks last ≡ true
   pub next : rank marks n ≡ suc (rank marks last)
 
+-- The new number of a node's parent.
+abbrev pub newParent : List ℕ → List ℕ → ℕ → ℕ
+newParent parents marks i = rank marks (getD parents i 0)
+
 -- The new parents of the marked nodes before node n are written.
 pub record Numbered (parents marks out : List ℕ) (n : ℕ) : Type 0 where
   pub room : rank marks n ≤ length out
-  pub at : (k : ℕ) → k < n → marked marks k ≡ true → getD out (rank marks k) 0 ≡ rank marks (getD parents k 0)
+  pub at : (k : ℕ) → k < n → marked marks k ≡ true → getD out (rank marks k) 0 ≡ newParent parents marks k

@@ -12,7 +12,7 @@ ghost use Rattle.paper.specs.Extraction.{rank, pickFrom};
 ghost use Rattle.paper.specs.Answers.{extractAnswer, extractParents, extractKinds};
 ghost use Rattle.paper.specs.Told.{told};
 ghost use Rattle.table.specs.Faults.{faultOf};
-ghost use Rattle.table.specs.Climbs.{tableOf, shapeOf, Falls, Ordered, Numbered, Last};
+ghost use Rattle.table.specs.Climbs.{tableOf, shapeOf, Falls, Ordered, Last, newParent, Numbered};
 
 // The first bad node, if there is one.
 pub enum Fault {
@@ -153,7 +153,7 @@ pub fn count(marks: &[u8]) -> usize
 
 // EXTRACT.
 
-// The new number of `wanted`, which is the node `from` or an ancestor of it. The way up is taken in the table and in what is written of the new one; `marks` stands for the promise.
+// The new number of `wanted`, which is the node `from` or an ancestor of it. The way up is taken in the table and in what is written of the new one; `marks` is there for the contract alone.
 fn new_number(
     parent: &[u16],
     marks: &[u8],
@@ -191,7 +191,7 @@ fn new_parent(parent: &[u16], marks: &[u8], out: &[u16], i: usize, last: usize, 
     requires { ⌜ Numbered (now parent) (now marks) (now out) i ⌝ }
     requires { ⌜ (i < length (now parent)) × (marked (now marks) i ≡ true) ⌝ }
     requires { ⌜ (n ≡ rank (now marks) i) × (0 < n → Last (now marks) i last) ⌝ }
-    ensures { λ r. ⌜ r ≡ rank (now (marks .entry)) (getD (now (parent .entry)) i 0) ⌝ }
+    ensures { λ r. ⌜ r ≡ newParent (now (parent .entry)) (now (marks .entry)) i ⌝ }
 {
     if i == 0 {
         return 0;
@@ -204,7 +204,7 @@ fn new_parent(parent: &[u16], marks: &[u8], out: &[u16], i: usize, last: usize, 
 fn copy_parents(parent: &[u16], marks: &[u8], out: &mut [u16])
     requires { ⌜ Ordered (now parent) (now marks) ⌝ }
     requires { ⌜ (length (now marks) ≡ length (now parent)) × (rank (now marks) (length (now marks)) ≤ length (now out)) ⌝ }
-    ensures { λ _. ⌜ now (out .exit) ≡ written (pickFrom (now (marks .entry)) (length (now (parent .entry))) 0 (λ i. rank (now (marks .entry)) (getD (now (parent .entry)) i 0))) (now (out .entry)) ⌝ }
+    ensures { λ _. ⌜ now (out .exit) ≡ written (pickFrom (now (marks .entry)) (length (now (parent .entry))) 0 (newParent (now (parent .entry)) (now (marks .entry)))) (now (out .entry)) ⌝ }
 {
     let mut last = 0;
     let mut n = 0;

@@ -9,7 +9,7 @@ use lib.ListN.{length}
 use denote.Ref.{now}
 use Rattle.paper.specs.Tools.{when}
 use Rattle.paper.specs.Limits.{nodeLimit}
-use Rattle.paper.specs.Document.{nodes, tableFault, marksFault}
+use Rattle.paper.specs.Document.{Table, nodes, tableFault, marksFault}
 use Rattle.paper.specs.Extraction.{rank}
 use Rattle.paper.specs.Answers.{value, line, short, markedCount, extractAnswer}
 use Rattle.paper.proofs.Tests.{or-left, or-right}
@@ -19,20 +19,30 @@ use Rattle.table.proofs.Lines.{too-long, Agree, right-lengths}
 use Rattle.table.proofs.answer.Statement.{statement}
 use Rattle.table.proofs.answer.Tie as tie
 
+-- The table lent, as the clauses name it.
+abbrev lent : tie.Start → Table
+lent start = tableOf (now (start .args .parent)) (now (start .args .kind))
+
 -- Past the four tests of line 1 the lengths are right.
-agree : (c : tie.Else4) → Agree (tableOf (now (c .before .before .before .before .before .before .before .args .parent)) (now (c .before .before .before .before .before .before .before .args .kind))) (now (c .before .before .before .before .before .before .before .args .marks)) (c .before .before .before .before .before .before .before .args .parent-room) (c .before .before .before .before .before .before .before .args .kind-room)
+abbrev begun : tie.Else4 → tie.Start
+begun c = c .before .before .before .before .before .before .before
+
+agree : (c : tie.Else4) → Agree (lent (begun c)) (now (begun c .args .marks)) (begun c .args .parent-room) (begun c .args .kind-room)
 agree c = record { few = c .before .before .before .if1 .left; kinds-long = c .before .before .if2 .left; marks-long = c .before .if3 .left; rooms = c .if4 .left }
 
 -- Past line 7 the table is good.
-sound : (c : tie.After-enum-told) → none ≡ tableFault (tableOf (now (c .before .before .before .before .before .before .before .before .before .before .args .parent)) (now (c .before .before .before .before .before .before .before .before .before .before .args .kind)))
+sound : (c : tie.After-enum-told) → none ≡ tableFault (lent (begun (c .before .before .before)))
 sound c = ap faultOf (sym (c .enum-told .given .1)) ∙ c .before .before .table-fault .ensures
 
 -- Past line 8 only the room is left to judge.
-reached : (c : tie.After-count) → line 10 (short (c .before .before .before .before .before .before .before .before .before .before .before .before .before .before .args .parent-room) (c .count .result)) (value (c .count .result))
-    ≡ extractAnswer (tableOf (now (c .before .before .before .before .before .before .before .before .before .before .before .before .before .before .args .parent)) (now (c .before .before .before .before .before .before .before .before .before .before .before .before .before .before .args .kind))) (now (c .before .before .before .before .before .before .before .before .before .before .before .before .before .before .args .marks)) (c .before .before .before .before .before .before .before .before .before .before .before .before .before .before .args .parent-room) (c .before .before .before .before .before .before .before .before .before .before .before .before .before .before .args .kind-room)
+abbrev counted : tie.After-count → tie.Start
+counted c = begun (c .before .before .before .before .before .before .before)
+
+reached : (c : tie.After-count)
+    → line 10 (short (counted c .args .parent-room) (c .count .result)) (value (c .count .result)) ≡ extractAnswer (lent (counted c)) (now (counted c .args .marks)) (counted c .args .parent-room) (counted c .args .kind-room)
 reached c =
-    let start = c .before .before .before .before .before .before .before .before .before .before .before .before .before .before in
-    let t = tableOf (now (start .args .parent)) (now (start .args .kind)) in
+    let start = counted c in
+    let t = lent start in
     let marks = now (start .args .marks) in
     let a = start .args .parent-room in
     let b = start .args .kind-room in
@@ -45,32 +55,36 @@ reached c =
     ∙ sym (right-lengths t marks a b right)
 
 returns : tie.Need-returns
-returns c = let start = c .before .before .before .before in
-    let t = tableOf (now (start .args .parent)) (now (start .args .kind)) in
+returns c =
+    let start = c .before .before .before .before in
+    let t = lent start in
     let marks = now (start .args .marks) in
     let a = start .args .parent-room in
     let b = start .args .kind-room in
     sym (too-long t marks a b (or-left (not (eqb a b)) (or-left (not (eqb (length marks) (nodes t))) (or-left (not (eqb (length (t .kinds)) (nodes t))) (lt-ltb nodeLimit (nodes t) (c .if1 .taken))))))
 
 returns-2 : tie.Need-returns-2
-returns-2 c = let start = c .before .before .before .before .before in
-    let t = tableOf (now (start .args .parent)) (now (start .args .kind)) in
+returns-2 c =
+    let start = c .before .before .before .before .before in
+    let t = lent start in
     let marks = now (start .args .marks) in
     let a = start .args .parent-room in
     let b = start .args .kind-room in
     sym (too-long t marks a b (or-left (not (eqb a b)) (or-left (not (eqb (length marks) (nodes t))) (or-right (ltb nodeLimit (nodes t)) (ap not (ne-eqb (length (t .kinds)) (nodes t) (c .if2 .taken)))))))
 
 returns-3 : tie.Need-returns-3
-returns-3 c = let start = c .before .before .before .before .before .before in
-    let t = tableOf (now (start .args .parent)) (now (start .args .kind)) in
+returns-3 c =
+    let start = c .before .before .before .before .before .before in
+    let t = lent start in
     let marks = now (start .args .marks) in
     let a = start .args .parent-room in
     let b = start .args .kind-room in
     sym (too-long t marks a b (or-left (not (eqb a b)) (or-right (ltb nodeLimit (nodes t) || not (eqb (length (t .kinds)) (nodes t))) (ap not (ne-eqb (length marks) (nodes t) (c .if3 .taken))))))
 
 returns-4 : tie.Need-returns-4
-returns-4 c = let start = c .before .before .before .before .before .before .before in
-    let t = tableOf (now (start .args .parent)) (now (start .args .kind)) in
+returns-4 c =
+    let start = c .before .before .before .before .before .before .before in
+    let t = lent start in
     let marks = now (start .args .marks) in
     let a = start .args .parent-room in
     let b = start .args .kind-room in
@@ -83,8 +97,9 @@ enum-known-i : tie.Need-enum-known-i
 enum-known-i c = search needs
 
 returns-5 : tie.Need-returns-5
-returns-5 c = let start = c .before .before .before .before .before .before .before .before .before .before .before in
-    let t = tableOf (now (start .args .parent)) (now (start .args .kind)) in
+returns-5 c =
+    let start = c .before .before .before .before .before .before .before .before .before .before .before in
+    let t = lent start in
     let marks = now (start .args .marks) in
     let a = start .args .parent-room in
     let b = start .args .kind-room in
@@ -102,8 +117,9 @@ enum-known-i-2 : tie.Need-enum-known-i-2
 enum-known-i-2 c = search needs
 
 returns-6 : tie.Need-returns-6
-returns-6 c = let start = c .before .before .before .before .before .before .before .before .before .before .before .before .before .before in
-    let t = tableOf (now (start .args .parent)) (now (start .args .kind)) in
+returns-6 c =
+    let start = c .before .before .before .before .before .before .before .before .before .before .before .before .before .before in
+    let t = lent start in
     let marks = now (start .args .marks) in
     let a = start .args .parent-room in
     let b = start .args .kind-room in
@@ -120,12 +136,14 @@ count-requires : tie.Need-count-requires
 count-requires c κs = search needs
 
 returns-7 : tie.Need-returns-7
-returns-7 c = let n = c .before .count .result in
+returns-7 c =
+    let n = c .before .count .result in
     let a = c .before .before .before .before .before .before .before .before .before .before .before .before .before .before .before .args .parent-room in
     ap (λ b. line 10 (when b n) (value n)) (sym (lt-ltb a n (c .if5 .taken))) ∙ reached (c .before)
 
 returns-8 : tie.Need-returns-8
-returns-8 c = let n = c .before .count .result in
+returns-8 c =
+    let n = c .before .count .result in
     let a = c .before .before .before .before .before .before .before .before .before .before .before .before .before .before .before .args .parent-room in
     ap (λ b. line 10 (when b n) (value n)) (sym (le-ltb a n (c .if5 .left))) ∙ reached (c .before)
 

@@ -23,7 +23,7 @@ fits : (c : tie.Then1 Inv-loop μ-loop) → c .before .before .before .loop .n <
 fits c =
     let head = c .before .before .before in
     let start = head .before in
-    room (now (start .args .marks)) (λ k. getD (now (start .args .kind)) k 0) (now (start .args .out)) (head .loop .n) (head .loop .i) (head .loop .inv .1 .count) (start .pre .1) (omega arith) (c .if1 .taken)
+    room (now (start .args .marks)) (λ k. getD (now (start .args .kind)) k 0) (now (start .args .out)) (head .loop .out) (head .loop .n) (head .loop .i) (head .loop .inv .1) (start .pre .1) (omega arith) (c .if1 .taken)
 
 loop-holds : tie.Need-loop-holds Inv-loop μ-loop
 loop-holds c = (omega arith, nothing (now (c .args .marks)) (λ k. getD (now (c .args .kind)) k 0) (now (c .args .out)))
@@ -53,7 +53,8 @@ loop-less : tie.Need-loop-less Inv-loop μ-loop
 loop-less c = omega arith
 
 loop-again : tie.Need-loop-again Inv-loop μ-loop
-loop-again c = let head = c .before .before .before in
+loop-again c =
+    let head = c .before .before .before in
     let marks = now (head .before .args .marks) in
     let kinds = now (head .before .args .kind) in
     let old = now (head .before .args .out) in (
@@ -61,7 +62,7 @@ loop-again c = let head = c .before .before .before in
       ⊎-elim
           (λ w.
           one-more marks (λ k. getD kinds k 0) old (head .loop .out) (head .loop .n) (head .loop .i) (head .loop .inv .1) (c .if1 .out) (c .if1 .n) (getD kinds (head .loop .i) 0)
-          (room marks (λ k. getD kinds k 0) old (head .loop .n) (head .loop .i) (head .loop .inv .1 .count) (head .before .pre .1) (omega arith) (w .0 .taken)) (w .0 .taken) refl (w .2) (w .3))
+          (fits (record { before = c .before; if1 = w .0 })) (w .0 .taken) refl (w .2) (w .3))
           (λ w. no-more marks (λ k. getD kinds k 0) old (head .loop .out) (head .loop .n) (head .loop .i) (head .loop .inv .1) (c .if1 .out) (c .if1 .n) (w .0 .left) (w .1) (w .2)) (c .if1 .came),
     )
 
@@ -69,7 +70,8 @@ same-length : tie.Need-same-length Inv-loop μ-loop
 same-length c = c .before .loop .inv .1 .long
 
 returns : tie.Need-returns Inv-loop μ-loop
-returns c = let start = c .before .before in
+returns c =
+    let start = c .before .before in
     let e : c .before .loop .i ≡ length (now (start .args .kind)) = omega (arith, start .pre .0) in
     c .before .loop .inv .1 .is ∙ ap (λ k. written (pickFrom (now (start .args .marks)) k 0 (λ i. getD (now (start .args .kind)) i 0)) (now (start .args .out))) e
 

@@ -34,7 +34,8 @@ loop-less : tie.Need-loop-less Inv-loop μ-loop
 loop-less c = omega arith
 
 loop-again : tie.Need-loop-again Inv-loop μ-loop
-loop-again c = let head = c .before .before .before in
+loop-again c =
+    let head = c .before .before .before in
     let marks = now (head .before .args .marks) in
     let i = head .loop .i in (
       omega arith,
@@ -43,7 +44,8 @@ loop-again c = let head = c .before .before .before in
     )
 
 returns : tie.Need-returns Inv-loop μ-loop
-returns c = let marks = now (c .before .before .args .marks) in
+returns c =
+    let marks = now (c .before .before .args .marks) in
     let e : c .before .loop .i ≡ length marks = omega arith in
     c .before .loop .inv .1 ∙ ap (rank marks) e
 

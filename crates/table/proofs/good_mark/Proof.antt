@@ -24,7 +24,8 @@ mark-requires c κs = search needs
 
 returns : tie.Need-returns
 unfolding goodMark
-returns c = let start = c .before .before .before .before in
+returns c =
+    let start = c .before .before .before .before in
     let marks = now (start .args .marks) in
     let parents = now (start .args .parent) in
     let i = start .args .i in
@@ -44,7 +45,8 @@ mark-requires-2 c κs = search needs
 
 returns-2 : tie.Need-returns-2
 unfolding goodMark
-returns-2 c = let start = c .before .before .before .before .before .before .before .before in
+returns-2 c =
+    let start = c .before .before .before .before .before .before .before .before in
     let marks = now (start .args .marks) in
     let parents = now (start .args .parent) in
     let i = start .args .i in
@@ -54,7 +56,8 @@ returns-2 c = let start = c .before .before .before .before .before .before .bef
 
 returns-3 : tie.Need-returns-3
 unfolding goodMark
-returns-3 c = let start = c .before .before .before .before .before in
+returns-3 c =
+    let start = c .before .before .before .before .before in
     let marks = now (start .args .marks) in
     let parents = now (start .args .parent) in
     let i = start .args .i in

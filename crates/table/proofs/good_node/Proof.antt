@@ -48,7 +48,8 @@ good-root-requires : tie.Need-good-root-requires
 good-root-requires c κs = search needs
 
 returns : tie.Need-returns
-returns c = let start = c .before .before .before .before in
+returns c =
+    let start = c .before .before .before .before in
     c .good-root .ensures ∙ ap (goodNode (tableOf (now (start .args .parent)) (now (start .args .kind)))) (sym (c .before .if1 .taken))
 
 mul-wide : tie.Need-mul-wide
@@ -61,13 +62,15 @@ wide-requires : tie.Need-wide-requires
 wide-requires c κs = search needs
 
 returns-2 : tie.Need-returns-2
-returns-2 c = let start = c .before .before .before .before .before .before in
+returns-2 c =
+    let start = c .before .before .before .before .before .before in
     let t = tableOf (now (start .args .parent)) (now (start .args .kind)) in
     let i = start .args .i in
     sym (later t i (omega arith) ∙ too-low (kindOf t i) (over t (i - 1) (parentOf t i)) (not (eqb (kindOf t (parentOf t i)) 1)) (omega (arith, c .before .wide .ensures)))
 
 returns-3 : tie.Need-returns-3
-returns-3 c = let start = c .before .before .before .before .before .before .before in
+returns-3 c =
+    let start = c .before .before .before .before .before .before .before in
     let t = tableOf (now (start .args .parent)) (now (start .args .kind)) in
     let i = start .args .i in
     sym (later t i (omega arith) ∙ too-high (kindOf t i) (over t (i - 1) (parentOf t i)) (not (eqb (kindOf t (parentOf t i)) 1)) (omega (arith, c .before .before .wide .ensures)))
@@ -85,7 +88,8 @@ sub-is-over : tie.Need-sub-is-over
 sub-is-over c = search needs
 
 is-over-requires : tie.Need-is-over-requires
-is-over-requires c κs = let start = c .before .before .before .before .before .before .before .before .before in
+is-over-requires c κs =
+    let start = c .before .before .before .before .before .before .before .before .before in
     let e : start .args .i ≡ start .args .i - 1 + 1 = omega arith in
     subst (Falls (now (start .args .parent))) e (start .pre .1)
 
@@ -99,7 +103,8 @@ wide-requires-3 : tie.Need-wide-requires-3
 wide-requires-3 c κs = search needs
 
 returns-4 : tie.Need-returns-4
-returns-4 c = let start = c .before .before .before .before .before .before .before .before .before .before .before .before .before in
+returns-4 c =
+    let start = c .before .before .before .before .before .before .before .before .before .before .before .before .before in
     let t = tableOf (now (start .args .parent)) (now (start .args .kind)) in
     let i = start .args .i in
     let own = c .before .before .before .before .before .before .before .before .wide .ensures in
@@ -112,7 +117,8 @@ returns-4 c = let start = c .before .before .before .before .before .before .bef
     ∙ ap (λ x. x && not (eqb (kindOf t (parentOf t i)) 1)) up)
 
 returns-5 : tie.Need-returns-5
-returns-5 c = let start = c .before .before .before .before .before .before .before .before .before .before .before in
+returns-5 c =
+    let start = c .before .before .before .before .before .before .before .before .before .before .before in
     let t = tableOf (now (start .args .parent)) (now (start .args .kind)) in
     let i = start .args .i in
     let own = c .before .before .before .before .before .before .wide .ensures in

@@ -18,7 +18,8 @@ wide-requires c κs = search needs
 
 returns : tie.Need-returns
 unfolding goodNode
-returns c = let parents = now (c .before .before .before .before .before .args .parent) in
+returns c =
+    let parents = now (c .before .before .before .before .before .args .parent) in
     let kinds = now (c .before .before .before .before .before .args .kind) in
     sym (ap (λ x. x && eqb (getD kinds 0 0) 0) (ne-eqb (getD parents 0 0) 0 (λ e. c .if1 .taken (c .before .wide .ensures ∙ e))))
 
@@ -30,7 +31,8 @@ wide-requires-2 c κs = search needs
 
 returns-2 : tie.Need-returns-2
 unfolding goodNode
-returns-2 c = let start = c .before .before .before .before .before .before .before in
+returns-2 c =
+    let start = c .before .before .before .before .before .before .before in
     let parents = now (start .args .parent) in
     let kinds = now (start .args .kind) in
     ap (λ k. eqb k 0) (c .wide2 .ensures)

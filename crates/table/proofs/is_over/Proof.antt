@@ -32,11 +32,13 @@ wide-requires : tie.Need-wide-requires Inv-loop μ-loop
 wide-requires c κs = search needs
 
 loop-less : tie.Need-loop-less Inv-loop μ-loop
-loop-less c = let start = c .before .before .before .before .before in
+loop-less c =
+    let start = c .before .before .before .before .before in
     omega (arith, start .pre .falls (c .before .before .before .loop .at) (omega arith) (omega arith))
 
 loop-again : tie.Need-loop-again Inv-loop μ-loop
-loop-again c = let start = c .before .before .before .before .before in
+loop-again c =
+    let start = c .before .before .before .before .before in
     let head = c .before .before .before in
     let parents = start .args .parent .now in
     let low = start .pre .falls (head .loop .at) (omega arith) (omega arith) in (
@@ -47,7 +49,8 @@ loop-again c = let start = c .before .before .before .before .before in
     )
 
 returns : tie.Need-returns Inv-loop μ-loop
-returns c = let start = c .before .before .before in
+returns c =
+    let start = c .before .before .before in
     let head = c .before in
     λ kinds.
     sym

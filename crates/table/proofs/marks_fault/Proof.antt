@@ -33,14 +33,16 @@ loop-less : tie.Need-loop-less Inv-loop μ-loop
 loop-less c = omega arith
 
 loop-again : tie.Need-loop-again Inv-loop μ-loop
-loop-again c = let start = c .before .before .before .before .before .before in
+loop-again c =
+    let start = c .before .before .before .before .before .before in
     let head = c .before .before .before in
     let good : ℕ → Type 0 = λ k. (kinds : List ℕ) → goodMark (tableOf (now (start .args .parent)) kinds) (now (start .args .marks)) k ≡ true in
     (omega arith, below-more good (head .loop .i) (head .loop .inv .1) (λ kinds. sym (c .before .good-mark .ensures kinds) ∙ c .if1 .taken))
 
 returns : tie.Need-returns Inv-loop μ-loop
 unfolding marksFault
-returns c = let start = c .before .before .before .before .before .before in
+returns c =
+    let start = c .before .before .before .before .before .before in
     let head = c .before .before .before in
     λ kinds.
     sym
@@ -49,7 +51,8 @@ returns c = let start = c .before .before .before .before .before .before in
 
 returns-2 : tie.Need-returns-2 Inv-loop μ-loop
 unfolding marksFault
-returns-2 c = let start = c .before .before .before .before in
+returns-2 c =
+    let start = c .before .before .before .before in
     let head = c .before in
     λ kinds.
     sym

@@ -28,7 +28,8 @@ inside c =
     omega (arith, start .pre .1 .0 .room, rank-less (now (start .args .marks)) (c .before .loop .at) (start .args .from + 1) (omega arith) (c .before .loop .inv .1))
 
 loop-holds : tie.Need-loop-holds Inv-loop μ-loop
-loop-holds c = let pre = c .before .before .before .pre .1 .1 in
+loop-holds c =
+    let pre = c .before .before .before .pre .1 .1 in
     (omega arith, pre .0 .1, pre .0 .2, pre .1)
 
 mul-wide : tie.Need-mul-wide Inv-loop μ-loop
@@ -50,11 +51,13 @@ wide-requires-2 : tie.Need-wide-requires-2 Inv-loop μ-loop
 wide-requires-2 c κs = search needs
 
 loop-less : tie.Need-loop-less Inv-loop μ-loop
-loop-less c = let start = c .before .before .before .before .before .before .before .before .before in
+loop-less c =
+    let start = c .before .before .before .before .before .before .before .before .before in
     omega (arith, start .pre .1 .1 .0 .0, c .before .before .wide .ensures, start .pre .0 .tree .falls (c .before .before .before .before .before .loop .at) (omega arith) (omega (arith, start .pre .1 .1 .0 .0)))
 
 loop-again : tie.Need-loop-again Inv-loop μ-loop
-loop-again c = let start = c .before .before .before .before .before .before .before .before .before in
+loop-again c =
+    let start = c .before .before .before .before .before .before .before .before .before in
     let head = c .before .before .before .before .before in
     let parents = now (start .args .parent) in
     let marks = now (start .args .marks) in
@@ -69,7 +72,8 @@ loop-again c = let start = c .before .before .before .before .before .before .be
     )
 
 returns : tie.Need-returns Inv-loop μ-loop
-returns c = let start = c .before .before .before .before .before in
+returns c =
+    let start = c .before .before .before .before .before in
     let head = c .before in
     let parents = now (start .args .parent) in
     let low = way-low (shapeOf parents) (length parents) (start .pre .0 .tree) (head .loop .at) (start .args .wanted) (omega (arith, start .pre .1 .1 .0 .0)) (head .loop .inv .3) in

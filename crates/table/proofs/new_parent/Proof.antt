@@ -28,7 +28,8 @@ after-root c =
     omega (arith, start .pre .1 .1 .1 .0, rank-less marks 0 i (omega arith) root)
 
 returns : tie.Need-returns
-returns c = let start = c .before .before .before .before in
+returns c =
+    let start = c .before .before .before .before in
     let parents = now (start .args .parent) in
     sym (ap (rank (now (start .args .marks))) (ap (λ k. getD parents k 0) (c .if1 .taken) ∙ start .pre .0 .tree .root (omega (arith, start .pre .1 .1 .0 .0))))
 
@@ -45,7 +46,8 @@ sub-new-number : tie.Need-sub-new-number
 sub-new-number c = omega (arith, after-root (c .before .before))
 
 new-number-requires : tie.Need-new-number-requires
-new-number-requires c κs = let start = c .before .before .before .before .before .before in
+new-number-requires c κs =
+    let start = c .before .before .before .before .before .before in
     let marks = now (start .args .marks) in
     let parents = now (start .args .parent) in
     let ordered = start .pre .0 in
@@ -70,7 +72,8 @@ new-number-requires c κs = let start = c .before .before .before .before .befor
     )
 
 narrow-requires : tie.Need-narrow-requires
-narrow-requires c κs = let start = c .before .before .before .before .before .before .before in
+narrow-requires c κs =
+    let start = c .before .before .before .before .before .before .before in
     omega (arith, c .new-number .ensures, rank-le (now (start .args .marks)) (c .before .wide .result), c .before .wide .ensures, c .before .before .shared-slice-known4 .given (start .args .i))
 
 returns-2 : tie.Need-returns-2

@@ -1,3 +1,4 @@
+-- `table::table_fault` meets its contract. The loop's invariant: all nodes before `i` are good. The measure is the nodes that are left. Assumes nothing.
 use Prim.Native.Nat.{ℕ, _-_, _≤_, _<_}
 use native.Mathlib.Omega.{arith}
 use mathlib.Core.Path.{_≡_, sym, _∙_, ap}
@@ -12,7 +13,6 @@ use Rattle.paper.specs.Document.{Table, nodes, goodNode, tableFault}
 use Rattle.table.specs.Climbs.{tableOf}
 use Rattle.table.proofs.Firsts.{no-fault, fault-at}
 use Rattle.table.proofs.Ways.{falls-good}
--- `table::table_fault` meets its contract. The loop's invariant: all nodes before `i` are good. The measure is the nodes that are left. Assumes nothing.
 use Rattle.table.proofs.table_fault.Statement.{statement}
 use Rattle.table.proofs.table_fault.Tie as tie
 
@@ -29,7 +29,8 @@ of-nodes t h = ap (λ b. cond b (some 0) (firstBelow (nodes t) (λ i. not (goodN
 
 returns : tie.Need-returns Inv-loop μ-loop
 unfolding tableFault
-returns c = let start = c .before .before .before in
+returns c =
+    let start = c .before .before .before in
     let t = tableOf (now (start .args .parent)) (now (start .args .kind)) in
     sym (ap (λ b. cond b (some 0) (firstBelow (nodes t) (λ i. not (goodNode t i)))) (eq-eqb (nodes t) 0 (c .if1 .taken)))
 
@@ -37,7 +38,8 @@ loop-holds : tie.Need-loop-holds Inv-loop μ-loop
 loop-holds c = (omega arith, λ k l. absurd (omega arith))
 
 good-node-requires : tie.Need-good-node-requires Inv-loop μ-loop
-good-node-requires c κs = let start = c .before .before .before .before .before in
+good-node-requires c κs =
+    let start = c .before .before .before .before .before in
     let t = tableOf (now (start .args .parent)) (now (start .args .kind)) in
     ((omega arith, start .pre), falls-good t (c .before .loop .i) (omega arith) (c .before .loop .inv .1))
 
@@ -48,13 +50,15 @@ loop-less : tie.Need-loop-less Inv-loop μ-loop
 loop-less c = omega arith
 
 loop-again : tie.Need-loop-again Inv-loop μ-loop
-loop-again c = let start = c .before .before .before .before .before .before .before in
+loop-again c =
+    let start = c .before .before .before .before .before .before .before in
     let head = c .before .before .before in
     let t = tableOf (now (start .args .parent)) (now (start .args .kind)) in
     (omega arith, below-more (λ k. goodNode t k ≡ true) (head .loop .i) (head .loop .inv .1) (sym (c .before .good-node .ensures) ∙ c .if2 .taken))
 
 returns-2 : tie.Need-returns-2 Inv-loop μ-loop
-returns-2 c = let start = c .before .before .before .before .before .before .before in
+returns-2 c =
+    let start = c .before .before .before .before .before .before .before in
     let head = c .before .before .before in
     let t = tableOf (now (start .args .parent)) (now (start .args .kind)) in
     sym
@@ -62,7 +66,8 @@ returns-2 c = let start = c .before .before .before .before .before .before .bef
     ∙ fault-at (nodes t) (head .loop .i) (goodNode t) (omega arith) (head .loop .inv .1) (sym (c .before .good-node .ensures) ∙ c .if2 .left))
 
 returns-3 : tie.Need-returns-3 Inv-loop μ-loop
-returns-3 c = let start = c .before .before .before .before .before in
+returns-3 c =
+    let start = c .before .before .before .before .before in
     let head = c .before in
     let t = tableOf (now (start .args .parent)) (now (start .args .kind)) in
     sym (of-nodes t (λ e. head .before .if1 .left e) ∙ no-fault (nodes t) (goodNode t) (λ k l. head .loop .inv .1 k (omega arith)))
