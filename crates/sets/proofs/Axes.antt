@@ -11,6 +11,7 @@ use mathlib.Core.Logic.{_⊎_, inl, inr, ⊎-elim, by-cases}
 use lib.Bits.{bitOr}
 use lib.Dec.{eqb, leb, ltb}
 use lib.ListN.{length, getD, set}
+use lib.Seq.{getD-set-same}
 use borrow.Author.Tests.{eqb-true, eqb-false, eq-eqb, ne-eqb, leb-true, leb-false, lt-ltb, le-ltb, le-leb, lt-leb, ltb-true, ltb-false}
 use Rattle.paper.specs.Tools.{someBelow}
 use Rattle.paper.specs.Query.{self, child, parent, descendantOrSelf, ancestorOrSelf}
@@ -19,7 +20,7 @@ use Rattle.paper.specs.Selection.{childOf, leads}
 use Rattle.paper.proofs.Tests.{and-true, true-and, or-true, or-left, or-right, decide, agree}
 use Rattle.paper.proofs.Searches.{some-intro, some-elim, some-same}
 use Rattle.paper.proofs.Trees.{Tree, parent-le, over-self, over-parent, over-root-alone, over-cases, over-trans, climb}
-use Rattle.sets.specs.Sets.{bits, image}
+use Rattle.sets.specs.Sets.{bits, tableOf, image}
 use Rattle.sets.proofs.Bits.{bit, bits-at, bits-same, bits-set, or-bits}
 
 -- A search that nothing passes finds nothing.
@@ -51,6 +52,10 @@ once true true c = refl
 once true false c = refl
 once false b c = refl
 
+bit-false : (b : Bool) → 0 ≡ bit b → b ≡ false
+bit-false true e = absurd (omega arith)
+bit-false false e = refl
+
 swapped : (a b : Bool) → (a || b) ≡ (b || a)
 swapped true true = refl
 swapped true false = refl
@@ -60,6 +65,13 @@ swapped false false = refl
 -- A number is below another or not.
 side : (k i : ℕ) → (k < i) ⊎ (i ≤ k)
 side k i = ⊎-elim (λ s. inl (ltb-true k i s)) (λ s. inr (ltb-false k i s)) (decide (ltb k i))
+
+-- The invariant of a pass over the nodes at i: the bytes are in the state that the pass has at i, whatever set they were where it began.
+pub record Moving (state : Table → (ℕ → Bool) → ℕ → ℕ → Bool) (parents old list : List ℕ) (i : ℕ) : Type 0 where
+  pub least : 1 ≤ i
+  pub most : i ≤ length parents
+  pub sizes : length list ≡ length parents
+  pub stands : (kinds : List ℕ) (f : ℕ → Bool) → old ≡ bits (length parents) f → list ≡ bits (length parents) (state (tableOf parents kinds) f i)
 
 -- Child and parent: j is a child of i.
 child-intro : (t : Table) (i j : ℕ) → 0 < j → parentOf t j ≡ i → childOf t i j ≡ true
@@ -120,8 +132,8 @@ module _ (t : Table) (w : Tree t) (f : ℕ → Bool) where
   unfolding childState
   child-done i k l = rw (le-ltb k i l)
 
-  pub child-start : bits (nodes t) f ≡ bits (nodes t) (childState t f (nodes t))
-  child-start = bits-same (nodes t) f (childState t f (nodes t)) (λ k l. sym (child-left (nodes t) k l))
+  pub child-start : (i : ℕ) → i ≡ nodes t → bits (nodes t) f ≡ bits (nodes t) (childState t f i)
+  child-start i e = bits-same (nodes t) f (childState t f i) (λ k l. sym (child-left i k (omega arith)))
 
   pub child-turn : (list : List ℕ) (i : ℕ) → 1 < i → i ≤ nodes t → list ≡ bits (nodes t) (childState t f i)
       → set list (i - 1) (getD list (parentOf t (i - 1)) 0) ≡ bits (nodes t) (childState t f (i - 1))
@@ -138,10 +150,10 @@ module _ (t : Table) (w : Tree t) (f : ℕ → Bool) where
       (λ s. child-done i k (by-cases (ℕ-discrete k m) (λ q. absurd (d q)) (λ q. omega arith)) ∙ sym (child-done m k s))
       (side k m)))
 
-  pub child-end : (list : List ℕ) → list ≡ bits (nodes t) (childState t f 1) → set list 0 0 ≡ bits (nodes t) (image t child f)
-  child-end list e =
+  pub child-end : (list : List ℕ) (i : ℕ) → i ≡ 1 → list ≡ bits (nodes t) (childState t f i) → set list 0 0 ≡ bits (nodes t) (image t child f)
+  child-end list i z e =
       rw e
-      (bits-set (nodes t) (childState t f 1) (image t child f) 0 0 (w .rooted) (ap bit (sym child-root)) (λ k b d. child-done 1 k (by-cases (ℕ-discrete k 0) (λ q. absurd (d q)) (λ q. omega arith))))
+      (bits-set (nodes t) (childState t f i) (image t child f) 0 0 (w .rooted) (ap bit (sym child-root)) (λ k b d. child-done i k (by-cases (ℕ-discrete k 0) (λ q. absurd (d q)) (λ q. omega arith))))
 
   -- Descendant or self: a node takes what its parent has, too.
   below-root : image t descendantOrSelf f 0 ≡ f 0
@@ -197,8 +209,8 @@ module _ (t : Table) (w : Tree t) (f : ℕ → Bool) where
       (λ s. below-left i k s ∙ sym (below-left (i + 1) k (by-cases (ℕ-discrete k i) (λ q. absurd (d q)) (λ q. omega arith))))
       (side k i)))
 
-  pub below-end : bits (nodes t) (belowState t f (nodes t)) ≡ bits (nodes t) (image t descendantOrSelf f)
-  below-end = bits-same (nodes t) (belowState t f (nodes t)) (image t descendantOrSelf f) (λ k l. below-done (nodes t) k l)
+  pub below-end : (i : ℕ) → i ≡ nodes t → bits (nodes t) (belowState t f i) ≡ bits (nodes t) (image t descendantOrSelf f)
+  below-end i e = bits-same (nodes t) (belowState t f i) (image t descendantOrSelf f) (λ k l. below-done i k (omega arith))
 
   -- Parent: a node has what one of its children had.
   parent-done : (i k : ℕ) → k < i → parentState t f i k ≡ someBelow i (λ j. f j && childOf t k j)
@@ -219,11 +231,13 @@ module _ (t : Table) (w : Tree t) (f : ℕ → Bool) where
   parent-more : (i k : ℕ) → 0 < i → someBelow (i + 1) (λ j. f j && childOf t k j) ≡ (someBelow i (λ j. f j && childOf t k j) || (f i && eqb (parentOf t i) k))
   parent-more i k z = rw (add-one i, ne-eqb i 0 (λ s. omega arith)) (swapped (f i && eqb (parentOf t i) k) (someBelow i (λ j. f j && childOf t k j)))
 
-  pub parent-start : f 0 ≡ false → bits (nodes t) f ≡ bits (nodes t) (parentState t f 1)
-  parent-start e =
+  -- The root has been dropped from the set.
+  pub parent-start : (list : List ℕ) → length list ≡ nodes t → set list 0 0 ≡ bits (nodes t) f → bits (nodes t) f ≡ bits (nodes t) (parentState t f 1)
+  parent-start list n e =
+      let dropped : f 0 ≡ false = bit-false (f 0) (sym (getD-set-same list 0 0 0 (omega (arith, w .rooted))) ∙ bits-at (nodes t) f e 0 (w .rooted)) in
       bits-same (nodes t) f (parentState t f 1)
       (λ k l.
-      ⊎-elim (λ s. let q : k ≡ 0 = omega arith in ap f q ∙ e ∙ sym (parent-done 1 k s ∙ parent-early 1 k (omega arith) (w .rooted))) (λ s. sym (parent-left 1 k s)) (side k 1))
+      ⊎-elim (λ s. let q : k ≡ 0 = omega arith in ap f q ∙ dropped ∙ sym (parent-done 1 k s ∙ parent-early 1 k (omega arith) (w .rooted))) (λ s. sym (parent-left 1 k s)) (side k 1))
 
   cleared-here : (i k : ℕ) → k ≡ i → clearedState t f i k ≡ false
   unfolding clearedState
@@ -340,10 +354,10 @@ module _ (t : Table) (w : Tree t) (f : ℕ → Bool) where
       (λ s. let r = and-true (childOf t k m) (aboveState t f (m + 1) m) s in above-intro m k m l (omega arith) (r .0) (sym final ∙ r .1))
       (or-true (aboveState t f (m + 1) k) (childOf t k m && aboveState t f (m + 1) m) h))
 
-  pub above-start : bits (nodes t) f ≡ bits (nodes t) (aboveState t f (nodes t))
-  above-start =
-      bits-same (nodes t) f (aboveState t f (nodes t))
-      (λ k l. agree (f k) (aboveState t f (nodes t) k) (above-self (nodes t) k) (λ h. above-elim (nodes t) k h (λ s. s) (λ j u b g s. absurd (omega arith))))
+  pub above-start : (i : ℕ) → i ≡ nodes t → bits (nodes t) f ≡ bits (nodes t) (aboveState t f i)
+  above-start i e =
+      bits-same (nodes t) f (aboveState t f i)
+      (λ k l. agree (f k) (aboveState t f i k) (above-self i k) (λ h. above-elim i k h (λ s. s) (λ j u b g s. absurd (omega arith))))
 
   pub above-turn : (list : List ℕ) (i : ℕ) → 1 < i → i ≤ nodes t → list ≡ bits (nodes t) (aboveState t f i)
       → set list (parentOf t (i - 1)) (bitOr (getD list (parentOf t (i - 1)) 0) (getD list (i - 1) 0)) ≡ bits (nodes t) (aboveState t f (i - 1))
@@ -362,8 +376,8 @@ module _ (t : Table) (w : Tree t) (f : ℕ → Bool) where
       (λ k b d.
       sym (more k ∙ ap (λ x. aboveState t f i k || (x && aboveState t f i m)) (not-child t k m (λ s. d (sym s))) ∙ or-none (aboveState t f i k) refl)))
 
-  pub above-end : bits (nodes t) (aboveState t f 1) ≡ bits (nodes t) (image t ancestorOrSelf f)
-  above-end = bits-same (nodes t) (aboveState t f 1) (image t ancestorOrSelf f) (λ k l. above-done 1 k (omega arith) l)
+  pub above-end : (i : ℕ) → i ≡ 1 → bits (nodes t) (aboveState t f i) ≡ bits (nodes t) (image t ancestorOrSelf f)
+  above-end i e = bits-same (nodes t) (aboveState t f i) (image t ancestorOrSelf f) (λ k l. above-done i k (omega arith) l)
 
 module _ (t : Table) (w : Tree t) (f : ℕ → Bool) where
   -- The root is nobody's child, so what it had is dropped first.
@@ -372,10 +386,11 @@ module _ (t : Table) (w : Tree t) (f : ℕ → Bool) where
       rw e
       (bits-set (nodes t) f (λ k. not (eqb k 0) && f k) 0 0 (w .rooted) refl (λ k b d. ap (λ x. not x && f k) (sym (ne-eqb k 0 d))))
 
-  pub parent-end : bits (nodes t) (parentState t (λ k. not (eqb k 0) && f k) (nodes t)) ≡ bits (nodes t) (image t parent f)
+  pub parent-end : (i : ℕ) → i ≡ nodes t → bits (nodes t) (parentState t (λ k. not (eqb k 0) && f k) i) ≡ bits (nodes t) (image t parent f)
   unfolding image
-  parent-end =
-      bits-same (nodes t) (parentState t (λ k. not (eqb k 0) && f k) (nodes t)) (image t parent f)
+  parent-end i e =
+      bits-same (nodes t) (parentState t (λ k. not (eqb k 0) && f k) i) (image t parent f)
       (λ k l.
-      parent-done t w (λ k. not (eqb k 0) && f k) (nodes t) k l
+      parent-done t w (λ k. not (eqb k 0) && f k) i k (omega arith)
+      ∙ ap (λ x. someBelow x (λ j. (not (eqb j 0) && f j) && childOf t k j)) e
       ∙ some-same (nodes t) (λ j. (not (eqb j 0) && f j) && childOf t k j) (λ j. f j && childOf t k j) (λ j m. once (eqb j 0) (f j) (eqb (parentOf t j) k)))

@@ -66,3 +66,7 @@ bits-set n f g i v l e h =
         by-cases (ℕ-discrete k i)
         (λ s. ap (λ x. getD (set (bits n f) i v) x 0) s ∙ getD-set-same (bits n f) i v 0 (omega (arith, sizes)) ∙ e ∙ sym (bits-at n g refl i l) ∙ ap (λ x. getD (bits n g) x 0) (sym s))
         (λ d. getD-set-other (bits n f) i k v 0 d ∙ bits-at n f refl k b ∙ ap bit (h k b d) ∙ sym (bits-at n g refl k b))
+
+-- A claim on the bytes of n nodes, where the number is known by another name.
+pub resized : {n m : ℕ} {old new : List ℕ} → n ≡ m → (f g : ℕ → Bool) → (old ≡ bits n f → new ≡ bits n g) → old ≡ bits m f → new ≡ bits m g
+resized e f g h o = h (o ∙ ap (λ x. bits x f) (sym e)) ∙ ap (λ x. bits x g) e
