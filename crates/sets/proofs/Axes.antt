@@ -14,14 +14,16 @@ use lib.ListN.{length, getD, set}
 use lib.Seq.{getD-set-same}
 use borrow.Author.Tests.{eqb-true, eqb-false, eq-eqb, ne-eqb, leb-true, leb-false, lt-ltb, le-ltb, le-leb, lt-leb, ltb-true, ltb-false}
 use Rattle.paper.specs.Tools.{someBelow}
-use Rattle.paper.specs.Query.{self, child, parent, descendantOrSelf, ancestorOrSelf}
+use Rattle.paper.specs.Query.{Axis, self, child, parent, descendantOrSelf, ancestorOrSelf}
 use Rattle.paper.specs.Document.{Table, nodes, parentOf, over}
-use Rattle.paper.specs.Selection.{childOf, leads}
-use Rattle.paper.proofs.Tests.{and-true, true-and, or-true, or-left, or-right, decide, agree}
+use Rattle.paper.specs.Items.{axisNumber, axisOf}
+use Rattle.paper.specs.Selection.{childOf}
+use Rattle.paper.proofs.Tests.{and-true, true-and, or-true, or-left, or-right, decide, agree, some-inj}
+use Rattle.paper.proofs.Fields.{axis-number}
 use Rattle.paper.proofs.Searches.{some-intro, some-elim, some-same}
 use Rattle.paper.proofs.Trees.{Tree, parent-le, over-self, over-parent, over-root-alone, over-cases, over-trans, climb}
 use Rattle.sets.specs.Sets.{bits, tableOf, image}
-use Rattle.sets.proofs.Bits.{bit, bits-at, bits-same, bits-set, or-bits}
+use Rattle.sets.proofs.Bits.{bit, bits-at, bits-same, bits-set, or-bits, bit-false, or-none, and-none, and-all, once, swapped}
 
 -- A search that nothing passes finds nothing.
 some-none : (n : ℕ) (test : ℕ → Bool) → ((j : ℕ) → j < n → test j ≡ true → ⊥) → someBelow n test ≡ false
@@ -34,37 +36,20 @@ some-one n p f test l h only =
     (λ s. some-elim n (λ j. f j && test j) s (λ j _ q. let r = and-true (f j) (test j) q in subst (λ k. f k ≡ true) (sym (only j (r .1))) (r .0)))
     (λ s. some-intro n (λ j. f j && test j) p l (true-and s h))
 
--- Two tests, one of which fails.
-or-none : (a : Bool) {b : Bool} → b ≡ false → (a || b) ≡ a
-or-none true e = refl
-or-none false e = e
-
-and-none : (a : Bool) {b : Bool} → b ≡ false → (a && b) ≡ false
-and-none true e = e
-and-none false e = refl
-
-and-all : (a : Bool) {b : Bool} → b ≡ true → (a && b) ≡ a
-and-all true e = e
-and-all false e = refl
-
-once : (a b c : Bool) → ((not a && b) && (not a && c)) ≡ (b && (not a && c))
-once true true c = refl
-once true false c = refl
-once false b c = refl
-
-bit-false : (b : Bool) → 0 ≡ bit b → b ≡ false
-bit-false true e = absurd (omega arith)
-bit-false false e = refl
-
-swapped : (a b : Bool) → (a || b) ≡ (b || a)
-swapped true true = refl
-swapped true false = refl
-swapped false true = refl
-swapped false false = refl
-
 -- A number is below another or not.
 side : (k i : ℕ) → (k < i) ⊎ (i ≤ k)
 side k i = ⊎-elim (λ s. inl (ltb-true k i s)) (λ s. inr (ltb-false k i s)) (decide (ltb k i))
+
+-- An axis is known by its number.
+pub same-axis : (a b : Axis) → axisNumber a ≡ axisNumber b → a ≡ b
+same-axis a b e = some-inj (sym (axis-number a) ∙ ap axisOf e ∙ axis-number b)
+
+pub other-axis : (a : Axis) (n : ℕ) → n ≡ axisNumber a → (n ≡ 1 → ⊥) → (n ≡ 2 → ⊥) → (n ≡ 3 → ⊥) → (n ≡ 4 → ⊥) → self ≡ a
+other-axis self n e p q r s = refl
+other-axis child n e p q r s = absurd (p e)
+other-axis parent n e p q r s = absurd (q e)
+other-axis descendantOrSelf n e p q r s = absurd (r e)
+other-axis ancestorOrSelf n e p q r s = absurd (s e)
 
 -- The invariant of a pass over the nodes at i: the bytes are in the state that the pass has at i, whatever set they were where it began.
 pub record Moving (state : Table → (ℕ → Bool) → ℕ → ℕ → Bool) (parents old list : List ℕ) (i : ℕ) : Type 0 where

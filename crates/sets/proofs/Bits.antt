@@ -14,6 +14,30 @@ use Rattle.paper.specs.Tools.{column}
 use Rattle.paper.proofs.Searches.{column-at, length-column, column-same}
 use Rattle.sets.specs.Sets.{bits}
 
+-- Tests joined with one that holds or fails.
+pub or-none : (a : Bool) {b : Bool} → b ≡ false → (a || b) ≡ a
+or-none true e = refl
+or-none false e = e
+
+pub and-none : (a : Bool) {b : Bool} → b ≡ false → (a && b) ≡ false
+and-none true e = e
+and-none false e = refl
+
+pub and-all : (a : Bool) {b : Bool} → b ≡ true → (a && b) ≡ a
+and-all true e = e
+and-all false e = refl
+
+pub once : (a b c : Bool) → ((not a && b) && (not a && c)) ≡ (b && (not a && c))
+once true true c = refl
+once true false c = refl
+once false b c = refl
+
+pub swapped : (a b : Bool) → (a || b) ≡ (b || a)
+swapped true true = refl
+swapped true false = refl
+swapped false true = refl
+swapped false false = refl
+
 -- The byte of a test.
 abbrev pub bit : Bool → ℕ
 bit b = cond b 1 0
@@ -31,6 +55,10 @@ or-bits false b = refl
 pub flip-bit : (a : Bool) → bitXor (bit a) 1 ≡ bit (not a)
 flip-bit true = refl
 flip-bit false = refl
+
+pub bit-false : (b : Bool) → 0 ≡ bit b → b ≡ false
+bit-false true e = absurd (omega arith)
+bit-false false e = refl
 
 -- The byte that the code makes of a test is this.
 pub byte-bit : (b : Bool) → boolByte b ≡ bit b

@@ -30,13 +30,13 @@ module _ {new : ℕ → ℕ} {old : List ℕ} where
   pub one-passed : {list : List ℕ} {i v : ℕ} → Passed new old list i → i < length old → v ≡ new i → Passed new old (set list i v) (i + 1)
   one-passed {list} {i} {v} p l e =
       record {
-      within = omega arith;
-      sizes = length-set list i v ∙ p .sizes;
-      done = λ k b.
-          by-cases (ℕ-discrete k i)
-          (λ s. ap (λ x. getD (set list i v) x 0) s ∙ getD-set-same list i v 0 (omega (arith, p .sizes)) ∙ e ∙ ap new (sym s))
-          (λ d. getD-set-other list i k v 0 d ∙ p .done k (omega arith));
-      left = λ k b. getD-set-other list i k v 0 (λ s. omega arith) ∙ p .left k (omega arith)
+        within = omega arith;
+        sizes = length-set list i v ∙ p .sizes;
+        done = λ k b.
+            by-cases (ℕ-discrete k i)
+            (λ s. ap (λ x. getD (set list i v) x 0) s ∙ getD-set-same list i v 0 (omega (arith, p .sizes)) ∙ e ∙ ap new (sym s))
+            (λ d. getD-set-other list i k v 0 d ∙ p .done k (omega arith));
+        left = λ k b. getD-set-other list i k v 0 (λ s. omega arith) ∙ p .left k (omega arith);
       }
 
   -- At the end.

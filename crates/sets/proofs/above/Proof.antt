@@ -25,10 +25,10 @@ loop-holds c =
     let a = c .args in
     let there = c .pre .1 [] .rooted in
     record {
-    least = omega arith;
-    most = omega arith;
-    sizes = omega arith;
-    stands = λ kinds f e. e ∙ above-start (tableOf (now (a .parent)) kinds) (c .pre .1 kinds) f (length (now (a .set))) (omega arith)
+      least = omega arith;
+      most = omega arith;
+      sizes = omega arith;
+      stands = λ kinds f e. e ∙ above-start (tableOf (now (a .parent)) kinds) (c .pre .1 kinds) f (length (now (a .set))) (omega arith);
     }
 
 sub-i : tie.Need-sub-i Inv-loop μ-loop
@@ -61,10 +61,10 @@ loop-again c =
     let now-at = c .before .before .before .before .loop in
     let p = now-at .inv in
     record {
-    least = omega arith;
-    most = omega arith;
-    sizes = simp length-set (p .sizes);
-    stands = λ kinds f e. above-turn (tableOf (now (a .parent)) kinds) (c .before .before .before .before .before .pre .1 kinds) f (now-at .set) (now-at .i) (omega arith) (omega arith) (p .stands kinds f e)
+      least = omega arith;
+      most = omega arith;
+      sizes = simp length-set (p .sizes);
+      stands = λ kinds f e. above-turn (tableOf (now (a .parent)) kinds) (c .before .before .before .before .before .pre .1 kinds) f (now-at .set) (now-at .i) (omega arith) (omega arith) (p .stands kinds f e);
     }
 
 same-length : tie.Need-same-length Inv-loop μ-loop

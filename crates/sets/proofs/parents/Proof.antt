@@ -30,10 +30,10 @@ loop-holds c =
     let a = c .args in
     let there = c .pre .1 [] .rooted in
     record {
-    least = omega arith;
-    most = omega arith;
-    sizes = simp length-set (omega arith);
-    stands = λ kinds f e. e ∙ parent-start (tableOf (now (a .parent)) kinds) (c .pre .1 kinds) f (now (a .set)) (omega arith) e
+      least = omega arith;
+      most = omega arith;
+      sizes = simp length-set (omega arith);
+      stands = λ kinds f e. e ∙ parent-start (tableOf (now (a .parent)) kinds) (c .pre .1 kinds) f (now (a .set)) (omega arith) e;
     }
 
 slice-read-member : tie.Need-slice-read-member Inv-loop μ-loop
@@ -69,10 +69,10 @@ loop-again c =
     let now-at = c .before .before .before .before .loop in
     let p = now-at .inv in
     record {
-    least = omega arith;
-    most = omega arith;
-    sizes = simp length-set (p .sizes);
-    stands = λ kinds f e. parent-turn (tableOf (now (a .parent)) kinds) (c .before .before .before .before .before .pre .1 kinds) f (now-at .set) (now-at .i) (omega arith) (omega arith) (p .stands kinds f e)
+      least = omega arith;
+      most = omega arith;
+      sizes = simp length-set (p .sizes);
+      stands = λ kinds f e. parent-turn (tableOf (now (a .parent)) kinds) (c .before .before .before .before .before .pre .1 kinds) f (now-at .set) (now-at .i) (omega arith) (omega arith) (p .stands kinds f e);
     }
 
 same-length : tie.Need-same-length Inv-loop μ-loop
