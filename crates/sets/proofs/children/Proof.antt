@@ -15,10 +15,10 @@ use Rattle.sets.proofs.children.Reads as reads
 use Rattle.sets.proofs.children.Lts as lts
 
 abbrev Inv-loop : tie.InvT-loop
-Inv-loop parent set₀ i₀ set i = Moving childState parent set₀ set i
+Inv-loop parent set₀ taker₀ set taker = Moving childState parent set₀ set taker
 
 abbrev μ-loop : tie.MeasureT-loop
-μ-loop parent set₀ i₀ set i = i
+μ-loop parent set₀ taker₀ set taker = taker
 
 loop-holds : tie.Need-loop-holds Inv-loop μ-loop
 loop-holds c =
@@ -31,8 +31,8 @@ loop-holds c =
       stands = λ kinds f e. e ∙ child-start (tableOf (now (a .parent)) kinds) (c .pre .1 kinds) f (length (now (a .set))) (omega arith);
     }
 
-sub-i : tie.Need-sub-i Inv-loop μ-loop
-sub-i c = omega arith
+sub-taker : tie.Need-sub-taker Inv-loop μ-loop
+sub-taker c = omega arith
 
 mul-set : tie.Need-mul-set Inv-loop μ-loop
 mul-set c = omega arith
@@ -41,10 +41,10 @@ shared-slice-read-set : tie.Need-shared-slice-read-set Inv-loop μ-loop
 shared-slice-read-set c = omega arith
 
 cast-set : tie.Need-cast-set Inv-loop μ-loop
-cast-set c = omega (arith, c .shared-slice-known .given (c .before .before .loop .i - 1))
+cast-set c = omega (arith, c .shared-slice-known .given (c .before .before .loop .taker - 1))
 
 slice-read-set : tie.Need-slice-read-set Inv-loop μ-loop
-slice-read-set c = let down = c .before .before .before .before .pre .1 [] .falls (c .before .before .before .loop .i - 1) (omega arith) (omega arith) in omega arith
+slice-read-set c = let down = c .before .before .before .before .pre .1 [] .falls (c .before .before .before .loop .taker - 1) (omega arith) (omega arith) in omega arith
 
 slice-write-set : tie.Need-slice-write-set Inv-loop μ-loop
 slice-write-set c = omega arith
@@ -61,7 +61,7 @@ loop-again c =
       least = omega arith;
       most = omega arith;
       sizes = simp length-set (p .sizes);
-      stands = λ kinds f e. child-turn (tableOf (now (a .parent)) kinds) (c .before .before .before .before .pre .1 kinds) f (now-at .set) (now-at .i) (omega arith) (omega arith) (p .stands kinds f e);
+      stands = λ kinds f e. child-turn (tableOf (now (a .parent)) kinds) (c .before .before .before .before .pre .1 kinds) f (now-at .set) (now-at .taker) (omega arith) (omega arith) (p .stands kinds f e);
     }
 
 slice-write-set-2 : tie.Need-slice-write-set-2 Inv-loop μ-loop
@@ -77,7 +77,7 @@ returns c =
     let t = tableOf (now (a .parent)) kinds in
     let w = c .before .before .pre .1 kinds in
     let last = c .before .loop in
-    resized (c .before .before .pre .0) f (image t child f) (λ e. child-end t w f (last .set) (last .i) (omega arith) (last .inv .stands kinds f e))
+    resized (c .before .before .pre .0) f (image t child f) (λ e. child-end t w f (last .set) (last .taker) (omega arith) (last .inv .stands kinds f e))
 
 pub children-spec : {M : Type 1} → statement M
 children-spec =
@@ -86,7 +86,7 @@ children-spec =
     Inv-loop
     μ-loop
     loop-holds
-    sub-i
+    sub-taker
     mul-set
     shared-slice-read-set
     cast-set

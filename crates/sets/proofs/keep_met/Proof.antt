@@ -19,14 +19,14 @@ use Rattle.sets.proofs.keep_met.Tie as tie
 use Rattle.sets.proofs.keep_met.Reads as reads
 use Rattle.sets.proofs.keep_met.Lts as lts
 use Rattle.sets.proofs.keep_equal.Reads as keep-equal-reads
-use Rattle.sets.proofs.keep_from.Reads as keep-from-reads
+use Rattle.sets.proofs.keep_at_least.Reads as keep-at-least-reads
 
 -- Text and names are met by one kind, whose number the test has.
 meets-kind : (t : Test) (kind n : ℕ) → n ≡ testNumber t → (n ≡ 0 → ⊥) → (n ≡ 258 → ⊥) → eqb kind n ≡ meets t kind
 meets-kind t kind n e a b = by-cases (ℕ-discrete n 1) (λ q. ap (eqb kind) q ∙ meets-text t kind (sym q ∙ e)) (λ q. meets-name t kind n e a q b)
 
-keep-from-requires : tie.Need-keep-from-requires
-keep-from-requires c κs = search needs
+keep-at-least-requires : tie.Need-keep-at-least-requires
+keep-at-least-requires c κs = search needs
 
 keep-equal-requires : tie.Need-keep-equal-requires
 keep-equal-requires c κs = search needs
@@ -46,7 +46,7 @@ returns-2 c = λ t f g e s.
     let d = c .before .before .before .before .before .before .before .args in
     let n : d .test ≡ 258 = omega arith in
     let kind : ℕ → ℕ = λ k. getD (now (d .kind)) k 0 in
-    c .before .before .keep-from .ensures f s
+    c .before .before .keep-at-least .ensures f s
     ∙ bits-same (length (now (d .set))) (λ k. f k && leb 2 (kind k)) (λ k. f k && meets t (kind k)) (λ k l. ap (λ x. f k && x) (meets-element t (kind k) g (sym n ∙ e)))
 
 same-length-2 : tie.Need-same-length-2
@@ -65,7 +65,7 @@ pub keep-met-spec : {M : Type 1} → statement M
 keep-met-spec =
     tie.close
     (tie.spec
-    keep-from-requires
+    keep-at-least-requires
     keep-equal-requires
     returns
     same-length

@@ -1,4 +1,4 @@
--- `sets::keep_from` meets its contract.
+-- `sets::keep_at_least` meets its contract.
 use Prim.Native.Nat.{ℕ, _+_, _-_, _≤_, _<_}
 use native.Mathlib.Omega.{arith}
 use mathlib.Core.Path.{_≡_, refl, sym, ap, ap₂, _∙_}
@@ -11,10 +11,10 @@ use mathlib.Core.Path.{subst}
 use mir.Val.{boolByte}
 use Rattle.sets.proofs.Bits.{bit, bits-at, first-at, second-at, and-bits, or-bits, flip-bit, byte-bit}
 use lib.Dec.{eqb, leb}
-use Rattle.sets.proofs.keep_from.Statement.{statement}
-use Rattle.sets.proofs.keep_from.Tie as tie
-use Rattle.sets.proofs.keep_from.Reads as reads
-use Rattle.sets.proofs.keep_from.Lts as lts
+use Rattle.sets.proofs.keep_at_least.Statement.{statement}
+use Rattle.sets.proofs.keep_at_least.Tie as tie
+use Rattle.sets.proofs.keep_at_least.Reads as reads
+use Rattle.sets.proofs.keep_at_least.Lts as lts
 
 abbrev Inv-loop : tie.InvT-loop
 Inv-loop kind least set₀ i₀ set i = Passed (λ k. bitAnd (getD set₀ k 0) (boolByte (leb least (getD kind k 0)))) set₀ set i
@@ -64,8 +64,8 @@ returns c =
     all-passed (c .before .loop .inv) (omega arith) (λ k. bit (f k && leb (a .least) (getD (now (a .kind)) k 0)))
     (λ k l. ap₂ bitAnd (bits-at n f p k l) (byte-bit (leb (a .least) (getD (now (a .kind)) k 0))) ∙ and-bits (f k) (leb (a .least) (getD (now (a .kind)) k 0)))
 
-pub keep-from-spec : {M : Type 1} → statement M
-keep-from-spec =
+pub keep-at-least-spec : {M : Type 1} → statement M
+keep-at-least-spec =
     tie.close
     (tie.spec
     Inv-loop
