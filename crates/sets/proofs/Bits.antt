@@ -1,5 +1,5 @@
 -- Bytes of 0 and 1 as tests: what stands in the bytes of a set, and what `&`, `|` and `^` make of them. Assumes nothing.
-use Prim.Native.Nat.{ℕ, zero, suc, _+_, _≤_, _<_}
+use Prim.Native.Nat.{ℕ, _+_, _<_}
 use native.Mathlib.Omega.{arith}
 use native.Mathlib.Decide.{ℕ-discrete}
 use mathlib.Core.Path.{_≡_, refl, sym, _∙_, ap}
@@ -10,7 +10,6 @@ use mir.Val.{boolByte}
 use lib.Bits.{bitAnd, bitOr, bitXor}
 use lib.ListN.{length, getD, set, take, drop, length-set}
 use lib.Seq.{ext-getD, getD-set-same, getD-set-other, getD-take, getD-drop}
-use Rattle.paper.specs.Tools.{column}
 use Rattle.paper.proofs.Searches.{column-at, length-column, column-same}
 use Rattle.sets.specs.Sets.{bits}
 

@@ -1,10 +1,9 @@
 -- A pass over a list that replaces one element after the other: the invariant of every loop that works on each element by itself, how a turn keeps it, and what the list is at the end. Assumes nothing.
-use Prim.Native.Nat.{ℕ, zero, suc, _+_, _-_, _≤_, _<_}
+use Prim.Native.Nat.{ℕ, _+_, _-_, _≤_, _<_}
 use native.Mathlib.Omega.{arith}
 use native.Mathlib.Decide.{ℕ-discrete}
 use mathlib.Core.Path.{_≡_, refl, sym, _∙_, ap}
-use mathlib.Core.Bool.{Bool, true, false}
-use mathlib.Core.List.{List, [], _∷_, _++_, append-nil}
+use mathlib.Core.List.{List, _++_, append-nil}
 use mathlib.Core.Logic.{⊎-elim, by-cases}
 use lib.Dec.{ltb}
 use lib.ListN.{length, getD, set, drop, length-set, length-append, length-drop, List·getD-append}
@@ -12,7 +11,7 @@ use lib.Seq.{ext-getD, getD-set-same, getD-set-other, getD-append-add, getD-drop
 use borrow.Author.Tests.{ltb-true, ltb-false}
 use Rattle.paper.specs.Tools.{column}
 use Rattle.paper.proofs.Tests.{decide}
-use Rattle.paper.proofs.Searches.{column-at, length-column, column-same}
+use Rattle.paper.proofs.Searches.{column-at, length-column}
 
 -- The first i elements are the new ones, and the others are still the old list's.
 pub record Passed (new : ℕ → ℕ) (old list : List ℕ) (i : ℕ) : Type 0 where

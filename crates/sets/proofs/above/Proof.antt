@@ -1,18 +1,17 @@
--- `sets::above` meets its contract.
+-- `sets::above` meets its contract. The invariant: every node has what it had and what its children from `giver` on have in the end (`aboveState`). The measure is `giver`. Assumes nothing.
 use Prim.Native.Nat.{_-_}
 use native.Mathlib.Omega.{arith}
 use mathlib.Core.Path.{_∙_}
 use mathlib.Core.List.{[]}
 use lib.ListN.{length, length-set}
 use denote.Ref.{now}
-use Rattle.sets.specs.Sets.{image, tableOf}
 use Rattle.paper.specs.Query.{ancestorOrSelf}
+use Rattle.sets.specs.Sets.{image, tableOf}
 use Rattle.sets.proofs.Bits.{resized}
-use Rattle.sets.proofs.Axes.{Moving, aboveState, above-start, above-turn, above-end}
+use Rattle.sets.proofs.Axes.{Moving}
+use Rattle.sets.proofs.AbovePass.{aboveState, above-start, above-turn, above-end}
 use Rattle.sets.proofs.above.Statement.{statement}
 use Rattle.sets.proofs.above.Tie as tie
-use Rattle.sets.proofs.above.Reads as reads
-use Rattle.sets.proofs.above.Lts as lts
 
 abbrev Inv-loop : tie.InvT-loop
 Inv-loop parent set₀ giver₀ set giver = Moving aboveState parent set₀ set giver
@@ -58,13 +57,13 @@ loop-less c = omega arith
 loop-again : tie.Need-loop-again Inv-loop μ-loop
 loop-again c =
     let a = c .before .before .before .before .before .args in
-    let now-at = c .before .before .before .before .loop in
-    let p = now-at .inv in
+    let here = c .before .before .before .before .loop in
+    let p = here .inv in
     record {
       least = omega arith;
       most = omega arith;
       sizes = simp length-set (p .sizes);
-      stands = λ kinds f e. above-turn (tableOf (now (a .parent)) kinds) (c .before .before .before .before .before .pre .1 kinds) f (now-at .set) (now-at .giver) (omega arith) (omega arith) (p .stands kinds f e);
+      stands = λ kinds f e. above-turn (tableOf (now (a .parent)) kinds) (c .before .before .before .before .before .pre .1 kinds) f (here .set) (here .giver) (omega arith) (omega arith) (p .stands kinds f e);
     }
 
 same-length : tie.Need-same-length Inv-loop μ-loop

@@ -3,20 +3,13 @@ use native.Mathlib.Omega.{arith}
 use mathlib.Core.Path.{_≡_, sym, _∙_, ap, subst}
 use lib.ListN.{length}
 use denote.Ref.{now}
-use Rattle.paper.specs.Query.{Axis, self, child, descendantOrSelf, ancestorOrSelf}
-use Rattle.paper.specs.Items.{axisNumber}
+use borrow.Author.Needs.{needs}
+use Rattle.paper.specs.Query.{Axis, child, descendantOrSelf, ancestorOrSelf}
 use Rattle.sets.specs.Sets.{bits, tableOf, image}
 use Rattle.sets.proofs.Bits.{bits-same}
 use Rattle.sets.proofs.Axes.{same-axis, other-axis, self-image}
-use borrow.Author.Needs.{needs}
 use Rattle.sets.proofs.along.Statement.{statement}
 use Rattle.sets.proofs.along.Tie as tie
-use Rattle.sets.proofs.along.Reads as reads
-use Rattle.sets.proofs.along.Lts as lts
-use Rattle.sets.proofs.above.Reads as above-reads
-use Rattle.sets.proofs.below.Reads as below-reads
-use Rattle.sets.proofs.children.Reads as children-reads
-use Rattle.sets.proofs.parents.Reads as parents-reads
 
 children-requires : tie.Need-children-requires
 children-requires c κs = search needs
@@ -79,7 +72,7 @@ returns-5 c = λ kinds a f e s.
     s
     ∙ bits-same (length (now (d .set))) f (image t a f)
     (λ k l.
-    sym (self-image t (b .pre .1 kinds) f k (omega arith)) ∙ ap (λ x. image t x f k) (other-axis a (d .axis) e (other .0 .0 .0 .1) (other .0 .0 .1) (other .0 .1) (other .1)))
+    sym (self-image t f k (omega arith)) ∙ ap (λ x. image t x f k) (other-axis a (d .axis) e (other .0 .0 .0 .1) (other .0 .0 .1) (other .0 .1) (other .1)))
 
 pub along-spec : {M : Type 1} → statement M
 along-spec =

@@ -1,18 +1,17 @@
--- `sets::children` meets its contract.
+-- `sets::children` meets its contract. The invariant: the nodes from `taker` on have what their parents had, the others what they had (`childState`). The measure is `taker`. Assumes nothing.
 use Prim.Native.Nat.{_-_}
 use native.Mathlib.Omega.{arith}
 use mathlib.Core.Path.{_∙_}
 use mathlib.Core.List.{[]}
 use lib.ListN.{length, length-set}
 use denote.Ref.{now}
-use Rattle.sets.specs.Sets.{image, tableOf}
 use Rattle.paper.specs.Query.{child}
+use Rattle.sets.specs.Sets.{image, tableOf}
 use Rattle.sets.proofs.Bits.{resized}
-use Rattle.sets.proofs.Axes.{Moving, childState, child-start, child-turn, child-end}
+use Rattle.sets.proofs.Axes.{Moving}
+use Rattle.sets.proofs.ChildPass.{childState, child-start, child-turn, child-end}
 use Rattle.sets.proofs.children.Statement.{statement}
 use Rattle.sets.proofs.children.Tie as tie
-use Rattle.sets.proofs.children.Reads as reads
-use Rattle.sets.proofs.children.Lts as lts
 
 abbrev Inv-loop : tie.InvT-loop
 Inv-loop parent set₀ taker₀ set taker = Moving childState parent set₀ set taker
@@ -55,13 +54,13 @@ loop-less c = omega arith
 loop-again : tie.Need-loop-again Inv-loop μ-loop
 loop-again c =
     let a = c .before .before .before .before .args in
-    let now-at = c .before .before .before .loop in
-    let p = now-at .inv in
+    let here = c .before .before .before .loop in
+    let p = here .inv in
     record {
       least = omega arith;
       most = omega arith;
       sizes = simp length-set (p .sizes);
-      stands = λ kinds f e. child-turn (tableOf (now (a .parent)) kinds) (c .before .before .before .before .pre .1 kinds) f (now-at .set) (now-at .taker) (omega arith) (omega arith) (p .stands kinds f e);
+      stands = λ kinds f e. child-turn (tableOf (now (a .parent)) kinds) (c .before .before .before .before .pre .1 kinds) f (here .set) (here .taker) (omega arith) (omega arith) (p .stands kinds f e);
     }
 
 slice-write-set-2 : tie.Need-slice-write-set-2 Inv-loop μ-loop

@@ -8,18 +8,14 @@ use mathlib.Core.Logic.{by-cases}
 use lib.Dec.{eqb, leb}
 use lib.ListN.{length, getD}
 use denote.Ref.{now}
+use borrow.Author.Needs.{needs}
 use Rattle.paper.specs.Query.{Test}
 use Rattle.paper.specs.Items.{testNumber}
 use Rattle.paper.specs.Selection.{meets}
 use Rattle.item.proofs.Turning.{meets-node, meets-text, meets-element, meets-name}
 use Rattle.sets.proofs.Bits.{bits-same, and-all}
-use borrow.Author.Needs.{needs}
 use Rattle.sets.proofs.keep_met.Statement.{statement}
 use Rattle.sets.proofs.keep_met.Tie as tie
-use Rattle.sets.proofs.keep_met.Reads as reads
-use Rattle.sets.proofs.keep_met.Lts as lts
-use Rattle.sets.proofs.keep_equal.Reads as keep-equal-reads
-use Rattle.sets.proofs.keep_at_least.Reads as keep-at-least-reads
 
 -- Text and names are met by one kind, whose number the test has.
 meets-kind : (t : Test) (kind n : ℕ) → n ≡ testNumber t → (n ≡ 0 → ⊥) → (n ≡ 258 → ⊥) → eqb kind n ≡ meets t kind
