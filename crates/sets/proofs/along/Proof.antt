@@ -1,0 +1,85 @@
+-- `sets::along` meets its contract: an axis is known by its number, and what each pass ensures of its axis is what is asked. Assumes nothing.
+use native.Mathlib.Omega.{arith}
+use mathlib.Core.Path.{sym, _∙_, ap}
+use lib.ListN.{length}
+use denote.Ref.{now}
+use borrow.Author.Needs.{needs}
+use Rattle.paper.specs.Query.{Axis, child, descendantOrSelf, ancestorOrSelf}
+use Rattle.sets.specs.Sets.{tableOf, image}
+use Rattle.sets.proofs.Bits.{bits-same}
+use Rattle.sets.proofs.Axes.{same-image, other-axis, self-image}
+use Rattle.sets.proofs.along.Statement.{statement}
+use Rattle.sets.proofs.along.Tie as tie
+
+children-requires : tie.Need-children-requires
+children-requires c κs = search needs
+
+parents-requires : tie.Need-parents-requires
+parents-requires c κs = search needs
+
+below-requires : tie.Need-below-requires
+below-requires c κs = search needs
+
+above-requires : tie.Need-above-requires
+above-requires c κs = search needs
+
+same-length : tie.Need-same-length
+same-length c = search needs
+
+returns : tie.Need-returns
+returns c = λ kinds a f e s.
+    let d = c .before .before .before .before .before .before .before .args in
+    same-image (tableOf (now (d .parent)) kinds) f (length (now (d .set))) (d .axis) child a (omega arith) e (c .before .before .children .ensures kinds f s)
+
+same-length-2 : tie.Need-same-length-2
+same-length-2 c = search needs
+
+returns-2 : tie.Need-returns-2
+returns-2 c = λ kinds a f e s.
+    let d = c .before .before .before .before .before .before .before .args in
+    same-image (tableOf (now (d .parent)) kinds) f (length (now (d .set))) (d .axis) Axis.parent a (omega arith) e (c .before .before .parents .ensures kinds f s)
+
+same-length-3 : tie.Need-same-length-3
+same-length-3 c = search needs
+
+returns-3 : tie.Need-returns-3
+returns-3 c = λ kinds a f e s.
+    let d = c .before .before .before .before .before .before .before .args in
+    same-image (tableOf (now (d .parent)) kinds) f (length (now (d .set))) (d .axis) descendantOrSelf a (omega arith) e (c .before .before .below .ensures kinds f s)
+
+same-length-4 : tie.Need-same-length-4
+same-length-4 c = search needs
+
+returns-4 : tie.Need-returns-4
+returns-4 c = λ kinds a f e s.
+    let d = c .before .before .before .before .before .before .before .args in
+    same-image (tableOf (now (d .parent)) kinds) f (length (now (d .set))) (d .axis) ancestorOrSelf a (omega arith) e (c .before .before .above .ensures kinds f s)
+
+returns-5 : tie.Need-returns-5
+returns-5 c = λ kinds a f e s.
+    let b = c .before .before .before in
+    let d = b .args in
+    let t = tableOf (now (d .parent)) kinds in
+    let other = c .match .rest in
+    s
+    ∙ bits-same (length (now (d .set))) f (image t a f)
+    (λ k l.
+    sym (self-image t f k (omega arith)) ∙ ap (λ x. image t x f k) (other-axis a (d .axis) e (other .0 .0 .0 .1) (other .0 .0 .1) (other .0 .1) (other .1)))
+
+pub along-spec : {M : Type 1} → statement M
+along-spec =
+    tie.close
+    (tie.spec
+    children-requires
+    parents-requires
+    below-requires
+    above-requires
+    same-length
+    returns
+    same-length-2
+    returns-2
+    same-length-3
+    returns-3
+    same-length-4
+    returns-4
+    returns-5)
