@@ -1,3 +1,4 @@
 pub mod Placing
 pub mod Items
 pub mod Reading
+pub mod Guarding

@@ -83,3 +83,21 @@ of-part old from count i l = getD-take count (drop from old) i 0 l ∙ getD-drop
 
 pub part-length : (old : List ℕ) (from count : ℕ) → from + count ≤ length old → length (take count (drop from old)) ≡ count
 part-length old from count l = length-take-le count (drop from old) (omega (arith, length-drop from old))
+
+-- Two items.
+pub two-put : (old : List ℕ) (at x y v w : ℕ) → x ≡ v → y ≡ w → at + 1 < length old → set (set old at x) (at + 1) y ≡ placed (v ∷ w ∷ []) at old
+two-put old at x y v w ex ey l =
+    ap₂ (λ (a b : ℕ). set (set old at a) (at + 1) b) ex ey ∙ ap (λ (o : List ℕ). set o (at + 1) w) (placed-one old at v (omega arith)) ∙
+    then-one (v ∷ []) old at (at + 1) w refl l
+
+-- A piece is written after what was, and something made of the part from `from` on after that.
+pub then-chosen : (f : List ℕ → List ℕ) (a old o o′ : List ℕ) (at next from count : ℕ) → o ≡ placed a at old → o′ ≡ placed (f (take count (drop from o))) next o
+    → next ≡ at + length a → at ≤ length old → next ≤ from → o′ ≡ placed (a ++ f (take count (drop from old))) at old
+then-chosen f a old o o′ at next from count e e′ n l h =
+    e′ ∙ ap (λ (x : List ℕ). placed (f (take count (drop from x))) next x) e ∙
+    ap (λ (x : List ℕ). placed (f (take count x)) next (placed a at old)) (drop-placed a old at from l (omega arith)) ∙
+    placed-after a (f (take count (drop from old))) old at next l n
+
+-- The length stays.
+pub same-size : (new old o : List ℕ) (at : ℕ) → o ≡ placed new at old → at + length new ≤ length old → length o ≡ length old
+same-size new old o at e l = ap length e ∙ length-placed new old at l

@@ -5,12 +5,12 @@ use native.Mathlib.Numerals.{add-one}
 use mathlib.Core.Path.{_≡_, refl, sym, _∙_, ap, ap₂, subst}
 use mathlib.Core.List.{List, [], _∷_, _++_}
 use mathlib.Core.Option.{Option, none, some}
-use lib.ListN.{length, getD, take, drop, drop-of-length-le}
+use lib.ListN.{length, getD, take, drop, drop-of-length-le, length-append}
 use lib.Seq.{drop-cons}
 use Rattle.paper.specs.Query.{Axis, self, Test, anyNode}
 use Rattle.paper.specs.Items.{axisNumber, testNumber, pathAt, Head, stepAt, goodTest}
 use Rattle.paper.proofs.Tests.{some-inj, none-some}
-use Rattle.paper.proofs.Fields.{path-found, step-found}
+use Rattle.paper.proofs.Fields.{axis-small, test-small, step-found}
 use Rattle.item.specs.Unpacked.{unpacked}
 use Rattle.item.specs.declared.Step.{Step}
 use Rattle.item.specs.declared.Item.{Item}
@@ -20,7 +20,7 @@ use Rattle.item.proofs.Item.{the-type}
 use denote.Enum.Declared.{tagOf}
 use types.Run.{OneOf, miss}
 use Rattle.shape.proofs.Operands.{not-step}
-use Rattle.compose.specs.Pieces.{owedBy, owing, eaten, isStep, stepItem, stepItems, StepSaid, guardedAs, guardedStep, guardedItem}
+use Rattle.compose.specs.Pieces.{owedBy, owing, eaten, isStep, stepItem, stepItems, StepSaid, someNodeItems, guardedAs, guardedStep, guardedItem}
 use Rattle.compose.proofs.Items.{none-eaten}
 
 -- What an unpacked item owes is little.
@@ -140,3 +140,13 @@ counted-more items place l = ap stepItems (at-place items place l)
 
 pub counted-end : (items : List ℕ) (place : ℕ) → length items ≤ place → stepItems (drop place items) ≡ 0
 counted-end items place l = ap stepItems (drop-of-length-le items l)
+
+-- What is needed of a step before it is guarded, and how long it is then.
+pub step-fields : (w : ℕ) (i : Item) (s : Step) → i ≡ unpacked w → i ≡ StepItem s → (s .axis < 8) × (s .test < 512) × (s .count ≡ owing w)
+step-fields w i s e f =
+    let h = said-step w i s e f in
+    (omega (arith, h .axis-is, axis-small (h .axis)), omega (arith, h .test-is, test-small (h .test) (h .fine)), owes-as w i (StepItem s) e f .0)
+
+pub guarded-room : (chosen : List ℕ) (w : ℕ) (i : Item) (s : Step) → i ≡ unpacked w → i ≡ StepItem s → length (guardedItem chosen w) ≡ 6 + length chosen + length chosen
+guarded-room chosen w i s e f =
+    ap length (step-guarded chosen w i s e f) ∙ omega (arith, length-append (someNodeItems 3 chosen) (someNodeItems 4 chosen))

@@ -1,11 +1,13 @@
 -- `compose::put_at_root` meets its contract: three items, one after the other. Assumes nothing.
+use Prim.Native.Nat.{ℕ, _+_, _-_}
 use native.Mathlib.Omega.{arith}
-use mathlib.Core.Path.{_≡_, _∙_, ap, ap₂}
+use mathlib.Core.Path.{refl, _∙_, ap}
 use mathlib.Core.List.{List, [], _∷_}
-use Prim.Native.Nat.{ℕ, _+_}
 use denote.Ref.{now}
-use lib.ListN.{length-set, set}
-use Rattle.compose.proofs.Placing.{placed-one, then-one}
+use lib.ListN.{set, length-set}
+use Rattle.paper.specs.Items.{packPath, notItem}
+use Rattle.compose.specs.Pieces.{placed}
+use Rattle.compose.proofs.Placing.{then-one, two-put}
 use borrow.Author.Needs.{needs}
 use Rattle.compose.proofs.put_at_root.Statement.{statement}
 use Rattle.compose.proofs.put_at_root.Tie as tie
@@ -44,7 +46,12 @@ same-length : tie.Need-same-length
 same-length c = search needs
 
 returns : tie.Need-returns
-returns c = search needs
+returns c = 
+    let old = now (c .before .before .before .args .out) in
+    let at = c .before .before .before .args .at in
+    ap (λ (x : List ℕ). set x (at + 2) (c .pack-step .result)) (two-put old at notItem (c .before .pack-path .result) notItem (packPath 1) refl (c .before .pack-path .ensures) (omega arith)) ∙
+    ap (set (placed (notItem ∷ packPath 1 ∷ []) at old) (at + 2)) (c .pack-step .ensures) ∙
+    then-one (notItem ∷ packPath 1 ∷ []) old at (at + 2) 17 refl (omega arith)
 
 pub put-at-root-spec : {M : Type 1} → statement M
 put-at-root-spec =
