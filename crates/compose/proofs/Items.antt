@@ -19,13 +19,13 @@ use Rattle.item.proofs.Saying.{unpack-path, unpack-step}
 use Rattle.compose.specs.Pieces.{owedBy, owing, eaten, isStep, stepItem, stepItems, visibleItems, guardedAs, guardedItem, guardedItems, Raisable}
 
 -- What is needed of a step: its test is one, its count fits, and so on below.
-record GoodStep (t : Test) (ps : Preds) (rest : Steps) : Type 0 where
-  test : goodTest t ≡ true
-  few : predCount ps < 8192
-  preds : goodPreds ps ≡ true
-  later : goodSteps rest ≡ true
+pub record GoodStep (t : Test) (ps : Preds) (rest : Steps) : Type 0 where
+  pub test : goodTest t ≡ true
+  pub few : predCount ps < 8192
+  pub preds : goodPreds ps ≡ true
+  pub later : goodSteps rest ≡ true
 
-good-step : (a : Axis) (t : Test) (ps : Preds) (rest : Steps) → goodSteps (step a t ps rest) ≡ true → GoodStep t ps rest
+pub good-step : (a : Axis) (t : Test) (ps : Preds) (rest : Steps) → goodSteps (step a t ps rest) ≡ true → GoodStep t ps rest
 good-step a t ps rest g =
     let x = and-true (goodTest t && ltb (predCount ps) 8192 && goodPreds ps) (goodSteps rest) g in
     let y = and-true (goodTest t && ltb (predCount ps) 8192) (goodPreds ps) (x .0) in
@@ -175,3 +175,100 @@ mutual
   preds-steps (pred x ps) g =
       let h = and-true (goodExpr x) (goodPreds ps) g in
       omega (arith, steps-append (encodeExpr x) (encodePreds ps), expr-steps x (h .0), preds-steps ps (h .1))
+
+-- A path has no more steps than items, and a step no more predicates.
+expr-some : (e : Expr) → 1 ≤ length (encodeExpr e)
+expr-some (path s) = omega arith
+expr-some (both a b) = omega arith
+expr-some (either a b) = omega arith
+expr-some (negated a) = omega arith
+
+pub count-length : (s : Steps) → stepCount s ≤ length (encodeSteps s)
+count-length stop = omega arith
+count-length (step a t ps r) = omega (arith, count-length r, length-append (encodePreds ps) (encodeSteps r))
+
+pub preds-length : (ps : Preds) → predCount ps ≤ length (encodePreds ps)
+preds-length bare = omega arith
+preds-length (pred x ps) = omega (arith, expr-some x, preds-length ps, length-append (encodeExpr x) (encodePreds ps))
+
+-- EACH COUNT CAN BE RAISED where there are at most 4,096 items.
+raisable-append : (xs ys : List ℕ) → Raisable xs → Raisable ys → Raisable (xs ++ ys)
+raisable-append [] ys rx ry = ry
+raisable-append (x ∷ xs) ys rx ry = (rx .0, raisable-append xs ys (rx .1) ry)
+
+mutual
+  expr-raisable : (e : Expr) → goodExpr e ≡ true → length (encodeExpr e) ≤ 4096 → Raisable (encodeExpr e)
+  expr-raisable (path s) g l =
+      let h = good-path s g in
+      (omega (arith, owing-path (stepCount s) (h .0), count-length s), steps-raisable s (h .1) (omega arith))
+  expr-raisable (both a b) g l =
+      let h = and-true (goodExpr a) (goodExpr b) g in
+      let n = length-append (encodeExpr a) (encodeExpr b) in
+      (omega (arith, owing-operators .0), raisable-append (encodeExpr a) (encodeExpr b) (expr-raisable a (h .0) (omega arith)) (expr-raisable b (h .1) (omega arith)))
+  expr-raisable (either a b) g l =
+      let h = and-true (goodExpr a) (goodExpr b) g in
+      let n = length-append (encodeExpr a) (encodeExpr b) in
+      (omega (arith, owing-operators .1), raisable-append (encodeExpr a) (encodeExpr b) (expr-raisable a (h .0) (omega arith)) (expr-raisable b (h .1) (omega arith)))
+  expr-raisable (negated a) g l = (omega (arith, owing-operators .2), expr-raisable a g (omega arith))
+
+  pub steps-raisable : (s : Steps) → goodSteps s ≡ true → length (encodeSteps s) ≤ 4096 → Raisable (encodeSteps s)
+  steps-raisable stop g l = tt
+  steps-raisable (step a t ps r) g l =
+      let h = good-step a t ps r g in
+      let n = length-append (encodePreds ps) (encodeSteps r) in
+      (omega (arith, owing-step a t (predCount ps) (h .test) (h .few), preds-length ps),
+       raisable-append (encodePreds ps) (encodeSteps r) (preds-raisable ps (h .preds) (omega arith)) (steps-raisable r (h .later) (omega arith)))
+
+  preds-raisable : (ps : Preds) → goodPreds ps ≡ true → length (encodePreds ps) ≤ 4096 → Raisable (encodePreds ps)
+  preds-raisable bare g l = tt
+  preds-raisable (pred x ps) g l =
+      let h = and-true (goodExpr x) (goodPreds ps) g in
+      let n = length-append (encodeExpr x) (encodePreds ps) in
+      raisable-append (encodeExpr x) (encodePreds ps) (expr-raisable x (h .0) (omega arith)) (preds-raisable ps (h .1) (omega arith))
+
+-- WHAT GUARDING MAKES OF THE ITEMS is the items of the guarded query.
+module _ (chosen : List ℕ) (v : Expr) (is-v : visibleItems chosen ≡ encodeExpr v) where
+  guarded-append : (xs ys : List ℕ) → guardedItems chosen (xs ++ ys) ≡ guardedItems chosen xs ++ guardedItems chosen ys
+  guarded-append [] ys = refl
+  guarded-append (x ∷ xs) ys =
+      ap (λ (l : List ℕ). guardedItem chosen x ++ l) (guarded-append xs ys) ∙ sym (append-assoc (guardedItem chosen x) (guardedItems chosen xs) (guardedItems chosen ys))
+
+  guarded-count : (s : Steps) → stepCount (guardSteps s v) ≡ stepCount s
+  guarded-count stop = refl
+  guarded-count (step a t ps r) = ap suc (guarded-count r)
+
+  guarded-preds : (ps : Preds) → predCount (guardPreds ps v) ≡ predCount ps
+  guarded-preds bare = refl
+  guarded-preds (pred x ps) = ap suc (guarded-preds ps)
+
+  two : (w : ℕ) → guardedItem chosen w ≡ w ∷ [] → (xs ys fs gs : List ℕ) → guardedItems chosen xs ≡ fs → guardedItems chosen ys ≡ gs → guardedItems chosen (w ∷ (xs ++ ys)) ≡ w ∷ (fs ++ gs)
+  two w e xs ys fs gs ea eb = ap₂ (λ (a b : List ℕ). a ++ b) e (guarded-append xs ys ∙ ap₂ (λ (a b : List ℕ). a ++ b) ea eb)
+
+  mutual
+    expr-guarded : (e : Expr) → goodExpr e ≡ true → guardedItems chosen (encodeExpr e) ≡ encodeExpr (guardExpr e v)
+    expr-guarded (path s) g =
+        let h = good-path s g in
+        ap₂ (λ (a b : List ℕ). a ++ b) (guarded-path chosen (stepCount s) (h .0)) (steps-guarded s (h .1)) ∙
+        ap (λ (n : ℕ). packPath n ∷ encodeSteps (guardSteps s v)) (sym (guarded-count s))
+    expr-guarded (both a b) g =
+        let h = and-true (goodExpr a) (goodExpr b) g in
+        two andItem (guarded-operators chosen .0) (encodeExpr a) (encodeExpr b) (encodeExpr (guardExpr a v)) (encodeExpr (guardExpr b v)) (expr-guarded a (h .0)) (expr-guarded b (h .1))
+    expr-guarded (either a b) g =
+        let h = and-true (goodExpr a) (goodExpr b) g in
+        two orItem (guarded-operators chosen .1) (encodeExpr a) (encodeExpr b) (encodeExpr (guardExpr a v)) (encodeExpr (guardExpr b v)) (expr-guarded a (h .0)) (expr-guarded b (h .1))
+    expr-guarded (negated a) g = ap₂ (λ (a b : List ℕ). a ++ b) (guarded-operators chosen .2) (expr-guarded a g)
+
+    pub steps-guarded : (s : Steps) → goodSteps s ≡ true → guardedItems chosen (encodeSteps s) ≡ encodeSteps (guardSteps s v)
+    steps-guarded stop g = refl
+    steps-guarded (step a t ps r) g =
+        let h = good-step a t ps r g in
+        ap₂ (λ (x y : List ℕ). x ++ y) (guarded-step chosen a t (predCount ps) (h .test) (h .few))
+        (guarded-append (encodePreds ps) (encodeSteps r) ∙ ap₂ (λ (x y : List ℕ). x ++ y) (preds-guarded ps (h .preds)) (steps-guarded r (h .later))) ∙
+        ap₂ (λ (n : ℕ) (x : List ℕ). packStep a t (suc n) ∷ (x ++ (encodePreds (guardPreds ps v) ++ encodeSteps (guardSteps r v)))) (sym (guarded-preds ps)) is-v ∙
+        ap (λ (x : List ℕ). packStep a t (suc (predCount (guardPreds ps v))) ∷ x) (sym (append-assoc (encodeExpr v) (encodePreds (guardPreds ps v)) (encodeSteps (guardSteps r v))))
+
+    preds-guarded : (ps : Preds) → goodPreds ps ≡ true → guardedItems chosen (encodePreds ps) ≡ encodePreds (guardPreds ps v)
+    preds-guarded bare g = refl
+    preds-guarded (pred x ps) g =
+        let h = and-true (goodExpr x) (goodPreds ps) g in
+        guarded-append (encodeExpr x) (encodePreds ps) ∙ ap₂ (λ (x y : List ℕ). x ++ y) (expr-guarded x (h .0)) (preds-guarded ps (h .1))

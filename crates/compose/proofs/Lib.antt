@@ -2,3 +2,5 @@ pub mod Placing
 pub mod Items
 pub mod Reading
 pub mod Guarding
+pub mod Paths
+pub mod WayBack

@@ -107,25 +107,24 @@ abbrev pub Raisable : List ℕ → Type 0
 Raisable [] = Unit {0}
 Raisable (w ∷ ws) = (owing w < 8191) × Raisable ws
 
--- Top-level paths, each guarded and with the last step at its end.
-abbrev pub guardedPaths : List ℕ → List Steps → List ℕ
-guardedPaths chosen [] = []
-guardedPaths chosen (p ∷ ps) =
-    packPath (stepCount p + 1) ∷ (guardedItems chosen (encodeSteps p) ++ (lastItems chosen ++ guardedPaths chosen ps))
+-- A top-level path, guarded and with the last step at its end.
+abbrev pub guardedPath : List ℕ → Steps → List ℕ
+guardedPath chosen p = packPath (stepCount p + 1) ∷ (guardedItems chosen (encodeSteps p) ++ lastItems chosen)
 
-abbrev pub guardedGot : List ℕ → Option Query → List ℕ
-guardedGot chosen none = []
-guardedGot chosen (some q) = guardedPaths chosen (paths q)
+-- The reverse of a path.
+abbrev pub reversedItems : Steps → List ℕ
+reversedItems p = encodeExpr (reversed p)
 
--- The reverses of paths, one after the other; and S, whose `or` items come first.
-abbrev pub reverses : List Steps → List ℕ
-reverses [] = []
-reverses (p ∷ ps) = encodeExpr (reversed p) ++ reverses ps
+-- What is made of each path, one after the other.
+abbrev pub eachPath : (Steps → List ℕ) → List Steps → List ℕ
+eachPath made [] = []
+eachPath made (p ∷ ps) = made p ++ eachPath made ps
 
-abbrev pub reversesGot : Option Query → List ℕ
-reversesGot none = []
-reversesGot (some q) = reverses (paths q)
+abbrev pub eachGot : (Steps → List ℕ) → Option Query → List ℕ
+eachGot made none = []
+eachGot made (some q) = eachPath made (paths q)
 
+-- The items of S.
 abbrev pub selectedGot : Option Query → List ℕ
 selectedGot none = []
 selectedGot (some q) = encodeExpr (selectedBy q)

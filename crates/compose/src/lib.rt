@@ -14,7 +14,7 @@ ghost use Rattle.paper.specs.Composition.{atRoot, wayBack, reversed};
 ghost use Rattle.paper.specs.Answers.{composeAnswer, composeOut};
 ghost use Rattle.paper.specs.Told.{told};
 ghost use Rattle.compose.specs.Pieces.{placed, owing, eaten, stepItem, stepItems, IsQuery, pathsGot, StepSaid};
-ghost use Rattle.compose.specs.Pieces.{someNodeItems, visibleItems, lastItems, guardedStep, guardedItem, guardedItems, Raisable, guardedGot, reversesGot, selectedGot};
+ghost use Rattle.compose.specs.Pieces.{someNodeItems, visibleItems, lastItems, guardedStep, guardedItem, guardedItems, Raisable, guardedPath, reversedItems, eachGot, selectedGot};
 
 // The numbers of the axes that the composition brings in, and of `node()`.
 const SELF: u32 = 0;
@@ -204,8 +204,8 @@ fn put_reverse(steps: &[u32], count: usize, out: &mut [u32], at: usize)
 
 // The reverses of the inner paths, one after the other.
 fn put_reverses(inner: &[u32], out: &mut [u32], start: usize)
-    requires { ⌜ (IsQuery (now inner)) × (length (now inner) ≤ 4096) × (start + length (reversesGot (decode (now inner))) ≤ length (now out)) ⌝ }
-    ensures { λ _. ⌜ now (out .exit) ≡ placed (reversesGot (decode (now (inner .entry)))) start (now (out .entry)) ⌝ }
+    requires { ⌜ (IsQuery (now inner)) × (length (now inner) ≤ 4096) × (start + length (eachGot reversedItems (decode (now inner))) ≤ length (now out)) ⌝ }
+    ensures { λ _. ⌜ now (out .exit) ≡ placed (eachGot reversedItems (decode (now (inner .entry)))) start (now (out .entry)) ⌝ }
 {
     let mut place = 0;
     let mut at = start;
@@ -310,8 +310,8 @@ fn guard_steps(steps: &[u32], out: &mut [u32], start: usize, from: usize, count:
 // The outer paths, each guarded and with the last step at its end; S stands at `from`, the end of all this.
 fn guard_paths(outer: &[u32], out: &mut [u32], from: usize, count: usize)
     requires { ⌜ (IsQuery (now outer)) × (length (now outer) ≤ 4096)
-        × (length (guardedGot (take count (drop from (now out))) (decode (now outer))) ≤ from + count) × (from + count ≤ length (now out)) ⌝ }
-    ensures { λ _. ⌜ now (out .exit) ≡ placed (guardedGot (take count (drop from (now (out .entry)))) (decode (now (outer .entry)))) 0 (now (out .entry)) ⌝ }
+        × (length (eachGot (guardedPath (take count (drop from (now out)))) (decode (now outer))) ≤ from + count) × (from + count ≤ length (now out)) ⌝ }
+    ensures { λ _. ⌜ now (out .exit) ≡ placed (eachGot (guardedPath (take count (drop from (now (out .entry))))) (decode (now (outer .entry)))) 0 (now (out .entry)) ⌝ }
 {
     let mut place = 0;
     let mut at = 0;
