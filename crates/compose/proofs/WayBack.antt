@@ -102,6 +102,9 @@ turned-start steps e old at back eb l w =
           };
     }
 
+pub part-size : (items : List ℕ) (from to : ℕ) → from ≤ to → to ≤ length items → length (take (to - from) (drop from items)) ≡ to - from
+part-size items from to h l = length-take-le (to - from) (drop from items) (omega (arith, length-drop from items))
+
 -- One step more: its predicates come before the step item that leads on from it.
 module _ (steps old out out′ : List ℕ) (at back back′ place next test count head turn : ℕ) (st : Step)
     (l : place < length steps)
@@ -113,9 +116,6 @@ module _ (steps old out out′ : List ℕ) (at back back′ place next test coun
     (eh : head ≡ packed (record { axis = turn; test = test; count = count }))
     (eb : back′ ≡ back - (next - place))
     (eo : out′ ≡ placed (take (next - (place + 1)) (drop (place + 1) steps)) back′ (set out (back - 1) head)) where
-  part-size : length (take (next - (place + 1)) (drop (place + 1) steps)) ≡ next - (place + 1)
-  part-size = length-take-le (next - (place + 1)) (drop (place + 1) steps) (omega (arith, length-drop (place + 1) steps))
-
   step-turned : (s : Steps) (r : Turned s steps old out (at + length steps + 4) back place test count) (a : Axis) (x : Test) (ps : Preds) (rest : Steps) → r .rest ≡ step a x ps rest
       → Turned s steps old out′ (at + length steps + 4) back′ next (st .test) (st .count)
   step-turned s r a x ps rest er =
@@ -174,7 +174,7 @@ module _ (steps old out out′ : List ℕ) (at back back′ place next test coun
         fits = t .fits;
         size =
             same-size (take (next - (place + 1)) (drop (place + 1) steps)) (set out (back - 1) head) out′ back′ eo
-            (omega (arith, part-size, length-set out (back - 1) head, t .size)) ∙
+            (omega (arith, part-size steps (place + 1) next (omega arith) ln, length-set out (back - 1) head, t .size)) ∙
             length-set out (back - 1) head ∙ t .size;
         test-small = omega (arith, says .test-is, test-small (says .test) (says .fine));
         count-small = says .small;

@@ -163,7 +163,8 @@ fn put_at_root(out: &mut [u32], at: usize)
 // The way back over the steps of a path, written from its end to its start: each step's test and predicates follow the turned axis of the step after it.
 fn put_way_back(steps: &[u32], out: &mut [u32], at: usize)
     requires { ⌜ (length (now steps) ≤ 4096) × (at + length (now steps) + 4 ≤ length (now out)) ⌝ }
-    ensures { λ _. ⌜ ((s : Steps) → now (steps .entry) ≡ encodeSteps s → goodSteps s ≡ true
+    ensures { λ _. ⌜ (length (now (out .exit)) ≡ length (now (out .entry)))
+        × ((s : Steps) → now (steps .entry) ≡ encodeSteps s → goodSteps s ≡ true
         → now (out .exit) ≡ placed (encodeSteps (wayBack anyNode (pred atRoot bare) stop s)) at (now (out .entry))) ⌝ }
 {
     let mut back = at + 1 + steps.len();
@@ -195,7 +196,8 @@ fn put_way_back(steps: &[u32], out: &mut [u32], at: usize)
 // The reverse of a path, from its items and the number of its steps.
 fn put_reverse(steps: &[u32], count: usize, out: &mut [u32], at: usize)
     requires { ⌜ (length (now steps) ≤ 4096) × (count < 8191) × (at + length (now steps) + 5 ≤ length (now out)) ⌝ }
-    ensures { λ _. ⌜ ((s : Steps) → now (steps .entry) ≡ encodeSteps s → goodSteps s ≡ true → count ≡ stepCount s
+    ensures { λ _. ⌜ (length (now (out .exit)) ≡ length (now (out .entry)))
+        × ((s : Steps) → now (steps .entry) ≡ encodeSteps s → goodSteps s ≡ true → count ≡ stepCount s
         → now (out .exit) ≡ placed (encodeExpr (reversed s)) at (now (out .entry))) ⌝ }
 {
     out[at] = item::pack_path(count + 1);
