@@ -4,3 +4,5 @@ pub mod Reading
 pub mod Guarding
 pub mod Paths
 pub mod WayBack
+pub mod Outer
+pub mod Selected
