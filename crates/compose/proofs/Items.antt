@@ -51,7 +51,7 @@ owing-operators : (owing andItem ≡ 2) × (owing orItem ≡ 2) × (owing notIte
 unfolding owing unpacked pathAt stepAt
 owing-operators = (refl, refl, refl)
 
-count-path : (n : ℕ) → n < 8192 → stepItem (packPath n) ≡ 0
+pub count-path : (n : ℕ) → n < 8192 → stepItem (packPath n) ≡ 0
 unfolding stepItem
 count-path n l = ap isStep (unpack-path n l)
 
@@ -149,7 +149,7 @@ none-eaten [] = refl
 none-eaten (w ∷ ws) = refl
 
 -- HOW MANY ITEMS ARE STEPS.
-steps-append : (xs ys : List ℕ) → stepItems (xs ++ ys) ≡ stepItems xs + stepItems ys
+pub steps-append : (xs ys : List ℕ) → stepItems (xs ++ ys) ≡ stepItems xs + stepItems ys
 steps-append [] ys = omega arith
 steps-append (x ∷ xs) ys = omega (arith, steps-append xs ys)
 

@@ -6,3 +6,4 @@ pub mod Paths
 pub mod WayBack
 pub mod Outer
 pub mod Selected
+pub mod Answering

@@ -7,7 +7,8 @@ use mathlib.Core.Option.{Option, none, some}
 use lib.ListN.{length, take, drop, replicate}
 use Rattle.paper.specs.Query.{Axis, Test, Steps, Query, paths}
 use Rattle.paper.specs.Items.{axisNumber, testNumber, packPath, packStep, Head, stepAt, notItem, orItem, stepCount, encodeExpr, encodeSteps, decode, goodTest}
-use Rattle.paper.specs.Composition.{reversed, selectedBy}
+use Rattle.paper.specs.Measures.{size}
+use Rattle.paper.specs.Composition.{reversed, selectedBy, stepsInPaths}
 use Rattle.item.specs.Unpacked.{unpacked, packed}
 use Rattle.item.specs.declared.Step.{Step}
 use Rattle.item.specs.declared.Item.{Item}
@@ -128,3 +129,8 @@ eachGot made (some q) = eachPath made (paths q)
 abbrev pub selectedGot : Option Query → List ℕ
 selectedGot none = []
 selectedGot (some q) = encodeExpr (selectedBy q)
+
+-- The size of the composition, from the size of S.
+abbrev pub sizeGot : Option Query → ℕ → ℕ
+sizeGot none count = 0
+sizeGot (some q) count = size q + stepsInPaths (paths q) * (5 + 2 * count) + length (paths q) * (3 + count)

@@ -11,10 +11,11 @@ ghost use lib.ListN.{length, take, drop, replicate};
 ghost use Rattle.paper.specs.Query.{Steps, anyNode, stop, bare, pred};
 ghost use Rattle.paper.specs.Items.{orItem, stepCount, encodeExpr, encodeSteps, encodePreds, goodSteps, decode};
 ghost use Rattle.paper.specs.Composition.{atRoot, wayBack, reversed};
-ghost use Rattle.paper.specs.Answers.{composeAnswer, composeOut};
+ghost use Rattle.paper.specs.Tools.{written};
+ghost use Rattle.paper.specs.Answers.{composedGot, composeAnswer, composeOut};
 ghost use Rattle.paper.specs.Told.{told};
 ghost use Rattle.compose.specs.Pieces.{placed, owing, eaten, stepItem, stepItems, IsQuery, pathsGot, StepSaid};
-ghost use Rattle.compose.specs.Pieces.{someNodeItems, visibleItems, lastItems, guardedStep, guardedItem, guardedItems, Raisable, guardedPath, reversedItems, eachGot, selectedGot};
+ghost use Rattle.compose.specs.Pieces.{someNodeItems, visibleItems, lastItems, guardedStep, guardedItem, guardedItems, Raisable, guardedPath, reversedItems, eachGot, selectedGot, sizeGot};
 
 // The numbers of the axes that the composition brings in, and of `node()`.
 const SELF: u32 = 0;
@@ -325,4 +326,84 @@ fn guard_paths(outer: &[u32], out: &mut [u32], from: usize, count: usize)
         at = put_last(out, end, from, count);
         place = next;
     }
+}
+
+// S goes to the end of the output, and the guarded paths before it copy it from there.
+fn put_composed(outer: &[u32], inner: &[u32], paths: usize, out: &mut [u32], size: usize, count: usize)
+    requires { ⌜ (IsQuery (now outer)) × (length (now outer) ≤ 4096) × (IsQuery (now inner)) × (length (now inner) ≤ 4096) × (paths ≡ pathsGot (decode (now inner)))
+        × (count ≡ length (selectedGot (decode (now inner)))) × (size ≡ length (composedGot (decode (now outer)) (decode (now inner)))) × (size ≤ length (now out)) ⌝ }
+    ensures { λ _. ⌜ now (out .exit) ≡ written (composedGot (decode (now (outer .entry))) (decode (now (inner .entry)))) (now (out .entry)) ⌝ }
+{
+    let from = size - count;
+    put_selected(inner, paths, out, from);
+    guard_paths(outer, out, from, count);
+}
+
+// The size of S: 01's w(inner) + 5k - 1.
+fn selected_size(inner: &[u32], paths: usize) -> usize
+    requires { ⌜ (IsQuery (now inner)) × (length (now inner) ≤ 4096) × (paths ≡ pathsGot (decode (now inner))) ⌝ }
+    ensures { λ r. ⌜ (r ≡ length (selectedGot (decode (now (inner .entry))))) × (r ≤ 24576) ⌝ }
+{
+    inner.len() + 5 * paths - 1
+}
+
+// The size of the composition: 01's w(outer) + t(5 + 2s) + m(3 + s).
+fn composed_size(outer: &[u32], count: usize) -> usize
+    requires { ⌜ (IsQuery (now outer)) × (length (now outer) ≤ 4096) × (count ≤ 24576) ⌝ }
+    ensures { λ r. ⌜ r ≡ sizeGot (decode (now (outer .entry))) count ⌝ }
+{
+    let steps = count_steps(outer);
+    let paths = count_paths(outer);
+    outer.len() + steps * (5 + 2 * count) + paths * (3 + count)
+}
+
+// The larger of two numbers.
+fn larger(a: usize, b: usize) -> usize
+    ensures { λ r. ⌜ r ≡ max a b ⌝ }
+{
+    if a < b { b } else { a }
+}
+
+// Writes the composition, and answers the number of its items.
+pub fn compose(outer: &[u32], inner: &[u32], out: &mut [u32]) -> Answer
+    ensures { λ r. ⌜ (told r ≡ composeAnswer (now (outer .entry)) (now (inner .entry)) (length (now (out .entry))))
+        × (now (out .exit) ≡ composeOut (now (outer .entry)) (now (inner .entry)) (now (out .entry))) ⌝ }
+{
+    if paper::ITEM_LIMIT < outer.len() {
+        return Answer::TooLong;
+    }
+    if paper::ITEM_LIMIT < inner.len() {
+        return Answer::TooLong;
+    }
+    let outer_shape = shape::measure(outer);
+    let Shape::Query {
+        nesting: outer_nesting,
+        height: _,
+    } = outer_shape
+    else {
+        return Answer::BadQuery(0);
+    };
+    let inner_shape = shape::measure(inner);
+    let Shape::Query {
+        nesting: inner_nesting,
+        height: _,
+    } = inner_shape
+    else {
+        return Answer::BadQuery(1);
+    };
+    let nesting = outer_nesting + 2 + larger(2, inner_nesting);
+    if paper::BRACKET_LIMIT < nesting {
+        return Answer::TooNested(nesting);
+    }
+    let paths = count_paths(inner);
+    let count = selected_size(inner, paths);
+    let size = composed_size(outer, count);
+    if out.len() < size {
+        return Answer::Short(size);
+    }
+    if paper::ITEM_LIMIT < size {
+        return Answer::Short(size);
+    }
+    put_composed(outer, inner, paths, out, size, count);
+    Answer::Value(size)
 }
