@@ -40,18 +40,19 @@ pub guarded-asks : (steps old out : List ℕ) (start place at from count : ℕ) 
 guarded-asks steps old out start place at from count l g room fits =
     let chosen = take count (drop from old) in
     let w = getD steps place 0 in
-    let r : Raisable (w ∷ drop (place + 1) steps) = subst Raisable (at-place steps place l) (g .raisable) in
-    (r .0,
-     omega (
-       arith,
-       ap (λ (x : List ℕ). length (guardedItem x w)) (still steps old out start place at from count l g room fits),
-       g .reached,
-       ap length (g .goes-on),
-       length-append (g .done) (guardedItems chosen (drop place steps)),
-       ap length (next-item chosen steps place l),
-       length-append (guardedItem chosen w) (guardedItems chosen (drop (place + 1) steps)),
-     ),
-     omega (arith, g .size))
+    let r : Raisable (w ∷ drop (place + 1) steps) = subst Raisable (at-place steps place l) (g .raisable) in (
+      r .0,
+      omega (
+        arith,
+        ap (λ (x : List ℕ). length (guardedItem x w)) (still steps old out start place at from count l g room fits),
+        g .reached,
+        ap length (g .goes-on),
+        length-append (g .done) (guardedItems chosen (drop place steps)),
+        ap length (next-item chosen steps place l),
+        length-append (guardedItem chosen w) (guardedItems chosen (drop (place + 1) steps)),
+      ),
+      omega (arith, g .size),
+    )
 
 pub guarded-more : (steps old out out′ : List ℕ) (start place at at′ from count : ℕ) → place < length steps → Guarded (take count (drop from old)) steps old out start place at
     → start + length (guardedItems (take count (drop from old)) steps) ≤ from → from + count ≤ length old

@@ -215,9 +215,10 @@ mutual
   steps-raisable stop g l = tt
   steps-raisable (step a t ps r) g l =
       let h = good-step a t ps r g in
-      let n = length-append (encodePreds ps) (encodeSteps r) in
-      (omega (arith, owing-step a t (predCount ps) (h .test) (h .few), preds-length ps),
-       raisable-append (encodePreds ps) (encodeSteps r) (preds-raisable ps (h .preds) (omega arith)) (steps-raisable r (h .later) (omega arith)))
+      let n = length-append (encodePreds ps) (encodeSteps r) in (
+        omega (arith, owing-step a t (predCount ps) (h .test) (h .few), preds-length ps),
+        raisable-append (encodePreds ps) (encodeSteps r) (preds-raisable ps (h .preds) (omega arith)) (steps-raisable r (h .later) (omega arith)),
+      )
 
   preds-raisable : (ps : Preds) → goodPreds ps ≡ true → length (encodePreds ps) ≤ 4096 → Raisable (encodePreds ps)
   preds-raisable bare g l = tt

@@ -50,10 +50,11 @@ module _ (outer old out : List ℕ) (from count place at next steps : ℕ) (p : 
       same-items = ap₂ guardedItems still-first ep
 
       pub steps-ask : Raisable part × (at + 1 + length (guardedItems (take count (drop from (set out at head))) part) ≤ from) × (from + count ≤ length (set out at head))
-      steps-ask =
-          (subst Raisable (sym ep) (steps-raisable p (t .fine) (omega (arith, t .ends, t .later .inside))),
-           omega (arith, ap length same-items, path-room),
-           omega (arith, length-set out at head, w .size))
+      steps-ask = (
+        subst Raisable (sym ep) (steps-raisable p (t .fine) (omega (arith, t .ends, t .later .inside))),
+        omega (arith, ap length same-items, path-room),
+        omega (arith, length-set out at head, w .size),
+      )
 
       -- Then its steps.
       module _ (out₂ : List ℕ) (end : ℕ) (wrote₂ : out₂ ≡ placed (guardedItems (take count (drop from (set out at head))) part) (at + 1) (set out at head))
@@ -66,9 +67,10 @@ module _ (outer old out : List ℕ) (from count place at next steps : ℕ) (p : 
             ap (λ (x : List ℕ). placed (packPath (stepCount p + 1) ∷ guardedItems x (encodeSteps p)) at out) still
 
         pub last-asks : (end + 3 ≤ from) × (from + count ≤ length out₂)
-        last-asks =
-            (omega (arith, ends, ap length same-items, path-room),
-             omega (arith, same-size (packPath (stepCount p + 1) ∷ guardedItems chosen (encodeSteps p)) out out₂ at second (omega (arith, w .size, path-room)), w .size))
+        last-asks = (
+          omega (arith, ends, ap length same-items, path-room),
+          omega (arith, same-size (packPath (stepCount p + 1) ∷ guardedItems chosen (encodeSteps p)) out out₂ at second (omega (arith, w .size, path-room)), w .size),
+        )
 
         -- Then the last step.
         module _ (out₃ : List ℕ) (at′ : ℕ) (wrote₃ : out₃ ≡ placed (lastItems (take count (drop from out₂))) end out₂) (reached : at′ ≡ end + 3 + count) where

@@ -42,10 +42,11 @@ selected-items q = joined-items (reversed (q .first)) (q .others)
 pub selected-parts : (items : List ℕ) (count : ℕ) → IsQuery items → count ≡ pathsGot (decode items)
     → (1 ≤ count) × (selectedGot (decode items) ≡ replicate (count - 1) orItem ++ eachGot reversedItems (decode items))
 selected-parts items count q e =
-    let n : count ≡ suc (length (q .query .others)) = e ∙ ap pathsGot (q .decodes) in
-    (omega arith,
-     ap selectedGot (q .decodes) ∙ selected-items (q .query) ∙
-     ap₂ (λ (k : ℕ) (o : Option Query). replicate k orItem ++ eachGot reversedItems o) (let f : length (q .query .others) ≡ count - 1 = omega arith in f) (sym (q .decodes)))
+    let n : count ≡ suc (length (q .query .others)) = e ∙ ap pathsGot (q .decodes) in (
+      omega arith,
+      ap selectedGot (q .decodes) ∙ selected-items (q .query) ∙
+          ap₂ (λ (k : ℕ) (o : Option Query). replicate k orItem ++ eachGot reversedItems o) (let f : length (q .query .others) ≡ count - 1 = omega arith in f) (sym (q .decodes)),
+    )
 
 -- How long it is: 01's formula.
 reverses-length : (ps : List Steps) → length (eachPath reversedItems ps) ≡ length (encodePaths ps) + 4 * length ps
@@ -137,3 +138,15 @@ whole-written selected whole old mid out from wm l n w =
     w ∙
     ap (λ (x : List ℕ). whole ++ x)
     (ap (λ (k : ℕ). drop k mid) (let f : 0 + length whole ≡ length whole = omega arith in f) ∙ ap (drop (length whole)) wm ∙ drop-placed selected old from (length whole) l (omega arith))
+
+-- S is part of the whole, since every path ends with it.
+pub count-least : (outer inner : List ℕ) → IsQuery outer → IsQuery inner → length (selectedGot (decode inner)) ≤ length (composedGot (decode outer) (decode inner))
+count-least outer inner o i =
+    let chosen = selectedGot (decode inner) in
+    let p = o .query .first in
+    omega (
+      arith,
+      ap length (composed-parts outer inner o i ∙ ap (eachGot (guardedPath chosen)) (o .decodes)),
+      length-append (guardedPath chosen p) (eachPath (guardedPath chosen) (o .query .others)),
+      length-append (guardedItems chosen (encodeSteps p)) (lastItems chosen),
+    )

@@ -329,7 +329,14 @@ fn guard_paths(outer: &[u32], out: &mut [u32], from: usize, count: usize)
 }
 
 // S goes to the end of the output, and the guarded paths before it copy it from there.
-fn put_composed(outer: &[u32], inner: &[u32], paths: usize, out: &mut [u32], size: usize, count: usize)
+fn put_composed(
+    outer: &[u32],
+    inner: &[u32],
+    paths: usize,
+    out: &mut [u32],
+    size: usize,
+    count: usize,
+)
     requires { ⌜ (IsQuery (now outer)) × (length (now outer) ≤ 4096) × (IsQuery (now inner)) × (length (now inner) ≤ 4096) × (paths ≡ pathsGot (decode (now inner)))
         × (count ≡ length (selectedGot (decode (now inner)))) × (size ≡ length (composedGot (decode (now outer)) (decode (now inner)))) × (size ≤ length (now out)) ⌝ }
     ensures { λ _. ⌜ now (out .exit) ≡ written (composedGot (decode (now (outer .entry))) (decode (now (inner .entry)))) (now (out .entry)) ⌝ }

@@ -47,25 +47,26 @@ loop-less : tie.Need-loop-less Inv-loop μ-loop
 loop-less c = search needs
 
 loop-again : tie.Need-loop-again Inv-loop μ-loop
-loop-again c = 
+loop-again c =
     let a = c .before .before .before .args in
     let l = c .before .before .loop in
     let s : List ℕ = take (a .count) (drop (a .from) (now (a .out))) in
     let e = part-length (now (a .out)) (a .from) (a .count) (omega arith) in
     let read : getD (l .out) (a .from + l .done) 0 ≡ getD s (l .done) 0 =
     ap (λ (x : List ℕ). getD x (a .from + l .done) 0) (l .inv .2) ∙ ahead (now (a .out)) s (a .at) (l .done) (a .from + l .done) (omega arith) (omega arith) (omega arith) ∙
-    sym (of-part (now (a .out)) (a .from) (a .count) (l .done) (c .before .loop-test .taken)) in
-    (omega arith,
-     length-set (l .out) (a .at + l .done) (getD (l .out) (a .from + l .done) 0) ∙ l .inv .1,
-     ap (λ (w : ℕ). set (l .out) (a .at + l .done) w) read ∙ ap (λ (x : List ℕ). set x (a .at + l .done) (getD s (l .done) 0)) (l .inv .2) ∙
-     paste-suc (now (a .out)) (a .at) s (l .done) 0 (omega arith) (omega arith) ∙
-     ap (paste (now (a .out)) (a .at) s) (sym (add-one (l .done))))
+    sym (of-part (now (a .out)) (a .from) (a .count) (l .done) (c .before .loop-test .taken)) in (
+      omega arith,
+      length-set (l .out) (a .at + l .done) (getD (l .out) (a .from + l .done) 0) ∙ l .inv .1,
+      ap (λ (w : ℕ). set (l .out) (a .at + l .done) w) read ∙ ap (λ (x : List ℕ). set x (a .at + l .done) (getD s (l .done) 0)) (l .inv .2) ∙
+          paste-suc (now (a .out)) (a .at) s (l .done) 0 (omega arith) (omega arith) ∙
+          ap (paste (now (a .out)) (a .at) s) (sym (add-one (l .done))),
+    )
 
 same-length : tie.Need-same-length Inv-loop μ-loop
 same-length c = c .before .loop .inv .1
 
 returns : tie.Need-returns Inv-loop μ-loop
-returns c = 
+returns c =
     let a = c .before .before .args in
     let l = c .before .loop in
     let s : List ℕ = take (a .count) (drop (a .from) (now (a .out))) in

@@ -29,7 +29,7 @@ one-step-requires : tie.Need-one-step-requires Inv-loop μ-loop
 one-step-requires c κs = search needs
 
 add-steps : tie.Need-add-steps Inv-loop μ-loop
-add-steps c = 
+add-steps c =
     let a = c .before .before .before .before .before .args in
     let l = c .before .before .before .loop in
     omega (arith, c .one-step .ensures, step-item-most (getD (now (a .items)) (l .place) 0))
@@ -41,7 +41,7 @@ loop-less : tie.Need-loop-less Inv-loop μ-loop
 loop-less c = search needs
 
 loop-again : tie.Need-loop-again Inv-loop μ-loop
-loop-again c = 
+loop-again c =
     let a = c .before .before .before .before .before .args in
     let l = c .before .before .before .loop in
     let most = step-item-most (getD (now (a .items)) (l .place) 0) in
@@ -49,7 +49,7 @@ loop-again c =
     (omega arith, omega (arith, c .one-step .ensures), omega (arith, c .one-step .ensures))
 
 returns : tie.Need-returns Inv-loop μ-loop
-returns c = 
+returns c =
     let a = c .before .before .before .args in
     let l = c .before .loop in
     (omega (arith, counted-end (now (a .items)) (l .place) (c .loop-test .left)), omega arith)

@@ -19,7 +19,7 @@ enum-known-item : tie.Need-enum-known-item
 enum-known-item c = search needs
 
 guard-step-requires : tie.Need-guard-step-requires
-guard-step-requires c κs = 
+guard-step-requires c κs =
     let old = now (c .before .before .before .before .before .before .args .out) in
     let at = c .before .before .before .before .before .before .args .at in
     let w = c .before .before .before .before .before .before .args .w in
@@ -29,7 +29,7 @@ guard-step-requires c κs =
     (f .0, f .1, omega (arith, f .2), omega (arith, guarded-room chosen w _ _ (c .before .before .before .before .unpack .ensures) (c .before .before .item .given .1)), omega arith)
 
 same-length : tie.Need-same-length
-same-length c = 
+same-length c =
     let old = now (c .before .before .before .before .before .before .before .before .before .args .out) in
     let at = c .before .before .before .before .before .before .before .before .before .args .at in
     let w = c .before .before .before .before .before .before .before .before .before .args .w in
@@ -39,7 +39,7 @@ same-length c =
     same-size (guardedItem chosen w) old _ at (c .before .before .guard-step .ensures .0 ∙ ap (λ (x : List ℕ). placed x at old) (sym e)) (omega arith)
 
 returns : tie.Need-returns
-returns c = 
+returns c =
     let old = now (c .before .before .before .before .before .before .before .before .before .args .out) in
     let at = c .before .before .before .before .before .before .before .before .before .args .at in
     let w = c .before .before .before .before .before .before .before .before .before .args .w in
@@ -52,7 +52,7 @@ mul-out : tie.Need-mul-out
 mul-out c = search needs
 
 slice-write-out : tie.Need-slice-write-out
-slice-write-out c = 
+slice-write-out c =
     let old = now (c .before .before .before .args .out) in
     let at = c .before .before .before .args .at in
     let w = c .before .before .before .args .w in
@@ -67,7 +67,7 @@ same-length-2 : tie.Need-same-length-2
 same-length-2 c = search needs
 
 returns-2 : tie.Need-returns-2
-returns-2 c = 
+returns-2 c =
     let old = now (c .before .before .before .args .out) in
     let at = c .before .before .before .args .at in
     let w = c .before .before .before .args .w in

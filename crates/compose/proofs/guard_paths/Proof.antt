@@ -38,7 +38,7 @@ add-pack-path : tie.Need-add-pack-path Inv-loop μ-loop
 add-pack-path c = omega (arith, c .before .owes .ensures .1)
 
 pack-path-requires : tie.Need-pack-path-requires Inv-loop μ-loop
-pack-path-requires c κs = 
+pack-path-requires c κs =
     let a = c .before .before .before .before .before .before .before .args in
     let l = c .before .before .before .before .loop in
     let outer = now (a .outer) in
@@ -48,7 +48,7 @@ pack-path-requires c κs =
     raised-few outer old (l .out) (a .from) (a .count) (l .place) (l .at) (c .skip .result) (c .before .owes .result) p ps (l .inv) e t (c .before .before .before .before .before .before .before .pre .1) (c .before .before .before .before .before .before .before .pre .2) (c .before .before .before .before .before .before .before .pre .3))
 
 mul-out : tie.Need-mul-out Inv-loop μ-loop
-mul-out c = 
+mul-out c =
     let a = c .before .before .before .before .before .before .before .before .args in
     let l = c .before .before .before .before .before .loop in
     let outer = now (a .outer) in
@@ -58,7 +58,7 @@ mul-out c =
     omega (arith, path-room outer old (l .out) (a .from) (a .count) (l .place) (l .at) (c .before .skip .result) (c .before .before .owes .result) p ps (l .inv) e t (c .before .before .before .before .before .before .before .before .pre .1) (c .before .before .before .before .before .before .before .before .pre .2) (c .before .before .before .before .before .before .before .before .pre .3), l .inv .size, c .before .before .before .before .before .before .before .before .pre .3))
 
 slice-write-out : tie.Need-slice-write-out Inv-loop μ-loop
-slice-write-out c = 
+slice-write-out c =
     let a = c .before .before .before .before .before .before .before .before .args in
     let l = c .before .before .before .before .before .loop in
     let outer = now (a .outer) in
@@ -83,7 +83,7 @@ part-guard-steps-end : tie.Need-part-guard-steps-end Inv-loop μ-loop
 part-guard-steps-end c = omega (arith, c .before .skip .ensures .1)
 
 add-guard-steps-2 : tie.Need-add-guard-steps-2 Inv-loop μ-loop
-add-guard-steps-2 c = 
+add-guard-steps-2 c =
     let a = c .before .before .before .before .before .before .before .before .before .before .args in
     let l = c .before .before .before .before .before .before .before .loop in
     let outer = now (a .outer) in
@@ -93,7 +93,7 @@ add-guard-steps-2 c =
     omega (arith, path-room outer old (l .out) (a .from) (a .count) (l .place) (l .at) (c .before .before .before .skip .result) (c .before .before .before .before .owes .result) p ps (l .inv) e t (c .before .before .before .before .before .before .before .before .before .before .pre .1) (c .before .before .before .before .before .before .before .before .before .before .pre .2) (c .before .before .before .before .before .before .before .before .before .before .pre .3), l .inv .size, c .before .before .before .before .before .before .before .before .before .before .pre .3))
 
 guard-steps-requires : tie.Need-guard-steps-requires Inv-loop μ-loop
-guard-steps-requires c κs = 
+guard-steps-requires c κs =
     let a = c .before .before .before .before .before .before .before .before .before .before .args in
     let l = c .before .before .before .before .before .before .before .loop in
     let outer = now (a .outer) in
@@ -103,7 +103,7 @@ guard-steps-requires c κs =
     steps-ask outer old (l .out) (a .from) (a .count) (l .place) (l .at) (c .before .before .before .skip .result) (c .before .before .before .before .owes .result) p ps (l .inv) e t (c .before .before .before .before .before .before .before .before .before .before .pre .1) (c .before .before .before .before .before .before .before .before .before .before .pre .2) (c .before .before .before .before .before .before .before .before .before .before .pre .3) (c .before .before .pack-path .result) (c .before .before .pack-path .ensures) _ (t .part))
 
 put-last-requires : tie.Need-put-last-requires Inv-loop μ-loop
-put-last-requires c κs = 
+put-last-requires c κs =
     let a = c .before .before .before .before .before .before .before .before .before .before .before .before .before .before .args in
     let l = c .before .before .before .before .before .before .before .before .before .before .before .loop in
     let outer = now (a .outer) in
@@ -116,7 +116,7 @@ loop-less : tie.Need-loop-less Inv-loop μ-loop
 loop-less c = omega (arith, c .before .before .before .before .before .before .before .before .before .before .skip .ensures .0, c .before .before .before .before .before .before .before .before .before .before .skip .ensures .1, c .before .before .before .before .before .before .before .before .before .before .before .before .before .loop-test .taken)
 
 loop-again : tie.Need-loop-again Inv-loop μ-loop
-loop-again c = 
+loop-again c =
     let a = c .before .before .before .before .before .before .before .before .before .before .before .before .before .before .before .before .before .args in
     let l = c .before .before .before .before .before .before .before .before .before .before .before .before .before .before .loop in
     let outer = now (a .outer) in

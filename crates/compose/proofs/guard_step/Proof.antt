@@ -31,7 +31,7 @@ put-visible-requires : tie.Need-put-visible-requires
 put-visible-requires c κs = (omega arith, simp length-set (omega arith))
 
 same-length : tie.Need-same-length
-same-length c = 
+same-length c =
     let old = now (c .before .before .before .before .before .before .before .args .out) in
     let at = c .before .before .before .before .before .before .before .args .at in
     let s = c .before .before .before .before .before .before .before .args .step in
@@ -44,7 +44,7 @@ same-length c =
     same-size (guardedStep chosen s) old _ at wrote (omega (arith, length-append (someNodeItems 3 chosen) (someNodeItems 4 chosen)))
 
 returns : tie.Need-returns
-returns c = 
+returns c =
     let old = now (c .before .before .before .before .before .before .before .args .out) in
     let at = c .before .before .before .before .before .before .before .args .at in
     let s = c .before .before .before .before .before .before .before .args .step in

@@ -23,7 +23,7 @@ shared-slice-read-guard-item : tie.Need-shared-slice-read-guard-item Inv-loop μ
 shared-slice-read-guard-item c = omega arith
 
 guard-item-requires : tie.Need-guard-item-requires Inv-loop μ-loop
-guard-item-requires c κs = 
+guard-item-requires c κs =
     let a = c .before .before .before .before .before .before .args in
     let l = c .before .before .before .loop in
     let w = getD (now (a .steps)) (l .place) 0 in
@@ -38,7 +38,7 @@ loop-less : tie.Need-loop-less Inv-loop μ-loop
 loop-less c = omega arith
 
 loop-again : tie.Need-loop-again Inv-loop μ-loop
-loop-again c = 
+loop-again c =
     let a = c .before .before .before .before .before .before .before .before .before .args in
     let l = c .before .before .before .before .before .before .loop in
     let w = getD (now (a .steps)) (l .place) 0 in
@@ -50,7 +50,7 @@ same-length : tie.Need-same-length Inv-loop μ-loop
 same-length c = c .before .loop .inv .size
 
 returns : tie.Need-returns Inv-loop μ-loop
-returns c = 
+returns c =
     let a = c .before .before .before .before .args in
     let l = c .before .loop in
     guarded-done (now (a .steps)) (now (a .out)) (l .out) (a .start) (l .place) (l .at) (take (a .count) (drop (a .from) (now (a .out)))) (c .loop-test .left) (l .inv)

@@ -46,7 +46,7 @@ same-length : tie.Need-same-length
 same-length c = search needs
 
 returns : tie.Need-returns
-returns c = 
+returns c =
     let old = now (c .before .before .before .args .out) in
     let at = c .before .before .before .args .at in
     ap (λ (x : List ℕ). set x (at + 2) (c .pack-step .result)) (two-put old at notItem (c .before .pack-path .result) notItem (packPath 1) refl (c .before .pack-path .ensures) (omega arith)) ∙

@@ -44,20 +44,21 @@ loop-less : tie.Need-loop-less Inv-loop μ-loop
 loop-less c = search needs
 
 loop-again : tie.Need-loop-again Inv-loop μ-loop
-loop-again c = 
+loop-again c =
     let a = c .before .before .before .args in
-    let l = c .before .before .loop in
-    (omega arith,
-     length-set (l .out) (a .at + l .done) (getD (now (a .items)) (l .done) 0) ∙ l .inv .1,
-     ap (λ (x : List ℕ). set x (a .at + l .done) (getD (now (a .items)) (l .done) 0)) (l .inv .2) ∙
-     paste-suc (now (a .out)) (a .at) (now (a .items)) (l .done) 0 (omega arith) (c .before .loop-test .taken) ∙
-     ap (paste (now (a .out)) (a .at) (now (a .items))) (sym (add-one (l .done))))
+    let l = c .before .before .loop in (
+      omega arith,
+      length-set (l .out) (a .at + l .done) (getD (now (a .items)) (l .done) 0) ∙ l .inv .1,
+      ap (λ (x : List ℕ). set x (a .at + l .done) (getD (now (a .items)) (l .done) 0)) (l .inv .2) ∙
+          paste-suc (now (a .out)) (a .at) (now (a .items)) (l .done) 0 (omega arith) (c .before .loop-test .taken) ∙
+          ap (paste (now (a .out)) (a .at) (now (a .items))) (sym (add-one (l .done))),
+    )
 
 same-length : tie.Need-same-length Inv-loop μ-loop
 same-length c = c .before .loop .inv .1
 
 returns : tie.Need-returns Inv-loop μ-loop
-returns c = 
+returns c =
     let a = c .before .before .args in
     let l = c .before .loop in
     l .inv .2 ∙ copied-all (now (a .out)) (now (a .items)) (a .at) (l .done) (omega arith)

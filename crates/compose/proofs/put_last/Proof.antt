@@ -28,7 +28,7 @@ put-some-node-requires : tie.Need-put-some-node-requires
 put-some-node-requires c κs = (omega arith, omega arith, simp length-set (omega arith))
 
 same-length : tie.Need-same-length
-same-length c = 
+same-length c =
     let old = now (c .before .before .before .before .before .before .args .out) in
     let at = c .before .before .before .before .before .before .args .at in
     let chosen = take (c .before .before .before .before .before .before .args .count) (drop (c .before .before .before .before .before .before .args .from) old) in
@@ -40,7 +40,7 @@ same-length c =
     same-size (lastItems chosen) old _ at wrote (omega arith)
 
 returns : tie.Need-returns
-returns c = 
+returns c =
     let old = now (c .before .before .before .before .before .before .args .out) in
     let at = c .before .before .before .before .before .before .args .at in
     let chosen = take (c .before .before .before .before .before .before .args .count) (drop (c .before .before .before .before .before .before .args .from) old) in

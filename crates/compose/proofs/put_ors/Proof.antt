@@ -38,23 +38,24 @@ loop-less : tie.Need-loop-less Inv-loop μ-loop
 loop-less c = search needs
 
 loop-again : tie.Need-loop-again Inv-loop μ-loop
-loop-again c = 
+loop-again c =
     let a = c .before .before .args in
     let l = c .before .loop in
     let s : List ℕ = replicate (a .count) orItem in
-    let e = length-replicate (a .count) orItem in
-    (omega arith,
-     length-set (l .out) (a .at + l .done) orItem ∙ l .inv .1,
-     ap (λ (x : List ℕ). set x (a .at + l .done) orItem) (l .inv .2) ∙
-     ap (set (paste (now (a .out)) (a .at) s (l .done)) (a .at + l .done)) (sym (getD-replicate (a .count) (l .done) orItem 0 (c .loop-test .taken))) ∙
-     paste-suc (now (a .out)) (a .at) s (l .done) 0 (omega arith) (omega arith) ∙
-     ap (paste (now (a .out)) (a .at) s) (sym (add-one (l .done))))
+    let e = length-replicate (a .count) orItem in (
+      omega arith,
+      length-set (l .out) (a .at + l .done) orItem ∙ l .inv .1,
+      ap (λ (x : List ℕ). set x (a .at + l .done) orItem) (l .inv .2) ∙
+          ap (set (paste (now (a .out)) (a .at) s (l .done)) (a .at + l .done)) (sym (getD-replicate (a .count) (l .done) orItem 0 (c .loop-test .taken))) ∙
+          paste-suc (now (a .out)) (a .at) s (l .done) 0 (omega arith) (omega arith) ∙
+          ap (paste (now (a .out)) (a .at) s) (sym (add-one (l .done))),
+    )
 
 same-length : tie.Need-same-length Inv-loop μ-loop
 same-length c = c .before .loop .inv .1
 
 returns : tie.Need-returns Inv-loop μ-loop
-returns c = 
+returns c =
     let a = c .before .before .args in
     let l = c .before .loop in
     l .inv .2 ∙ copied-all (now (a .out)) (replicate (a .count) orItem) (a .at) (l .done) (omega (arith, length-replicate (a .count) orItem))

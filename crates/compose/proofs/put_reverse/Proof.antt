@@ -31,11 +31,12 @@ same-length : tie.Need-same-length
 same-length c = c .before .before .put-way-back .ensures .0 ∙ simp length-set
 
 returns : tie.Need-returns
-returns c = 
-    (c .before .before .put-way-back .ensures .0 ∙ simp length-set,
-     λ s es g n.
-     reverse-put (now (c .before .before .before .before .before .before .before .args .steps)) (now (c .before .before .before .before .before .before .before .args .out)) (c .before .before .put-way-back .last .1 .0) (c .before .before .before .before .before .before .before .args .at) (c .before .before .before .before .before .before .before .args .count) (c .before .before .before .before .pack-path .result) s (omega arith) n (c .before .before .before .before .pack-path .ensures)
-     (c .before .before .put-way-back .ensures .1 s es g))
+returns c = (
+  c .before .before .put-way-back .ensures .0 ∙ simp length-set,
+  λ s es g n.
+      reverse-put (now (c .before .before .before .before .before .before .before .args .steps)) (now (c .before .before .before .before .before .before .before .args .out)) (c .before .before .put-way-back .last .1 .0) (c .before .before .before .before .before .before .before .args .at) (c .before .before .before .before .before .before .before .args .count) (c .before .before .before .before .pack-path .result) s (omega arith) n (c .before .before .before .before .pack-path .ensures)
+      (c .before .before .put-way-back .ensures .1 s es g),
+)
 
 pub put-reverse-spec : {M : Type 1} → statement M
 put-reverse-spec =

@@ -53,25 +53,26 @@ part-put-reverse-end : tie.Need-part-put-reverse-end Inv-loop μ-loop
 part-put-reverse-end c = omega (arith, c .skip .ensures .1)
 
 put-reverse-requires : tie.Need-put-reverse-requires Inv-loop μ-loop
-put-reverse-requires c κs = 
+put-reverse-requires c κs =
     let a = c .before .before .before .before .before .before .before .before .before .args in
     let l = c .before .before .before .before .before .before .loop in
     top (now (a .inner)) (l .place) (c .before .before .skip .result) (c .before .before .before .owes .result) (l .inv .rest) (c .before .before .before .before .before .loop-test .taken) (l .inv .walks) (c .before .before .before .owes .ensures .0) (c .before .before .skip .ensures .0)
     (λ p ps e t.
-    let n = part-size (now (a .inner)) (l .place + 1) (c .before .before .skip .result) (omega (arith, c .before .before .skip .ensures .0)) (c .before .before .skip .ensures .1) in
-    (omega (arith, n, c .before .before .skip .ensures .1, c .before .before .before .before .before .before .before .before .before .pre .1),
-     omega (arith, t .counts, t .few, t .ends, c .before .before .skip .ensures .1, c .before .before .before .before .before .before .before .before .before .pre .1),
-     omega (
-       arith,
-       n,
-       t .ends,
-       reversed-length p,
-       room-left reversedItems (now (a .inner)) (now (a .out)) (l .out) (a .start) (l .place) (l .at) (l .inv),
-       ap (λ (x : List Steps). length (eachPath reversedItems x)) e,
-       length-append (reversedItems p) (eachPath reversedItems ps),
-       l .inv .size,
-       c .before .before .before .before .before .before .before .before .before .pre .2,
-     )))
+    let n = part-size (now (a .inner)) (l .place + 1) (c .before .before .skip .result) (omega (arith, c .before .before .skip .ensures .0)) (c .before .before .skip .ensures .1) in (
+      omega (arith, n, c .before .before .skip .ensures .1, c .before .before .before .before .before .before .before .before .before .pre .1),
+      omega (arith, t .counts, t .few, t .ends, c .before .before .skip .ensures .1, c .before .before .before .before .before .before .before .before .before .pre .1),
+      omega (
+        arith,
+        n,
+        t .ends,
+        reversed-length p,
+        room-left reversedItems (now (a .inner)) (now (a .out)) (l .out) (a .start) (l .place) (l .at) (l .inv),
+        ap (λ (x : List Steps). length (eachPath reversedItems x)) e,
+        length-append (reversedItems p) (eachPath reversedItems ps),
+        l .inv .size,
+        c .before .before .before .before .before .before .before .before .before .pre .2,
+      ),
+    ))
 
 sub-at : tie.Need-sub-at Inv-loop μ-loop
 sub-at c = omega (arith, c .before .before .before .before .before .skip .ensures .0)
@@ -80,7 +81,7 @@ add-at : tie.Need-add-at Inv-loop μ-loop
 add-at c = omega (arith, c .before .before .before .before .before .skip .ensures .0, c .before .before .before .before .before .skip .ensures .1, c .before .before .before .before .before .before .before .before .before .before .before .before .pre .1)
 
 add-at-2 : tie.Need-add-at-2 Inv-loop μ-loop
-add-at-2 c = 
+add-at-2 c =
     let a = c .before .before .before .before .before .before .before .before .before .before .before .before .args in
     let l = c .before .before .before .before .before .before .before .before .before .loop in
     top (now (a .inner)) (l .place) (c .before .before .before .before .before .skip .result) (c .before .before .before .before .before .before .owes .result) (l .inv .rest) (c .before .before .before .before .before .before .before .before .loop-test .taken) (l .inv .walks) (c .before .before .before .before .before .before .owes .ensures .0) (c .before .before .before .before .before .skip .ensures .0)
@@ -99,7 +100,7 @@ loop-less : tie.Need-loop-less Inv-loop μ-loop
 loop-less c = omega (arith, c .before .before .before .before .before .skip .ensures .0, c .before .before .before .before .before .skip .ensures .1, c .before .before .before .before .before .before .before .before .loop-test .taken)
 
 loop-again : tie.Need-loop-again Inv-loop μ-loop
-loop-again c = 
+loop-again c =
     let a = c .before .before .before .before .before .before .before .before .before .before .before .before .args in
     let l = c .before .before .before .before .before .before .before .before .before .loop in
     top (now (a .inner)) (l .place) (c .before .before .before .before .before .skip .result) (c .before .before .before .before .before .before .owes .result) (l .inv .rest) (c .before .before .before .before .before .before .before .before .loop-test .taken) (l .inv .walks) (c .before .before .before .before .before .before .owes .ensures .0) (c .before .before .before .before .before .skip .ensures .0)

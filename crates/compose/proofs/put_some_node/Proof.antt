@@ -47,7 +47,7 @@ add-result-2 : tie.Need-add-result-2
 add-result-2 c = search needs
 
 same-length : tie.Need-same-length
-same-length c = 
+same-length c =
     let old = now (c .before .before .before .before .before .before .before .args .out) in
     let at = c .before .before .before .before .before .before .before .args .at in
     let chosen = take (c .before .before .before .before .before .before .before .args .count) (drop (c .before .before .before .before .before .before .before .args .from) old) in
@@ -58,7 +58,7 @@ same-length c =
     same-size (someNodeItems (c .before .before .before .before .before .before .before .args .axis) chosen) old _ at wrote (omega (arith, part-length old (c .before .before .before .before .before .before .before .args .from) (c .before .before .before .before .before .before .before .args .count) (omega arith)))
 
 returns : tie.Need-returns
-returns c = 
+returns c =
     let old = now (c .before .before .before .before .before .before .before .args .out) in
     let at = c .before .before .before .before .before .before .before .args .at in
     let chosen = take (c .before .before .before .before .before .before .before .args .count) (drop (c .before .before .before .before .before .before .before .args .from) old) in

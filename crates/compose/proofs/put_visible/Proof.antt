@@ -25,7 +25,7 @@ put-some-node-requires : tie.Need-put-some-node-requires
 put-some-node-requires c κs = (omega arith, omega arith, simp length-set (omega arith))
 
 put-some-node-requires-2 : tie.Need-put-some-node-requires-2
-put-some-node-requires-2 c κs = 
+put-some-node-requires-2 c κs =
     let old = now (c .before .before .before .before .before .before .args .out) in
     let at = c .before .before .before .before .before .before .args .at in
     let chosen = take (c .before .before .before .before .before .before .args .count) (drop (c .before .before .before .before .before .before .args .from) old) in
@@ -35,7 +35,7 @@ put-some-node-requires-2 c κs =
     (omega arith, omega (arith, c .before .before .before .put-some-node .ensures .1), omega (arith, same-size (orItem ∷ someNodeItems 3 chosen) old _ at first (omega arith)))
 
 same-length : tie.Need-same-length
-same-length c = 
+same-length c =
     let old = now (c .before .before .before .before .before .before .before .before .before .args .out) in
     let at = c .before .before .before .before .before .before .before .before .before .args .at in
     let chosen = take (c .before .before .before .before .before .before .before .before .before .args .count) (drop (c .before .before .before .before .before .before .before .before .before .args .from) old) in
@@ -48,7 +48,7 @@ same-length c =
     same-size (visibleItems chosen) old _ at wrote (omega (arith, length-append (someNodeItems 3 chosen) (someNodeItems 4 chosen)))
 
 returns : tie.Need-returns
-returns c = 
+returns c =
     let old = now (c .before .before .before .before .before .before .before .before .before .args .out) in
     let at = c .before .before .before .before .before .before .before .before .before .args .at in
     let chosen = take (c .before .before .before .before .before .before .before .before .before .args .count) (drop (c .before .before .before .before .before .before .before .before .before .args .from) old) in

@@ -89,7 +89,7 @@ loop-less : tie.Need-loop-less Inv-loop μ-loop
 loop-less c = omega (arith, c .before .before .before .before .before .before .before .skip .ensures .0, c .before .before .before .before .before .before .before .skip .ensures .1, c .before .before .before .before .before .before .before .before .before .before .loop-test .taken)
 
 loop-again : tie.Need-loop-again Inv-loop μ-loop
-loop-again c = 
+loop-again c =
     let a = c .before .before .before .before .before .before .before .before .before .before .before .before .before .before .before .before .before .before .args in
     let l = c .before .before .before .before .before .before .before .before .before .before .before .loop in
     turned-more (now (a .steps)) (c .before .before .before .before .before .before .before .before .before .before .before .before .before .before .put-at-root .last .0) (l .out) (c .before .before .put-items .last .1 .0) (a .at) (l .back) (l .back - (c .before .before .before .before .before .before .before .skip .result - l .place)) (l .place) (c .before .before .before .before .before .before .before .skip .result)
@@ -106,17 +106,17 @@ slice-write-out-2 : tie.Need-slice-write-out-2 Inv-loop μ-loop
 slice-write-out-2 c = omega (arith, c .before .before .loop .inv .size, c .before .before .loop .inv .fits)
 
 same-length : tie.Need-same-length Inv-loop μ-loop
-same-length c = 
+same-length c =
     let same = same-size (encodeExpr atRoot) (now (c .before .before .before .before .before .before .before .before .before .args .out)) (c .before .before .before .before .before .put-at-root .last .0) (c .before .before .before .before .before .before .before .before .before .args .at + 1 + length (now (c .before .before .before .before .before .before .before .before .before .args .steps))) (c .before .before .before .before .before .put-at-root .ensures) (omega arith) in
     simp length-set (omega (arith, c .before .before .loop .inv .size))
 
 returns : tie.Need-returns Inv-loop μ-loop
-returns c = 
-    let same = same-size (encodeExpr atRoot) (now (c .before .before .before .before .before .before .before .before .before .args .out)) (c .before .before .before .before .before .put-at-root .last .0) (c .before .before .before .before .before .before .before .before .before .args .at + 1 + length (now (c .before .before .before .before .before .before .before .before .before .args .steps))) (c .before .before .before .before .before .put-at-root .ensures) (omega arith) in
-    
-    (simp length-set (omega (arith, c .before .before .loop .inv .size)),
-     turned-done (now (c .before .before .before .before .before .before .before .before .before .args .steps)) (now (c .before .before .before .before .before .before .before .before .before .args .out)) (c .before .before .before .before .before .put-at-root .last .0) (c .before .before .loop .out) (c .before .before .before .before .before .before .before .before .before .args .at) (c .before .before .before .before .before .before .before .before .before .args .at + 1 + length (now (c .before .before .before .before .before .before .before .before .before .args .steps))) (c .before .before .loop .back) (c .before .before .loop .place)
-     (c .before .before .loop .test) (c .before .before .loop .count) (c .pack-step2 .result) (c .before .loop-test .left) (c .before .before .loop .inv) refl (c .before .before .before .before .before .put-at-root .ensures) (c .before .before .before .before .before .before .before .before .before .pre .1) (c .pack-step2 .ensures))
+returns c =
+    let same = same-size (encodeExpr atRoot) (now (c .before .before .before .before .before .before .before .before .before .args .out)) (c .before .before .before .before .before .put-at-root .last .0) (c .before .before .before .before .before .before .before .before .before .args .at + 1 + length (now (c .before .before .before .before .before .before .before .before .before .args .steps))) (c .before .before .before .before .before .put-at-root .ensures) (omega arith) in (
+      simp length-set (omega (arith, c .before .before .loop .inv .size)),
+      turned-done (now (c .before .before .before .before .before .before .before .before .before .args .steps)) (now (c .before .before .before .before .before .before .before .before .before .args .out)) (c .before .before .before .before .before .put-at-root .last .0) (c .before .before .loop .out) (c .before .before .before .before .before .before .before .before .before .args .at) (c .before .before .before .before .before .before .before .before .before .args .at + 1 + length (now (c .before .before .before .before .before .before .before .before .before .args .steps))) (c .before .before .loop .back) (c .before .before .loop .place)
+          (c .before .before .loop .test) (c .before .before .loop .count) (c .pack-step2 .result) (c .before .loop-test .left) (c .before .before .loop .inv) refl (c .before .before .before .before .before .put-at-root .ensures) (c .before .before .before .before .before .before .before .before .before .pre .1) (c .pack-step2 .ensures),
+    )
 
 pub put-way-back-spec : {M : Type 1} → statement M
 put-way-back-spec =
