@@ -287,8 +287,8 @@ fn guard_item(w: u32, out: &mut [u32], at: usize, from: usize, count: usize) -> 
     ensures { λ r. ⌜ (now (out .exit) ≡ placed (guardedItem (take count (drop from (now (out .entry)))) w) at (now (out .entry)))
         × (r ≡ at + length (guardedItem (take count (drop from (now (out .entry)))) w)) ⌝ }
 {
-    let item = item::unpack(w);
-    if let Item::Step(step) = item {
+    let said = item::unpack(w);
+    if let Item::Step(step) = said {
         return guard_step(step, out, at, from, count);
     }
     out[at] = w;

@@ -15,8 +15,8 @@ use Rattle.compose.proofs.guard_item.Tie as tie
 unpack-requires : tie.Need-unpack-requires
 unpack-requires c κs = search needs
 
-enum-known-item : tie.Need-enum-known-item
-enum-known-item c = search needs
+enum-known-said : tie.Need-enum-known-said
+enum-known-said c = search needs
 
 guard-step-requires : tie.Need-guard-step-requires
 guard-step-requires c κs =
@@ -25,8 +25,8 @@ guard-step-requires c κs =
     let w = c .before .before .before .before .before .before .args .w in
     let chosen = take (c .before .before .before .before .before .before .args .count) (drop (c .before .before .before .before .before .before .args .from) old) in
     let len = part-length old (c .before .before .before .before .before .before .args .from) (c .before .before .before .before .before .before .args .count) (omega arith) in
-    let f = step-fields w _ _ (c .before .before .before .before .unpack .ensures) (c .before .before .item .given .1) in
-    (f .0, f .1, omega (arith, f .2), omega (arith, guarded-room chosen w _ _ (c .before .before .before .before .unpack .ensures) (c .before .before .item .given .1)), omega arith)
+    let f = step-fields w _ _ (c .before .before .before .before .unpack .ensures) (c .before .before .said .given .1) in
+    (f .0, f .1, omega (arith, f .2), omega (arith, guarded-room chosen w _ _ (c .before .before .before .before .unpack .ensures) (c .before .before .said .given .1)), omega arith)
 
 same-length : tie.Need-same-length
 same-length c =
@@ -35,7 +35,7 @@ same-length c =
     let w = c .before .before .before .before .before .before .before .before .before .args .w in
     let chosen = take (c .before .before .before .before .before .before .before .before .before .args .count) (drop (c .before .before .before .before .before .before .before .before .before .args .from) old) in
     let len = part-length old (c .before .before .before .before .before .before .before .before .before .args .from) (c .before .before .before .before .before .before .before .before .before .args .count) (omega arith) in
-    let e = step-guarded chosen w _ _ (c .before .before .before .before .before .before .before .unpack .ensures) (c .before .before .before .before .before .item .given .1) in
+    let e = step-guarded chosen w _ _ (c .before .before .before .before .before .before .before .unpack .ensures) (c .before .before .before .before .before .said .given .1) in
     same-size (guardedItem chosen w) old _ at (c .before .before .guard-step .ensures .0 ∙ ap (λ (x : List ℕ). placed x at old) (sym e)) (omega arith)
 
 returns : tie.Need-returns
@@ -45,8 +45,8 @@ returns c =
     let w = c .before .before .before .before .before .before .before .before .before .args .w in
     let chosen = take (c .before .before .before .before .before .before .before .before .before .args .count) (drop (c .before .before .before .before .before .before .before .before .before .args .from) old) in
     let len = part-length old (c .before .before .before .before .before .before .before .before .before .args .from) (c .before .before .before .before .before .before .before .before .before .args .count) (omega arith) in
-    let e = step-guarded chosen w _ _ (c .before .before .before .before .before .before .before .unpack .ensures) (c .before .before .before .before .before .item .given .1) in
-    (c .before .before .guard-step .ensures .0 ∙ ap (λ (x : List ℕ). placed x at old) (sym e), omega (arith, c .before .before .guard-step .ensures .1, guarded-room chosen w _ _ (c .before .before .before .before .before .before .before .unpack .ensures) (c .before .before .before .before .before .item .given .1)))
+    let e = step-guarded chosen w _ _ (c .before .before .before .before .before .before .before .unpack .ensures) (c .before .before .before .before .before .said .given .1) in
+    (c .before .before .guard-step .ensures .0 ∙ ap (λ (x : List ℕ). placed x at old) (sym e), omega (arith, c .before .before .guard-step .ensures .1, guarded-room chosen w _ _ (c .before .before .before .before .before .before .before .unpack .ensures) (c .before .before .before .before .before .said .given .1)))
 
 mul-out : tie.Need-mul-out
 mul-out c = search needs
@@ -81,7 +81,7 @@ guard-item-spec =
     tie.close
     (tie.spec
     unpack-requires
-    enum-known-item
+    enum-known-said
     guard-step-requires
     same-length
     returns
