@@ -1,22 +1,21 @@
 -- The numbers of a composition, and the answer line by line. Assumes nothing.
-use Prim.Native.Nat.{ℕ, zero, suc, _+_, _-_, _*_, _≤_, _<_, max}
+use Prim.Native.Nat.{ℕ, _+_, _-_, _*_, _≤_, _<_, max}
 use native.Mathlib.Omega.{arith}
 use native.Mathlib.Nat.{mul-le-mul}
-use mathlib.Core.Path.{_≡_, refl, sym, _∙_, ap, ap₂, subst}
-use mathlib.Core.Bool.{Bool, true, false, _&&_, _||_}
-use mathlib.Core.List.{List, [], _∷_, _++_}
+use mathlib.Core.Path.{_≡_, refl, sym, _∙_, ap, ap₂}
+use mathlib.Core.Bool.{true, _&&_}
+use mathlib.Core.List.{List, [], _∷_}
 use mathlib.Core.Option.{Option, none, some}
 use lib.Dec.{ltb}
 use lib.ListN.{length, length-append}
 use borrow.Author.Tests.{lt-ltb, le-ltb, ltb-true}
 use Rattle.paper.specs.Tools.{written, when}
-use Rattle.paper.specs.Limits.{itemLimit, bracketLimit}
-use Rattle.paper.specs.Query.{Expr, path, Steps, Query, paths}
-use Rattle.paper.specs.Items.{packPath, stepCount, encodeExpr, encodeSteps, encodePaths, encode, decode, goodSteps, goodPaths, good}
-use Rattle.paper.specs.Measures.{size, nesting, height}
-use Rattle.paper.specs.Answers.{Answer, value, refusal, line, lineQuery, atExit, tooLong, shortOfItems, composedGot, composeAnswer, composeOut}
-use Rattle.paper.specs.Composition.{composed, selectedBy, stepsInSteps, stepsInPaths, selectedSize, composedSize, composedNesting}
-use Rattle.paper.proofs.Tests.{and-true, or-right}
+use Rattle.paper.specs.Query.{path, Steps, Query, paths}
+use Rattle.paper.specs.Items.{stepCount, encodeExpr, encodeSteps, encodePaths, encode, decode, goodSteps, goodPaths, good}
+use Rattle.paper.specs.Measures.{size, nesting}
+use Rattle.paper.specs.Answers.{Answer, value, refusal, line, atExit, shortOfItems, composedGot, composeAnswer, composeOut}
+use Rattle.paper.specs.Composition.{composed, stepsInPaths, selectedSize, composedSize, composedNesting}
+use Rattle.paper.proofs.Tests.{and-true}
 use Rattle.paper.proofs.Encoding.{encode-decode}
 use Rattle.paper.proofs.Sizes.{size-items, size-decoded}
 use Rattle.theorems.proofs.Sizes.{composed-size}
@@ -25,7 +24,7 @@ use Rattle.theorems.proofs.Forms.{good-proper}
 use Rattle.shape.specs.Walks.{shapeOf}
 use Rattle.shape.specs.declared.Shape.{Shape}
 use Rattle.shape.specs.declared.Shape.the-variants.{Query as Fine, Malformed}
-use Rattle.compose.specs.Pieces.{stepItem, stepItems, IsQuery, pathsGot, selectedGot, sizeGot}
+use Rattle.compose.specs.Pieces.{stepItems, IsQuery, pathsGot, selectedGot, sizeGot}
 use Rattle.compose.proofs.Items.{steps-steps, steps-append, count-path}
 use Rattle.compose.proofs.Selected.{selected-length}
 

@@ -1,20 +1,19 @@
 -- What the items of a query owe, where each thing ends, and what guarding makes of them: laws of `eaten`, `stepItems`, `guardedItems` and `Raisable` on encoded queries.
 -- Each by induction over the query. Assumes nothing.
-use Prim.Native.Nat.{ℕ, zero, suc, _+_, _*_, _≤_, _<_}
+use Prim.Native.Nat.{ℕ, suc, _+_, _≤_, _<_}
 use native.Mathlib.Omega.{arith}
 use native.Mathlib.Numerals.{add-one}
-use mathlib.Core.Path.{_≡_, refl, sym, _∙_, ap, ap₂, subst}
-use mathlib.Core.Bool.{Bool, true, false, _&&_}
-use mathlib.Core.List.{List, [], _∷_, _++_, append-assoc, append-nil}
+use mathlib.Core.Path.{_≡_, refl, sym, _∙_, ap, ap₂}
+use mathlib.Core.Bool.{true, _&&_}
+use mathlib.Core.List.{List, [], _∷_, _++_, append-assoc}
 use lib.Dec.{ltb, leb}
 use lib.ListN.{length, length-append}
-use borrow.Author.Tests.{ltb-true, leb-true}
+use borrow.Author.Tests.{ltb-true}
 use Rattle.paper.specs.Query.{Axis, Test, Expr, path, both, either, negated, Steps, stop, step, Preds, bare, pred}
 use Rattle.paper.specs.Items.{packPath, packStep, pathAt, stepAt, andItem, orItem, notItem, stepCount, predCount, encodeExpr, encodeSteps, encodePreds, goodTest, goodExpr, goodSteps, goodPreds}
 use Rattle.paper.specs.Composition.{guardExpr, guardSteps, guardPreds, stepsInExpr, stepsInSteps, stepsInPreds}
 use Rattle.paper.proofs.Tests.{and-true}
-use Rattle.item.specs.Unpacked.{unpacked, packed}
-use Rattle.item.specs.declared.Item.{Item}
+use Rattle.item.specs.Unpacked.{unpacked}
 use Rattle.item.proofs.Saying.{unpack-path, unpack-step}
 use Rattle.compose.specs.Pieces.{owedBy, owing, eaten, isStep, stepItem, stepItems, visibleItems, guardedAs, guardedItem, guardedItems, Raisable}
 

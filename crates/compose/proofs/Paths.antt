@@ -1,18 +1,17 @@
 -- Walking over the top-level paths of a query: where each ends, and what is written for each.
 -- What was written and what is made of the paths left are what is made of all. Assumes nothing.
-use Prim.Native.Nat.{ℕ, zero, suc, _+_, _-_, _≤_, _<_}
+use Prim.Native.Nat.{ℕ, _+_, _-_, _≤_, _<_}
 use native.Mathlib.Omega.{arith}
-use native.Mathlib.Numerals.{add-one}
-use mathlib.Core.Path.{_≡_, refl, sym, _∙_, ap, ap₂, subst}
+use mathlib.Core.Path.{_≡_, refl, sym, _∙_, ap, ap₂}
 use mathlib.Core.Bool.{true, _&&_}
 use mathlib.Core.List.{List, [], _∷_, _++_, append-assoc, append-nil}
-use mathlib.Core.Option.{Option, none, some}
+use mathlib.Core.Option.{Option, some}
 use lib.Dec.{ltb}
-use lib.ListN.{length, getD, take, drop, length-append, length-drop, drop-of-length-le}
+use lib.ListN.{length, getD, take, drop, length-append, length-drop}
 use lib.Seq.{take-append-seam, drop-append-seam, drop-drop}
 use borrow.Author.Tests.{ltb-true}
-use Rattle.paper.specs.Query.{Expr, path, Steps, stop, step, Preds, bare, pred, Query, paths}
-use Rattle.paper.specs.Items.{packPath, stepCount, predCount, encodeExpr, encodeSteps, encodePreds, encodePaths, encode, decode, goodSteps, goodPaths, good}
+use Rattle.paper.specs.Query.{Steps, Query, paths}
+use Rattle.paper.specs.Items.{packPath, stepCount, encodeSteps, encodePaths, encode, decode, goodSteps, goodPaths, good}
 use Rattle.paper.proofs.Tests.{and-true}
 use Rattle.paper.proofs.Encoding.{encode-decode}
 use Rattle.compose.specs.Pieces.{placed, owing, eaten, IsQuery, pathsGot, eachPath, eachGot}

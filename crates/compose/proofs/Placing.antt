@@ -1,12 +1,12 @@
 -- Laws of writing in place: one piece after the other, one before the other, and what is untouched. Assumes nothing.
-use Prim.Native.Nat.{ℕ, zero, suc, _+_, _-_, _≤_, _<_}
+use Prim.Native.Nat.{ℕ, _+_, _-_, _≤_, _<_}
 use native.Mathlib.Omega.{arith}
-use native.Mathlib.Nat.{add-zero, add-assoc}
+use native.Mathlib.Nat.{add-zero}
 use native.Mathlib.Numerals.{add-one}
-use mathlib.Core.Path.{_≡_, refl, sym, _∙_, ap, ap₂, subst}
-use mathlib.Core.List.{List, [], _∷_, _++_, append-assoc, append-nil}
-use lib.ListN.{length, getD, take, drop, set, replicate, length-append, length-take, length-drop, take-append-drop, length-replicate, getD-replicate}
-use lib.Seq.{length-take-le, take-length, set-split, take-append-le, drop-append-add, getD-append-add, take-at, drop-at, getD-drop, getD-take, take-take, drop-drop, paste, paste-zero, paste-suc, length-paste-head}
+use mathlib.Core.Path.{_≡_, refl, sym, _∙_, ap, ap₂}
+use mathlib.Core.List.{List, [], _∷_, _++_, append-assoc}
+use lib.ListN.{length, getD, take, drop, set, length-append, length-drop, take-append-drop}
+use lib.Seq.{length-take-le, take-length, set-split, take-append-le, drop-append-add, getD-append-add, take-at, drop-at, getD-drop, getD-take, take-take, drop-drop, paste, length-paste-head}
 use Rattle.compose.specs.Pieces.{placed}
 
 pub placed-nil : (old : List ℕ) (at : ℕ) → placed [] at old ≡ old

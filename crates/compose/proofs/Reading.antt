@@ -2,20 +2,19 @@
 use Prim.Native.Nat.{ℕ, zero, suc, _+_, _-_, _≤_, _<_}
 use native.Mathlib.Omega.{arith}
 use native.Mathlib.Numerals.{add-one}
-use mathlib.Core.Path.{_≡_, refl, sym, _∙_, ap, ap₂, subst}
-use mathlib.Core.List.{List, [], _∷_, _++_}
-use mathlib.Core.Option.{Option, none, some}
-use lib.ListN.{length, getD, take, drop, drop-of-length-le, length-append}
+use mathlib.Core.Path.{_≡_, refl, sym, _∙_, ap}
+use mathlib.Core.List.{List, [], _∷_}
+use lib.ListN.{length, getD, drop, drop-of-length-le, length-append}
 use lib.Seq.{drop-cons}
-use Rattle.paper.specs.Query.{Axis, self, Test, anyNode}
-use Rattle.paper.specs.Items.{axisNumber, testNumber, pathAt, Head, stepAt, goodTest}
+use Rattle.paper.specs.Query.{self, anyNode}
+use Rattle.paper.specs.Items.{Head}
 use Rattle.paper.proofs.Tests.{some-inj, none-some}
 use Rattle.paper.proofs.Fields.{axis-small, test-small, step-found}
 use Rattle.item.specs.Unpacked.{unpacked}
 use Rattle.item.specs.declared.Step.{Step}
 use Rattle.item.specs.declared.Item.{Item}
 use Rattle.item.specs.declared.Item.the-variants.{Path, Step as StepItem, And, Or, Not, Bad}
-use Rattle.item.proofs.Saying.{Said, said, numbered, pack-path, pack-step}
+use Rattle.item.proofs.Saying.{Said, said, pack-path, pack-step}
 use Rattle.item.proofs.Item.{the-type}
 use denote.Enum.Declared.{tagOf}
 use types.Run.{OneOf, miss}

@@ -1,24 +1,22 @@
 -- The items of S, of V, of the last step and of the whole composition, from their parts; and their sizes. Assumes nothing.
-use Prim.Native.Nat.{ℕ, zero, suc, _+_, _-_, _*_, _≤_, _<_}
+use Prim.Native.Nat.{ℕ, zero, suc, _+_, _-_, _*_, _≤_}
 use native.Mathlib.Omega.{arith}
-use native.Mathlib.Numerals.{add-one}
-use mathlib.Core.Path.{_≡_, refl, sym, _∙_, ap, ap₂, subst}
+use mathlib.Core.Path.{_≡_, refl, sym, _∙_, ap, ap₂}
 use mathlib.Core.Bool.{true, _&&_}
 use mathlib.Core.List.{List, [], _∷_, _++_, map, append-assoc, append-nil}
-use mathlib.Core.Option.{Option, none, some}
+use mathlib.Core.Option.{Option}
 use lib.Dec.{ltb}
 use lib.ListN.{length, take, drop, replicate, length-append, length-replicate}
-use lib.Seq.{take-append-seam, drop-at, length-take-le, take-at}
-use Rattle.paper.specs.Query.{Axis, descendantOrSelf, ancestorOrSelf, Test, anyNode, Expr, path, either, Steps, stop, step, Preds, bare, pred, Query, paths}
+use lib.Seq.{drop-at, length-take-le, take-at}
+use Rattle.paper.specs.Query.{Axis, descendantOrSelf, ancestorOrSelf, anyNode, Expr, path, either, Steps, stop, step, Query, paths}
 use Rattle.paper.specs.Items.{axisNumber, packPath, packStep, orItem, stepCount, predCount, encodeExpr, encodeSteps, encodePreds, encodePaths, encode, decode, goodSteps, goodPaths, good}
 use Rattle.paper.specs.Tools.{written}
-use Rattle.paper.specs.Measures.{size}
 use Rattle.paper.specs.Answers.{composedGot}
 use Rattle.paper.specs.Composition.{reversed, joined, selectedBy, someNode, visible, guardSteps, append, lastStep, composedPath, composed}
 use Rattle.paper.proofs.Tests.{and-true}
 use Rattle.paper.proofs.Encoding.{encode-decode}
 use Rattle.compose.specs.Pieces.{placed, someNodeItems, visibleItems, lastItems, guardedItems, guardedPath, reversedItems, eachPath, eachGot, selectedGot, pathsGot, IsQuery}
-use Rattle.compose.proofs.Placing.{drop-placed, same-size}
+use Rattle.compose.proofs.Placing.{drop-placed}
 use Rattle.compose.proofs.Items.{steps-guarded}
 use Rattle.compose.proofs.WayBack.{reversed-length}
 

@@ -1,22 +1,21 @@
 -- Writing the way back over the steps of a path, from its end to its start.
 -- What stands written from `back` on are the predicates of the step passed last and the way back from it; so many steps are left to pass. Assumes nothing.
-use Prim.Native.Nat.{ℕ, zero, suc, _+_, _-_, _≤_, _<_}
+use Prim.Native.Nat.{ℕ, suc, _+_, _-_, _≤_, _<_}
 use native.Mathlib.Omega.{arith}
 use mathlib.Core.Path.{_≡_, refl, sym, _∙_, ap, ap₂, subst}
 use mathlib.Core.Bool.{true}
-use mathlib.Core.List.{List, [], _∷_, _++_, append-assoc, append-nil}
-use mathlib.Core.Option.{Option, none, some}
-use lib.ListN.{length, getD, take, drop, set, length-append, length-drop, length-set, drop-of-length-le}
+use mathlib.Core.List.{List, [], _∷_, _++_, append-assoc}
+use lib.ListN.{length, getD, take, drop, set, length-append, length-drop, length-set}
 use lib.Seq.{length-take-le, take-append-seam, drop-append-seam, drop-drop, take-take, take-append-le}
-use Rattle.paper.specs.Query.{Axis, self, Test, anyNode, Expr, path, Steps, stop, step, Preds, bare, pred}
-use Rattle.paper.specs.Items.{axisNumber, testNumber, packPath, packStep, Head, stepAt, stepCount, predCount, encodeExpr, encodeSteps, encodePreds, goodTest, goodSteps}
+use Rattle.paper.specs.Query.{Axis, self, Test, anyNode, Steps, stop, step, Preds, bare, pred}
+use Rattle.paper.specs.Items.{axisNumber, testNumber, packPath, packStep, stepAt, stepCount, predCount, encodeExpr, encodeSteps, encodePreds, goodSteps}
 use Rattle.paper.specs.Composition.{turned, atRoot, wayBack, reversed}
-use Rattle.paper.proofs.Fields.{axis-small, test-small, step-at}
+use Rattle.paper.proofs.Fields.{test-small, step-at}
 use Rattle.item.specs.Unpacked.{packed}
 use Rattle.item.specs.declared.Step.{Step}
 use Rattle.compose.specs.Pieces.{placed, eaten, StepSaid}
-use Rattle.compose.proofs.Placing.{placed-one, placed-before, placed-after, drop-placed, take-placed, length-placed, same-size}
-use Rattle.compose.proofs.Items.{GoodStep, good-step, preds-eaten, none-eaten}
+use Rattle.compose.proofs.Placing.{placed-one, placed-before, placed-after, drop-placed, same-size}
+use Rattle.compose.proofs.Items.{good-step, preds-eaten, none-eaten}
 use Rattle.compose.proofs.Reading.{at-place}
 
 -- The way back has the items of the way, and those of where it ends; and as many steps.

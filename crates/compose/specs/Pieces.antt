@@ -4,9 +4,9 @@ use mathlib.Core.Path.{_≡_}
 use mathlib.Core.Bool.{true}
 use mathlib.Core.List.{List, [], _∷_, _++_}
 use mathlib.Core.Option.{Option, none, some}
-use lib.ListN.{length, take, drop, replicate}
+use lib.ListN.{length, take, drop}
 use Rattle.paper.specs.Query.{Axis, Test, Steps, Query, paths}
-use Rattle.paper.specs.Items.{axisNumber, testNumber, packPath, packStep, Head, stepAt, notItem, orItem, stepCount, encodeExpr, encodeSteps, decode, goodTest}
+use Rattle.paper.specs.Items.{axisNumber, testNumber, packPath, Head, stepAt, orItem, stepCount, encodeExpr, encodeSteps, decode, goodTest}
 use Rattle.paper.specs.Measures.{size}
 use Rattle.paper.specs.Composition.{reversed, selectedBy, stepsInPaths}
 use Rattle.item.specs.Unpacked.{unpacked, packed}
