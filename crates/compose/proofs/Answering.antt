@@ -1,0 +1,183 @@
+-- The numbers of a composition, and the answer line by line. Assumes nothing.
+use Prim.Native.Nat.{ℕ, _+_, _-_, _*_, _≤_, _<_, max}
+use native.Mathlib.Omega.{arith}
+use native.Mathlib.Nat.{mul-le-mul}
+use mathlib.Core.Path.{_≡_, refl, sym, _∙_, ap, ap₂}
+use mathlib.Core.Bool.{true, _&&_}
+use mathlib.Core.List.{List, [], _∷_}
+use mathlib.Core.Option.{Option, none, some}
+use lib.Dec.{ltb}
+use lib.ListN.{length, length-append}
+use borrow.Author.Tests.{lt-ltb, le-ltb, ltb-true}
+use Rattle.paper.specs.Tools.{written, when}
+use Rattle.paper.specs.Query.{path, Steps, Query, paths}
+use Rattle.paper.specs.Items.{stepCount, encodeExpr, encodeSteps, encodePaths, encode, decode, goodSteps, goodPaths, good}
+use Rattle.paper.specs.Measures.{size, nesting}
+use Rattle.paper.specs.Answers.{Answer, value, refusal, line, atExit, shortOfItems, composedGot, composeAnswer, composeOut}
+use Rattle.paper.specs.Composition.{composed, stepsInPaths, selectedSize, composedSize, composedNesting}
+use Rattle.paper.proofs.Tests.{and-true}
+use Rattle.paper.proofs.Encoding.{encode-decode}
+use Rattle.paper.proofs.Sizes.{size-items, size-decoded}
+use Rattle.theorems.proofs.Sizes.{composed-size}
+use Rattle.theorems.proofs.Nesting.{composed-nesting}
+use Rattle.theorems.proofs.Forms.{good-proper}
+use Rattle.shape.specs.Walks.{shapeOf}
+use Rattle.shape.specs.declared.Shape.{Shape}
+use Rattle.shape.specs.declared.Shape.the-variants.{Query as Fine, Malformed}
+use Rattle.compose.specs.Pieces.{stepItems, IsQuery, pathsGot, selectedGot, sizeGot}
+use Rattle.compose.proofs.Items.{steps-steps, steps-append, count-path}
+use Rattle.compose.proofs.Selected.{selected-length}
+
+-- There are no more paths than items, and at least one.
+paths-few : (ps : List Steps) → length ps ≤ length (encodePaths ps)
+paths-few [] = omega arith
+paths-few (p ∷ ps) = omega (arith, paths-few ps, length-append (encodeExpr (path p)) (encodePaths ps))
+
+pub paths-got : (items : List ℕ) → IsQuery items → (1 ≤ pathsGot (decode items)) × (pathsGot (decode items) ≤ length items)
+unfolding encode
+paths-got items q =
+    let e = ap pathsGot (q .decodes) in
+    (omega arith, omega (arith, paths-few (paths (q .query)), ap length (encode-decode items (q .query) (q .decodes) .items)))
+
+-- THE SIZE OF S, from the number of items and of paths.
+pub selected-got : (items : List ℕ) → IsQuery items → length (selectedGot (decode items)) ≡ length items + 5 * pathsGot (decode items) - 1
+selected-got items q =
+    omega (
+      arith,
+      ap (λ (o : Option Query). length (selectedGot o)) (q .decodes),
+      ap pathsGot (q .decodes),
+      selected-length (q .query),
+      ap length (encode-decode items (q .query) (q .decodes) .items),
+    )
+
+-- THE SIZE OF THE COMPOSITION, from the numbers of items, steps and paths. The steps are counted of all depths.
+paths-steps : (ps : List Steps) → goodPaths ps ≡ true → stepItems (encodePaths ps) ≡ stepsInPaths ps
+paths-steps [] g = refl
+paths-steps (p ∷ ps) g =
+    let h = and-true (ltb (stepCount p) 8192 && goodSteps p) (goodPaths ps) g in
+    let k = and-true (ltb (stepCount p) 8192) (goodSteps p) (h .0) in
+    omega (
+      arith,
+      paths-steps ps (h .1),
+      steps-steps p (k .1),
+      steps-append (encodeSteps p) (encodePaths ps),
+      count-path (stepCount p) (ltb-true _ _ (k .0)),
+    )
+
+pub size-got : (items : List ℕ) (steps count paths : ℕ) → IsQuery items → steps ≡ stepItems items → paths ≡ pathsGot (decode items)
+    → length items + steps * (5 + 2 * count) + paths * (3 + count) ≡ sizeGot (decode items) count
+unfolding encode good
+size-got items steps count ps q es ep =
+    let d = encode-decode items (q .query) (q .decodes) in
+    let t : steps ≡ stepsInPaths (paths (q .query)) = es ∙ ap stepItems (d .items) ∙ paths-steps (paths (q .query)) (d .fine) in
+    let m : ps ≡ length (paths (q .query)) = ep ∙ ap pathsGot (q .decodes) in
+    ap₂ (λ (a b : ℕ). length items + a * (5 + 2 * count) + b * (3 + count)) t m ∙
+    ap (λ (n : ℕ). n + stepsInPaths (paths (q .query)) * (5 + 2 * count) + length (paths (q .query)) * (3 + count)) (sym (size-decoded items (q .query) (q .decodes))) ∙
+    ap (λ (o : Option Query). sizeGot o count) (sym (q .decodes))
+
+-- A product of two numbers within limits.
+pub product : (a b : ℕ) → a ≤ 4096 → b ≤ 65536 → a * b ≤ 268435456
+product a b ha hb = mul-le-mul ha hb
+
+-- What the shape of items says of them.
+pub shape-none : (items : List ℕ) (s : Shape) → s ≡ shapeOf (decode items) → s ≡ Malformed → decode items ≡ none
+shape-none items s e f = go (decode items) (sym e ∙ f)
+  where
+    go : (o : Option Query) → shapeOf o ≡ Malformed → o ≡ none
+    go none h = refl
+    go (some q) h = absurd (let z : _≡_ {A = ℕ} 0 1 = cc in omega arith)
+
+pub record Shaped (items : List ℕ) (n : ℕ) : Type 0 where
+  pub query : Query
+  pub decodes : decode items ≡ some query
+  pub nests : n ≡ nesting query
+  pub shallow : n ≤ 64
+
+pub shape-some : (items : List ℕ) (s : Shape) (n h : ℕ) → s ≡ shapeOf (decode items) → s ≡ Fine n h → Shaped items n
+shape-some items s n h e f = go (decode items) refl (sym e ∙ f)
+  where
+    go : (o : Option Query) → decode items ≡ o → shapeOf o ≡ Fine n h → Shaped items n
+    go none d k = absurd (let z : _≡_ {A = ℕ} 0 1 = cc in omega arith)
+    go (some q) d k =
+        let m : nesting q ≡ n = cc in
+        record { query = q; decodes = d; nests = sym m; shallow = omega (arith, encode-decode items q d .nested) }
+
+pub is-query : (items : List ℕ) (n : ℕ) → Shaped items n → IsQuery items
+is-query items n s = record { query = s .query; decodes = s .decodes }
+
+-- A refused call leaves the output as it was; an accepted one writes the items.
+pub refused : (outer inner out : List ℕ) (number place : ℕ) → composeAnswer outer inner (length out) ≡ refusal number place
+    → (refusal number place ≡ composeAnswer outer inner (length out)) × (out ≡ composeOut outer inner out)
+unfolding composeOut
+refused outer inner out number place e = (sym e, ap (λ (a : Answer). atExit a (composedGot (decode outer) (decode inner)) out) (sym e))
+
+pub accepted : (outer inner old out : List ℕ) (n : ℕ) → composeAnswer outer inner (length old) ≡ value n → out ≡ written (composedGot (decode outer) (decode inner)) old
+    → (value n ≡ composeAnswer outer inner (length old)) × (out ≡ composeOut outer inner old)
+unfolding composeOut
+accepted outer inner old out n e w = (sym e, w ∙ ap (λ (a : Answer). atExit a (composedGot (decode outer) (decode inner)) old) (sym e))
+
+-- THE ANSWER, line by line.
+module _ (outer inner : List ℕ) (room : ℕ) where
+  pub line-1-outer : 4096 < length outer → composeAnswer outer inner room ≡ refusal 1 0
+  unfolding composeAnswer
+  line-1-outer h = rw (lt-ltb 4096 (length outer) h)
+
+  pub line-1-inner : length outer ≤ 4096 → 4096 < length inner → composeAnswer outer inner room ≡ refusal 1 0
+  unfolding composeAnswer
+  line-1-inner a h = rw (le-ltb 4096 (length outer) a, lt-ltb 4096 (length inner) h)
+
+  module _ (a : length outer ≤ 4096) (b : length inner ≤ 4096) where
+    pub line-6-outer : decode outer ≡ none → composeAnswer outer inner room ≡ refusal 6 0
+    unfolding composeAnswer
+    line-6-outer d = rw (le-ltb 4096 (length outer) a, le-ltb 4096 (length inner) b, d)
+
+    pub line-6-inner : (m : ℕ) → Shaped outer m → decode inner ≡ none → composeAnswer outer inner room ≡ refusal 6 1
+    unfolding composeAnswer
+    line-6-inner m o d = rw (le-ltb 4096 (length outer) a, le-ltb 4096 (length inner) b, o .decodes, d)
+
+    module _ (m n : ℕ) (o : Shaped outer m) (i : Shaped inner n) where
+      abbrev whole : Query
+      whole = composed (o .query) (i .query)
+
+      later : composeAnswer outer inner room
+          ≡ line 9 (when (ltb 64 (nesting whole)) (nesting whole)) (line 10 (shortOfItems room (size whole)) (value (size whole)))
+      unfolding composeAnswer
+      later = rw (le-ltb 4096 (length outer) a, le-ltb 4096 (length inner) b, o .decodes, i .decodes)
+
+      module _ (r deep : ℕ) (er : r ≡ max 2 n) (ed : deep ≡ m + 2 + r) where
+        deep-is : deep ≡ nesting whole
+        unfolding composedNesting
+        deep-is =
+            omega (
+              arith,
+              composed-nesting (o .query) (i .query) (good-proper (o .query) (encode-decode outer (o .query) (o .decodes) .fine)),
+              o .nests,
+              i .nests,
+            )
+
+        pub line-9 : 64 < deep → composeAnswer outer inner room ≡ refusal 9 deep
+        line-9 h = later ∙ rw (← deep-is, lt-ltb 64 deep h)
+
+        module _ (shallow : deep ≤ 64) (count number : ℕ) (ec : count ≡ length (selectedGot (decode inner))) (en : number ≡ sizeGot (decode outer) count) where
+          pub size-is : number ≡ size whole
+          unfolding composedSize selectedSize
+          size-is =
+              let s : count ≡ selectedSize (i .query) =
+              ec ∙ ap (λ (x : Option Query). length (selectedGot x)) (i .decodes) ∙ selected-length (i .query) ∙
+              ap (λ (k : ℕ). k + 5 * length (paths (i .query)) - 1) (size-items (i .query)) in
+              en ∙ ap₂ (λ (x : Option Query) (k : ℕ). sizeGot x k) (o .decodes) s ∙ sym (composed-size (o .query) (i .query))
+
+          last-lines : composeAnswer outer inner room ≡ line 10 (shortOfItems room number) (value number)
+          last-lines = later ∙ rw (← deep-is, le-ltb 64 deep shallow, ← size-is)
+
+          pub line-10-room : room < number → composeAnswer outer inner room ≡ refusal 10 number
+          line-10-room h = last-lines ∙ rw (lt-ltb room number h)
+
+          pub line-10-size : number ≤ room → 4096 < number → composeAnswer outer inner room ≡ refusal 10 number
+          line-10-size h l = last-lines ∙ rw (le-ltb room number h, lt-ltb 4096 number l)
+
+          pub line-value : number ≤ room → number ≤ 4096 → composeAnswer outer inner room ≡ value number
+          line-value h l = last-lines ∙ rw (le-ltb room number h, le-ltb 4096 number l)
+
+          pub number-is : number ≡ length (composedGot (decode outer) (decode inner))
+          number-is = size-is ∙ sym (size-items whole) ∙ ap length (sym (ap₂ composedGot (o .decodes) (i .decodes)))

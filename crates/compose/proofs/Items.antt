@@ -1,0 +1,274 @@
+-- What the items of a query owe, where each thing ends, and what guarding makes of them: laws of `eaten`, `stepItems`, `guardedItems` and `Raisable` on encoded queries.
+-- Each by induction over the query. Assumes nothing.
+use Prim.Native.Nat.{ℕ, suc, _+_, _≤_, _<_}
+use native.Mathlib.Omega.{arith}
+use native.Mathlib.Numerals.{add-one}
+use mathlib.Core.Path.{_≡_, refl, sym, _∙_, ap, ap₂}
+use mathlib.Core.Bool.{true, _&&_}
+use mathlib.Core.List.{List, [], _∷_, _++_, append-assoc}
+use lib.Dec.{ltb, leb}
+use lib.ListN.{length, length-append}
+use borrow.Author.Tests.{ltb-true}
+use Rattle.paper.specs.Query.{Axis, Test, Expr, path, both, either, negated, Steps, stop, step, Preds, bare, pred}
+use Rattle.paper.specs.Items.{packPath, packStep, pathAt, stepAt, andItem, orItem, notItem, stepCount, predCount, encodeExpr, encodeSteps, encodePreds, goodTest, goodExpr, goodSteps, goodPreds}
+use Rattle.paper.specs.Composition.{guardExpr, guardSteps, guardPreds, stepsInExpr, stepsInSteps, stepsInPreds}
+use Rattle.paper.proofs.Tests.{and-true}
+use Rattle.item.specs.Unpacked.{unpacked}
+use Rattle.item.proofs.Saying.{unpack-path, unpack-step}
+use Rattle.compose.specs.Pieces.{owedBy, owing, eaten, isStep, stepItem, stepItems, visibleItems, guardedAs, guardedItem, guardedItems, Raisable}
+
+-- What is needed of a step: its test is one, its count fits, and so on below.
+pub record GoodStep (t : Test) (ps : Preds) (rest : Steps) : Type 0 where
+  pub test : goodTest t ≡ true
+  pub few : predCount ps < 8192
+  pub preds : goodPreds ps ≡ true
+  pub later : goodSteps rest ≡ true
+
+pub good-step : (a : Axis) (t : Test) (ps : Preds) (rest : Steps) → goodSteps (step a t ps rest) ≡ true → GoodStep t ps rest
+good-step a t ps rest g =
+    let x = and-true (goodTest t && ltb (predCount ps) 8192 && goodPreds ps) (goodSteps rest) g in
+    let y = and-true (goodTest t && ltb (predCount ps) 8192) (goodPreds ps) (x .0) in
+    let z = and-true (goodTest t) (ltb (predCount ps) 8192) (y .0) in
+    record { test = z .0; few = ltb-true _ _ (z .1); preds = y .1; later = x .1 }
+
+good-path : (s : Steps) → goodExpr (path s) ≡ true → (stepCount s < 8192) × (goodSteps s ≡ true)
+good-path s g =
+    let x = and-true (leb 1 (stepCount s) && ltb (stepCount s) 8192) (goodSteps s) g in
+    let y = and-true (leb 1 (stepCount s)) (ltb (stepCount s) 8192) (x .0) in
+    (ltb-true _ _ (y .1), x .1)
+
+-- What an item owes, whether it is a step, and what guarding makes of it.
+pub owing-path : (n : ℕ) → n < 8192 → owing (packPath n) ≡ n
+unfolding owing
+owing-path n l = ap owedBy (unpack-path n l)
+
+pub owing-step : (a : Axis) (t : Test) (n : ℕ) → goodTest t ≡ true → n < 8192 → owing (packStep a t n) ≡ n
+unfolding owing
+owing-step a t n g l = ap owedBy (unpack-step a t n g l)
+
+owing-operators : (owing andItem ≡ 2) × (owing orItem ≡ 2) × (owing notItem ≡ 1)
+unfolding owing unpacked pathAt stepAt
+owing-operators = (refl, refl, refl)
+
+pub count-path : (n : ℕ) → n < 8192 → stepItem (packPath n) ≡ 0
+unfolding stepItem
+count-path n l = ap isStep (unpack-path n l)
+
+count-step : (a : Axis) (t : Test) (n : ℕ) → goodTest t ≡ true → n < 8192 → stepItem (packStep a t n) ≡ 1
+unfolding stepItem
+count-step a t n g l = ap isStep (unpack-step a t n g l)
+
+count-operators : (stepItem andItem ≡ 0) × (stepItem orItem ≡ 0) × (stepItem notItem ≡ 0)
+unfolding stepItem unpacked pathAt stepAt
+count-operators = (refl, refl, refl)
+
+module _ (chosen : List ℕ) where
+  guarded-path : (n : ℕ) → n < 8192 → guardedItem chosen (packPath n) ≡ packPath n ∷ []
+  unfolding guardedItem
+  guarded-path n l = ap (guardedAs chosen (packPath n)) (unpack-path n l)
+
+  guarded-step : (a : Axis) (t : Test) (n : ℕ) → goodTest t ≡ true → n < 8192 → guardedItem chosen (packStep a t n) ≡ packStep a t (suc n) ∷ visibleItems chosen
+  unfolding guardedItem
+  guarded-step a t n g l =
+      ap (guardedAs chosen (packStep a t n)) (unpack-step a t n g l) ∙ ap (λ (k : ℕ). packStep a t k ∷ visibleItems chosen) (add-one n)
+
+  guarded-operators : (guardedItem chosen andItem ≡ andItem ∷ []) × (guardedItem chosen orItem ≡ orItem ∷ []) × (guardedItem chosen notItem ≡ notItem ∷ [])
+  unfolding guardedItem unpacked pathAt stepAt
+  guarded-operators = (refl, refl, refl)
+
+-- WHERE A THING ENDS. So many owed, one of them is read.
+one-read : (w : ℕ) (ws : List ℕ) (n k : ℕ) → n ≡ suc k → eaten (w ∷ ws) n ≡ suc (eaten ws (k + owing w))
+one-read w ws n k e = ap (eaten (w ∷ ws)) e
+
+mutual
+  expr-eaten : (e : Expr) → goodExpr e ≡ true → (rest : List ℕ) (n k : ℕ) → n ≡ suc k → eaten (encodeExpr e ++ rest) n ≡ length (encodeExpr e) + eaten rest k
+  expr-eaten (path s) g rest n k e =
+      let h = good-path s g in
+      omega (
+        arith,
+        one-read (packPath (stepCount s)) (encodeSteps s ++ rest) n k e,
+        steps-eaten s (h .1) rest (k + owing (packPath (stepCount s))) k (omega (arith, owing-path (stepCount s) (h .0))),
+      )
+  expr-eaten (both a b) g rest n k e =
+      let h = and-true (goodExpr a) (goodExpr b) g in
+      omega (
+        arith,
+        one-read andItem (encodeExpr a ++ encodeExpr b ++ rest) n k e,
+        ap (λ (l : List ℕ). eaten l (k + owing andItem)) (append-assoc (encodeExpr a) (encodeExpr b) rest),
+        expr-eaten a (h .0) (encodeExpr b ++ rest) (k + owing andItem) (suc k) (omega (arith, owing-operators .0)),
+        expr-eaten b (h .1) rest (suc k) k refl,
+        length-append (encodeExpr a) (encodeExpr b),
+      )
+  expr-eaten (either a b) g rest n k e =
+      let h = and-true (goodExpr a) (goodExpr b) g in
+      omega (
+        arith,
+        one-read orItem (encodeExpr a ++ encodeExpr b ++ rest) n k e,
+        ap (λ (l : List ℕ). eaten l (k + owing orItem)) (append-assoc (encodeExpr a) (encodeExpr b) rest),
+        expr-eaten a (h .0) (encodeExpr b ++ rest) (k + owing orItem) (suc k) (omega (arith, owing-operators .1)),
+        expr-eaten b (h .1) rest (suc k) k refl,
+        length-append (encodeExpr a) (encodeExpr b),
+      )
+  expr-eaten (negated a) g rest n k e =
+      omega (
+        arith,
+        one-read notItem (encodeExpr a ++ rest) n k e,
+        expr-eaten a g rest (k + owing notItem) k (omega (arith, owing-operators .2)),
+      )
+
+  pub steps-eaten : (s : Steps) → goodSteps s ≡ true → (rest : List ℕ) (n k : ℕ) → n ≡ stepCount s + k → eaten (encodeSteps s ++ rest) n ≡ length (encodeSteps s) + eaten rest k
+  steps-eaten stop g rest n k e = omega (arith, ap (eaten rest) (let f : n ≡ k = omega arith in f))
+  steps-eaten (step a t ps r) g rest n k e =
+      let h = good-step a t ps r g in
+      let w = packStep a t (predCount ps) in
+      omega (
+        arith,
+        one-read w (encodePreds ps ++ encodeSteps r ++ rest) n (stepCount r + k) (omega arith),
+        ap (λ (l : List ℕ). eaten l (stepCount r + k + owing w)) (append-assoc (encodePreds ps) (encodeSteps r) rest),
+        preds-eaten ps (h .preds) (encodeSteps r ++ rest) (stepCount r + k + owing w) (stepCount r + k) (omega (arith, owing-step a t (predCount ps) (h .test) (h .few))),
+        steps-eaten r (h .later) rest (stepCount r + k) k refl,
+        length-append (encodePreds ps) (encodeSteps r),
+      )
+
+  pub preds-eaten : (ps : Preds) → goodPreds ps ≡ true → (rest : List ℕ) (n k : ℕ) → n ≡ predCount ps + k → eaten (encodePreds ps ++ rest) n ≡ length (encodePreds ps) + eaten rest k
+  preds-eaten bare g rest n k e = omega (arith, ap (eaten rest) (let f : n ≡ k = omega arith in f))
+  preds-eaten (pred x ps) g rest n k e =
+      let h = and-true (goodExpr x) (goodPreds ps) g in
+      omega (
+        arith,
+        ap (λ (l : List ℕ). eaten l n) (append-assoc (encodeExpr x) (encodePreds ps) rest),
+        expr-eaten x (h .0) (encodePreds ps ++ rest) n (predCount ps + k) (omega arith),
+        preds-eaten ps (h .1) rest (predCount ps + k) k refl,
+        length-append (encodeExpr x) (encodePreds ps),
+      )
+
+-- Nothing owed, nothing read.
+pub none-eaten : (ws : List ℕ) → eaten ws 0 ≡ 0
+none-eaten [] = refl
+none-eaten (w ∷ ws) = refl
+
+-- HOW MANY ITEMS ARE STEPS.
+pub steps-append : (xs ys : List ℕ) → stepItems (xs ++ ys) ≡ stepItems xs + stepItems ys
+steps-append [] ys = omega arith
+steps-append (x ∷ xs) ys = omega (arith, steps-append xs ys)
+
+mutual
+  expr-steps : (e : Expr) → goodExpr e ≡ true → stepItems (encodeExpr e) ≡ stepsInExpr e
+  expr-steps (path s) g = let h = good-path s g in omega (arith, count-path (stepCount s) (h .0), steps-steps s (h .1))
+  expr-steps (both a b) g =
+      let h = and-true (goodExpr a) (goodExpr b) g in
+      omega (arith, count-operators .0, steps-append (encodeExpr a) (encodeExpr b), expr-steps a (h .0), expr-steps b (h .1))
+  expr-steps (either a b) g =
+      let h = and-true (goodExpr a) (goodExpr b) g in
+      omega (arith, count-operators .1, steps-append (encodeExpr a) (encodeExpr b), expr-steps a (h .0), expr-steps b (h .1))
+  expr-steps (negated a) g = omega (arith, count-operators .2, expr-steps a g)
+
+  pub steps-steps : (s : Steps) → goodSteps s ≡ true → stepItems (encodeSteps s) ≡ stepsInSteps s
+  steps-steps stop g = refl
+  steps-steps (step a t ps r) g =
+      let h = good-step a t ps r g in
+      omega (arith, count-step a t (predCount ps) (h .test) (h .few), steps-append (encodePreds ps) (encodeSteps r), preds-steps ps (h .preds), steps-steps r (h .later))
+
+  preds-steps : (ps : Preds) → goodPreds ps ≡ true → stepItems (encodePreds ps) ≡ stepsInPreds ps
+  preds-steps bare g = refl
+  preds-steps (pred x ps) g =
+      let h = and-true (goodExpr x) (goodPreds ps) g in
+      omega (arith, steps-append (encodeExpr x) (encodePreds ps), expr-steps x (h .0), preds-steps ps (h .1))
+
+-- A path has no more steps than items, and a step no more predicates.
+expr-some : (e : Expr) → 1 ≤ length (encodeExpr e)
+expr-some (path s) = omega arith
+expr-some (both a b) = omega arith
+expr-some (either a b) = omega arith
+expr-some (negated a) = omega arith
+
+pub count-length : (s : Steps) → stepCount s ≤ length (encodeSteps s)
+count-length stop = omega arith
+count-length (step a t ps r) = omega (arith, count-length r, length-append (encodePreds ps) (encodeSteps r))
+
+pub preds-length : (ps : Preds) → predCount ps ≤ length (encodePreds ps)
+preds-length bare = omega arith
+preds-length (pred x ps) = omega (arith, expr-some x, preds-length ps, length-append (encodeExpr x) (encodePreds ps))
+
+-- EACH COUNT CAN BE RAISED where there are at most 4,096 items.
+raisable-append : (xs ys : List ℕ) → Raisable xs → Raisable ys → Raisable (xs ++ ys)
+raisable-append [] ys rx ry = ry
+raisable-append (x ∷ xs) ys rx ry = (rx .0, raisable-append xs ys (rx .1) ry)
+
+mutual
+  expr-raisable : (e : Expr) → goodExpr e ≡ true → length (encodeExpr e) ≤ 4096 → Raisable (encodeExpr e)
+  expr-raisable (path s) g l =
+      let h = good-path s g in
+      (omega (arith, owing-path (stepCount s) (h .0), count-length s), steps-raisable s (h .1) (omega arith))
+  expr-raisable (both a b) g l =
+      let h = and-true (goodExpr a) (goodExpr b) g in
+      let n = length-append (encodeExpr a) (encodeExpr b) in
+      (omega (arith, owing-operators .0), raisable-append (encodeExpr a) (encodeExpr b) (expr-raisable a (h .0) (omega arith)) (expr-raisable b (h .1) (omega arith)))
+  expr-raisable (either a b) g l =
+      let h = and-true (goodExpr a) (goodExpr b) g in
+      let n = length-append (encodeExpr a) (encodeExpr b) in
+      (omega (arith, owing-operators .1), raisable-append (encodeExpr a) (encodeExpr b) (expr-raisable a (h .0) (omega arith)) (expr-raisable b (h .1) (omega arith)))
+  expr-raisable (negated a) g l = (omega (arith, owing-operators .2), expr-raisable a g (omega arith))
+
+  pub steps-raisable : (s : Steps) → goodSteps s ≡ true → length (encodeSteps s) ≤ 4096 → Raisable (encodeSteps s)
+  steps-raisable stop g l = tt
+  steps-raisable (step a t ps r) g l =
+      let h = good-step a t ps r g in
+      let n = length-append (encodePreds ps) (encodeSteps r) in (
+        omega (arith, owing-step a t (predCount ps) (h .test) (h .few), preds-length ps),
+        raisable-append (encodePreds ps) (encodeSteps r) (preds-raisable ps (h .preds) (omega arith)) (steps-raisable r (h .later) (omega arith)),
+      )
+
+  preds-raisable : (ps : Preds) → goodPreds ps ≡ true → length (encodePreds ps) ≤ 4096 → Raisable (encodePreds ps)
+  preds-raisable bare g l = tt
+  preds-raisable (pred x ps) g l =
+      let h = and-true (goodExpr x) (goodPreds ps) g in
+      let n = length-append (encodeExpr x) (encodePreds ps) in
+      raisable-append (encodeExpr x) (encodePreds ps) (expr-raisable x (h .0) (omega arith)) (preds-raisable ps (h .1) (omega arith))
+
+-- WHAT GUARDING MAKES OF THE ITEMS is the items of the guarded query.
+module _ (chosen : List ℕ) (v : Expr) (is-v : visibleItems chosen ≡ encodeExpr v) where
+  guarded-append : (xs ys : List ℕ) → guardedItems chosen (xs ++ ys) ≡ guardedItems chosen xs ++ guardedItems chosen ys
+  guarded-append [] ys = refl
+  guarded-append (x ∷ xs) ys =
+      ap (λ (l : List ℕ). guardedItem chosen x ++ l) (guarded-append xs ys) ∙ sym (append-assoc (guardedItem chosen x) (guardedItems chosen xs) (guardedItems chosen ys))
+
+  guarded-count : (s : Steps) → stepCount (guardSteps s v) ≡ stepCount s
+  guarded-count stop = refl
+  guarded-count (step a t ps r) = ap suc (guarded-count r)
+
+  guarded-preds : (ps : Preds) → predCount (guardPreds ps v) ≡ predCount ps
+  guarded-preds bare = refl
+  guarded-preds (pred x ps) = ap suc (guarded-preds ps)
+
+  two : (w : ℕ) → guardedItem chosen w ≡ w ∷ [] → (xs ys fs gs : List ℕ) → guardedItems chosen xs ≡ fs → guardedItems chosen ys ≡ gs → guardedItems chosen (w ∷ (xs ++ ys)) ≡ w ∷ (fs ++ gs)
+  two w e xs ys fs gs ea eb = ap₂ (λ (a b : List ℕ). a ++ b) e (guarded-append xs ys ∙ ap₂ (λ (a b : List ℕ). a ++ b) ea eb)
+
+  mutual
+    expr-guarded : (e : Expr) → goodExpr e ≡ true → guardedItems chosen (encodeExpr e) ≡ encodeExpr (guardExpr e v)
+    expr-guarded (path s) g =
+        let h = good-path s g in
+        ap₂ (λ (a b : List ℕ). a ++ b) (guarded-path chosen (stepCount s) (h .0)) (steps-guarded s (h .1)) ∙
+        ap (λ (n : ℕ). packPath n ∷ encodeSteps (guardSteps s v)) (sym (guarded-count s))
+    expr-guarded (both a b) g =
+        let h = and-true (goodExpr a) (goodExpr b) g in
+        two andItem (guarded-operators chosen .0) (encodeExpr a) (encodeExpr b) (encodeExpr (guardExpr a v)) (encodeExpr (guardExpr b v)) (expr-guarded a (h .0)) (expr-guarded b (h .1))
+    expr-guarded (either a b) g =
+        let h = and-true (goodExpr a) (goodExpr b) g in
+        two orItem (guarded-operators chosen .1) (encodeExpr a) (encodeExpr b) (encodeExpr (guardExpr a v)) (encodeExpr (guardExpr b v)) (expr-guarded a (h .0)) (expr-guarded b (h .1))
+    expr-guarded (negated a) g = ap₂ (λ (a b : List ℕ). a ++ b) (guarded-operators chosen .2) (expr-guarded a g)
+
+    pub steps-guarded : (s : Steps) → goodSteps s ≡ true → guardedItems chosen (encodeSteps s) ≡ encodeSteps (guardSteps s v)
+    steps-guarded stop g = refl
+    steps-guarded (step a t ps r) g =
+        let h = good-step a t ps r g in
+        ap₂ (λ (x y : List ℕ). x ++ y) (guarded-step chosen a t (predCount ps) (h .test) (h .few))
+        (guarded-append (encodePreds ps) (encodeSteps r) ∙ ap₂ (λ (x y : List ℕ). x ++ y) (preds-guarded ps (h .preds)) (steps-guarded r (h .later))) ∙
+        ap₂ (λ (n : ℕ) (x : List ℕ). packStep a t (suc n) ∷ (x ++ (encodePreds (guardPreds ps v) ++ encodeSteps (guardSteps r v)))) (sym (guarded-preds ps)) is-v ∙
+        ap (λ (x : List ℕ). packStep a t (suc (predCount (guardPreds ps v))) ∷ x) (sym (append-assoc (encodeExpr v) (encodePreds (guardPreds ps v)) (encodeSteps (guardSteps r v))))
+
+    preds-guarded : (ps : Preds) → goodPreds ps ≡ true → guardedItems chosen (encodePreds ps) ≡ encodePreds (guardPreds ps v)
+    preds-guarded bare g = refl
+    preds-guarded (pred x ps) g =
+        let h = and-true (goodExpr x) (goodPreds ps) g in
+        guarded-append (encodeExpr x) (encodePreds ps) ∙ ap₂ (λ (x y : List ℕ). x ++ y) (expr-guarded x (h .0)) (preds-guarded ps (h .1))

@@ -1,0 +1,136 @@
+-- What each function of this crate writes or counts, as lists of items.
+use Prim.Native.Nat.{ℕ, zero, suc, _+_, _-_, _*_, _<_}
+use mathlib.Core.Path.{_≡_}
+use mathlib.Core.Bool.{true}
+use mathlib.Core.List.{List, [], _∷_, _++_}
+use mathlib.Core.Option.{Option, none, some}
+use lib.ListN.{length, take, drop}
+use Rattle.paper.specs.Query.{Axis, Test, Steps, Query, paths}
+use Rattle.paper.specs.Items.{axisNumber, testNumber, packPath, Head, stepAt, orItem, stepCount, encodeExpr, encodeSteps, decode, goodTest}
+use Rattle.paper.specs.Measures.{size}
+use Rattle.paper.specs.Composition.{reversed, selectedBy, stepsInPaths}
+use Rattle.item.specs.Unpacked.{unpacked, packed}
+use Rattle.item.specs.declared.Step.{Step}
+use Rattle.item.specs.declared.Item.{Item}
+use Rattle.item.specs.declared.Item.the-variants.{Path, Step as StepItem, And, Or, Not, Bad}
+
+-- These items written from a place on; the rest is untouched.
+abbrev pub placed : List ℕ → ℕ → List ℕ → List ℕ
+placed new at old = take at old ++ (new ++ drop (at + length new) old)
+
+-- How many steps, predicates or operands belong to an item.
+abbrev pub owedBy : Item → ℕ
+owedBy (Path count) = count
+owedBy (StepItem s) = s .count
+owedBy And = 2
+owedBy Or = 2
+owedBy Not = 1
+owedBy Bad = 0
+
+unfoldable pub owing : ℕ → ℕ
+owing w = owedBy (unpacked w)
+
+-- How many items so many steps, predicates or operands take, each with all that belongs to it.
+abbrev pub eaten : List ℕ → ℕ → ℕ
+eaten [] owed = 0
+eaten (w ∷ ws) zero = 0
+eaten (w ∷ ws) (suc owed) = suc (eaten ws (owed + owing w))
+
+-- How many of the items are steps.
+abbrev pub isStep : Item → ℕ
+isStep (Path count) = 0
+isStep (StepItem s) = 1
+isStep And = 0
+isStep Or = 0
+isStep Not = 0
+isStep Bad = 0
+
+unfoldable pub stepItem : ℕ → ℕ
+stepItem w = isStep (unpacked w)
+
+abbrev pub stepItems : List ℕ → ℕ
+stepItems [] = 0
+stepItems (w ∷ ws) = stepItem w + stepItems ws
+
+-- The items are a query.
+pub record IsQuery (items : List ℕ) : Type 0 where
+  pub query : Query
+  pub decodes : decode items ≡ some query
+
+-- How many top-level paths they have.
+abbrev pub pathsGot : Option Query → ℕ
+pathsGot none = 0
+pathsGot (some q) = length (paths q)
+
+-- A number that is a step says this; what is told of any other number is some step.
+pub record StepSaid (w : ℕ) (s : Step) : Type 0 where
+  pub axis : Axis
+  pub test : Test
+  pub axis-is : s .axis ≡ axisNumber axis
+  pub test-is : s .test ≡ testNumber test
+  pub fine : goodTest test ≡ true
+  pub small : s .count < 8192
+  pub told : (h : Head) → stepAt w ≡ some h → (axis ≡ h .axis) × (test ≡ h .test) × (s .count ≡ h .count)
+
+-- `axis::node()[..]`, the items of the predicate being given.
+abbrev pub someNodeItems : ℕ → List ℕ → List ℕ
+someNodeItems axis chosen = packPath 1 ∷ packed (record { axis = axis; test = 0; count = 1 }) ∷ chosen
+
+-- V, and the step that every top-level path gets at its end, from the items of S.
+abbrev pub visibleItems : List ℕ → List ℕ
+visibleItems chosen = orItem ∷ (someNodeItems 3 chosen ++ someNodeItems 4 chosen)
+
+abbrev pub lastItems : List ℕ → List ℕ
+lastItems chosen = packed (record { axis = 3; test = 0; count = 1 }) ∷ someNodeItems 4 chosen
+
+-- A step item with V as its first predicate, from the numbers of its fields.
+abbrev pub guardedStep : List ℕ → Step → List ℕ
+guardedStep chosen s = packed (record { axis = s .axis; test = s .test; count = s .count + 1 }) ∷ visibleItems chosen
+
+-- An item of a guarded path: V comes after each step.
+abbrev pub guardedAs : List ℕ → ℕ → Item → List ℕ
+guardedAs chosen w (Path count) = w ∷ []
+guardedAs chosen w (StepItem s) = guardedStep chosen s
+guardedAs chosen w And = w ∷ []
+guardedAs chosen w Or = w ∷ []
+guardedAs chosen w Not = w ∷ []
+guardedAs chosen w Bad = w ∷ []
+
+unfoldable pub guardedItem : List ℕ → ℕ → List ℕ
+guardedItem chosen w = guardedAs chosen w (unpacked w)
+
+abbrev pub guardedItems : List ℕ → List ℕ → List ℕ
+guardedItems chosen [] = []
+guardedItems chosen (w ∷ ws) = guardedItem chosen w ++ guardedItems chosen ws
+
+-- Each count can be raised by one.
+abbrev pub Raisable : List ℕ → Type 0
+Raisable [] = Unit {0}
+Raisable (w ∷ ws) = (owing w < 8191) × Raisable ws
+
+-- A top-level path, guarded and with the last step at its end.
+abbrev pub guardedPath : List ℕ → Steps → List ℕ
+guardedPath chosen p = packPath (stepCount p + 1) ∷ (guardedItems chosen (encodeSteps p) ++ lastItems chosen)
+
+-- The reverse of a path.
+abbrev pub reversedItems : Steps → List ℕ
+reversedItems p = encodeExpr (reversed p)
+
+-- What is made of each path, one after the other.
+abbrev pub eachPath : (Steps → List ℕ) → List Steps → List ℕ
+eachPath made [] = []
+eachPath made (p ∷ ps) = made p ++ eachPath made ps
+
+abbrev pub eachGot : (Steps → List ℕ) → Option Query → List ℕ
+eachGot made none = []
+eachGot made (some q) = eachPath made (paths q)
+
+-- The items of S.
+abbrev pub selectedGot : Option Query → List ℕ
+selectedGot none = []
+selectedGot (some q) = encodeExpr (selectedBy q)
+
+-- The size of the composition, from the size of S.
+abbrev pub sizeGot : Option Query → ℕ → ℕ
+sizeGot none count = 0
+sizeGot (some q) count = size q + stepsInPaths (paths q) * (5 + 2 * count) + length (paths q) * (3 + count)
