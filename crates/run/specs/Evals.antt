@@ -1,0 +1,35 @@
+-- What evaluating items over all nodes at once gives: where it ends, and the set of nodes at which what stands there holds.
+use Prim.Native.Nat.{ℕ, _+_, _*_, _≤_}
+use mathlib.Core.Path.{_≡_}
+use mathlib.Core.Bool.{Bool}
+use mathlib.Core.List.{List}
+use mathlib.Core.Option.{some}
+use lib.ListN.{length, take, drop}
+use Rattle.paper.specs.Query.{Expr, Steps, Preds}
+use Rattle.paper.specs.Items.{Taken}
+use Rattle.paper.specs.Document.{Table, marked}
+use Rattle.paper.proofs.Trees.{Tree}
+use Rattle.sets.specs.Sets.{bits, tableOf}
+
+-- A document that can be searched: columns and marks of one length, a tree, and marks of 0 and 1.
+pub record Ready (parents kinds marks : List ℕ) : Type 0 where
+  pub kinds-all : length kinds ≡ length parents
+  pub marks-all : length marks ≡ length parents
+  pub tree : Tree (tableOf parents kinds)
+  pub marks-bits : marks ≡ bits (length parents) (marked marks)
+
+-- Something is to be read from `at` on, and there is room for its sets.
+pub record Fits {A : Type 0} (items : List ℕ) (at nodes room : ℕ) (taken : Taken A) (heightOf : A → ℕ) : Type 0 where
+  pub what : A
+  pub rest : List ℕ
+  pub reads : taken ≡ some (what, rest)
+  pub room-for : nodes * heightOf what ≤ room
+  pub inside : at ≤ length items
+
+-- What was read ends at `next`, and the first set of `sets` has the nodes at which it holds.
+pub record Evaluates {A : Type 0} (items : List ℕ) (at nodes : ℕ) (taken : Taken A) (holdsAt : A → ℕ → Bool) (next : ℕ) (sets : List ℕ) : Type 0 where
+  pub what : A
+  pub reads : taken ≡ some (what, drop next items)
+  pub onward : at ≤ next
+  pub inside : next ≤ length items
+  pub set : take nodes sets ≡ bits nodes (holdsAt what)
