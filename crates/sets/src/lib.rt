@@ -1,0 +1,198 @@
+// Sets of nodes in lent bytes: each operation is one pass over the nodes, in document order or against it.
+ghost use mathlib.Core.Path.{_≡_};
+ghost use mathlib.Core.Bool.{Bool, true, not, _&&_, _||_};
+ghost use mathlib.Core.List.{List, _++_};
+ghost use Prim.Native.Nat.{ℕ, _+_, _≤_, _<_};
+ghost use lib.ListN.{length, getD, take, drop, replicate};
+ghost use lib.Dec.{eqb, leb};
+ghost use Rattle.paper.specs.Query.{Axis, child, descendantOrSelf, ancestorOrSelf, Test};
+ghost use Rattle.paper.specs.Items.{axisNumber, testNumber, goodTest};
+ghost use Rattle.paper.specs.Selection.{meets};
+ghost use Rattle.paper.proofs.Trees.{Tree};
+ghost use Rattle.sets.specs.Sets.{bits, tableOf, image};
+
+// Fills the set with one byte.
+pub fn fill(set: &mut [u8], b: u8)
+    ensures { λ _. ⌜ now (set .exit) ≡ replicate (length (now (set .entry))) b ⌝ }
+{
+    let mut i = 0;
+    while i < set.len() {
+        set[i] = b;
+        i += 1;
+    }
+}
+
+// Copies a set.
+pub fn copy(from: &[u8], set: &mut [u8])
+    requires { ⌜ length (now from) ≡ length (now set) ⌝ }
+    ensures { λ _. ⌜ now (set .exit) ≡ now (from .entry) ⌝ }
+{
+    let mut i = 0;
+    while i < set.len() {
+        set[i] = from[i];
+        i += 1;
+    }
+}
+
+// Keeps of the set what is in the other.
+pub fn keep(other: &[u8], set: &mut [u8])
+    requires { ⌜ length (now other) ≡ length (now set) ⌝ }
+    ensures { λ _. ⌜ ((f g : ℕ → Bool) → now (set .entry) ≡ bits (length (now (set .entry))) f → now (other .entry) ≡ bits (length (now (set .entry))) g → now (set .exit) ≡ bits (length (now (set .entry))) (λ i. f i && g i)) ⌝ }
+{
+    let mut i = 0;
+    while i < set.len() {
+        set[i] = set[i] & other[i];
+        i += 1;
+    }
+}
+
+// Adds the other to the set.
+pub fn add(other: &[u8], set: &mut [u8])
+    requires { ⌜ length (now other) ≡ length (now set) ⌝ }
+    ensures { λ _. ⌜ ((f g : ℕ → Bool) → now (set .entry) ≡ bits (length (now (set .entry))) f → now (other .entry) ≡ bits (length (now (set .entry))) g → now (set .exit) ≡ bits (length (now (set .entry))) (λ i. f i || g i)) ⌝ }
+{
+    let mut i = 0;
+    while i < set.len() {
+        set[i] = set[i] | other[i];
+        i += 1;
+    }
+}
+
+// Turns the set into what is not in it.
+pub fn flip(set: &mut [u8])
+    ensures { λ _. ⌜ ((f : ℕ → Bool) → now (set .entry) ≡ bits (length (now (set .entry))) f → now (set .exit) ≡ bits (length (now (set .entry))) (λ i. not (f i))) ⌝ }
+{
+    let mut i = 0;
+    while i < set.len() {
+        set[i] = set[i] ^ 1;
+        i += 1;
+    }
+}
+
+// Of two sets of n nodes in a row, keeps of the first what is in the second.
+pub fn keep_second(sets: &mut [u8], n: usize)
+    requires { ⌜ n + n ≤ length (now sets) ⌝ }
+    ensures { λ _. ⌜ ((f g : ℕ → Bool) → take n (now (sets .entry)) ≡ bits n f → take n (drop n (now (sets .entry))) ≡ bits n g → now (sets .exit) ≡ bits n (λ i. f i && g i) ++ drop n (now (sets .entry))) ⌝ }
+{
+    let mut i = 0;
+    while i < n {
+        sets[i] = sets[i] & sets[n + i];
+        i += 1;
+    }
+}
+
+// Of two sets of n nodes in a row, adds the second to the first.
+pub fn add_second(sets: &mut [u8], n: usize)
+    requires { ⌜ n + n ≤ length (now sets) ⌝ }
+    ensures { λ _. ⌜ ((f g : ℕ → Bool) → take n (now (sets .entry)) ≡ bits n f → take n (drop n (now (sets .entry))) ≡ bits n g → now (sets .exit) ≡ bits n (λ i. f i || g i) ++ drop n (now (sets .entry))) ⌝ }
+{
+    let mut i = 0;
+    while i < n {
+        sets[i] = sets[i] | sets[n + i];
+        i += 1;
+    }
+}
+
+// Keeps the nodes of one kind.
+fn keep_equal(kind: &[u16], wanted: u32, set: &mut [u8])
+    requires { ⌜ length (now kind) ≡ length (now set) ⌝ }
+    ensures { λ _. ⌜ ((f : ℕ → Bool) → now (set .entry) ≡ bits (length (now (set .entry))) f → now (set .exit) ≡ bits (length (now (set .entry))) (λ i. f i && eqb (getD (now (kind .entry)) i 0) wanted)) ⌝ }
+{
+    let mut i = 0;
+    while i < set.len() {
+        set[i] = set[i] & ((kind[i] as u32 == wanted) as u8);
+        i += 1;
+    }
+}
+
+// Keeps the nodes of the kinds from the least on.
+fn keep_from(kind: &[u16], least: u16, set: &mut [u8])
+    requires { ⌜ length (now kind) ≡ length (now set) ⌝ }
+    ensures { λ _. ⌜ ((f : ℕ → Bool) → now (set .entry) ≡ bits (length (now (set .entry))) f → now (set .exit) ≡ bits (length (now (set .entry))) (λ i. f i && leb least (getD (now (kind .entry)) i 0))) ⌝ }
+{
+    let mut i = 0;
+    while i < set.len() {
+        set[i] = set[i] & ((least <= kind[i]) as u8);
+        i += 1;
+    }
+}
+
+// Keeps the nodes that meet the test.
+pub fn keep_met(kind: &[u16], test: u32, set: &mut [u8])
+    requires { ⌜ length (now kind) ≡ length (now set) ⌝ }
+    ensures { λ _. ⌜ ((t : Test) (f : ℕ → Bool) → goodTest t ≡ true → test ≡ testNumber t → now (set .entry) ≡ bits (length (now (set .entry))) f → now (set .exit) ≡ bits (length (now (set .entry))) (λ i. f i && meets t (getD (now (kind .entry)) i 0))) ⌝ }
+{
+    match test {
+        0 => {}
+        258 => keep_from(kind, 2, set),
+        _ => keep_equal(kind, test, set),
+    }
+}
+
+// Moves the set to the children of its nodes: from the last node on, each takes what its parent, which comes before it, still has.
+fn children(parent: &[u16], set: &mut [u8])
+    requires { ⌜ (length (now parent) ≡ length (now set)) × ((kinds : List ℕ) → Tree (tableOf (now parent) kinds)) ⌝ }
+    ensures { λ _. ⌜ ((kinds : List ℕ) (f : ℕ → Bool) → now (set .entry) ≡ bits (length (now (set .entry))) f → now (set .exit) ≡ bits (length (now (set .entry))) (image (tableOf (now (parent .entry)) kinds) child f)) ⌝ }
+{
+    let mut i = set.len();
+    while i > 1 {
+        i -= 1;
+        set[i] = set[parent[i] as usize];
+    }
+    set[0] = 0;
+}
+
+// Moves the set to the parents of its nodes: each node hands what it has to its parent, which has handed on its own before.
+fn parents(parent: &[u16], set: &mut [u8])
+    requires { ⌜ (length (now parent) ≡ length (now set)) × ((kinds : List ℕ) → Tree (tableOf (now parent) kinds)) ⌝ }
+    ensures { λ _. ⌜ ((kinds : List ℕ) (f : ℕ → Bool) → now (set .entry) ≡ bits (length (now (set .entry))) f → now (set .exit) ≡ bits (length (now (set .entry))) (image (tableOf (now (parent .entry)) kinds) Axis.parent f)) ⌝ }
+{
+    set[0] = 0;
+    let mut i = 1;
+    while i < set.len() {
+        let member = set[i];
+        let above = parent[i] as usize;
+        set[i] = 0;
+        set[above] = set[above] | member;
+        i += 1;
+    }
+}
+
+// Adds all below the nodes of the set: each node takes what its parent has, which is done before it.
+fn below(parent: &[u16], set: &mut [u8])
+    requires { ⌜ (length (now parent) ≡ length (now set)) × ((kinds : List ℕ) → Tree (tableOf (now parent) kinds)) ⌝ }
+    ensures { λ _. ⌜ ((kinds : List ℕ) (f : ℕ → Bool) → now (set .entry) ≡ bits (length (now (set .entry))) f → now (set .exit) ≡ bits (length (now (set .entry))) (image (tableOf (now (parent .entry)) kinds) descendantOrSelf f)) ⌝ }
+{
+    let mut i = 1;
+    while i < set.len() {
+        set[i] = set[i] | set[parent[i] as usize];
+        i += 1;
+    }
+}
+
+// Adds all above the nodes of the set: from the last node on, each hands what it has to its parent.
+fn above(parent: &[u16], set: &mut [u8])
+    requires { ⌜ (length (now parent) ≡ length (now set)) × ((kinds : List ℕ) → Tree (tableOf (now parent) kinds)) ⌝ }
+    ensures { λ _. ⌜ ((kinds : List ℕ) (f : ℕ → Bool) → now (set .entry) ≡ bits (length (now (set .entry))) f → now (set .exit) ≡ bits (length (now (set .entry))) (image (tableOf (now (parent .entry)) kinds) ancestorOrSelf f)) ⌝ }
+{
+    let mut i = set.len();
+    while i > 1 {
+        i -= 1;
+        let up = parent[i] as usize;
+        set[up] = set[up] | set[i];
+    }
+}
+
+// Moves the set along an axis: what is in it then are the nodes to which the axis leads.
+pub fn along(parent: &[u16], axis: u32, set: &mut [u8])
+    requires { ⌜ (length (now parent) ≡ length (now set)) × ((kinds : List ℕ) → Tree (tableOf (now parent) kinds)) ⌝ }
+    ensures { λ _. ⌜ ((kinds : List ℕ) (a : Axis) (f : ℕ → Bool) → axis ≡ axisNumber a → now (set .entry) ≡ bits (length (now (set .entry))) f → now (set .exit) ≡ bits (length (now (set .entry))) (image (tableOf (now (parent .entry)) kinds) a f)) ⌝ }
+{
+    match axis {
+        1 => children(parent, set),
+        2 => parents(parent, set),
+        3 => below(parent, set),
+        4 => above(parent, set),
+        _ => {}
+    }
+}
