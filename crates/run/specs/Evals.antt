@@ -1,14 +1,16 @@
 -- What evaluating items over all nodes at once gives: where it ends, and the set of nodes at which what stands there holds.
 use Prim.Native.Nat.{ℕ, _+_, _*_, _≤_}
 use mathlib.Core.Path.{_≡_}
-use mathlib.Core.Bool.{Bool}
+use mathlib.Core.Bool.{Bool, _&&_}
 use mathlib.Core.List.{List}
 use mathlib.Core.Option.{some}
 use lib.ListN.{length, take, drop}
 use Rattle.paper.specs.Query.{Expr, Steps, Preds}
-use Rattle.paper.specs.Items.{Taken}
+use Rattle.paper.specs.Items.{Taken, Head, stepAt}
 use Rattle.paper.specs.Document.{Table, marked}
 use Rattle.paper.proofs.Trees.{Tree}
+use Rattle.item.specs.declared.Step.{Step}
+use Rattle.item.proofs.Saying.{numbered}
 use Rattle.sets.specs.Sets.{bits, tableOf}
 
 -- A document that can be searched: columns and marks of one length, a tree, and marks of 0 and 1.
@@ -33,3 +35,29 @@ pub record Evaluates {A : Type 0} (items : List ℕ) (at nodes : ℕ) (taken : T
   pub onward : at ≤ next
   pub inside : next ≤ length items
   pub set : take nodes sets ≡ bits nodes (holdsAt what)
+
+-- What was read ends at `next`.
+pub record Ends {A : Type 0} (items : List ℕ) (at : ℕ) (taken : Taken A) (next : ℕ) : Type 0 where
+  pub what : A
+  pub reads : taken ≡ some (what, drop next items)
+  pub onward : at ≤ next
+  pub inside : next ≤ length items
+
+-- Something can be read.
+abbrev pub Readable : {A : Type 0} → Taken A → Type 0
+Readable {A} taken = (r : A × List ℕ) × (taken ≡ some r)
+
+-- A step stands there, and this is what it says, in numbers.
+abbrev pub StepThere : ℕ → Type 0
+StepThere w = (h : Head) × (stepAt w ≡ some h)
+
+abbrev pub StepSaid : ℕ → Step → Type 0
+StepSaid w s = (h : Head) × (stepAt w ≡ some h) × (s ≡ numbered h)
+
+-- What was read ends at `next`, and the first set has kept the nodes at which it holds.
+pub record Narrows {A : Type 0} (items : List ℕ) (at nodes : ℕ) (taken : Taken A) (holdsAt : A → ℕ → Bool) (next : ℕ) (before after : List ℕ) : Type 0 where
+  pub what : A
+  pub reads : taken ≡ some (what, drop next items)
+  pub onward : at ≤ next
+  pub inside : next ≤ length items
+  pub set : (f : ℕ → Bool) → take nodes before ≡ bits nodes f → take nodes after ≡ bits nodes (λ i. f i && holdsAt what i)
