@@ -1,0 +1,79 @@
+-- `sets::add_second` meets its contract.
+use Prim.Native.Nat.{ℕ, _+_, _-_, _≤_, _<_}
+use native.Mathlib.Omega.{arith}
+use mathlib.Core.Path.{_≡_, refl, sym, ap, ap₂, _∙_}
+use lib.Bits.{bitAnd, bitOr, bitXor}
+use lib.ListN.{length, getD, length-set}
+use denote.Ref.{now}
+use Rattle.sets.proofs.Passes.{Passed, none-passed, one-passed, first-passed, all-passed}
+use mathlib.Core.Bool.{not, _&&_, _||_}
+use mathlib.Core.Path.{subst}
+use mir.Val.{boolByte}
+use Rattle.sets.proofs.Bits.{bit, bits-at, first-at, second-at, and-bits, or-bits, flip-bit, byte-bit}
+use Rattle.sets.proofs.add_second.Statement.{statement}
+use Rattle.sets.proofs.add_second.Tie as tie
+use Rattle.sets.proofs.add_second.Reads as reads
+use Rattle.sets.proofs.add_second.Lts as lts
+
+abbrev Inv-loop : tie.InvT-loop
+Inv-loop sets₀ n i₀ sets i = (i ≤ n) × Passed (λ k. bitOr (getD sets₀ k 0) (getD sets₀ (n + k) 0)) sets₀ sets i
+
+abbrev μ-loop : tie.MeasureT-loop
+μ-loop sets₀ n i₀ sets i = n - i
+
+loop-holds : tie.Need-loop-holds Inv-loop μ-loop
+loop-holds c = (omega arith, none-passed)
+
+slice-read-sets : tie.Need-slice-read-sets Inv-loop μ-loop
+slice-read-sets c = omega arith
+
+add-sets : tie.Need-add-sets Inv-loop μ-loop
+add-sets c = omega arith
+
+slice-read-sets-2 : tie.Need-slice-read-sets-2 Inv-loop μ-loop
+slice-read-sets-2 c = omega arith
+
+slice-write-sets : tie.Need-slice-write-sets Inv-loop μ-loop
+slice-write-sets c = omega arith
+
+add-i : tie.Need-add-i Inv-loop μ-loop
+add-i c = omega arith
+
+loop-less : tie.Need-loop-less Inv-loop μ-loop
+loop-less c = omega arith
+
+loop-again : tie.Need-loop-again Inv-loop μ-loop
+loop-again c =
+    let a = c .before .before .before .before .args in
+    let p = c .before .before .before .loop .inv .1 in
+    let i = c .before .before .before .loop .i in
+    (omega arith, one-passed p (omega arith) (ap₂ bitOr (p .left i (omega arith)) (p .left (a .n + i) (omega arith))))
+
+same-length : tie.Need-same-length Inv-loop μ-loop
+same-length c = omega arith
+
+returns : tie.Need-returns Inv-loop μ-loop
+returns c =
+    λ f g p q.
+    let a = c .before .before .args in
+    let n = a .n in
+    let e : c .before .loop .i ≡ n = omega arith in
+    first-passed (subst (λ i. Passed (λ k. bitOr (getD (now (a .sets)) k 0) (getD (now (a .sets)) (n + k) 0)) (now (a .sets)) (c .before .loop .sets) i) e (c .before .loop .inv .1)) (λ k. bit (f k || g k))
+    (λ k l. ap₂ bitOr (first-at (now (a .sets)) n f p k l) (second-at (now (a .sets)) n g q k l) ∙ or-bits (f k) (g k))
+
+pub add-second-spec : {M : Type 1} → statement M
+add-second-spec =
+    tie.close
+    (tie.spec
+    Inv-loop
+    μ-loop
+    loop-holds
+    slice-read-sets
+    add-sets
+    slice-read-sets-2
+    slice-write-sets
+    add-i
+    loop-less
+    loop-again
+    same-length
+    returns)

@@ -1,0 +1,83 @@
+-- `sets::keep_from` meets its contract.
+use Prim.Native.Nat.{ℕ, _+_, _-_, _≤_, _<_}
+use native.Mathlib.Omega.{arith}
+use mathlib.Core.Path.{_≡_, refl, sym, ap, ap₂, _∙_}
+use lib.Bits.{bitAnd, bitOr, bitXor}
+use lib.ListN.{length, getD, length-set}
+use denote.Ref.{now}
+use Rattle.sets.proofs.Passes.{Passed, none-passed, one-passed, first-passed, all-passed}
+use mathlib.Core.Bool.{not, _&&_, _||_}
+use mathlib.Core.Path.{subst}
+use mir.Val.{boolByte}
+use Rattle.sets.proofs.Bits.{bit, bits-at, first-at, second-at, and-bits, or-bits, flip-bit, byte-bit}
+use lib.Dec.{eqb, leb}
+use Rattle.sets.proofs.keep_from.Statement.{statement}
+use Rattle.sets.proofs.keep_from.Tie as tie
+use Rattle.sets.proofs.keep_from.Reads as reads
+use Rattle.sets.proofs.keep_from.Lts as lts
+
+abbrev Inv-loop : tie.InvT-loop
+Inv-loop kind least set₀ i₀ set i = Passed (λ k. bitAnd (getD set₀ k 0) (boolByte (leb least (getD kind k 0)))) set₀ set i
+
+abbrev μ-loop : tie.MeasureT-loop
+μ-loop kind least set₀ i₀ set i = length set₀ - i
+
+loop-holds : tie.Need-loop-holds Inv-loop μ-loop
+loop-holds c = none-passed
+
+slice-read-set : tie.Need-slice-read-set Inv-loop μ-loop
+slice-read-set c = omega arith
+
+mul-set : tie.Need-mul-set Inv-loop μ-loop
+mul-set c = omega arith
+
+shared-slice-read-set : tie.Need-shared-slice-read-set Inv-loop μ-loop
+shared-slice-read-set c = omega arith
+
+cast-set : tie.Need-cast-set Inv-loop μ-loop
+cast-set c = omega arith
+
+slice-write-set : tie.Need-slice-write-set Inv-loop μ-loop
+slice-write-set c = omega arith
+
+add-i : tie.Need-add-i Inv-loop μ-loop
+add-i c = omega arith
+
+loop-less : tie.Need-loop-less Inv-loop μ-loop
+loop-less c = omega arith
+
+loop-again : tie.Need-loop-again Inv-loop μ-loop
+loop-again c =
+    let a = c .before .before .before .before .args in
+    let p = c .before .before .before .loop .inv in
+    let k = c .before .before .before .loop .i in
+    one-passed p (omega arith) (ap (λ x. bitAnd x (boolByte (leb (a .least) (getD (now (a .kind)) k 0)))) (p .left k (omega arith)))
+
+same-length : tie.Need-same-length Inv-loop μ-loop
+same-length c = omega arith
+
+returns : tie.Need-returns Inv-loop μ-loop
+returns c =
+    λ f p.
+    let a = c .before .before .args in
+    let n = length (now (a .set)) in
+    all-passed (c .before .loop .inv) (omega arith) (λ k. bit (f k && leb (a .least) (getD (now (a .kind)) k 0)))
+    (λ k l. ap₂ bitAnd (bits-at n f p k l) (byte-bit (leb (a .least) (getD (now (a .kind)) k 0))) ∙ and-bits (f k) (leb (a .least) (getD (now (a .kind)) k 0)))
+
+pub keep-from-spec : {M : Type 1} → statement M
+keep-from-spec =
+    tie.close
+    (tie.spec
+    Inv-loop
+    μ-loop
+    loop-holds
+    slice-read-set
+    mul-set
+    shared-slice-read-set
+    cast-set
+    slice-write-set
+    add-i
+    loop-less
+    loop-again
+    same-length
+    returns)
