@@ -1,5 +1,5 @@
 -- Bytes of 0 and 1 as tests: what stands in the bytes of a set, and what `&`, `|` and `^` make of them. Assumes nothing.
-use Prim.Native.Nat.{ℕ, zero, suc, _+_, _≤_, _<_}
+use Prim.Native.Nat.{ℕ, _+_, _<_}
 use native.Mathlib.Omega.{arith}
 use native.Mathlib.Decide.{ℕ-discrete}
 use mathlib.Core.Path.{_≡_, refl, sym, _∙_, ap}
@@ -10,9 +10,32 @@ use mir.Val.{boolByte}
 use lib.Bits.{bitAnd, bitOr, bitXor}
 use lib.ListN.{length, getD, set, take, drop, length-set}
 use lib.Seq.{ext-getD, getD-set-same, getD-set-other, getD-take, getD-drop}
-use Rattle.paper.specs.Tools.{column}
 use Rattle.paper.proofs.Searches.{column-at, length-column, column-same}
 use Rattle.sets.specs.Sets.{bits}
+
+-- Tests joined with one that holds or fails.
+pub or-none : (a : Bool) {b : Bool} → b ≡ false → (a || b) ≡ a
+or-none true e = refl
+or-none false e = e
+
+pub and-none : (a : Bool) {b : Bool} → b ≡ false → (a && b) ≡ false
+and-none true e = e
+and-none false e = refl
+
+pub and-all : (a : Bool) {b : Bool} → b ≡ true → (a && b) ≡ a
+and-all true e = e
+and-all false e = refl
+
+pub once : (a b c : Bool) → ((not a && b) && (not a && c)) ≡ (b && (not a && c))
+once true true c = refl
+once true false c = refl
+once false b c = refl
+
+pub swapped : (a b : Bool) → (a || b) ≡ (b || a)
+swapped true true = refl
+swapped true false = refl
+swapped false true = refl
+swapped false false = refl
 
 -- The byte of a test.
 abbrev pub bit : Bool → ℕ
@@ -31,6 +54,10 @@ or-bits false b = refl
 pub flip-bit : (a : Bool) → bitXor (bit a) 1 ≡ bit (not a)
 flip-bit true = refl
 flip-bit false = refl
+
+pub bit-false : (b : Bool) → 0 ≡ bit b → b ≡ false
+bit-false true e = absurd (omega arith)
+bit-false false e = refl
 
 -- The byte that the code makes of a test is this.
 pub byte-bit : (b : Bool) → boolByte b ≡ bit b

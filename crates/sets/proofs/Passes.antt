@@ -1,10 +1,9 @@
 -- A pass over a list that replaces one element after the other: the invariant of every loop that works on each element by itself, how a turn keeps it, and what the list is at the end. Assumes nothing.
-use Prim.Native.Nat.{ℕ, zero, suc, _+_, _-_, _≤_, _<_}
+use Prim.Native.Nat.{ℕ, _+_, _-_, _≤_, _<_}
 use native.Mathlib.Omega.{arith}
 use native.Mathlib.Decide.{ℕ-discrete}
 use mathlib.Core.Path.{_≡_, refl, sym, _∙_, ap}
-use mathlib.Core.Bool.{Bool, true, false}
-use mathlib.Core.List.{List, [], _∷_, _++_, append-nil}
+use mathlib.Core.List.{List, _++_, append-nil}
 use mathlib.Core.Logic.{⊎-elim, by-cases}
 use lib.Dec.{ltb}
 use lib.ListN.{length, getD, set, drop, length-set, length-append, length-drop, List·getD-append}
@@ -12,7 +11,7 @@ use lib.Seq.{ext-getD, getD-set-same, getD-set-other, getD-append-add, getD-drop
 use borrow.Author.Tests.{ltb-true, ltb-false}
 use Rattle.paper.specs.Tools.{column}
 use Rattle.paper.proofs.Tests.{decide}
-use Rattle.paper.proofs.Searches.{column-at, length-column, column-same}
+use Rattle.paper.proofs.Searches.{column-at, length-column}
 
 -- The first i elements are the new ones, and the others are still the old list's.
 pub record Passed (new : ℕ → ℕ) (old list : List ℕ) (i : ℕ) : Type 0 where
@@ -30,13 +29,13 @@ module _ {new : ℕ → ℕ} {old : List ℕ} where
   pub one-passed : {list : List ℕ} {i v : ℕ} → Passed new old list i → i < length old → v ≡ new i → Passed new old (set list i v) (i + 1)
   one-passed {list} {i} {v} p l e =
       record {
-      within = omega arith;
-      sizes = length-set list i v ∙ p .sizes;
-      done = λ k b.
-          by-cases (ℕ-discrete k i)
-          (λ s. ap (λ x. getD (set list i v) x 0) s ∙ getD-set-same list i v 0 (omega (arith, p .sizes)) ∙ e ∙ ap new (sym s))
-          (λ d. getD-set-other list i k v 0 d ∙ p .done k (omega arith));
-      left = λ k b. getD-set-other list i k v 0 (λ s. omega arith) ∙ p .left k (omega arith)
+        within = omega arith;
+        sizes = length-set list i v ∙ p .sizes;
+        done = λ k b.
+            by-cases (ℕ-discrete k i)
+            (λ s. ap (λ x. getD (set list i v) x 0) s ∙ getD-set-same list i v 0 (omega (arith, p .sizes)) ∙ e ∙ ap new (sym s))
+            (λ d. getD-set-other list i k v 0 d ∙ p .done k (omega arith));
+        left = λ k b. getD-set-other list i k v 0 (λ s. omega arith) ∙ p .left k (omega arith);
       }
 
   -- At the end.

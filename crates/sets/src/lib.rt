@@ -106,7 +106,7 @@ fn keep_equal(kind: &[u16], wanted: u32, set: &mut [u8])
 }
 
 // Keeps the nodes of the kinds from the least on.
-fn keep_from(kind: &[u16], least: u16, set: &mut [u8])
+fn keep_at_least(kind: &[u16], least: u16, set: &mut [u8])
     requires { ⌜ length (now kind) ≡ length (now set) ⌝ }
     ensures { λ _. ⌜ ((f : ℕ → Bool) → now (set .entry) ≡ bits (length (now (set .entry))) f → now (set .exit) ≡ bits (length (now (set .entry))) (λ i. f i && leb least (getD (now (kind .entry)) i 0))) ⌝ }
 {
@@ -124,7 +124,7 @@ pub fn keep_met(kind: &[u16], test: u32, set: &mut [u8])
 {
     match test {
         0 => {}
-        258 => keep_from(kind, 2, set),
+        258 => keep_at_least(kind, 2, set),
         _ => keep_equal(kind, test, set),
     }
 }
@@ -134,10 +134,10 @@ fn children(parent: &[u16], set: &mut [u8])
     requires { ⌜ (length (now parent) ≡ length (now set)) × ((kinds : List ℕ) → Tree (tableOf (now parent) kinds)) ⌝ }
     ensures { λ _. ⌜ ((kinds : List ℕ) (f : ℕ → Bool) → now (set .entry) ≡ bits (length (now (set .entry))) f → now (set .exit) ≡ bits (length (now (set .entry))) (image (tableOf (now (parent .entry)) kinds) child f)) ⌝ }
 {
-    let mut i = set.len();
-    while i > 1 {
-        i -= 1;
-        set[i] = set[parent[i] as usize];
+    let mut taker = set.len();
+    while taker > 1 {
+        taker -= 1;
+        set[taker] = set[parent[taker] as usize];
     }
     set[0] = 0;
 }
@@ -175,11 +175,11 @@ fn above(parent: &[u16], set: &mut [u8])
     requires { ⌜ (length (now parent) ≡ length (now set)) × ((kinds : List ℕ) → Tree (tableOf (now parent) kinds)) ⌝ }
     ensures { λ _. ⌜ ((kinds : List ℕ) (f : ℕ → Bool) → now (set .entry) ≡ bits (length (now (set .entry))) f → now (set .exit) ≡ bits (length (now (set .entry))) (image (tableOf (now (parent .entry)) kinds) ancestorOrSelf f)) ⌝ }
 {
-    let mut i = set.len();
-    while i > 1 {
-        i -= 1;
-        let up = parent[i] as usize;
-        set[up] = set[up] | set[i];
+    let mut giver = set.len();
+    while giver > 1 {
+        giver -= 1;
+        let up = parent[giver] as usize;
+        set[up] = set[up] | set[giver];
     }
 }
 

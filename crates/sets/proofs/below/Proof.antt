@@ -1,18 +1,17 @@
--- `sets::below` meets its contract.
+-- `sets::below` meets its contract. The invariant: the nodes before `i` are done, the others have what they had (`belowState`). The measure is what is left of the nodes. Assumes nothing.
 use Prim.Native.Nat.{_-_}
 use native.Mathlib.Omega.{arith}
 use mathlib.Core.Path.{_∙_}
 use mathlib.Core.List.{[]}
 use lib.ListN.{length, length-set}
 use denote.Ref.{now}
-use Rattle.sets.specs.Sets.{image, tableOf}
 use Rattle.paper.specs.Query.{descendantOrSelf}
+use Rattle.sets.specs.Sets.{image, tableOf}
 use Rattle.sets.proofs.Bits.{resized}
-use Rattle.sets.proofs.Axes.{Moving, belowState, below-start, below-turn, below-end}
+use Rattle.sets.proofs.Axes.{Moving}
+use Rattle.sets.proofs.BelowPass.{belowState, below-start, below-turn, below-end}
 use Rattle.sets.proofs.below.Statement.{statement}
 use Rattle.sets.proofs.below.Tie as tie
-use Rattle.sets.proofs.below.Reads as reads
-use Rattle.sets.proofs.below.Lts as lts
 
 abbrev Inv-loop : tie.InvT-loop
 Inv-loop parent set₀ i₀ set i = Moving belowState parent set₀ set i
@@ -25,10 +24,10 @@ loop-holds c =
     let a = c .args in
     let there = c .pre .1 [] .rooted in
     record {
-    least = omega arith;
-    most = omega arith;
-    sizes = omega arith;
-    stands = λ kinds f e. e ∙ below-start (tableOf (now (a .parent)) kinds) (c .pre .1 kinds) f
+      least = omega arith;
+      most = omega arith;
+      sizes = omega arith;
+      stands = λ kinds f e. e ∙ below-start (tableOf (now (a .parent)) kinds) (c .pre .1 kinds) f;
     }
 
 slice-read-set : tie.Need-slice-read-set Inv-loop μ-loop
@@ -58,13 +57,13 @@ loop-less c = omega arith
 loop-again : tie.Need-loop-again Inv-loop μ-loop
 loop-again c =
     let a = c .before .before .before .before .before .args in
-    let now-at = c .before .before .before .before .loop in
-    let p = now-at .inv in
+    let here = c .before .before .before .before .loop in
+    let p = here .inv in
     record {
-    least = omega arith;
-    most = omega arith;
-    sizes = simp length-set (p .sizes);
-    stands = λ kinds f e. below-turn (tableOf (now (a .parent)) kinds) (c .before .before .before .before .before .pre .1 kinds) f (now-at .set) (now-at .i) (omega arith) (omega arith) (p .stands kinds f e)
+      least = omega arith;
+      most = omega arith;
+      sizes = simp length-set (p .sizes);
+      stands = λ kinds f e. below-turn (tableOf (now (a .parent)) kinds) (c .before .before .before .before .before .pre .1 kinds) f (here .set) (here .i) (omega arith) (omega arith) (p .stands kinds f e);
     }
 
 same-length : tie.Need-same-length Inv-loop μ-loop

@@ -1,19 +1,12 @@
--- `sets::copy` meets its contract.
-use Prim.Native.Nat.{ℕ, _+_, _-_, _≤_, _<_}
+-- `sets::copy` meets its contract. The invariant: the nodes before `i` have what the other set has, the others what they had (`Passed`). The measure is what is left of the length. Assumes nothing.
+use Prim.Native.Nat.{_-_}
 use native.Mathlib.Omega.{arith}
-use mathlib.Core.Path.{_≡_, refl, sym, ap, ap₂, _∙_}
-use lib.Bits.{bitAnd, bitOr, bitXor}
-use lib.ListN.{length, getD, length-set}
+use mathlib.Core.Path.{refl}
+use lib.ListN.{length, getD}
 use denote.Ref.{now}
-use Rattle.sets.proofs.Passes.{Passed, none-passed, one-passed, first-passed, all-passed, same-elements}
-use mathlib.Core.Bool.{not, _&&_, _||_}
-use mathlib.Core.Path.{subst}
-use mir.Val.{boolByte}
-use Rattle.sets.proofs.Bits.{bit, bits-at, first-at, second-at, and-bits, or-bits, flip-bit, byte-bit}
+use Rattle.sets.proofs.Passes.{Passed, none-passed, one-passed, same-elements}
 use Rattle.sets.proofs.copy.Statement.{statement}
 use Rattle.sets.proofs.copy.Tie as tie
-use Rattle.sets.proofs.copy.Reads as reads
-use Rattle.sets.proofs.copy.Lts as lts
 
 abbrev Inv-loop : tie.InvT-loop
 Inv-loop from set₀ i₀ set i = Passed (λ k. getD from k 0) set₀ set i

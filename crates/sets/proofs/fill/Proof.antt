@@ -1,19 +1,12 @@
--- `sets::fill` meets its contract.
-use Prim.Native.Nat.{ℕ, _+_, _-_, _≤_, _<_}
+-- `sets::fill` meets its contract. The invariant: the nodes before `i` have the byte, the others what they had (`Passed`). The measure is what is left of the length. Assumes nothing.
+use Prim.Native.Nat.{_-_}
 use native.Mathlib.Omega.{arith}
-use mathlib.Core.Path.{_≡_, refl, sym, ap, ap₂, _∙_}
-use lib.Bits.{bitAnd, bitOr, bitXor}
-use lib.ListN.{length, getD, length-set, replicate, length-replicate, getD-replicate}
+use mathlib.Core.Path.{refl, sym}
+use lib.ListN.{length, replicate, length-replicate, getD-replicate}
 use denote.Ref.{now}
-use Rattle.sets.proofs.Passes.{Passed, none-passed, one-passed, first-passed, all-passed, same-elements}
-use mathlib.Core.Bool.{not, _&&_, _||_}
-use mathlib.Core.Path.{subst}
-use mir.Val.{boolByte}
-use Rattle.sets.proofs.Bits.{bit, bits-at, first-at, second-at, and-bits, or-bits, flip-bit, byte-bit}
+use Rattle.sets.proofs.Passes.{Passed, none-passed, one-passed, same-elements}
 use Rattle.sets.proofs.fill.Statement.{statement}
 use Rattle.sets.proofs.fill.Tie as tie
-use Rattle.sets.proofs.fill.Reads as reads
-use Rattle.sets.proofs.fill.Lts as lts
 
 abbrev Inv-loop : tie.InvT-loop
 Inv-loop set₀ b i₀ set i = Passed (λ k. b) set₀ set i

@@ -1,20 +1,17 @@
--- `sets::keep_equal` meets its contract.
-use Prim.Native.Nat.{ℕ, _+_, _-_, _≤_, _<_}
+-- `sets::keep_equal` meets its contract. The invariant: the nodes before `i` are kept if they are of the kind, the others are as they were (`Passed`). The measure is what is left of the length. Assumes nothing.
+use Prim.Native.Nat.{_-_}
 use native.Mathlib.Omega.{arith}
-use mathlib.Core.Path.{_≡_, refl, sym, ap, ap₂, _∙_}
-use lib.Bits.{bitAnd, bitOr, bitXor}
-use lib.ListN.{length, getD, length-set}
-use denote.Ref.{now}
-use Rattle.sets.proofs.Passes.{Passed, none-passed, one-passed, first-passed, all-passed}
-use mathlib.Core.Bool.{not, _&&_, _||_}
-use mathlib.Core.Path.{subst}
+use mathlib.Core.Path.{ap, ap₂, _∙_}
+use mathlib.Core.Bool.{_&&_}
 use mir.Val.{boolByte}
-use Rattle.sets.proofs.Bits.{bit, bits-at, first-at, second-at, and-bits, or-bits, flip-bit, byte-bit}
-use lib.Dec.{eqb, leb}
+use lib.Bits.{bitAnd}
+use lib.ListN.{length, getD}
+use lib.Dec.{eqb}
+use denote.Ref.{now}
+use Rattle.sets.proofs.Passes.{Passed, none-passed, one-passed, all-passed}
+use Rattle.sets.proofs.Bits.{bit, bits-at, and-bits, byte-bit}
 use Rattle.sets.proofs.keep_equal.Statement.{statement}
 use Rattle.sets.proofs.keep_equal.Tie as tie
-use Rattle.sets.proofs.keep_equal.Reads as reads
-use Rattle.sets.proofs.keep_equal.Lts as lts
 
 abbrev Inv-loop : tie.InvT-loop
 Inv-loop kind wanted set₀ i₀ set i = Passed (λ k. bitAnd (getD set₀ k 0) (boolByte (eqb (getD kind k 0) wanted))) set₀ set i

@@ -1,20 +1,19 @@
--- `sets::parents` meets its contract.
+-- `sets::parents` meets its contract. The invariant: the nodes before `i` have what their children before `i` had, the others what they had (`parentState`). The measure is what is left of the nodes. Assumes nothing.
 use Prim.Native.Nat.{_-_}
 use native.Mathlib.Omega.{arith}
 use mathlib.Core.Path.{_∙_}
 use mathlib.Core.List.{[]}
-use lib.ListN.{length, length-set}
-use denote.Ref.{now}
-use Rattle.sets.specs.Sets.{image, tableOf}
-use Rattle.paper.specs.Query.{Axis}
-use Rattle.sets.proofs.Bits.{resized}
 use mathlib.Core.Bool.{not, _&&_}
+use lib.ListN.{length, length-set}
 use lib.Dec.{eqb}
-use Rattle.sets.proofs.Axes.{Moving, parentState, parent-start, parent-turn, parent-end, parent-first}
+use denote.Ref.{now}
+use Rattle.paper.specs.Query.{Axis}
+use Rattle.sets.specs.Sets.{image, tableOf}
+use Rattle.sets.proofs.Bits.{resized}
+use Rattle.sets.proofs.Axes.{Moving}
+use Rattle.sets.proofs.ParentPass.{parentState, parent-start, parent-turn, parent-end, parent-first}
 use Rattle.sets.proofs.parents.Statement.{statement}
 use Rattle.sets.proofs.parents.Tie as tie
-use Rattle.sets.proofs.parents.Reads as reads
-use Rattle.sets.proofs.parents.Lts as lts
 
 abbrev Inv-loop : tie.InvT-loop
 Inv-loop parent set₀ i₀ set i = Moving parentState parent set₀ set i
@@ -30,10 +29,10 @@ loop-holds c =
     let a = c .args in
     let there = c .pre .1 [] .rooted in
     record {
-    least = omega arith;
-    most = omega arith;
-    sizes = simp length-set (omega arith);
-    stands = λ kinds f e. e ∙ parent-start (tableOf (now (a .parent)) kinds) (c .pre .1 kinds) f (now (a .set)) (omega arith) e
+      least = omega arith;
+      most = omega arith;
+      sizes = simp length-set (omega arith);
+      stands = λ kinds f e. e ∙ parent-start (tableOf (now (a .parent)) kinds) (c .pre .1 kinds) f (now (a .set)) (omega arith) e;
     }
 
 slice-read-member : tie.Need-slice-read-member Inv-loop μ-loop
@@ -66,13 +65,13 @@ loop-less c = omega arith
 loop-again : tie.Need-loop-again Inv-loop μ-loop
 loop-again c =
     let a = c .before .before .before .before .before .args in
-    let now-at = c .before .before .before .before .loop in
-    let p = now-at .inv in
+    let here = c .before .before .before .before .loop in
+    let p = here .inv in
     record {
-    least = omega arith;
-    most = omega arith;
-    sizes = simp length-set (p .sizes);
-    stands = λ kinds f e. parent-turn (tableOf (now (a .parent)) kinds) (c .before .before .before .before .before .pre .1 kinds) f (now-at .set) (now-at .i) (omega arith) (omega arith) (p .stands kinds f e)
+      least = omega arith;
+      most = omega arith;
+      sizes = simp length-set (p .sizes);
+      stands = λ kinds f e. parent-turn (tableOf (now (a .parent)) kinds) (c .before .before .before .before .before .pre .1 kinds) f (here .set) (here .i) (omega arith) (omega arith) (p .stands kinds f e);
     }
 
 same-length : tie.Need-same-length Inv-loop μ-loop

@@ -1,20 +1,17 @@
--- `sets::keep_from` meets its contract.
-use Prim.Native.Nat.{ℕ, _+_, _-_, _≤_, _<_}
+-- `sets::keep_at_least` meets its contract. The invariant: the nodes before `i` are kept if their kind is large enough, the others are as they were (`Passed`). The measure is what is left of the length. Assumes nothing.
+use Prim.Native.Nat.{_-_}
 use native.Mathlib.Omega.{arith}
-use mathlib.Core.Path.{_≡_, refl, sym, ap, ap₂, _∙_}
-use lib.Bits.{bitAnd, bitOr, bitXor}
-use lib.ListN.{length, getD, length-set}
-use denote.Ref.{now}
-use Rattle.sets.proofs.Passes.{Passed, none-passed, one-passed, first-passed, all-passed}
-use mathlib.Core.Bool.{not, _&&_, _||_}
-use mathlib.Core.Path.{subst}
+use mathlib.Core.Path.{ap, ap₂, _∙_}
+use mathlib.Core.Bool.{_&&_}
 use mir.Val.{boolByte}
-use Rattle.sets.proofs.Bits.{bit, bits-at, first-at, second-at, and-bits, or-bits, flip-bit, byte-bit}
-use lib.Dec.{eqb, leb}
-use Rattle.sets.proofs.keep_from.Statement.{statement}
-use Rattle.sets.proofs.keep_from.Tie as tie
-use Rattle.sets.proofs.keep_from.Reads as reads
-use Rattle.sets.proofs.keep_from.Lts as lts
+use lib.Bits.{bitAnd}
+use lib.ListN.{length, getD}
+use lib.Dec.{leb}
+use denote.Ref.{now}
+use Rattle.sets.proofs.Passes.{Passed, none-passed, one-passed, all-passed}
+use Rattle.sets.proofs.Bits.{bit, bits-at, and-bits, byte-bit}
+use Rattle.sets.proofs.keep_at_least.Statement.{statement}
+use Rattle.sets.proofs.keep_at_least.Tie as tie
 
 abbrev Inv-loop : tie.InvT-loop
 Inv-loop kind least set₀ i₀ set i = Passed (λ k. bitAnd (getD set₀ k 0) (boolByte (leb least (getD kind k 0)))) set₀ set i
@@ -64,8 +61,8 @@ returns c =
     all-passed (c .before .loop .inv) (omega arith) (λ k. bit (f k && leb (a .least) (getD (now (a .kind)) k 0)))
     (λ k l. ap₂ bitAnd (bits-at n f p k l) (byte-bit (leb (a .least) (getD (now (a .kind)) k 0))) ∙ and-bits (f k) (leb (a .least) (getD (now (a .kind)) k 0)))
 
-pub keep-from-spec : {M : Type 1} → statement M
-keep-from-spec =
+pub keep-at-least-spec : {M : Type 1} → statement M
+keep-at-least-spec =
     tie.close
     (tie.spec
     Inv-loop
