@@ -1,0 +1,4 @@
+pub mod Stepwise
+pub mod Running
+pub mod Operating
+pub mod Rows
