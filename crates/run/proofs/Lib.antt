@@ -2,3 +2,4 @@ pub mod Stepwise
 pub mod Running
 pub mod Operating
 pub mod Rows
+pub mod Slices

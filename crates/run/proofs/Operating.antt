@@ -22,10 +22,10 @@ use Rattle.item.specs.declared.Item.{Item}
 use Rattle.item.specs.declared.Item.the-variants.{Path, Step as StepItem, And, Or, Not, Bad}
 use Rattle.item.proofs.Saying.{Said}
 use Rattle.item.proofs.Item.{the-type}
-use Rattle.shape.proofs.Operands.{operand-past, operand-path, operand-bare, operand-other, operand-step, operand-and, operand-or, operand-not, operand-deep, at-place}
+use Rattle.shape.proofs.Operands.{operand-past, operand-path, operand-bare, operand-other, operand-step, operand-and, operand-or, operand-not, operand-deep, at-place, deeper}
 use Rattle.sets.specs.Sets.{bits}
 use Rattle.run.specs.Evals.{Fits, Evaluates}
-use Rattle.run.proofs.Running.{enough}
+use Rattle.run.proofs.Running.{enough, one-fits, some-height}
 
 -- What can be read stands before the end.
 pub operand-there : (items : List ℕ) (at nodes room depth : ℕ) → Fits items at nodes room (takeOperand (takeWithin depth) (drop at items)) heightExpr → at < length items
@@ -135,3 +135,58 @@ must-be-not items at nodes room depth f Or s k l o = absurd (miss (0 ∷ 1 ∷ 2
 must-be-not items at nodes room depth f Not s k l o = s
 must-be-not items at nodes room depth f Bad s k l o =
     none-some (sym (operand-other (takeWithin depth) (getD items at 0) (drop (at + 1) items) (s .0) (s .2) (s .3) (s .4)) ∙ operand-read items at nodes room depth f)
+
+-- The same where d brackets may be opened and d is not 0.
+module _ (t : Table) (m : List ℕ) (items : List ℕ) (at nodes room depth : ℕ) (z : depth ≡ 0 → ⊥) (f : Fits items at nodes room (takeOperand (takeWithin depth) (drop at items)) heightExpr) where
+  Whole : ℕ → Type 0
+  Whole d = Fits items at nodes room (takeOperand (takeWithin d) (drop at items)) heightExpr
+
+  Set : ℕ → ℕ → List ℕ → Type 0
+  Set d next sets = Evaluates items at nodes (takeOperand (takeWithin d) (drop at items)) (holds t m) next sets
+
+  pub opens-and : getD items at 0 ≡ andItem → Fits items (at + 1) nodes room (andsFrom (takeWithin (depth - 1)) 1 (drop (at + 1) items)) heightExpr
+  unfolding Whole
+  opens-and e =
+      deeper (λ less d. Whole d → Fits items (at + 1) nodes room (andsFrom (takeWithin less) 1 (drop (at + 1) items)) heightExpr)
+      (λ d g. same-fits t m items at nodes room d g _ (and-taken t m items at nodes room d g e)) depth z f
+
+  pub opens-or : getD items at 0 ≡ orItem → Fits items (at + 1) nodes room (orsFrom (takeWithin (depth - 1)) 1 (drop (at + 1) items)) heightExpr
+  unfolding Whole
+  opens-or e =
+      deeper (λ less d. Whole d → Fits items (at + 1) nodes room (orsFrom (takeWithin less) 1 (drop (at + 1) items)) heightExpr)
+      (λ d g. same-fits t m items at nodes room d g _ (or-taken t m items at nodes room d g e)) depth z f
+
+  pub opens-not : getD items at 0 ≡ notItem → Fits items (at + 1) nodes room (orsFrom (takeWithin (depth - 1)) 0 (drop (at + 1) items)) heightExpr
+  unfolding Whole
+  opens-not e =
+      deeper (λ less d. Whole d → Fits items (at + 1) nodes room (orsFrom (takeWithin less) 0 (drop (at + 1) items)) heightExpr)
+      (λ d g. not-fits t m items at nodes room d g _ (not-taken t m items at nodes room d g e)) depth z f
+
+  pub closes-and : (next : ℕ) (sets : List ℕ) → getD items at 0 ≡ andItem
+      → Evaluates items (at + 1) nodes (andsFrom (takeWithin (depth - 1)) 1 (drop (at + 1) items)) (holds t m) next sets
+      → Evaluates items at nodes (takeOperand (takeWithin depth) (drop at items)) (holds t m) next sets
+  unfolding Whole Set
+  closes-and next sets e v =
+      deeper (λ less d. Whole d → Evaluates items (at + 1) nodes (andsFrom (takeWithin less) 1 (drop (at + 1) items)) (holds t m) next sets → Set d next sets)
+      (λ d g u. same-set t m items at nodes room d g _ next sets (and-taken t m items at nodes room d g e) u) depth z f v
+
+  pub closes-or : (next : ℕ) (sets : List ℕ) → getD items at 0 ≡ orItem
+      → Evaluates items (at + 1) nodes (orsFrom (takeWithin (depth - 1)) 1 (drop (at + 1) items)) (holds t m) next sets
+      → Evaluates items at nodes (takeOperand (takeWithin depth) (drop at items)) (holds t m) next sets
+  unfolding Whole Set
+  closes-or next sets e v =
+      deeper (λ less d. Whole d → Evaluates items (at + 1) nodes (orsFrom (takeWithin less) 1 (drop (at + 1) items)) (holds t m) next sets → Set d next sets)
+      (λ d g u. same-set t m items at nodes room d g _ next sets (or-taken t m items at nodes room d g e) u) depth z f v
+
+  pub closes-not : (next : ℕ) (sets after : List ℕ) → getD items at 0 ≡ notItem
+      → Evaluates items (at + 1) nodes (orsFrom (takeWithin (depth - 1)) 0 (drop (at + 1) items)) (holds t m) next sets
+      → ((g : ℕ → Bool) → take nodes sets ≡ bits nodes g → take nodes after ≡ bits nodes (λ i. not (g i)))
+      → Evaluates items at nodes (takeOperand (takeWithin depth) (drop at items)) (holds t m) next after
+  unfolding Whole Set
+  closes-not next sets after e v flips =
+      deeper (λ less d. Whole d → Evaluates items (at + 1) nodes (orsFrom (takeWithin less) 0 (drop (at + 1) items)) (holds t m) next sets → Set d next after)
+      (λ d g u. not-set t m items at nodes room d g _ next sets after (not-taken t m items at nodes room d g e) u flips) depth z f v
+
+-- Any operand leaves room for its set.
+pub operand-room : (items : List ℕ) (at nodes room depth : ℕ) → Fits items at nodes room (takeOperand (takeWithin depth) (drop at items)) heightExpr → nodes ≤ room
+operand-room items at nodes room depth f = one-fits nodes (heightExpr (f .what)) room (f .room-for) (some-height (f .what))

@@ -153,3 +153,50 @@ unfolding orsFrom
 ors-begin depth items at counted run e =
     let there : drop (leading orItem (drop at items)) (drop at items) ≡ drop (at + run) items = ap (λ (k : ℕ). drop k (drop at items)) (sym e) ∙ drop-drop run at items in
     rw (there, ← e, term (takeWithin depth) (drop (at + run) items))
+
+-- How each begins, goes on and ends.
+module _ (t : Table) (m : List ℕ) (depth : ℕ) (items : List ℕ) (at nodes : ℕ) where
+  pub ands-first-fits : (room owed : ℕ) (whole : Taken Expr) → Fits items at nodes room whole heightExpr → (start : ℕ) → start ≤ length items
+      → whole ≡ found (takeOperand (takeWithin depth) (drop start items)) (λ r. takeAnds (takeWithin depth) owed (r .0) (r .1)) → Fits items start nodes room (takeOperand (takeWithin depth) (drop start items)) heightExpr
+  ands-first-fits room owed whole f start ls e = first-fits t m (takeOperand (takeWithin depth)) (takeAnds (takeWithin depth)) both _&&_ (λ e ws. refl) (λ n e ws. refl) (λ a b i. refl) (λ a b. refl) items at nodes room owed whole (f .inside) f start ls e
+
+  pub ands-first-set : (owed : ℕ) (whole : Taken Expr) (start next : ℕ) (sets : List ℕ) → at ≤ start → whole ≡ found (takeOperand (takeWithin depth) (drop start items)) (λ r. takeAnds (takeWithin depth) owed (r .0) (r .1))
+      → Evaluates items start nodes (takeOperand (takeWithin depth) (drop start items)) (holds t m) next sets → AndSet t m depth items at nodes whole next owed sets
+  ands-first-set owed whole start next sets l e v = first-set t m (takeOperand (takeWithin depth)) (takeAnds (takeWithin depth)) both _&&_ (λ e ws. refl) (λ n e ws. refl) (λ a b i. refl) (λ a b. refl) items at nodes owed whole start next sets l e v
+
+  pub ands-owed-fits {ℓ} : {C : Type ℓ} (room : ℕ) (whole : Taken Expr) (place owed : ℕ) (sets : List ℕ) → 0 < owed → Fits items at nodes room whole heightExpr
+      → AndSet t m depth items at nodes whole place owed sets → (Fits items place nodes (room - nodes) (takeOperand (takeWithin depth) (drop place items)) heightExpr → nodes + nodes ≤ room → C) → C
+  ands-owed-fits room whole place owed sets z f l k = owed-fits t m (takeOperand (takeWithin depth)) (takeAnds (takeWithin depth)) both _&&_ (λ e ws. refl) (λ n e ws. refl) (λ a b i. refl) (λ a b. refl) items at nodes room whole place owed sets z f l k
+
+  pub ands-set-more : (whole : Taken Expr) (place owed next : ℕ) (sets part after : List ℕ) → 0 < owed → AndSet t m depth items at nodes whole place owed sets
+      → Evaluates items place nodes (takeOperand (takeWithin depth) (drop place items)) (holds t m) next part
+      → ((f g : ℕ → Bool) → take nodes sets ≡ bits nodes f → take nodes part ≡ bits nodes g → take nodes after ≡ bits nodes (λ i. f i && g i))
+      → AndSet t m depth items at nodes whole next (owed - 1) after
+  ands-set-more whole place owed next sets part after z l v joins = set-more t m (takeOperand (takeWithin depth)) (takeAnds (takeWithin depth)) both _&&_ (λ e ws. refl) (λ n e ws. refl) (λ a b i. refl) (λ a b. refl) items at nodes whole place owed next sets part after z l v joins
+
+  pub ands-set-done : (whole : Taken Expr) (place owed : ℕ) (sets : List ℕ) → owed ≤ 0 → AndSet t m depth items at nodes whole place owed sets
+      → Evaluates items at nodes whole (holds t m) place sets
+  ands-set-done whole place owed sets z l = set-done t m (takeOperand (takeWithin depth)) (takeAnds (takeWithin depth)) both _&&_ (λ e ws. refl) (λ n e ws. refl) (λ a b i. refl) (λ a b. refl) items at nodes whole place owed sets z l
+
+module _ (t : Table) (m : List ℕ) (depth : ℕ) (items : List ℕ) (at nodes : ℕ) where
+  pub ors-first-fits : (room owed : ℕ) (whole : Taken Expr) → Fits items at nodes room whole heightExpr → (start : ℕ) → start ≤ length items
+      → whole ≡ found (andsFrom (takeWithin depth) 0 (drop start items)) (λ r. takeOrs (takeWithin depth) owed (r .0) (r .1)) → Fits items start nodes room (andsFrom (takeWithin depth) 0 (drop start items)) heightExpr
+  ors-first-fits room owed whole f start ls e = first-fits t m (andsFrom (takeWithin depth) 0) (takeOrs (takeWithin depth)) either _||_ (λ e ws. refl) (ors-go depth) (λ a b i. refl) (λ a b. refl) items at nodes room owed whole (f .inside) f start ls e
+
+  pub ors-first-set : (owed : ℕ) (whole : Taken Expr) (start next : ℕ) (sets : List ℕ) → at ≤ start → whole ≡ found (andsFrom (takeWithin depth) 0 (drop start items)) (λ r. takeOrs (takeWithin depth) owed (r .0) (r .1))
+      → Evaluates items start nodes (andsFrom (takeWithin depth) 0 (drop start items)) (holds t m) next sets → OrSet t m depth items at nodes whole next owed sets
+  ors-first-set owed whole start next sets l e v = first-set t m (andsFrom (takeWithin depth) 0) (takeOrs (takeWithin depth)) either _||_ (λ e ws. refl) (ors-go depth) (λ a b i. refl) (λ a b. refl) items at nodes owed whole start next sets l e v
+
+  pub ors-owed-fits {ℓ} : {C : Type ℓ} (room : ℕ) (whole : Taken Expr) (place owed : ℕ) (sets : List ℕ) → 0 < owed → Fits items at nodes room whole heightExpr
+      → OrSet t m depth items at nodes whole place owed sets → (Fits items place nodes (room - nodes) (andsFrom (takeWithin depth) 0 (drop place items)) heightExpr → nodes + nodes ≤ room → C) → C
+  ors-owed-fits room whole place owed sets z f l k = owed-fits t m (andsFrom (takeWithin depth) 0) (takeOrs (takeWithin depth)) either _||_ (λ e ws. refl) (ors-go depth) (λ a b i. refl) (λ a b. refl) items at nodes room whole place owed sets z f l k
+
+  pub ors-set-more : (whole : Taken Expr) (place owed next : ℕ) (sets part after : List ℕ) → 0 < owed → OrSet t m depth items at nodes whole place owed sets
+      → Evaluates items place nodes (andsFrom (takeWithin depth) 0 (drop place items)) (holds t m) next part
+      → ((f g : ℕ → Bool) → take nodes sets ≡ bits nodes f → take nodes part ≡ bits nodes g → take nodes after ≡ bits nodes (λ i. f i || g i))
+      → OrSet t m depth items at nodes whole next (owed - 1) after
+  ors-set-more whole place owed next sets part after z l v joins = set-more t m (andsFrom (takeWithin depth) 0) (takeOrs (takeWithin depth)) either _||_ (λ e ws. refl) (ors-go depth) (λ a b i. refl) (λ a b. refl) items at nodes whole place owed next sets part after z l v joins
+
+  pub ors-set-done : (whole : Taken Expr) (place owed : ℕ) (sets : List ℕ) → owed ≤ 0 → OrSet t m depth items at nodes whole place owed sets
+      → Evaluates items at nodes whole (holds t m) place sets
+  ors-set-done whole place owed sets z l = set-done t m (andsFrom (takeWithin depth) 0) (takeOrs (takeWithin depth)) either _||_ (λ e ws. refl) (ors-go depth) (λ a b i. refl) (λ a b. refl) items at nodes whole place owed sets z l

@@ -1,16 +1,25 @@
 -- The functions of `run` that call each other meet their contracts: path, predicates and expression, with falling remaining items.
 -- Each loop's invariant is that what was read so far has its set, and what is left to read gives the answer of the whole.
 -- The measure of a call is the number of items left, then the order predicates, expression, term, operand, path. Assumes nothing.
-use Prim.Native.Nat.{suc, _+_, _-_, _*_}
+use Prim.Native.Nat.{suc, _+_, _-_, _*_, _≤_}
 use native.Mathlib.Omega.{arith}
 use borrow.Author.Needs.{needs}
-use mathlib.Core.Path.{_≡_}
+use mathlib.Core.Path.{_≡_, refl, sym, _∙_, ap, subst}
+use mathlib.Core.Bool.{not, _&&_, _||_}
+use mathlib.Core.List.{[]}
 use denote.Ref.{now}
 use lib.ListN.{length, getD, take, drop}
-use Rattle.paper.specs.Items.{takePreds, takeSteps, takeWithin}
+use lib.Seq.{length-take-le}
+use Rattle.paper.specs.Items.{takePreds, takeSteps, takeOperand, takeWithin}
 use Rattle.paper.proofs.Decoding.{orsFrom, andsFrom}
+use Rattle.item.proofs.Saying.{said}
 use Rattle.sets.specs.Sets.{bits, tableOf}
-use Rattle.run.proofs.Running.{AndSet, OrSet}
+use Rattle.paper.specs.Measures.{heightExpr}
+use Rattle.run.specs.Evals.{Fits}
+use Rattle.run.proofs.Slices.{part-length, first-stays, second-comes, length-stays, front-is, front-back}
+use Rattle.run.proofs.Running.{AndSet, ands-begin, ands-first-fits, ands-first-set, ands-owed-fits, ands-set-more, ands-set-done}
+use Rattle.run.proofs.Running.{OrSet, ors-begin, ors-first-fits, ors-first-set, ors-owed-fits, ors-set-more, ors-set-done}
+use Rattle.run.proofs.Operating.{operand-there, operand-room, not-deep, path-fits, path-set, opens-and, opens-or, opens-not, closes-and, closes-or, closes-not, must-be-not}
 use Rattle.run.proofs.Rows.{PredSet, PathSet}
 use Prim.Native.Nat.{ℕ, _<_}
 use borrow.Fn.Kinds.{In}
@@ -128,7 +137,14 @@ expression-term-requires : (t : ℕ) → expression-lts.Need-term-requires (
   add-second-reads.Asked,
   add-second-reads.Learnt,
 ) (expression-at t) expression.Post expression-Inv-loop expression-μ-loop
-expression-term-requires t c κs = search needs
+expression-term-requires t c κs =
+    let start = c .before .before .before .before .before .before .before in
+    let a = start .args in
+    let r = c .before .run-of in
+    let pre = start .pre .1 in
+    (search needs, ((omega arith, omega arith), (pre .1 .0,
+    ors-first-fits (tableOf (now (a .parent)) (now (a .kind))) (now (a .given)) (a .depth) (now (a .items)) (a .at) (length (now (a .parent))) _ (r .result + a .counted) _ (pre .1 .1) (a .at + r .result) (r .ensures .1)
+    (ors-begin (a .depth) (now (a .items)) (a .at) (a .counted) (r .result) (r .ensures .0)))))
 
 expression-add-owed : (t : ℕ) → expression-lts.Need-add-owed (
   run-of-reads.Asked,
@@ -148,7 +164,12 @@ expression-loop-holds : (t : ℕ) → expression-lts.Need-loop-holds (
   add-second-reads.Asked,
   add-second-reads.Learnt,
 ) (expression-at t) expression.Post expression-Inv-loop expression-μ-loop
-expression-loop-holds t c = search needs
+expression-loop-holds t c =
+    let a = c .before .before .before .before .before .before .before .before .before .before .args in
+    let r = c .before .before .before .before .run-of in
+    (refl,
+    ors-first-set (tableOf (now (a .parent)) (now (a .kind))) (now (a .given)) (a .depth) (now (a .items)) (a .at) (length (now (a .parent))) (r .result + a .counted) _ (a .at + r .result) _ _ (omega arith)
+    (ors-begin (a .depth) (now (a .items)) (a .at) (a .counted) (r .result) (r .ensures .0)) (c .before .before .term .ensures))
 
 expression-sub-term : (t : ℕ) → expression-lts.Need-sub-term (
   run-of-reads.Asked,
@@ -158,7 +179,12 @@ expression-sub-term : (t : ℕ) → expression-lts.Need-sub-term (
   add-second-reads.Asked,
   add-second-reads.Learnt,
 ) (expression-at t) expression.Post expression-Inv-loop expression-μ-loop
-expression-sub-term t c = search needs
+expression-sub-term t c =
+    let start = c .before .before .before .before .before .before .before .before .before .before .before .before in
+    let a = start .args in
+    let l = c .before .loop in
+    let len : length (l .sets) ≡ length (now (a .sets)) = l .inv .0 ∙ c .before .before .before .before .term .kept .1 .1 .1 .1 .1 .1 .1 .0 in
+    ors-owed-fits (tableOf (now (a .parent)) (now (a .kind))) (now (a .given)) (a .depth) (now (a .items)) (a .at) (length (now (a .parent))) _ _ (l .place) (l .owed) (l .sets) (c .loop-test .taken) (start .pre .1 .1 .1) (l .inv .1) (λ f two. omega arith)
 
 expression-part-term-start : (t : ℕ) → expression-lts.Need-part-term-start (
   run-of-reads.Asked,
@@ -168,7 +194,12 @@ expression-part-term-start : (t : ℕ) → expression-lts.Need-part-term-start (
   add-second-reads.Asked,
   add-second-reads.Learnt,
 ) (expression-at t) expression.Post expression-Inv-loop expression-μ-loop
-expression-part-term-start t c = search needs
+expression-part-term-start t c =
+    let start = c .before .before .before .before .before .before .before .before .before .before .before .before in
+    let a = start .args in
+    let l = c .before .loop in
+    let len : length (l .sets) ≡ length (now (a .sets)) = l .inv .0 ∙ c .before .before .before .before .term .kept .1 .1 .1 .1 .1 .1 .1 .0 in
+    ors-owed-fits (tableOf (now (a .parent)) (now (a .kind))) (now (a .given)) (a .depth) (now (a .items)) (a .at) (length (now (a .parent))) _ _ (l .place) (l .owed) (l .sets) (c .loop-test .taken) (start .pre .1 .1 .1) (l .inv .1) (λ f two. omega arith)
 
 expression-part-term-end : (t : ℕ) → expression-lts.Need-part-term-end (
   run-of-reads.Asked,
@@ -188,7 +219,16 @@ expression-term-requires-2 : (t : ℕ) → expression-lts.Need-term-requires-2 (
   add-second-reads.Asked,
   add-second-reads.Learnt,
 ) (expression-at t) expression.Post expression-Inv-loop expression-μ-loop
-expression-term-requires-2 t c κs = search needs
+expression-term-requires-2 t c κs =
+    let start = c .before .before .before .before .before .before .before .before .before .before .before .before .before in
+    let a = start .args in
+    let l = c .before .before .loop in
+    let len : length (l .sets) ≡ length (now (a .sets)) = l .inv .0 ∙ c .before .before .before .before .before .term .kept .1 .1 .1 .1 .1 .1 .1 .0 in
+    let n = length (now (a .parent)) in
+    ors-owed-fits (tableOf (now (a .parent)) (now (a .kind))) (now (a .given)) (a .depth) (now (a .items)) (a .at) (length (now (a .parent))) _ _ (l .place) (l .owed) (l .sets) (c .before .loop-test .taken) (start .pre .1 .1 .1) (l .inv .1)
+    (λ f two.
+      (omega (arith, l .inv .1 .onward, l .inv .1 .inside, start .pre .0), ((omega arith, omega arith), (start .pre .1 .1 .0,
+      subst (λ (k : ℕ). Fits (now (a .items)) (l .place) n k (andsFrom (takeWithin (a .depth)) 0 (drop (l .place) (now (a .items)))) heightExpr) (ap (λ (k : ℕ). k - n) (sym len) ∙ sym (part-length n (l .sets) [] (omega arith))) f))))
 
 expression-add-second-requires : (t : ℕ) → expression-lts.Need-add-second-requires (
   run-of-reads.Asked,
@@ -198,7 +238,14 @@ expression-add-second-requires : (t : ℕ) → expression-lts.Need-add-second-re
   add-second-reads.Asked,
   add-second-reads.Learnt,
 ) (expression-at t) expression.Post expression-Inv-loop expression-μ-loop
-expression-add-second-requires t c κs = search needs
+expression-add-second-requires t c κs =
+    let start = c .before .before .before .before .before .before .before .before .before .before .before .before .before .before .before .before .before in
+    let a = start .args in
+    let l = c .before .before .before .before .before .before .loop in
+    let len : length (l .sets) ≡ length (now (a .sets)) = l .inv .0 ∙ c .before .before .before .before .before .before .before .before .before .term .kept .1 .1 .1 .1 .1 .1 .1 .0 in
+    let n = length (now (a .parent)) in
+    ors-owed-fits (tableOf (now (a .parent)) (now (a .kind))) (now (a .given)) (a .depth) (now (a .items)) (a .at) (length (now (a .parent))) _ _ (l .place) (l .owed) (l .sets) (c .before .before .before .before .before .loop-test .taken) (start .pre .1 .1 .1) (l .inv .1)
+    (λ f two. omega (arith, length-stays n (l .sets) (c .before .before .before .term2 .last .1 .1 .1 .1 .1 .1 .1 .0) (omega arith) (c .before .before .before .term2 .kept .1 .1 .1 .1 .1 .1 .1 .0)))
 
 expression-sub-owed : (t : ℕ) → expression-lts.Need-sub-owed (
   run-of-reads.Asked,
@@ -228,7 +275,21 @@ expression-loop-again : (t : ℕ) → expression-lts.Need-loop-again (
   add-second-reads.Asked,
   add-second-reads.Learnt,
 ) (expression-at t) expression.Post expression-Inv-loop expression-μ-loop
-expression-loop-again t c = search needs
+expression-loop-again t c =
+    let start = c .before .before .before .before .before .before .before .before .before .before .before .before .before .before .before .before .before .before .before .before in
+    let a = start .args in
+    let l = c .before .before .before .before .before .before .before .before .before .loop in
+    let len : length (l .sets) ≡ length (now (a .sets)) = l .inv .0 ∙ c .before .before .before .before .before .before .before .before .before .before .before .before .term .kept .1 .1 .1 .1 .1 .1 .1 .0 in
+    let n = length (now (a .parent)) in
+    let part = c .before .before .before .before .before .before .term2 .last .1 .1 .1 .1 .1 .1 .1 .0 in
+    let kept = c .before .before .before .before .before .before .term2 .kept .1 .1 .1 .1 .1 .1 .1 .0 in
+    let joined = c .before .before .add-second in
+    ors-owed-fits (tableOf (now (a .parent)) (now (a .kind))) (now (a .given)) (a .depth) (now (a .items)) (a .at) (length (now (a .parent))) _ _ (l .place) (l .owed) (l .sets) (c .before .before .before .before .before .before .before .before .loop-test .taken) (start .pre .1 .1 .1) (l .inv .1)
+    (λ fit two.
+      let on : n ≤ length (l .sets) = omega arith in
+      (joined .kept .0 ∙ length-stays n (l .sets) part on kept ∙ l .inv .0,
+      ors-set-more (tableOf (now (a .parent)) (now (a .kind))) (now (a .given)) (a .depth) (now (a .items)) (a .at) (length (now (a .parent))) _ (l .place) (l .owed) _ (l .sets) part (joined .last .0) (c .before .before .before .before .before .before .before .before .loop-test .taken) (l .inv .1) (c .before .before .before .before .before .before .term2 .ensures)
+      (λ f g p q. front-is n (λ i. f i || g i) _ _ (joined .ensures f g (first-stays n (l .sets) part on ∙ p) (second-comes n (l .sets) part on ∙ q)))))
 
 expression-same-length : (t : ℕ) → expression-lts.Need-same-length (
   run-of-reads.Asked,
@@ -248,7 +309,10 @@ expression-returns : (t : ℕ) → expression-lts.Need-returns (
   add-second-reads.Asked,
   add-second-reads.Learnt,
 ) (expression-at t) expression.Post expression-Inv-loop expression-μ-loop
-expression-returns t c = search needs
+expression-returns t c =
+    let a = c .before .before .before .before .before .before .before .before .before .before .before .before .args in
+    let l = c .before .loop in
+    ors-set-done (tableOf (now (a .parent)) (now (a .kind))) (now (a .given)) (a .depth) (now (a .items)) (a .at) (length (now (a .parent))) _ (l .place) (l .owed) (l .sets) (c .loop-test .left) (l .inv .1)
 
 operand-mul-unpack : (t : ℕ) → operand-lts.Need-mul-unpack (
   unpack-reads.Asked,
@@ -276,7 +340,9 @@ operand-shared-slice-read-unpack : (t : ℕ) → operand-lts.Need-shared-slice-r
   flip-reads.Asked,
   flip-reads.Learnt,
 ) (operand-at t) operand.Post
-operand-shared-slice-read-unpack t c = search needs
+operand-shared-slice-read-unpack t c =
+    let a = c .before .before .before .before .before .before .args in
+    operand-there (now (a .items)) (a .at) _ _ (a .depth) (c .before .before .before .before .before .before .pre .1 .1 .1)
 
 operand-unpack-requires : (t : ℕ) → operand-lts.Need-unpack-requires (
   unpack-reads.Asked,
@@ -332,7 +398,14 @@ operand-path-requires : (t : ℕ) → operand-lts.Need-path-requires (
   flip-reads.Asked,
   flip-reads.Learnt,
 ) (operand-at t) operand.Post
-operand-path-requires t c κs = search needs
+operand-path-requires t c κs =
+    let start = c .before .before .before .before .before .before .before .before .before .before .before in
+    let a = start .args in
+    let f = start .pre .1 .1 .1 in
+    let w = getD (now (a .items)) (a .at) 0 in
+    let u = c .before .before .before .before .unpack in
+    let s = said w (u .result) (u .ensures) in
+    (omega (arith, operand-there (now (a .items)) (a .at) _ _ (a .depth) f, start .pre .0), (omega (arith, start .pre .1 .0), (start .pre .1 .1 .0, path-fits (tableOf (now (a .parent)) (now (a .kind))) (now (a .given)) (now (a .items)) (a .at) (length (now (a .parent))) _ (a .depth) f _ (rw (c .before .before .item .given .1) at s))))
 
 operand-same-length : (t : ℕ) → operand-lts.Need-same-length (
   unpack-reads.Asked,
@@ -360,7 +433,14 @@ operand-returns : (t : ℕ) → operand-lts.Need-returns (
   flip-reads.Asked,
   flip-reads.Learnt,
 ) (operand-at t) operand.Post
-operand-returns t c = search needs
+operand-returns t c =
+    let start = c .before .before .before .before .before .before .before .before .before .before .before .before .before .before in
+    let a = start .args in
+    let f = start .pre .1 .1 .1 in
+    let w = getD (now (a .items)) (a .at) 0 in
+    let u = c .before .before .before .before .before .before .before .unpack in
+    let s = said w (u .result) (u .ensures) in
+    path-set (tableOf (now (a .parent)) (now (a .kind))) (now (a .given)) (now (a .items)) (a .at) (length (now (a .parent))) _ (a .depth) f _ _ _ (rw (c .before .before .before .before .before .item .given .1) at s) (c .before .before .path .ensures)
 
 operand-enum-told : (t : ℕ) → operand-lts.Need-enum-told (
   unpack-reads.Asked,
@@ -402,7 +482,15 @@ operand-sub-term : (t : ℕ) → operand-lts.Need-sub-term (
   flip-reads.Asked,
   flip-reads.Learnt,
 ) (operand-at t) operand.Post
-operand-sub-term t c = search needs
+operand-sub-term t c =
+    let start = c .before .before .before .before .before .before .before .before .before .before in
+    let a = start .args in
+    let f = start .pre .1 .1 .1 in
+    let w = getD (now (a .items)) (a .at) 0 in
+    let u = c .before .before .before .unpack in
+    let s = said w (u .result) (u .ensures) in
+    let deep = not-deep (tableOf (now (a .parent)) (now (a .kind))) (now (a .given)) (now (a .items)) (a .at) (length (now (a .parent))) _ (a .depth) f (u .result) s (c .before .before .match .keys2) in
+    omega (arith, deep)
 
 operand-term-requires : (t : ℕ) → operand-lts.Need-term-requires (
   unpack-reads.Asked,
@@ -416,7 +504,15 @@ operand-term-requires : (t : ℕ) → operand-lts.Need-term-requires (
   flip-reads.Asked,
   flip-reads.Learnt,
 ) (operand-at t) operand.Post
-operand-term-requires t c κs = search needs
+operand-term-requires t c κs =
+    let start = c .before .before .before .before .before .before .before .before .before .before .before in
+    let a = start .args in
+    let f = start .pre .1 .1 .1 in
+    let w = getD (now (a .items)) (a .at) 0 in
+    let u = c .before .before .before .before .unpack in
+    let s = said w (u .result) (u .ensures) in
+    let deep = not-deep (tableOf (now (a .parent)) (now (a .kind))) (now (a .given)) (now (a .items)) (a .at) (length (now (a .parent))) _ (a .depth) f (u .result) s (c .before .before .before .match .keys2) in
+    (omega (arith, operand-there (now (a .items)) (a .at) _ _ (a .depth) f, start .pre .0), ((omega arith, omega (arith, start .pre .1 .0)), (start .pre .1 .1 .0, opens-and (tableOf (now (a .parent)) (now (a .kind))) (now (a .given)) (now (a .items)) (a .at) (length (now (a .parent))) _ (a .depth) deep f (rw (c .before .enum-told .given .1) at s))))
 
 operand-same-length-2 : (t : ℕ) → operand-lts.Need-same-length-2 (
   unpack-reads.Asked,
@@ -444,7 +540,15 @@ operand-returns-2 : (t : ℕ) → operand-lts.Need-returns-2 (
   flip-reads.Asked,
   flip-reads.Learnt,
 ) (operand-at t) operand.Post
-operand-returns-2 t c = search needs
+operand-returns-2 t c =
+    let start = c .before .before .before .before .before .before .before .before .before .before .before .before .before .before in
+    let a = start .args in
+    let f = start .pre .1 .1 .1 in
+    let w = getD (now (a .items)) (a .at) 0 in
+    let u = c .before .before .before .before .before .before .before .unpack in
+    let s = said w (u .result) (u .ensures) in
+    let deep = not-deep (tableOf (now (a .parent)) (now (a .kind))) (now (a .given)) (now (a .items)) (a .at) (length (now (a .parent))) _ (a .depth) f (u .result) s (c .before .before .before .before .before .before .match .keys2) in
+    closes-and (tableOf (now (a .parent)) (now (a .kind))) (now (a .given)) (now (a .items)) (a .at) (length (now (a .parent))) _ (a .depth) deep f _ _ (rw (c .before .before .before .before .enum-told .given .1) at s) (c .before .before .term .ensures)
 
 operand-enum-told-2 : (t : ℕ) → operand-lts.Need-enum-told-2 (
   unpack-reads.Asked,
@@ -486,7 +590,15 @@ operand-sub-expression : (t : ℕ) → operand-lts.Need-sub-expression (
   flip-reads.Asked,
   flip-reads.Learnt,
 ) (operand-at t) operand.Post
-operand-sub-expression t c = search needs
+operand-sub-expression t c =
+    let start = c .before .before .before .before .before .before .before .before .before .before .before in
+    let a = start .args in
+    let f = start .pre .1 .1 .1 in
+    let w = getD (now (a .items)) (a .at) 0 in
+    let u = c .before .before .before .before .unpack in
+    let s = said w (u .result) (u .ensures) in
+    let deep = not-deep (tableOf (now (a .parent)) (now (a .kind))) (now (a .given)) (now (a .items)) (a .at) (length (now (a .parent))) _ (a .depth) f (u .result) s (c .before .before .before .match .keys2) in
+    omega (arith, deep)
 
 operand-expression-requires : (t : ℕ) → operand-lts.Need-expression-requires (
   unpack-reads.Asked,
@@ -500,7 +612,15 @@ operand-expression-requires : (t : ℕ) → operand-lts.Need-expression-requires
   flip-reads.Asked,
   flip-reads.Learnt,
 ) (operand-at t) operand.Post
-operand-expression-requires t c κs = search needs
+operand-expression-requires t c κs =
+    let start = c .before .before .before .before .before .before .before .before .before .before .before .before in
+    let a = start .args in
+    let f = start .pre .1 .1 .1 in
+    let w = getD (now (a .items)) (a .at) 0 in
+    let u = c .before .before .before .before .before .unpack in
+    let s = said w (u .result) (u .ensures) in
+    let deep = not-deep (tableOf (now (a .parent)) (now (a .kind))) (now (a .given)) (now (a .items)) (a .at) (length (now (a .parent))) _ (a .depth) f (u .result) s (c .before .before .before .before .match .keys2) in
+    (omega (arith, operand-there (now (a .items)) (a .at) _ _ (a .depth) f, start .pre .0), ((omega arith, omega (arith, start .pre .1 .0)), (start .pre .1 .1 .0, opens-or (tableOf (now (a .parent)) (now (a .kind))) (now (a .given)) (now (a .items)) (a .at) (length (now (a .parent))) _ (a .depth) deep f (rw (c .before .enum-told2 .given .1) at s))))
 
 operand-same-length-3 : (t : ℕ) → operand-lts.Need-same-length-3 (
   unpack-reads.Asked,
@@ -528,7 +648,15 @@ operand-returns-3 : (t : ℕ) → operand-lts.Need-returns-3 (
   flip-reads.Asked,
   flip-reads.Learnt,
 ) (operand-at t) operand.Post
-operand-returns-3 t c = search needs
+operand-returns-3 t c =
+    let start = c .before .before .before .before .before .before .before .before .before .before .before .before .before .before .before in
+    let a = start .args in
+    let f = start .pre .1 .1 .1 in
+    let w = getD (now (a .items)) (a .at) 0 in
+    let u = c .before .before .before .before .before .before .before .before .unpack in
+    let s = said w (u .result) (u .ensures) in
+    let deep = not-deep (tableOf (now (a .parent)) (now (a .kind))) (now (a .given)) (now (a .items)) (a .at) (length (now (a .parent))) _ (a .depth) f (u .result) s (c .before .before .before .before .before .before .before .match .keys2) in
+    closes-or (tableOf (now (a .parent)) (now (a .kind))) (now (a .given)) (now (a .items)) (a .at) (length (now (a .parent))) _ (a .depth) deep f _ _ (rw (c .before .before .before .before .enum-told2 .given .1) at s) (c .before .before .expression .ensures)
 
 operand-add-expression-2 : (t : ℕ) → operand-lts.Need-add-expression-2 (
   unpack-reads.Asked,
@@ -556,7 +684,15 @@ operand-sub-expression-2 : (t : ℕ) → operand-lts.Need-sub-expression-2 (
   flip-reads.Asked,
   flip-reads.Learnt,
 ) (operand-at t) operand.Post
-operand-sub-expression-2 t c = search needs
+operand-sub-expression-2 t c =
+    let start = c .before .before .before .before .before .before .before .before .before .before in
+    let a = start .args in
+    let f = start .pre .1 .1 .1 in
+    let w = getD (now (a .items)) (a .at) 0 in
+    let u = c .before .before .before .unpack in
+    let s = said w (u .result) (u .ensures) in
+    let deep = not-deep (tableOf (now (a .parent)) (now (a .kind))) (now (a .given)) (now (a .items)) (a .at) (length (now (a .parent))) _ (a .depth) f (u .result) s (c .before .before .match .keys2) in
+    omega (arith, deep)
 
 operand-expression-requires-2 : (t : ℕ) → operand-lts.Need-expression-requires-2 (
   unpack-reads.Asked,
@@ -570,7 +706,16 @@ operand-expression-requires-2 : (t : ℕ) → operand-lts.Need-expression-requir
   flip-reads.Asked,
   flip-reads.Learnt,
 ) (operand-at t) operand.Post
-operand-expression-requires-2 t c κs = search needs
+operand-expression-requires-2 t c κs =
+    let start = c .before .before .before .before .before .before .before .before .before .before .before in
+    let a = start .args in
+    let f = start .pre .1 .1 .1 in
+    let w = getD (now (a .items)) (a .at) 0 in
+    let u = c .before .before .before .before .unpack in
+    let s = said w (u .result) (u .ensures) in
+    let deep = not-deep (tableOf (now (a .parent)) (now (a .kind))) (now (a .given)) (now (a .items)) (a .at) (length (now (a .parent))) _ (a .depth) f (u .result) s (c .before .before .before .match .keys2) in
+    let is = must-be-not (now (a .items)) (a .at) _ _ (a .depth) f (u .result) s (c .before .before .before .match .keys2) (c .before .before .match2 .keys2) (c .before .match3 .keys2) in
+    (omega (arith, operand-there (now (a .items)) (a .at) _ _ (a .depth) f, start .pre .0), ((omega arith, omega (arith, start .pre .1 .0)), (start .pre .1 .1 .0, opens-not (tableOf (now (a .parent)) (now (a .kind))) (now (a .given)) (now (a .items)) (a .at) (length (now (a .parent))) _ (a .depth) deep f is)))
 
 operand-slice-relend-prefix-flip : (t : ℕ) → operand-lts.Need-slice-relend-prefix-flip (
   unpack-reads.Asked,
@@ -584,7 +729,11 @@ operand-slice-relend-prefix-flip : (t : ℕ) → operand-lts.Need-slice-relend-p
   flip-reads.Asked,
   flip-reads.Learnt,
 ) (operand-at t) operand.Post
-operand-slice-relend-prefix-flip t c = search needs
+operand-slice-relend-prefix-flip t c =
+    let start = c .before .before .before .before .before .before .before .before .before .before .before .before .before .before in
+    let a = start .args in
+    let f = start .pre .1 .1 .1 in
+    omega (arith, operand-room (now (a .items)) (a .at) _ _ (a .depth) f, c .before .before .expression2 .kept .1 .1 .1 .1 .1 .1 .1 .0)
 
 operand-slice-aggregate-flip : (t : ℕ) → operand-lts.Need-slice-aggregate-flip (
   unpack-reads.Asked,
@@ -598,7 +747,11 @@ operand-slice-aggregate-flip : (t : ℕ) → operand-lts.Need-slice-aggregate-fl
   flip-reads.Asked,
   flip-reads.Learnt,
 ) (operand-at t) operand.Post
-operand-slice-aggregate-flip t c = search needs
+operand-slice-aggregate-flip t c =
+    let start = c .before .before .before .before .before .before .before .before .before .before .before .before .before .before .before in
+    let a = start .args in
+    let f = start .pre .1 .1 .1 in
+    sym (length-take-le (length (now (a .parent))) _ (omega (arith, operand-room (now (a .items)) (a .at) _ _ (a .depth) f, c .before .before .before .expression2 .kept .1 .1 .1 .1 .1 .1 .1 .0)))
 
 operand-flip-requires : (t : ℕ) → operand-lts.Need-flip-requires (
   unpack-reads.Asked,
@@ -640,7 +793,23 @@ operand-returns-4 : (t : ℕ) → operand-lts.Need-returns-4 (
   flip-reads.Asked,
   flip-reads.Learnt,
 ) (operand-at t) operand.Post
-operand-returns-4 t c = search needs
+operand-returns-4 t c =
+    let start = c .before .before .before .before .before .before .before .before .before .before .before .before .before .before .before .before .before .before in
+    let a = start .args in
+    let f = start .pre .1 .1 .1 in
+    let w = getD (now (a .items)) (a .at) 0 in
+    let u = c .before .before .before .before .before .before .before .before .before .before .before .unpack in
+    let s = said w (u .result) (u .ensures) in
+    let deep = not-deep (tableOf (now (a .parent)) (now (a .kind))) (now (a .given)) (now (a .items)) (a .at) (length (now (a .parent))) _ (a .depth) f (u .result) s (c .before .before .before .before .before .before .before .before .before .before .match .keys2) in
+    let is = must-be-not (now (a .items)) (a .at) _ _ (a .depth) f (u .result) s (c .before .before .before .before .before .before .before .before .before .before .match .keys2) (c .before .before .before .before .before .before .before .before .before .match2 .keys2) (c .before .before .before .before .before .before .before .before .match3 .keys2) in
+    let n = length (now (a .parent)) in
+    let sets = c .before .before .before .before .before .before .expression2 .last .1 .1 .1 .1 .1 .1 .1 .0 in
+    let flipped = c .before .before .flip in
+    let len : length (take n sets) ≡ n = length-take-le n sets (omega (arith, operand-room (now (a .items)) (a .at) _ _ (a .depth) f, c .before .before .before .before .before .before .expression2 .kept .1 .1 .1 .1 .1 .1 .1 .0)) in
+    closes-not (tableOf (now (a .parent)) (now (a .kind))) (now (a .given)) (now (a .items)) (a .at) (length (now (a .parent))) _ (a .depth) deep f _ sets _ is (c .before .before .before .before .before .before .expression2 .ensures)
+    (λ g p.
+      front-back n (λ i. not (g i)) (flipped .last .0) _
+      (flipped .ensures g (p ∙ ap (λ (k : ℕ). bits k g) (sym len)) ∙ ap (λ (k : ℕ). bits k (λ i. not (g i))) len))
 
 abbrev path-Inv-loop : path-lts.InvT-loop
 path-Inv-loop items at count depth parent kind given sets₀ n left₀ sets left =
@@ -683,7 +852,7 @@ path-slice-aggregate-fill : (t : ℕ) → path-lts.Need-slice-aggregate-fill (
   along-reads.Asked,
   along-reads.Learnt,
 ) (path-at t) path.Post path-Inv-loop path-μ-loop
-path-slice-aggregate-fill t c = search needs
+path-slice-aggregate-fill t c = ?
 
 path-fill-requires : (t : ℕ) → path-lts.Need-fill-requires (
   fill-reads.Asked,
@@ -719,7 +888,7 @@ path-loop-holds : (t : ℕ) → path-lts.Need-loop-holds (
   along-reads.Asked,
   along-reads.Learnt,
 ) (path-at t) path.Post path-Inv-loop path-μ-loop
-path-loop-holds t c = search needs
+path-loop-holds t c = ?
 
 path-sub-left : (t : ℕ) → path-lts.Need-sub-left (
   fill-reads.Asked,
@@ -755,7 +924,7 @@ path-past-steps-requires : (t : ℕ) → path-lts.Need-past-steps-requires (
   along-reads.Asked,
   along-reads.Learnt,
 ) (path-at t) path.Post path-Inv-loop path-μ-loop
-path-past-steps-requires t c κs = search needs
+path-past-steps-requires t c κs = ?
 
 path-step-at-requires : (t : ℕ) → path-lts.Need-step-at-requires (
   fill-reads.Asked,
@@ -773,7 +942,7 @@ path-step-at-requires : (t : ℕ) → path-lts.Need-step-at-requires (
   along-reads.Asked,
   along-reads.Learnt,
 ) (path-at t) path.Post path-Inv-loop path-μ-loop
-path-step-at-requires t c κs = search needs
+path-step-at-requires t c κs = ?
 
 path-slice-relend-prefix-restrict : (t : ℕ) → path-lts.Need-slice-relend-prefix-restrict (
   fill-reads.Asked,
@@ -809,7 +978,7 @@ path-slice-aggregate-restrict : (t : ℕ) → path-lts.Need-slice-aggregate-rest
   along-reads.Asked,
   along-reads.Learnt,
 ) (path-at t) path.Post path-Inv-loop path-μ-loop
-path-slice-aggregate-restrict t c = search needs
+path-slice-aggregate-restrict t c = ?
 
 path-restrict-requires : (t : ℕ) → path-lts.Need-restrict-requires (
   fill-reads.Asked,
@@ -827,7 +996,7 @@ path-restrict-requires : (t : ℕ) → path-lts.Need-restrict-requires (
   along-reads.Asked,
   along-reads.Learnt,
 ) (path-at t) path.Post path-Inv-loop path-μ-loop
-path-restrict-requires t c κs = search needs
+path-restrict-requires t c κs = ?
 
 path-add-predicates : (t : ℕ) → path-lts.Need-add-predicates (
   fill-reads.Asked,
@@ -863,7 +1032,7 @@ path-predicates-requires : (t : ℕ) → path-lts.Need-predicates-requires (
   along-reads.Asked,
   along-reads.Learnt,
 ) (path-at t) path.Post path-Inv-loop path-μ-loop
-path-predicates-requires t c κs = search needs
+path-predicates-requires t c κs = ?
 
 path-turn-requires : (t : ℕ) → path-lts.Need-turn-requires (
   fill-reads.Asked,
@@ -899,7 +1068,7 @@ path-slice-relend-prefix-along : (t : ℕ) → path-lts.Need-slice-relend-prefix
   along-reads.Asked,
   along-reads.Learnt,
 ) (path-at t) path.Post path-Inv-loop path-μ-loop
-path-slice-relend-prefix-along t c = search needs
+path-slice-relend-prefix-along t c = ?
 
 path-slice-aggregate-along : (t : ℕ) → path-lts.Need-slice-aggregate-along (
   fill-reads.Asked,
@@ -917,7 +1086,7 @@ path-slice-aggregate-along : (t : ℕ) → path-lts.Need-slice-aggregate-along (
   along-reads.Asked,
   along-reads.Learnt,
 ) (path-at t) path.Post path-Inv-loop path-μ-loop
-path-slice-aggregate-along t c = search needs
+path-slice-aggregate-along t c = ?
 
 path-along-requires : (t : ℕ) → path-lts.Need-along-requires (
   fill-reads.Asked,
@@ -935,7 +1104,7 @@ path-along-requires : (t : ℕ) → path-lts.Need-along-requires (
   along-reads.Asked,
   along-reads.Learnt,
 ) (path-at t) path.Post path-Inv-loop path-μ-loop
-path-along-requires t c κs = search needs
+path-along-requires t c κs = ?
 
 path-loop-less : (t : ℕ) → path-lts.Need-loop-less (
   fill-reads.Asked,
@@ -971,7 +1140,7 @@ path-loop-again : (t : ℕ) → path-lts.Need-loop-again (
   along-reads.Asked,
   along-reads.Learnt,
 ) (path-at t) path.Post path-Inv-loop path-μ-loop
-path-loop-again t c = search needs
+path-loop-again t c = ?
 
 path-past-steps-requires-2 : (t : ℕ) → path-lts.Need-past-steps-requires-2 (
   fill-reads.Asked,
@@ -989,7 +1158,7 @@ path-past-steps-requires-2 : (t : ℕ) → path-lts.Need-past-steps-requires-2 (
   along-reads.Asked,
   along-reads.Learnt,
 ) (path-at t) path.Post path-Inv-loop path-μ-loop
-path-past-steps-requires-2 t c κs = search needs
+path-past-steps-requires-2 t c κs = ?
 
 path-same-length : (t : ℕ) → path-lts.Need-same-length (
   fill-reads.Asked,
@@ -1025,7 +1194,7 @@ path-returns : (t : ℕ) → path-lts.Need-returns (
   along-reads.Asked,
   along-reads.Learnt,
 ) (path-at t) path.Post path-Inv-loop path-μ-loop
-path-returns t c = search needs
+path-returns t c = ?
 
 abbrev predicates-Inv-loop : predicates-lts.InvT-loop
 predicates-Inv-loop items at count depth parent kind given sets₀ n place₀ owed₀ sets place owed =
@@ -1040,7 +1209,7 @@ predicates-loop-holds : (t : ℕ) → predicates-lts.Need-loop-holds (
   keep-second-reads.Asked,
   keep-second-reads.Learnt,
 ) (predicates-at t) predicates.Post predicates-Inv-loop predicates-μ-loop
-predicates-loop-holds t c = search needs
+predicates-loop-holds t c = ?
 
 predicates-sub-expression : (t : ℕ) → predicates-lts.Need-sub-expression (
   expression-below t,
@@ -1048,7 +1217,7 @@ predicates-sub-expression : (t : ℕ) → predicates-lts.Need-sub-expression (
   keep-second-reads.Asked,
   keep-second-reads.Learnt,
 ) (predicates-at t) predicates.Post predicates-Inv-loop predicates-μ-loop
-predicates-sub-expression t c = search needs
+predicates-sub-expression t c = ?
 
 predicates-sub-expression-2 : (t : ℕ) → predicates-lts.Need-sub-expression-2 (
   expression-below t,
@@ -1080,7 +1249,7 @@ predicates-expression-requires : (t : ℕ) → predicates-lts.Need-expression-re
   keep-second-reads.Asked,
   keep-second-reads.Learnt,
 ) (predicates-at t) predicates.Post predicates-Inv-loop predicates-μ-loop
-predicates-expression-requires t c κs = search needs
+predicates-expression-requires t c κs = ?
 
 predicates-keep-second-requires : (t : ℕ) → predicates-lts.Need-keep-second-requires (
   expression-below t,
@@ -1088,7 +1257,7 @@ predicates-keep-second-requires : (t : ℕ) → predicates-lts.Need-keep-second-
   keep-second-reads.Asked,
   keep-second-reads.Learnt,
 ) (predicates-at t) predicates.Post predicates-Inv-loop predicates-μ-loop
-predicates-keep-second-requires t c κs = search needs
+predicates-keep-second-requires t c κs = ?
 
 predicates-sub-owed : (t : ℕ) → predicates-lts.Need-sub-owed (
   expression-below t,
@@ -1112,7 +1281,7 @@ predicates-loop-again : (t : ℕ) → predicates-lts.Need-loop-again (
   keep-second-reads.Asked,
   keep-second-reads.Learnt,
 ) (predicates-at t) predicates.Post predicates-Inv-loop predicates-μ-loop
-predicates-loop-again t c = search needs
+predicates-loop-again t c = ?
 
 predicates-same-length : (t : ℕ) → predicates-lts.Need-same-length (
   expression-below t,
@@ -1128,7 +1297,7 @@ predicates-returns : (t : ℕ) → predicates-lts.Need-returns (
   keep-second-reads.Asked,
   keep-second-reads.Learnt,
 ) (predicates-at t) predicates.Post predicates-Inv-loop predicates-μ-loop
-predicates-returns t c = search needs
+predicates-returns t c = ?
 
 abbrev term-Inv-loop : term-lts.InvT-loop
 term-Inv-loop items at counted depth parent kind given sets₀ n run place₀ owed₀ sets place owed =
@@ -1165,7 +1334,14 @@ term-operand-requires : (t : ℕ) → term-lts.Need-operand-requires (
   keep-second-reads.Asked,
   keep-second-reads.Learnt,
 ) (term-at t) term.Post term-Inv-loop term-μ-loop
-term-operand-requires t c κs = search needs
+term-operand-requires t c κs =
+    let start = c .before .before .before .before .before .before .before in
+    let a = start .args in
+    let r = c .before .run-of in
+    let pre = start .pre .1 in
+    (search needs, (omega arith, (pre .1 .0,
+    ands-first-fits (tableOf (now (a .parent)) (now (a .kind))) (now (a .given)) (a .depth) (now (a .items)) (a .at) (length (now (a .parent))) _ (r .result + a .counted) _ (pre .1 .1) (a .at + r .result) (r .ensures .1)
+    (ands-begin (a .depth) (now (a .items)) (a .at) (a .counted) (r .result) (r .ensures .0)))))
 
 term-add-owed : (t : ℕ) → term-lts.Need-add-owed (
   run-of-reads.Asked,
@@ -1185,7 +1361,12 @@ term-loop-holds : (t : ℕ) → term-lts.Need-loop-holds (
   keep-second-reads.Asked,
   keep-second-reads.Learnt,
 ) (term-at t) term.Post term-Inv-loop term-μ-loop
-term-loop-holds t c = search needs
+term-loop-holds t c =
+    let a = c .before .before .before .before .before .before .before .before .before .before .args in
+    let r = c .before .before .before .before .run-of in
+    (refl,
+    ands-first-set (tableOf (now (a .parent)) (now (a .kind))) (now (a .given)) (a .depth) (now (a .items)) (a .at) (length (now (a .parent))) (r .result + a .counted) _ (a .at + r .result) _ _ (omega arith)
+    (ands-begin (a .depth) (now (a .items)) (a .at) (a .counted) (r .result) (r .ensures .0)) (c .before .before .operand .ensures))
 
 term-sub-operand : (t : ℕ) → term-lts.Need-sub-operand (
   run-of-reads.Asked,
@@ -1195,7 +1376,12 @@ term-sub-operand : (t : ℕ) → term-lts.Need-sub-operand (
   keep-second-reads.Asked,
   keep-second-reads.Learnt,
 ) (term-at t) term.Post term-Inv-loop term-μ-loop
-term-sub-operand t c = search needs
+term-sub-operand t c =
+    let start = c .before .before .before .before .before .before .before .before .before .before .before .before in
+    let a = start .args in
+    let l = c .before .loop in
+    let len : length (l .sets) ≡ length (now (a .sets)) = l .inv .0 ∙ c .before .before .before .before .operand .kept .1 .1 .1 .1 .1 .1 .0 in
+    ands-owed-fits (tableOf (now (a .parent)) (now (a .kind))) (now (a .given)) (a .depth) (now (a .items)) (a .at) (length (now (a .parent))) _ _ (l .place) (l .owed) (l .sets) (c .loop-test .taken) (start .pre .1 .1 .1) (l .inv .1) (λ f two. omega arith)
 
 term-part-operand-start : (t : ℕ) → term-lts.Need-part-operand-start (
   run-of-reads.Asked,
@@ -1205,7 +1391,12 @@ term-part-operand-start : (t : ℕ) → term-lts.Need-part-operand-start (
   keep-second-reads.Asked,
   keep-second-reads.Learnt,
 ) (term-at t) term.Post term-Inv-loop term-μ-loop
-term-part-operand-start t c = search needs
+term-part-operand-start t c =
+    let start = c .before .before .before .before .before .before .before .before .before .before .before .before in
+    let a = start .args in
+    let l = c .before .loop in
+    let len : length (l .sets) ≡ length (now (a .sets)) = l .inv .0 ∙ c .before .before .before .before .operand .kept .1 .1 .1 .1 .1 .1 .0 in
+    ands-owed-fits (tableOf (now (a .parent)) (now (a .kind))) (now (a .given)) (a .depth) (now (a .items)) (a .at) (length (now (a .parent))) _ _ (l .place) (l .owed) (l .sets) (c .loop-test .taken) (start .pre .1 .1 .1) (l .inv .1) (λ f two. omega arith)
 
 term-part-operand-end : (t : ℕ) → term-lts.Need-part-operand-end (
   run-of-reads.Asked,
@@ -1225,7 +1416,16 @@ term-operand-requires-2 : (t : ℕ) → term-lts.Need-operand-requires-2 (
   keep-second-reads.Asked,
   keep-second-reads.Learnt,
 ) (term-at t) term.Post term-Inv-loop term-μ-loop
-term-operand-requires-2 t c κs = search needs
+term-operand-requires-2 t c κs =
+    let start = c .before .before .before .before .before .before .before .before .before .before .before .before .before in
+    let a = start .args in
+    let l = c .before .before .loop in
+    let len : length (l .sets) ≡ length (now (a .sets)) = l .inv .0 ∙ c .before .before .before .before .before .operand .kept .1 .1 .1 .1 .1 .1 .0 in
+    let n = length (now (a .parent)) in
+    ands-owed-fits (tableOf (now (a .parent)) (now (a .kind))) (now (a .given)) (a .depth) (now (a .items)) (a .at) (length (now (a .parent))) _ _ (l .place) (l .owed) (l .sets) (c .before .loop-test .taken) (start .pre .1 .1 .1) (l .inv .1)
+    (λ f two.
+      (omega (arith, l .inv .1 .onward, l .inv .1 .inside, start .pre .0), (omega arith, (start .pre .1 .1 .0,
+      subst (λ (k : ℕ). Fits (now (a .items)) (l .place) n k (takeOperand (takeWithin (a .depth)) (drop (l .place) (now (a .items)))) heightExpr) (ap (λ (k : ℕ). k - n) (sym len) ∙ sym (part-length n (l .sets) [] (omega arith))) f))))
 
 term-keep-second-requires : (t : ℕ) → term-lts.Need-keep-second-requires (
   run-of-reads.Asked,
@@ -1235,7 +1435,14 @@ term-keep-second-requires : (t : ℕ) → term-lts.Need-keep-second-requires (
   keep-second-reads.Asked,
   keep-second-reads.Learnt,
 ) (term-at t) term.Post term-Inv-loop term-μ-loop
-term-keep-second-requires t c κs = search needs
+term-keep-second-requires t c κs =
+    let start = c .before .before .before .before .before .before .before .before .before .before .before .before .before .before .before .before .before in
+    let a = start .args in
+    let l = c .before .before .before .before .before .before .loop in
+    let len : length (l .sets) ≡ length (now (a .sets)) = l .inv .0 ∙ c .before .before .before .before .before .before .before .before .before .operand .kept .1 .1 .1 .1 .1 .1 .0 in
+    let n = length (now (a .parent)) in
+    ands-owed-fits (tableOf (now (a .parent)) (now (a .kind))) (now (a .given)) (a .depth) (now (a .items)) (a .at) (length (now (a .parent))) _ _ (l .place) (l .owed) (l .sets) (c .before .before .before .before .before .loop-test .taken) (start .pre .1 .1 .1) (l .inv .1)
+    (λ f two. omega (arith, length-stays n (l .sets) (c .before .before .before .operand2 .last .1 .1 .1 .1 .1 .1 .0) (omega arith) (c .before .before .before .operand2 .kept .1 .1 .1 .1 .1 .1 .0)))
 
 term-sub-owed : (t : ℕ) → term-lts.Need-sub-owed (
   run-of-reads.Asked,
@@ -1265,7 +1472,21 @@ term-loop-again : (t : ℕ) → term-lts.Need-loop-again (
   keep-second-reads.Asked,
   keep-second-reads.Learnt,
 ) (term-at t) term.Post term-Inv-loop term-μ-loop
-term-loop-again t c = search needs
+term-loop-again t c =
+    let start = c .before .before .before .before .before .before .before .before .before .before .before .before .before .before .before .before .before .before .before .before in
+    let a = start .args in
+    let l = c .before .before .before .before .before .before .before .before .before .loop in
+    let len : length (l .sets) ≡ length (now (a .sets)) = l .inv .0 ∙ c .before .before .before .before .before .before .before .before .before .before .before .before .operand .kept .1 .1 .1 .1 .1 .1 .0 in
+    let n = length (now (a .parent)) in
+    let part = c .before .before .before .before .before .before .operand2 .last .1 .1 .1 .1 .1 .1 .0 in
+    let kept = c .before .before .before .before .before .before .operand2 .kept .1 .1 .1 .1 .1 .1 .0 in
+    let joined = c .before .before .keep-second in
+    ands-owed-fits (tableOf (now (a .parent)) (now (a .kind))) (now (a .given)) (a .depth) (now (a .items)) (a .at) (length (now (a .parent))) _ _ (l .place) (l .owed) (l .sets) (c .before .before .before .before .before .before .before .before .loop-test .taken) (start .pre .1 .1 .1) (l .inv .1)
+    (λ fit two.
+      let on : n ≤ length (l .sets) = omega arith in
+      (joined .kept .0 ∙ length-stays n (l .sets) part on kept ∙ l .inv .0,
+      ands-set-more (tableOf (now (a .parent)) (now (a .kind))) (now (a .given)) (a .depth) (now (a .items)) (a .at) (length (now (a .parent))) _ (l .place) (l .owed) _ (l .sets) part (joined .last .0) (c .before .before .before .before .before .before .before .before .loop-test .taken) (l .inv .1) (c .before .before .before .before .before .before .operand2 .ensures)
+      (λ f g p q. front-is n (λ i. f i && g i) _ _ (joined .ensures f g (first-stays n (l .sets) part on ∙ p) (second-comes n (l .sets) part on ∙ q)))))
 
 term-same-length : (t : ℕ) → term-lts.Need-same-length (
   run-of-reads.Asked,
@@ -1285,7 +1506,10 @@ term-returns : (t : ℕ) → term-lts.Need-returns (
   keep-second-reads.Asked,
   keep-second-reads.Learnt,
 ) (term-at t) term.Post term-Inv-loop term-μ-loop
-term-returns t c = search needs
+term-returns t c =
+    let a = c .before .before .before .before .before .before .before .before .before .before .before .before .args in
+    let l = c .before .loop in
+    ands-set-done (tableOf (now (a .parent)) (now (a .kind))) (now (a .given)) (a .depth) (now (a .items)) (a .at) (length (now (a .parent))) _ (l .place) (l .owed) (l .sets) (c .loop-test .left) (l .inv .1)
 
 pub +expression+operand+path+predicates+term-spec : {M : Type 1} → statement M
 +expression+operand+path+predicates+term-spec =
