@@ -15,14 +15,17 @@ use Rattle.paper.specs.Tools.{found, column, columnFrom}
 use Rattle.paper.specs.Query.{Axis, Test, Expr, Steps, stop, step, Preds, bare, pred}
 use Rattle.paper.specs.Items.{Head, stepAt, stepCount, goodTest, Taken, takePreds, takeSteps, takeWithin}
 use Rattle.paper.specs.Measures.{heightExpr, heightSteps, heightPreds}
-use Rattle.paper.specs.Document.{Table}
-use Rattle.paper.specs.Selection.{holds, finds, allHold}
+use Rattle.paper.specs.Document.{Table, kindOf, marked}
+use Rattle.paper.specs.Selection.{meets, holds, finds, allHold}
+use Rattle.paper.specs.Composition.{turned}
 use Rattle.paper.proofs.Tests.{found-some, none-some, some-inj}
 use Rattle.paper.proofs.Decoding.{orsFrom, whole}
 use Rattle.paper.proofs.Encoding.{FromSteps, from-steps, from-within}
 use Rattle.shape.proofs.Walking.{ahead, appendPreds, preds-bare, bare-preds, preds-append, height-preds, pred-row}
-use Rattle.sets.specs.Sets.{bits}
-use Rattle.run.specs.Evals.{Fits, Ends, Narrows, Readable, StepThere}
+use Rattle.sets.specs.Sets.{bits, image}
+use Rattle.run.specs.Evals.{Fits, Ends, Evaluates, Narrows, Readable, StepThere}
+use Rattle.run.proofs.Slices.{front-back}
+use Rattle.run.proofs.Stepwise.{back-step}
 use Rattle.run.proofs.Running.{behind, enough, two-fit, some-height}
 
 -- Sets of the same nodes are the same.
@@ -242,3 +245,62 @@ pub record PathSet (t : Table) (m : List ℕ) (items : List ℕ) (at nodes depth
   pub reads : takeSteps (takeWithin depth) count (drop at items) ≡ some (steps, rest)
   pub fewer : left ≤ count
   pub set : take nodes sets ≡ bits nodes (finds t m (later left steps))
+
+module _ (t : Table) (m : List ℕ) (items : List ℕ) (at nodes room depth count : ℕ) (f : Fits items at nodes room (takeSteps (takeWithin depth) count (drop at items)) (λ s. 1 + heightSteps s)) where
+  -- Before any step all nodes are in the set.
+  pub path-begin : (part rest : List ℕ) → part ≡ replicate {A = ℕ} nodes 1 → PathSet t m items at nodes depth count count (part ++ rest)
+  path-begin part rest e =
+      record {
+        steps = f .what;
+        rest = f .rest;
+        reads = f .reads;
+        fewer = omega arith;
+        set =
+          front-back nodes (finds t m (later count (f .what))) part rest
+          (e ∙ ones nodes 0 ∙
+          ap (λ (s : Steps). bits nodes (finds t m s)) (sym (later-all (f .what)) ∙ ap (λ (k : ℕ). later k (f .what)) (count-steps items at nodes room depth count f)))
+      }
+    where
+      ones : (n from : ℕ) → replicate {A = ℕ} n 1 ≡ columnFrom n from (λ i. cond true 1 0)
+      ones zero from = refl
+      ones (suc n) from = ap (λ (z : List ℕ). 1 ∷ z) (ones n (suc from))
+
+  -- The set, of the steps that are to be read.
+  pub path-now : (left : ℕ) (sets : List ℕ) → PathSet t m items at nodes depth count left sets → take nodes sets ≡ bits nodes (finds t m (later left (f .what)))
+  path-now left sets l = l .set ∙ ap (λ (z : Steps × List ℕ). bits nodes (finds t m (later left (z .0)))) (some-inj (sym (l .reads) ∙ f .reads))
+
+  -- One step back: marks and test, then the predicates, then the turned axis.
+  pub path-back : (k place : ℕ) (h : Head) (sets part one after part′ rest : List ℕ) → k < count → StepHere items place nodes room depth (f .what) k h
+      → PathSet t m items at nodes depth count (suc k) sets
+      → ((g : ℕ → Bool) → take nodes sets ≡ bits nodes g → part ≡ bits nodes (λ i. (g i && marked m i) && meets (h .test) (kindOf t i)))
+      → (next : ℕ) → Narrows items (place + 1) nodes (takePreds (takeWithin depth) (h .count) (drop (place + 1) items)) (allHold t m) next (part ++ one) after
+      → ((g : ℕ → Bool) → take nodes after ≡ bits nodes g → part′ ≡ bits nodes (image t (turned (h .axis)) g))
+      → PathSet t m items at nodes depth count k (part′ ++ rest)
+  path-back k place h sets part one after part′ rest l here p restricted next v moved =
+      let g : ℕ → Bool = finds t m (later (suc k) (f .what)) in
+      let g₁ : ℕ → Bool = λ i. (g i && marked m i) && meets (h .test) (kindOf t i) in
+      let g₂ : ℕ → Bool = λ i. g₁ i && allHold t m (v .what) i in
+      let first : part ≡ bits nodes g₁ = restricted g (path-now (suc k) sets p) in
+      let second : take nodes after ≡ bits nodes g₂ = v .set g₁ (front-back nodes g₁ part one first) in
+      let same : v .what ≡ here .preds .what = ap (λ (z : Preds × List ℕ). z .0) (some-inj (sym (v .reads) ∙ here .preds .reads)) in
+      record {
+        steps = f .what;
+        rest = f .rest;
+        reads = f .reads;
+        fewer = omega arith;
+        set =
+          front-back nodes (image t (turned (h .axis)) g₂) part′ rest (moved g₂ second) ∙
+          bits-same nodes (image t (turned (h .axis)) g₂) (finds t m (step (h .axis) (h .test) (v .what) (later (suc k) (f .what)))) (λ i. back-step t m (h .axis) (h .test) (v .what) (later (suc k) (f .what)) i) ∙
+          ap (λ (s : Steps). bits nodes (finds t m s)) (ap (λ (ps : Preds). step (h .axis) (h .test) ps (later (suc k) (f .what))) same ∙ sym (here .here))
+      }
+
+  pub path-done : (next : ℕ) (sets : List ℕ) → PathSet t m items at nodes depth count 0 sets → Ends items at (takeSteps (takeWithin depth) count (drop at items)) next
+      → Evaluates items at nodes (takeSteps (takeWithin depth) count (drop at items)) (finds t m) next sets
+  path-done next sets p e =
+      record {
+        what = e .what;
+        reads = e .reads;
+        onward = e .onward;
+        inside = e .inside;
+        set = path-now 0 sets p ∙ ap (λ (z : Steps × List ℕ). bits nodes (finds t m (z .0))) (some-inj (sym (f .reads) ∙ e .reads))
+      }

@@ -5,7 +5,7 @@ use native.Mathlib.Nat.{add-sub-cancel-left}
 use mathlib.Core.Path.{_≡_, refl, sym, _∙_, ap}
 use mathlib.Core.List.{List, [], _++_, append-nil}
 use lib.ListN.{length, take, drop, length-take, length-drop, drop-of-length-le}
-use lib.Seq.{take-at, drop-at, take-all, length-take-le}
+use lib.Seq.{take-at, drop-at, take-all, length-take-le, length-front}
 use mathlib.Core.Bool.{Bool, cond}
 use Rattle.paper.proofs.Searches.{length-column}
 use Rattle.sets.specs.Sets.{bits}
@@ -37,3 +37,7 @@ front-is n f all rest e = ap (take n) e ∙ take-at (bits n f) rest n (length-co
 -- A set in front that was lent by itself is what came back.
 pub front-back : (n : ℕ) (f : ℕ → Bool) (part rest : List ℕ) → part ≡ bits n f → take n (part ++ rest) ≡ bits n f
 front-back n f part rest e = front-is n f (part ++ rest) rest (ap (λ (z : List ℕ). z ++ rest) e)
+
+-- A slice whose front was lent and has come back is as long as it was.
+pub front-length : (n : ℕ) (sets part : List ℕ) → n ≤ length sets → length part ≡ length (take n sets) → length (part ++ drop n sets) ≡ length sets
+front-length n sets part l e = length-front sets part n e

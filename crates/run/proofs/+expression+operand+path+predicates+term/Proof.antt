@@ -4,23 +4,30 @@
 use Prim.Native.Nat.{suc, _+_, _-_, _*_, _≤_}
 use native.Mathlib.Omega.{arith}
 use borrow.Author.Needs.{needs}
-use mathlib.Core.Path.{_≡_, refl, sym, _∙_, ap, subst}
+use mathlib.Core.Path.{_≡_, refl, sym, _∙_, ap, subst, subst₂}
 use mathlib.Core.Bool.{not, _&&_, _||_}
-use mathlib.Core.List.{[]}
+use mathlib.Core.List.{[], _++_}
 use denote.Ref.{now}
-use lib.ListN.{length, getD, take, drop}
+use lib.ListN.{length, getD, take, drop, replicate}
 use lib.Seq.{length-take-le}
-use Rattle.paper.specs.Items.{takePreds, takeSteps, takeOperand, takeWithin}
+use Rattle.paper.specs.Items.{Head, takePreds, takeSteps, takeOperand, takeWithin}
 use Rattle.paper.proofs.Decoding.{orsFrom, andsFrom}
-use Rattle.item.proofs.Saying.{said}
-use Rattle.sets.specs.Sets.{bits, tableOf}
-use Rattle.paper.specs.Measures.{heightExpr}
-use Rattle.run.specs.Evals.{Fits}
-use Rattle.run.proofs.Slices.{part-length, first-stays, second-comes, length-stays, front-is, front-back}
+use Rattle.item.specs.declared.Step.{Step}
+use Rattle.item.proofs.Saying.{said, numbered}
+use Rattle.paper.proofs.Tests.{some-inj}
+use Rattle.paper.proofs.Fields.{step-found}
+use Rattle.paper.specs.Selection.{meets, allHold}
+use Rattle.paper.specs.Composition.{turned}
+use Rattle.paper.specs.Document.{marked}
+use Rattle.sets.specs.Sets.{bits, tableOf, image}
+use Rattle.paper.specs.Measures.{heightExpr, heightPreds}
+use Rattle.run.specs.Evals.{Fits, Narrows}
+use Rattle.run.proofs.Slices.{part-length, first-stays, second-comes, length-stays, front-is, front-back, front-length}
 use Rattle.run.proofs.Running.{AndSet, ands-begin, ands-first-fits, ands-first-set, ands-owed-fits, ands-set-more, ands-set-done}
 use Rattle.run.proofs.Running.{OrSet, ors-begin, ors-first-fits, ors-first-set, ors-owed-fits, ors-set-more, ors-set-done}
 use Rattle.run.proofs.Operating.{operand-there, operand-room, not-deep, path-fits, path-set, opens-and, opens-or, opens-not, closes-and, closes-or, closes-not, must-be-not}
-use Rattle.run.proofs.Rows.{PredSet, PathSet}
+use Rattle.run.proofs.Running.{one-fits}
+use Rattle.run.proofs.Rows.{PredSet, preds-begin, pred-fits, preds-more, preds-end, PathSet, StepHere, path-begin, path-back, path-done, first-readable, step-here}
 use Prim.Native.Nat.{ℕ, _<_}
 use borrow.Fn.Kinds.{In}
 use borrow.Fn.PlainCycle.{Measures, is, falls, and}
@@ -852,7 +859,11 @@ path-slice-aggregate-fill : (t : ℕ) → path-lts.Need-slice-aggregate-fill (
   along-reads.Asked,
   along-reads.Learnt,
 ) (path-at t) path.Post path-Inv-loop path-μ-loop
-path-slice-aggregate-fill t c = ?
+path-slice-aggregate-fill t c =
+    let start = c .before .before .before .before .before .before in
+    let a = start .args in
+    let n = length (now (a .parent)) in
+    sym (length-take-le n (now (a .sets)) (one-fits (length (now (a .parent))) _ (length (now (a .sets))) (start .pre .1 .1 .1 .room-for) (omega arith)))
 
 path-fill-requires : (t : ℕ) → path-lts.Need-fill-requires (
   fill-reads.Asked,
@@ -888,7 +899,13 @@ path-loop-holds : (t : ℕ) → path-lts.Need-loop-holds (
   along-reads.Asked,
   along-reads.Learnt,
 ) (path-at t) path.Post path-Inv-loop path-μ-loop
-path-loop-holds t c = ?
+path-loop-holds t c =
+    let start = c .before .before .before .before .before .before .before .before .before in
+    let a = start .args in
+    let n = length (now (a .parent)) in
+    (refl,
+    path-begin (tableOf (now (a .parent)) (now (a .kind))) (now (a .given)) (now (a .items)) (a .at) (length (now (a .parent))) (length (now (a .sets))) (a .depth) (a .count) (start .pre .1 .1 .1) (c .before .before .fill .last .0) _
+    (c .before .before .fill .ensures ∙ ap (λ (k : ℕ). replicate k 1) (length-take-le n (now (a .sets)) (one-fits (length (now (a .parent))) _ (length (now (a .sets))) (start .pre .1 .1 .1 .room-for) (omega arith)))))
 
 path-sub-left : (t : ℕ) → path-lts.Need-sub-left (
   fill-reads.Asked,
@@ -924,7 +941,12 @@ path-past-steps-requires : (t : ℕ) → path-lts.Need-past-steps-requires (
   along-reads.Asked,
   along-reads.Learnt,
 ) (path-at t) path.Post path-Inv-loop path-μ-loop
-path-past-steps-requires t c κs = ?
+path-past-steps-requires t c κs =
+    let start = c .before .before .before .before .before .before .before .before .before .before .before in
+    let a = start .args in
+    let n = length (now (a .parent)) in
+    let l = c .before .loop in
+    (start .pre .1 .1 .1 .inside, start .pre .1 .0, first-readable (now (a .items)) (a .at) (length (now (a .parent))) (length (now (a .sets))) (a .depth) (a .count) (start .pre .1 .1 .1) (l .left - 1) (omega (arith, l .inv .1 .fewer)))
 
 path-step-at-requires : (t : ℕ) → path-lts.Need-step-at-requires (
   fill-reads.Asked,
@@ -942,7 +964,12 @@ path-step-at-requires : (t : ℕ) → path-lts.Need-step-at-requires (
   along-reads.Asked,
   along-reads.Learnt,
 ) (path-at t) path.Post path-Inv-loop path-μ-loop
-path-step-at-requires t c κs = ?
+path-step-at-requires t c κs =
+    let start = c .before .before .before .before .before .before .before .before .before .before .before .before in
+    let a = start .args in
+    let n = length (now (a .parent)) in
+    let l = c .before .before .loop in
+    step-here (now (a .items)) (a .at) (length (now (a .parent))) (length (now (a .sets))) (a .depth) (a .count) (start .pre .1 .1 .1) (l .left - 1) (c .past-steps .result) (omega (arith, l .inv .1 .fewer, c .before .loop-test .taken)) (c .past-steps .ensures) (λ on h p here. (on, (h, p)))
 
 path-slice-relend-prefix-restrict : (t : ℕ) → path-lts.Need-slice-relend-prefix-restrict (
   fill-reads.Asked,
@@ -978,7 +1005,13 @@ path-slice-aggregate-restrict : (t : ℕ) → path-lts.Need-slice-aggregate-rest
   along-reads.Asked,
   along-reads.Learnt,
 ) (path-at t) path.Post path-Inv-loop path-μ-loop
-path-slice-aggregate-restrict t c = ?
+path-slice-aggregate-restrict t c =
+    let start = c .before .before .before .before .before .before .before .before .before .before .before .before .before .before in
+    let a = start .args in
+    let n = length (now (a .parent)) in
+    let l = c .before .before .before .before .loop in
+    let len : length (l .sets) ≡ length (now (a .sets)) = l .inv .0 ∙ front-length n (now (a .sets)) (c .before .before .before .before .before .before .before .fill .last .0) (one-fits n _ (length (now (a .sets))) (start .pre .1 .1 .1 .room-for) (omega arith)) (c .before .before .before .before .before .before .before .fill .kept .0) in
+    sym (length-take-le n (l .sets) (omega (arith, one-fits (length (now (a .parent))) _ (length (now (a .sets))) (start .pre .1 .1 .1 .room-for) (omega arith))))
 
 path-restrict-requires : (t : ℕ) → path-lts.Need-restrict-requires (
   fill-reads.Asked,
@@ -996,7 +1029,15 @@ path-restrict-requires : (t : ℕ) → path-lts.Need-restrict-requires (
   along-reads.Asked,
   along-reads.Learnt,
 ) (path-at t) path.Post path-Inv-loop path-μ-loop
-path-restrict-requires t c κs = ?
+path-restrict-requires t c κs =
+    let start = c .before .before .before .before .before .before .before .before .before .before .before .before .before .before in
+    let a = start .args in
+    let n = length (now (a .parent)) in
+    let l = c .before .before .before .before .loop in
+    let len : length (l .sets) ≡ length (now (a .sets)) = l .inv .0 ∙ front-length n (now (a .sets)) (c .before .before .before .before .before .before .before .fill .last .0) (one-fits n _ (length (now (a .sets))) (start .pre .1 .1 .1 .room-for) (omega arith)) (c .before .before .before .before .before .before .before .fill .kept .0) in
+    let front : length (take n (l .sets)) ≡ n = length-take-le n (l .sets) (omega (arith, one-fits (length (now (a .parent))) _ (length (now (a .sets))) (start .pre .1 .1 .1 .room-for) (omega arith))) in
+    let ready = start .pre .1 .1 .0 in
+    (ready .kinds-all ∙ sym front, ready .marks-all ∙ sym front, ready .marks-bits ∙ ap (λ (k : ℕ). bits k (marked (now (a .given)))) (sym front))
 
 path-add-predicates : (t : ℕ) → path-lts.Need-add-predicates (
   fill-reads.Asked,
@@ -1032,7 +1073,22 @@ path-predicates-requires : (t : ℕ) → path-lts.Need-predicates-requires (
   along-reads.Asked,
   along-reads.Learnt,
 ) (path-at t) path.Post path-Inv-loop path-μ-loop
-path-predicates-requires t c κs = ?
+path-predicates-requires t c κs =
+    let start = c .before .before .before .before .before .before .before .before .before .before .before .before .before .before .before .before .before .before in
+    let a = start .args in
+    let n = length (now (a .parent)) in
+    let l = c .before .before .before .before .before .before .before .before .loop in
+    let said-step = c .before .before .before .before .before .step-at .ensures in
+    let len : length (l .sets) ≡ length (now (a .sets)) = l .inv .0 ∙ front-length n (now (a .sets)) (c .before .before .before .before .before .before .before .before .before .before .before .fill .last .0) (one-fits n _ (length (now (a .sets))) (start .pre .1 .1 .1 .room-for) (omega arith)) (c .before .before .before .before .before .before .before .before .before .before .before .fill .kept .0) in
+    let len1 : length (c .before .before .before .restrict .last .1 .1 .1 .0 ++ drop n (l .sets)) ≡ length (now (a .sets)) =
+      front-length n (l .sets) (c .before .before .before .restrict .last .1 .1 .1 .0) (omega (arith, one-fits n _ (length (now (a .sets))) (start .pre .1 .1 .1 .room-for) (omega arith))) (c .before .before .before .restrict .kept .1 .1 .1 .0) ∙ len in
+    step-here (now (a .items)) (a .at) (length (now (a .parent))) (length (now (a .sets))) (a .depth) (a .count) (start .pre .1 .1 .1) (l .left - 1) (c .before .before .before .before .before .before .past-steps .result) (omega (arith, l .inv .1 .fewer, c .before .before .before .before .before .before .before .loop-test .taken)) (c .before .before .before .before .before .before .past-steps .ensures)
+    (λ on h p here.
+      let same : said-step .0 ≡ h = some-inj (sym (said-step .1) ∙ p) in
+      let count : c .before .before .before .before .before .step-at .result .count ≡ h .count = ap (λ (x : Step). x .count) (said-step .2) ∙ ap (λ (x : Head). x .count) same in
+      (omega (arith, c .before .before .before .before .before .before .past-steps .ensures .onward, start .pre .0), (start .pre .1 .0, (start .pre .1 .1 .0,
+      subst₂ (λ (k r : ℕ). Fits (now (a .items)) (c .before .before .before .before .before .before .past-steps .result + 1) n r (takePreds (takeWithin (a .depth)) k (drop (c .before .before .before .before .before .before .past-steps .result + 1) (now (a .items)))) (λ ps. 1 + heightPreds ps))
+      (sym count) (sym len1) (here .preds)))))
 
 path-turn-requires : (t : ℕ) → path-lts.Need-turn-requires (
   fill-reads.Asked,
@@ -1068,7 +1124,16 @@ path-slice-relend-prefix-along : (t : ℕ) → path-lts.Need-slice-relend-prefix
   along-reads.Asked,
   along-reads.Learnt,
 ) (path-at t) path.Post path-Inv-loop path-μ-loop
-path-slice-relend-prefix-along t c = ?
+path-slice-relend-prefix-along t c =
+    let start = c .before .before .before .before .before .before .before .before .before .before .before .before .before .before .before .before .before .before .before .before .before .before in
+    let a = start .args in
+    let n = length (now (a .parent)) in
+    let l = c .before .before .before .before .before .before .before .before .before .before .before .before .loop in
+    let len : length (l .sets) ≡ length (now (a .sets)) = l .inv .0 ∙ front-length n (now (a .sets)) (c .before .before .before .before .before .before .before .before .before .before .before .before .before .before .before .fill .last .0) (one-fits n _ (length (now (a .sets))) (start .pre .1 .1 .1 .room-for) (omega arith)) (c .before .before .before .before .before .before .before .before .before .before .before .before .before .before .before .fill .kept .0) in
+    let len1 : length (c .before .before .before .before .before .before .before .restrict .last .1 .1 .1 .0 ++ drop n (l .sets)) ≡ length (now (a .sets)) =
+      front-length n (l .sets) (c .before .before .before .before .before .before .before .restrict .last .1 .1 .1 .0) (omega (arith, one-fits n _ (length (now (a .sets))) (start .pre .1 .1 .1 .room-for) (omega arith))) (c .before .before .before .before .before .before .before .restrict .kept .1 .1 .1 .0) ∙ len in
+    let len2 : length (c .before .before .before .predicates .last .1 .1 .1 .1 .1 .1 .1 .0) ≡ length (now (a .sets)) = c .before .before .before .predicates .kept .1 .1 .1 .1 .1 .1 .1 .0 ∙ len1 in
+    omega (arith, one-fits n _ (length (now (a .sets))) (start .pre .1 .1 .1 .room-for) (omega arith))
 
 path-slice-aggregate-along : (t : ℕ) → path-lts.Need-slice-aggregate-along (
   fill-reads.Asked,
@@ -1086,7 +1151,16 @@ path-slice-aggregate-along : (t : ℕ) → path-lts.Need-slice-aggregate-along (
   along-reads.Asked,
   along-reads.Learnt,
 ) (path-at t) path.Post path-Inv-loop path-μ-loop
-path-slice-aggregate-along t c = ?
+path-slice-aggregate-along t c =
+    let start = c .before .before .before .before .before .before .before .before .before .before .before .before .before .before .before .before .before .before .before .before .before .before .before in
+    let a = start .args in
+    let n = length (now (a .parent)) in
+    let l = c .before .before .before .before .before .before .before .before .before .before .before .before .before .loop in
+    let len : length (l .sets) ≡ length (now (a .sets)) = l .inv .0 ∙ front-length n (now (a .sets)) (c .before .before .before .before .before .before .before .before .before .before .before .before .before .before .before .before .fill .last .0) (one-fits n _ (length (now (a .sets))) (start .pre .1 .1 .1 .room-for) (omega arith)) (c .before .before .before .before .before .before .before .before .before .before .before .before .before .before .before .before .fill .kept .0) in
+    let len1 : length (c .before .before .before .before .before .before .before .before .restrict .last .1 .1 .1 .0 ++ drop n (l .sets)) ≡ length (now (a .sets)) =
+      front-length n (l .sets) (c .before .before .before .before .before .before .before .before .restrict .last .1 .1 .1 .0) (omega (arith, one-fits n _ (length (now (a .sets))) (start .pre .1 .1 .1 .room-for) (omega arith))) (c .before .before .before .before .before .before .before .before .restrict .kept .1 .1 .1 .0) ∙ len in
+    let len2 : length (c .before .before .before .before .predicates .last .1 .1 .1 .1 .1 .1 .1 .0) ≡ length (now (a .sets)) = c .before .before .before .before .predicates .kept .1 .1 .1 .1 .1 .1 .1 .0 ∙ len1 in
+    sym (length-take-le n (c .before .before .before .before .predicates .last .1 .1 .1 .1 .1 .1 .1 .0) (omega (arith, one-fits n _ (length (now (a .sets))) (start .pre .1 .1 .1 .room-for) (omega arith))))
 
 path-along-requires : (t : ℕ) → path-lts.Need-along-requires (
   fill-reads.Asked,
@@ -1104,7 +1178,17 @@ path-along-requires : (t : ℕ) → path-lts.Need-along-requires (
   along-reads.Asked,
   along-reads.Learnt,
 ) (path-at t) path.Post path-Inv-loop path-μ-loop
-path-along-requires t c κs = ?
+path-along-requires t c κs =
+    let start = c .before .before .before .before .before .before .before .before .before .before .before .before .before .before .before .before .before .before .before .before .before .before .before in
+    let a = start .args in
+    let n = length (now (a .parent)) in
+    let l = c .before .before .before .before .before .before .before .before .before .before .before .before .before .loop in
+    let len : length (l .sets) ≡ length (now (a .sets)) = l .inv .0 ∙ front-length n (now (a .sets)) (c .before .before .before .before .before .before .before .before .before .before .before .before .before .before .before .before .fill .last .0) (one-fits n _ (length (now (a .sets))) (start .pre .1 .1 .1 .room-for) (omega arith)) (c .before .before .before .before .before .before .before .before .before .before .before .before .before .before .before .before .fill .kept .0) in
+    let len1 : length (c .before .before .before .before .before .before .before .before .restrict .last .1 .1 .1 .0 ++ drop n (l .sets)) ≡ length (now (a .sets)) =
+      front-length n (l .sets) (c .before .before .before .before .before .before .before .before .restrict .last .1 .1 .1 .0) (omega (arith, one-fits n _ (length (now (a .sets))) (start .pre .1 .1 .1 .room-for) (omega arith))) (c .before .before .before .before .before .before .before .before .restrict .kept .1 .1 .1 .0) ∙ len in
+    let len2 : length (c .before .before .before .before .predicates .last .1 .1 .1 .1 .1 .1 .1 .0) ≡ length (now (a .sets)) = c .before .before .before .before .predicates .kept .1 .1 .1 .1 .1 .1 .1 .0 ∙ len1 in
+    let w = start .pre .1 .1 .0 .tree in
+    (sym (length-take-le n (c .before .before .before .before .predicates .last .1 .1 .1 .1 .1 .1 .1 .0) (omega (arith, one-fits n _ (length (now (a .sets))) (start .pre .1 .1 .1 .room-for) (omega arith)))), λ kinds. record { rooted = w .rooted; root = w .root; falls = w .falls })
 
 path-loop-less : (t : ℕ) → path-lts.Need-loop-less (
   fill-reads.Asked,
@@ -1140,7 +1224,41 @@ path-loop-again : (t : ℕ) → path-lts.Need-loop-again (
   along-reads.Asked,
   along-reads.Learnt,
 ) (path-at t) path.Post path-Inv-loop path-μ-loop
-path-loop-again t c = ?
+path-loop-again t c =
+    let start = c .before .before .before .before .before .before .before .before .before .before .before .before .before .before .before .before .before .before .before .before .before .before .before .before .before .before in
+    let a = start .args in
+    let n = length (now (a .parent)) in
+    let l = c .before .before .before .before .before .before .before .before .before .before .before .before .before .before .before .before .loop in
+    let sets = l .sets in
+    let restricted = c .before .before .before .before .before .before .before .before .before .before .before .restrict in
+    let narrowed = c .before .before .before .before .before .before .before .predicates in
+    let moved = c .before .before .along in
+    let said-step = c .before .before .before .before .before .before .before .before .before .before .before .before .before .step-at .ensures in
+    let kinds = now (a .kind) in
+    let len : length (l .sets) ≡ length (now (a .sets)) = l .inv .0 ∙ front-length n (now (a .sets)) (c .before .before .before .before .before .before .before .before .before .before .before .before .before .before .before .before .before .before .before .fill .last .0) (one-fits n _ (length (now (a .sets))) (start .pre .1 .1 .1 .room-for) (omega arith)) (c .before .before .before .before .before .before .before .before .before .before .before .before .before .before .before .before .before .before .before .fill .kept .0) in
+    let len1 : length (c .before .before .before .before .before .before .before .before .before .before .before .restrict .last .1 .1 .1 .0 ++ drop n (l .sets)) ≡ length (now (a .sets)) =
+      front-length n (l .sets) (c .before .before .before .before .before .before .before .before .before .before .before .restrict .last .1 .1 .1 .0) (omega (arith, one-fits n _ (length (now (a .sets))) (start .pre .1 .1 .1 .room-for) (omega arith))) (c .before .before .before .before .before .before .before .before .before .before .before .restrict .kept .1 .1 .1 .0) ∙ len in
+    let len2 : length (c .before .before .before .before .before .before .before .predicates .last .1 .1 .1 .1 .1 .1 .1 .0) ≡ length (now (a .sets)) = c .before .before .before .before .before .before .before .predicates .kept .1 .1 .1 .1 .1 .1 .1 .0 ∙ len1 in
+    let front : length (take n sets) ≡ n = length-take-le n sets (omega (arith, one-fits n _ (length (now (a .sets))) (start .pre .1 .1 .1 .room-for) (omega arith))) in
+    let front2 : length (take n (narrowed .last .1 .1 .1 .1 .1 .1 .1 .0)) ≡ n = length-take-le n (narrowed .last .1 .1 .1 .1 .1 .1 .1 .0) (omega (arith, one-fits n _ (length (now (a .sets))) (start .pre .1 .1 .1 .room-for) (omega arith))) in
+    step-here (now (a .items)) (a .at) (length (now (a .parent))) (length (now (a .sets))) (a .depth) (a .count) (start .pre .1 .1 .1) (l .left - 1) (c .before .before .before .before .before .before .before .before .before .before .before .before .before .before .past-steps .result) (omega (arith, l .inv .1 .fewer, c .before .before .before .before .before .before .before .before .before .before .before .before .before .before .before .loop-test .taken)) (c .before .before .before .before .before .before .before .before .before .before .before .before .before .before .past-steps .ensures)
+    (λ on h p here.
+      let same : said-step .0 ≡ h = some-inj (sym (said-step .1) ∙ p) in
+      let step-is = said-step .2 ∙ ap numbered same in
+      let count : c .before .before .before .before .before .before .before .before .before .before .before .before .before .step-at .result .count ≡ h .count = ap (λ (x : Step). x .count) step-is in
+      (front-length n (narrowed .last .1 .1 .1 .1 .1 .1 .1 .0) (moved .last .1 .1 .0) (omega (arith, one-fits n _ (length (now (a .sets))) (start .pre .1 .1 .1 .room-for) (omega arith))) (moved .kept .1 .1 .0) ∙ len2 ∙ sym len ∙ l .inv .0,
+      path-back (tableOf (now (a .parent)) (now (a .kind))) (now (a .given)) (now (a .items)) (a .at) (length (now (a .parent))) (length (now (a .sets))) (a .depth) (a .count) (start .pre .1 .1 .1) (l .left - 1) (c .before .before .before .before .before .before .before .before .before .before .before .before .before .before .past-steps .result) h sets (restricted .last .1 .1 .1 .0) (drop n sets) (narrowed .last .1 .1 .1 .1 .1 .1 .1 .0) (moved .last .1 .1 .0) _
+      (omega (arith, l .inv .1 .fewer, c .before .before .before .before .before .before .before .before .before .before .before .before .before .before .before .loop-test .taken)) here
+      (subst (λ (k : ℕ). PathSet (tableOf (now (a .parent)) (now (a .kind))) (now (a .given)) (now (a .items)) (a .at) n (a .depth) (a .count) k sets) (let e : l .left ≡ suc (l .left - 1) = omega (arith, c .before .before .before .before .before .before .before .before .before .before .before .before .before .before .before .loop-test .taken) in e) (l .inv .1))
+      (λ g q.
+        restricted .ensures (h .test) g (step-found _ h p .1) (ap (λ (x : Step). x .test) step-is) (q ∙ ap (λ (k : ℕ). bits k g) (sym front)) ∙
+        ap (λ (k : ℕ). bits k (λ i. (g i && marked (now (a .given)) i) && meets (h .test) (getD kinds i 0))) front)
+      _
+      (subst (λ (k : ℕ). Narrows (now (a .items)) (c .before .before .before .before .before .before .before .before .before .before .before .before .before .before .past-steps .result + 1) n (takePreds (takeWithin (a .depth)) k (drop (c .before .before .before .before .before .before .before .before .before .before .before .before .before .before .past-steps .result + 1) (now (a .items)))) (allHold (tableOf (now (a .parent)) (now (a .kind))) (now (a .given))) (narrowed .result) (restricted .last .1 .1 .1 .0 ++ drop n sets) (narrowed .last .1 .1 .1 .1 .1 .1 .1 .0))
+      count (narrowed .ensures))
+      (λ g q.
+        moved .ensures kinds (turned (h .axis)) g (c .before .before .before .before .turn .ensures (h .axis) (ap (λ (x : Step). x .axis) step-is)) (q ∙ ap (λ (k : ℕ). bits k g) (sym front2)) ∙
+        ap (λ (k : ℕ). bits k (image (tableOf (now (a .parent)) kinds) (turned (h .axis)) g)) front2)))
 
 path-past-steps-requires-2 : (t : ℕ) → path-lts.Need-past-steps-requires-2 (
   fill-reads.Asked,
@@ -1158,7 +1276,11 @@ path-past-steps-requires-2 : (t : ℕ) → path-lts.Need-past-steps-requires-2 (
   along-reads.Asked,
   along-reads.Learnt,
 ) (path-at t) path.Post path-Inv-loop path-μ-loop
-path-past-steps-requires-2 t c κs = ?
+path-past-steps-requires-2 t c κs =
+    let start = c .before .before .before .before .before .before .before .before .before .before .before in
+    let a = start .args in
+    let n = length (now (a .parent)) in
+    (start .pre .1 .1 .1 .inside, start .pre .1 .0, ((start .pre .1 .1 .1 .what, start .pre .1 .1 .1 .rest), start .pre .1 .1 .1 .reads))
 
 path-same-length : (t : ℕ) → path-lts.Need-same-length (
   fill-reads.Asked,
@@ -1194,7 +1316,14 @@ path-returns : (t : ℕ) → path-lts.Need-returns (
   along-reads.Asked,
   along-reads.Learnt,
 ) (path-at t) path.Post path-Inv-loop path-μ-loop
-path-returns t c = ?
+path-returns t c =
+    let start = c .before .before .before .before .before .before .before .before .before .before .before .before in
+    let a = start .args in
+    let n = length (now (a .parent)) in
+    let l = c .before .before .loop in
+    path-done (tableOf (now (a .parent)) (now (a .kind))) (now (a .given)) (now (a .items)) (a .at) (length (now (a .parent))) (length (now (a .sets))) (a .depth) (a .count) (start .pre .1 .1 .1) _ (l .sets)
+    (subst (λ (k : ℕ). PathSet (tableOf (now (a .parent)) (now (a .kind))) (now (a .given)) (now (a .items)) (a .at) n (a .depth) (a .count) k (l .sets)) (let e : l .left ≡ 0 = omega (arith, c .before .loop-test .left) in e) (l .inv .1))
+    (c .past-steps2 .ensures)
 
 abbrev predicates-Inv-loop : predicates-lts.InvT-loop
 predicates-Inv-loop items at count depth parent kind given sets₀ n place₀ owed₀ sets place owed =
@@ -1209,7 +1338,9 @@ predicates-loop-holds : (t : ℕ) → predicates-lts.Need-loop-holds (
   keep-second-reads.Asked,
   keep-second-reads.Learnt,
 ) (predicates-at t) predicates.Post predicates-Inv-loop predicates-μ-loop
-predicates-loop-holds t c = ?
+predicates-loop-holds t c =
+    let a = c .before .before .before .before .before .args in
+    (refl, preds-begin (tableOf (now (a .parent)) (now (a .kind))) (now (a .given)) (now (a .items)) (a .at) (length (now (a .parent))) (a .depth) (a .count) (now (a .sets)) (c .before .before .before .before .before .pre .1 .1 .1 .inside))
 
 predicates-sub-expression : (t : ℕ) → predicates-lts.Need-sub-expression (
   expression-below t,
@@ -1217,7 +1348,12 @@ predicates-sub-expression : (t : ℕ) → predicates-lts.Need-sub-expression (
   keep-second-reads.Asked,
   keep-second-reads.Learnt,
 ) (predicates-at t) predicates.Post predicates-Inv-loop predicates-μ-loop
-predicates-sub-expression t c = ?
+predicates-sub-expression t c =
+    let start = c .before .before .before .before .before .before .before in
+    let a = start .args in
+    let l = c .before .loop in
+    let n = length (now (a .parent)) in
+    pred-fits (tableOf (now (a .parent)) (now (a .kind))) (now (a .given)) (now (a .items)) (a .at) (length (now (a .parent))) (a .depth) _ _ (l .place) (l .owed) _ (l .sets) (c .loop-test .taken) (start .pre .1 .1 .1) (l .inv .1) (λ deep f two. omega (arith, deep))
 
 predicates-sub-expression-2 : (t : ℕ) → predicates-lts.Need-sub-expression-2 (
   expression-below t,
@@ -1249,7 +1385,16 @@ predicates-expression-requires : (t : ℕ) → predicates-lts.Need-expression-re
   keep-second-reads.Asked,
   keep-second-reads.Learnt,
 ) (predicates-at t) predicates.Post predicates-Inv-loop predicates-μ-loop
-predicates-expression-requires t c κs = ?
+predicates-expression-requires t c κs =
+    let start = c .before .before .before .before .before .before .before .before in
+    let a = start .args in
+    let l = c .before .before .loop in
+    let n = length (now (a .parent)) in
+    pred-fits (tableOf (now (a .parent)) (now (a .kind))) (now (a .given)) (now (a .items)) (a .at) (length (now (a .parent))) (a .depth) _ _ (l .place) (l .owed) _ (l .sets) (c .before .loop-test .taken) (start .pre .1 .1 .1) (l .inv .1)
+    (λ deep f two.
+      (omega (arith, l .inv .1 .onward, l .inv .1 .inside, start .pre .0), ((omega arith, omega (arith, start .pre .1 .0)), (start .pre .1 .1 .0,
+      subst (λ (k : ℕ). Fits (now (a .items)) (l .place) n k (orsFrom (takeWithin (a .depth - 1)) 0 (drop (l .place) (now (a .items)))) heightExpr)
+      (ap (λ (k : ℕ). k - n) (sym (l .inv .0)) ∙ sym (part-length n (l .sets) [] (omega (arith, l .inv .0)))) f))))
 
 predicates-keep-second-requires : (t : ℕ) → predicates-lts.Need-keep-second-requires (
   expression-below t,
@@ -1257,7 +1402,13 @@ predicates-keep-second-requires : (t : ℕ) → predicates-lts.Need-keep-second-
   keep-second-reads.Asked,
   keep-second-reads.Learnt,
 ) (predicates-at t) predicates.Post predicates-Inv-loop predicates-μ-loop
-predicates-keep-second-requires t c κs = ?
+predicates-keep-second-requires t c κs =
+    let start = c .before .before .before .before .before .before .before .before .before .before .before .before in
+    let a = start .args in
+    let l = c .before .before .before .before .before .before .loop in
+    let n = length (now (a .parent)) in
+    pred-fits (tableOf (now (a .parent)) (now (a .kind))) (now (a .given)) (now (a .items)) (a .at) (length (now (a .parent))) (a .depth) _ _ (l .place) (l .owed) _ (l .sets) (c .before .before .before .before .before .loop-test .taken) (start .pre .1 .1 .1) (l .inv .1)
+    (λ deep f two. omega (arith, l .inv .0, length-stays n (l .sets) (c .before .before .before .expression .last .1 .1 .1 .1 .1 .1 .1 .0) (omega (arith, l .inv .0)) (c .before .before .before .expression .kept .1 .1 .1 .1 .1 .1 .1 .0)))
 
 predicates-sub-owed : (t : ℕ) → predicates-lts.Need-sub-owed (
   expression-below t,
@@ -1281,7 +1432,21 @@ predicates-loop-again : (t : ℕ) → predicates-lts.Need-loop-again (
   keep-second-reads.Asked,
   keep-second-reads.Learnt,
 ) (predicates-at t) predicates.Post predicates-Inv-loop predicates-μ-loop
-predicates-loop-again t c = ?
+predicates-loop-again t c =
+    let start = c .before .before .before .before .before .before .before .before .before .before .before .before .before .before .before in
+    let a = start .args in
+    let l = c .before .before .before .before .before .before .before .before .before .loop in
+    let n = length (now (a .parent)) in
+    let part = c .before .before .before .before .before .before .expression .last .1 .1 .1 .1 .1 .1 .1 .0 in
+    let kept = c .before .before .before .before .before .before .expression .kept .1 .1 .1 .1 .1 .1 .1 .0 in
+    let joined = c .before .before .keep-second in
+    let v = c .before .before .before .before .before .before .expression .ensures in
+    pred-fits (tableOf (now (a .parent)) (now (a .kind))) (now (a .given)) (now (a .items)) (a .at) (length (now (a .parent))) (a .depth) _ _ (l .place) (l .owed) _ (l .sets) (c .before .before .before .before .before .before .before .before .loop-test .taken) (start .pre .1 .1 .1) (l .inv .1)
+    (λ deep fit two.
+      let on : n ≤ length (l .sets) = omega (arith, l .inv .0) in
+      (joined .kept .0 ∙ length-stays n (l .sets) part on kept ∙ l .inv .0,
+      preds-more (tableOf (now (a .parent)) (now (a .kind))) (now (a .given)) (now (a .items)) (a .at) (length (now (a .parent))) (a .depth) _ (l .place) (l .owed) _ (v .what) _ (l .sets) part (joined .last .0) (c .before .before .before .before .before .before .before .before .loop-test .taken) deep (l .inv .1) (v .reads) (v .onward) (v .inside) (v .set)
+      (λ f g p q. front-is n (λ i. f i && g i) _ _ (joined .ensures f g (first-stays n (l .sets) part on ∙ p) (second-comes n (l .sets) part on ∙ q)))))
 
 predicates-same-length : (t : ℕ) → predicates-lts.Need-same-length (
   expression-below t,
@@ -1297,7 +1462,10 @@ predicates-returns : (t : ℕ) → predicates-lts.Need-returns (
   keep-second-reads.Asked,
   keep-second-reads.Learnt,
 ) (predicates-at t) predicates.Post predicates-Inv-loop predicates-μ-loop
-predicates-returns t c = ?
+predicates-returns t c =
+    let a = c .before .before .before .before .before .before .before .args in
+    let l = c .before .loop in
+    preds-end (tableOf (now (a .parent)) (now (a .kind))) (now (a .given)) (now (a .items)) (a .at) (length (now (a .parent))) (a .depth) _ (l .place) (l .owed) _ (l .sets) (c .loop-test .left) (l .inv .1)
 
 abbrev term-Inv-loop : term-lts.InvT-loop
 term-Inv-loop items at counted depth parent kind given sets₀ n run place₀ owed₀ sets place owed =
