@@ -1,19 +1,30 @@
 // Running a query: predicates for all nodes at once, from a path's last step back; top-level paths forward from the root.
 use item::Item;
 use item::Step;
+use paper::Answer;
+use shape::Shape;
 use shape::Walked;
+use table::Fault;
 ghost use Prim.Native.Nat.{ℕ, _+_, _≤_, _<_};
 ghost use mathlib.Core.Path.{_≡_};
 ghost use mathlib.Core.Bool.{Bool, true, _&&_};
+ghost use mathlib.Core.Option.{some};
+ghost use lib.Dec.{eqb};
 ghost use lib.ListN.{length, getD, drop};
-ghost use Rattle.paper.specs.Query.{Test};
+ghost use Rattle.paper.specs.Answers.{runAnswer, runMarks, runScratch};
+ghost use Rattle.paper.specs.Told.{told};
+ghost use Rattle.paper.specs.Query.{Test, Query};
 ghost use Rattle.paper.specs.Document.{marked};
-ghost use Rattle.paper.specs.Items.{testNumber, goodTest, takePreds, takeSteps, takeOperand, takeWithin};
+ghost use Rattle.paper.specs.Items.{pathAt, testNumber, goodTest, decode, takePreds, takeSteps, takeOperand, takeWithin};
 ghost use Rattle.paper.specs.Measures.{heightExpr, heightSteps, heightPreds};
-ghost use Rattle.paper.specs.Selection.{meets, holds, finds, allHold};
+ghost use Rattle.paper.specs.Selection.{meets, holds, finds, allHold, selects};
 ghost use Rattle.paper.proofs.Decoding.{orsFrom, andsFrom};
 ghost use Rattle.sets.specs.Sets.{bits, tableOf};
-ghost use Rattle.run.specs.Evals.{Ready, Readable, Fits, Ends, StepThere, StepSaid, Evaluates, Narrows};
+ghost use Rattle.run.specs.Evals.{Ready, Readable, Fits, Ends, StepThere, StepSaid, Evaluates, Narrows, Moves, PathThere, Runs, keepsBy, roomAnswer};
+
+// The numbers of the axes that spread what is selected.
+const DESCENDANT_OR_SELF: u32 = 3;
+const ANCESTOR_OR_SELF: u32 = 4;
 
 // Where so many steps end.
 fn past_steps(items: &[u32], at: usize, count: usize, depth: usize) -> usize
@@ -190,4 +201,167 @@ fn predicates(
         owed -= 1;
     }
     place
+}
+
+// Moves the first set forward along so many steps of a top-level path. Answers where they end.
+fn forward(
+    items: &[u32],
+    at: usize,
+    count: usize,
+    parent: &[u16],
+    kind: &[u16],
+    given: &[u8],
+    sets: &mut [u8],
+) -> usize
+    requires { ⌜ Ready (now parent) (now kind) (now given) ⌝ }
+    requires { ⌜ Fits (now items) at (length (now parent)) (length (now sets)) (takeSteps (takeWithin 64) count (drop at (now items))) (λ s. 1 + heightSteps s) ⌝ }
+    ensures { λ r. ⌜ Moves (now (items .entry)) at (tableOf (now (parent .entry)) (now (kind .entry))) (now (given .entry)) (takeSteps (takeWithin 64) count (drop at (now (items .entry)))) r (now (sets .entry)) (now (sets .exit)) ⌝ }
+{
+    let n = parent.len();
+    let mut place = at;
+    let mut left = count;
+    while 0 < left {
+        let step = step_at(items, place);
+        sets::along(parent, step.axis, &mut sets[..n]);
+        restrict(kind, given, step.test, &mut sets[..n]);
+        place = predicates(
+            items,
+            place + 1,
+            step.count,
+            paper::BRACKET_LIMIT,
+            parent,
+            kind,
+            given,
+            sets,
+        );
+        left -= 1;
+    }
+    place
+}
+
+// Makes the set that of the root alone, or empty where the root is unmarked.
+fn start(given: &[u8], set: &mut [u8])
+    requires { ⌜ (0 < length (now set)) × (length (now given) ≡ length (now set)) × (now given ≡ bits (length (now set)) (marked (now given))) ⌝ }
+    ensures { λ _. ⌜ now (set .exit) ≡ bits (length (now (set .entry))) (λ i. eqb i 0 && marked (now (given .entry)) 0) ⌝ }
+{
+    sets::fill(set, 0);
+    set[0] = given[0];
+}
+
+// The step count of the path at a place where one stands.
+fn path_at(items: &[u32], place: usize) -> usize
+    requires { ⌜ (place < length (now items)) × (PathThere (getD (now items) place 0)) ⌝ }
+    ensures { λ r. ⌜ pathAt (getD (now (items .entry)) place 0) ≡ some r ⌝ }
+{
+    let item = item::unpack(items[place]);
+    let Item::Path(count) = item else {
+        return 0;
+    };
+    count
+}
+
+// Marks the nodes that the query selects.
+fn select(
+    items: &[u32],
+    parent: &[u16],
+    kind: &[u16],
+    given: &[u8],
+    marks: &mut [u8],
+    sets: &mut [u8],
+)
+    requires { ⌜ Ready (now parent) (now kind) (now given) ⌝ }
+    requires { ⌜ length (now marks) ≡ length (now parent) ⌝ }
+    requires { ⌜ Runs (now items) (length (now parent)) (length (now sets)) ⌝ }
+    ensures { λ _. ⌜ ((q : Query) → decode (now (items .entry)) ≡ some q → now (marks .exit) ≡ bits (length (now (parent .entry))) (selects (tableOf (now (parent .entry)) (now (kind .entry))) (now (given .entry)) q)) ⌝ }
+{
+    let n = parent.len();
+    sets::fill(marks, 0);
+    let mut place = 0;
+    while place < items.len() {
+        let count = path_at(items, place);
+        start(given, &mut sets[..n]);
+        place = forward(items, place + 1, count, parent, kind, given, sets);
+        sets::add(&sets[..n], marks);
+    }
+}
+
+// Keeps, with the selected nodes, all above them and all below them that are marked.
+fn spread(parent: &[u16], kind: &[u16], given: &[u8], marks: &mut [u8], set: &mut [u8])
+    requires { ⌜ Ready (now parent) (now kind) (now given) ⌝ }
+    requires { ⌜ (length (now marks) ≡ length (now parent)) × (length (now set) ≡ length (now parent)) ⌝ }
+    ensures { λ _. ⌜ ((f : ℕ → Bool) → now (marks .entry) ≡ bits (length (now (parent .entry))) f → now (marks .exit) ≡ bits (length (now (parent .entry))) (keepsBy (tableOf (now (parent .entry)) (now (kind .entry))) (now (given .entry)) f)) ⌝ }
+{
+    sets::copy(marks, set);
+    sets::along(parent, DESCENDANT_OR_SELF, set);
+    sets::along(parent, ANCESTOR_OR_SELF, marks);
+    sets::add(set, marks);
+    sets::keep(given, marks);
+}
+
+// What refuses a run, or the bytes of scratch that it needs.
+fn room(
+    query: &[u32],
+    parent: &[u16],
+    kind: &[u16],
+    given: &[u8],
+    marks_room: usize,
+    scratch_room: usize,
+) -> Answer
+    ensures { λ r. ⌜ told r ≡ roomAnswer (now (query .entry)) (tableOf (now (parent .entry)) (now (kind .entry))) (now (given .entry)) «marks_room» «scratch_room» ⌝ }
+{
+    if paper::ITEM_LIMIT < query.len() {
+        return Answer::TooLong;
+    }
+    let n = parent.len();
+    if paper::NODE_LIMIT < n {
+        return Answer::TooLong;
+    }
+    if kind.len() != n {
+        return Answer::TooLong;
+    }
+    if given.len() != n {
+        return Answer::TooLong;
+    }
+    if marks_room != n {
+        return Answer::TooLong;
+    }
+    let shaped = shape::measure(query);
+    let Shape::Query { nesting: _, height } = shaped else {
+        return Answer::BadQuery(0);
+    };
+    if let Fault::At(i) = table::table_fault(parent, kind) {
+        return Answer::BadTable(i);
+    }
+    if let Fault::At(i) = table::marks_fault(parent, given) {
+        return Answer::BadMarks(i);
+    }
+    let needed = n * 2 * (height + 1);
+    if scratch_room < needed {
+        return Answer::Short(needed);
+    }
+    Answer::Value(needed)
+}
+
+// Runs the query inside the given marks: writes the marks of the nodes kept, and answers their number.
+pub fn run(
+    query: &[u32],
+    parent: &[u16],
+    kind: &[u16],
+    given: &[u8],
+    marks: &mut [u8],
+    scratch: &mut [u8],
+) -> Answer
+    ensures { λ r. ⌜ told r ≡ runAnswer (now (query .entry)) (tableOf (now (parent .entry)) (now (kind .entry))) (now (given .entry)) (length (now (marks .entry))) (length (now (scratch .entry))) ⌝ }
+    ensures { λ _. ⌜ now (marks .exit) ≡ runMarks (now (query .entry)) (tableOf (now (parent .entry)) (now (kind .entry))) (now (given .entry)) (now (marks .entry)) (length (now (scratch .entry))) ⌝ }
+    ensures { λ _. ⌜ now (scratch .exit) ≡ runScratch (now (query .entry)) (tableOf (now (parent .entry)) (now (kind .entry))) (now (given .entry)) (length (now (marks .entry))) (now (scratch .entry)) ⌝ }
+{
+    let said = room(query, parent, kind, given, marks.len(), scratch.len());
+    let Answer::Value(needed) = said else {
+        return said;
+    };
+    let n = parent.len();
+    select(query, parent, kind, given, marks, scratch);
+    spread(parent, kind, given, marks, &mut scratch[..n]);
+    sets::fill(&mut scratch[..needed], 0);
+    Answer::Value(table::count(marks))
 }

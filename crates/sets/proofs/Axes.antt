@@ -5,16 +5,16 @@ use native.Mathlib.Decide.{ℕ-discrete}
 use mathlib.Core.Path.{_≡_, refl, sym, _∙_, ap, subst}
 use mathlib.Core.Bool.{Bool, true, false, not, _&&_, false≢true}
 use mathlib.Core.List.{List}
-use mathlib.Core.Logic.{_⊎_, inl, inr, ⊎-elim, by-cases}
-use lib.Dec.{eqb, ltb}
+use mathlib.Core.Logic.{by-cases}
+use lib.Dec.{eqb}
 use lib.ListN.{length}
-use borrow.Author.Tests.{eqb-true, eq-eqb, ne-eqb, ltb-true, ltb-false}
+use borrow.Author.Tests.{eqb-true, eq-eqb, ne-eqb}
 use Rattle.paper.specs.Tools.{someBelow}
 use Rattle.paper.specs.Query.{Axis, self, child, parent, descendantOrSelf, ancestorOrSelf}
 use Rattle.paper.specs.Document.{Table, nodes, parentOf}
 use Rattle.paper.specs.Items.{axisNumber, axisOf}
 use Rattle.paper.specs.Selection.{childOf}
-use Rattle.paper.proofs.Tests.{and-true, true-and, decide, agree, some-inj}
+use Rattle.paper.proofs.Tests.{and-true, true-and, agree, some-inj}
 use Rattle.paper.proofs.Fields.{axis-number}
 use Rattle.paper.proofs.Searches.{some-intro, some-elim}
 use Rattle.sets.specs.Sets.{bits, tableOf, image}
@@ -31,14 +31,16 @@ some-one n p f test l h only =
     (λ s. some-elim n (λ j. f j && test j) s (λ j _ q. let r = and-true (f j) (test j) q in subst (λ k. f k ≡ true) (sym (only j (r .1))) (r .0)))
     (λ s. some-intro n (λ j. f j && test j) p l (true-and s h))
 
--- A number is below another or not.
-pub side : (k i : ℕ) → (k < i) ⊎ (i ≤ k)
-side k i = ⊎-elim (λ s. inl (ltb-true k i s)) (λ s. inr (ltb-false k i s)) (decide (ltb k i))
-
 -- An axis is known by its number.
-pub same-axis : (a b : Axis) → axisNumber a ≡ axisNumber b → a ≡ b
+same-axis : (a b : Axis) → axisNumber a ≡ axisNumber b → a ≡ b
 same-axis a b e = some-inj (sym (axis-number a) ∙ ap axisOf e ∙ axis-number b)
 
+-- Bytes that are the image along one axis are so along any axis of its number.
+pub same-image : {list : List ℕ} (t : Table) (f : ℕ → Bool) (m n : ℕ) (b a : Axis) → n ≡ axisNumber b → n ≡ axisNumber a → list ≡ bits m (image t b f)
+    → list ≡ bits m (image t a f)
+same-image {list} t f m n b a p q = subst (λ x. list ≡ bits m (image t x f)) (same-axis b a (sym p ∙ q))
+
+-- What has the number of no other axis is self.
 pub other-axis : (a : Axis) (n : ℕ) → n ≡ axisNumber a → (n ≡ 1 → ⊥) → (n ≡ 2 → ⊥) → (n ≡ 3 → ⊥) → (n ≡ 4 → ⊥) → self ≡ a
 other-axis self n e p q r s = refl
 other-axis child n e p q r s = absurd (p e)

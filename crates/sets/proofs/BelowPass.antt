@@ -17,8 +17,8 @@ use Rattle.paper.proofs.Tests.{and-true, true-and, or-true, or-left, or-right, 
 use Rattle.paper.proofs.Searches.{some-intro, some-elim}
 use Rattle.paper.proofs.Trees.{Tree, over-self, over-parent, over-root-alone, over-cases}
 use Rattle.sets.specs.Sets.{bits, image}
-use Rattle.sets.proofs.Bits.{bit, bits-at, bits-same, bits-set, or-bits}
-use Rattle.sets.proofs.Axes.{some-one, side}
+use Rattle.sets.proofs.Bits.{side, bit, bits-at, bits-same, bits-set, or-bits}
+use Rattle.sets.proofs.Axes.{some-one}
 
 module _ (t : Table) (f : ℕ → Bool) where
   -- Descendant or self: before the turn at i the nodes below i are done.

@@ -1,17 +1,24 @@
 -- Bytes of 0 and 1 as tests: what stands in the bytes of a set, and what `&`, `|` and `^` make of them. Assumes nothing.
-use Prim.Native.Nat.{ℕ, _+_, _<_}
+use Prim.Native.Nat.{ℕ, _+_, _≤_, _<_}
 use native.Mathlib.Omega.{arith}
 use native.Mathlib.Decide.{ℕ-discrete}
 use mathlib.Core.Path.{_≡_, refl, sym, _∙_, ap}
 use mathlib.Core.Bool.{Bool, true, false, not, _&&_, _||_, cond}
 use mathlib.Core.List.{List}
-use mathlib.Core.Logic.{by-cases}
+use mathlib.Core.Logic.{_⊎_, inl, inr, ⊎-elim, by-cases}
 use mir.Val.{boolByte}
+use lib.Dec.{ltb}
 use lib.Bits.{bitAnd, bitOr, bitXor}
 use lib.ListN.{length, getD, set, take, drop, length-set}
 use lib.Seq.{ext-getD, getD-set-same, getD-set-other, getD-take, getD-drop}
+use borrow.Author.Tests.{ltb-true, ltb-false}
+use Rattle.paper.proofs.Tests.{decide}
 use Rattle.paper.proofs.Searches.{column-at, length-column, column-same}
 use Rattle.sets.specs.Sets.{bits}
+
+-- A number is below another or not.
+pub side : (k i : ℕ) → (k < i) ⊎ (i ≤ k)
+side k i = ⊎-elim (λ s. inl (ltb-true k i s)) (λ s. inr (ltb-false k i s)) (decide (ltb k i))
 
 -- Tests joined with one that holds or fails.
 pub or-none : (a : Bool) {b : Bool} → b ≡ false → (a || b) ≡ a

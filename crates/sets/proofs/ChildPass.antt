@@ -15,8 +15,8 @@ use Rattle.paper.specs.Selection.{childOf}
 use Rattle.paper.proofs.Tests.{and-true}
 use Rattle.paper.proofs.Trees.{Tree}
 use Rattle.sets.specs.Sets.{bits, image}
-use Rattle.sets.proofs.Bits.{bit, bits-at, bits-same, bits-set}
-use Rattle.sets.proofs.Axes.{some-none, some-one, side, child-intro, child-elim}
+use Rattle.sets.proofs.Bits.{side, bit, bits-at, bits-same, bits-set}
+use Rattle.sets.proofs.Axes.{some-none, some-one, child-intro, child-elim}
 
 module _ (t : Table) (f : ℕ → Bool) where
   -- Child: before the turn at i - 1 the nodes from i on are done.

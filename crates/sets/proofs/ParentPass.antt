@@ -20,8 +20,8 @@ use Rattle.paper.proofs.Tests.{and-true}
 use Rattle.paper.proofs.Searches.{some-same}
 use Rattle.paper.proofs.Trees.{Tree}
 use Rattle.sets.specs.Sets.{bits, image}
-use Rattle.sets.proofs.Bits.{bit, bits-at, bits-same, bits-set, or-bits, bit-false, or-none, and-none, and-all, once, swapped}
-use Rattle.sets.proofs.Axes.{some-none, side, child-elim}
+use Rattle.sets.proofs.Bits.{side, bit, bits-at, bits-same, bits-set, or-bits, bit-false, or-none, and-none, and-all, once, swapped}
+use Rattle.sets.proofs.Axes.{some-none, child-elim}
 
 module _ (t : Table) (f : ℕ → Bool) where
   -- Parent: before the turn at i the nodes below i have handed on what they had.

@@ -5,13 +5,11 @@ use native.Mathlib.Decide.{ℕ-discrete}
 use mathlib.Core.Path.{_≡_, refl, sym, _∙_, ap}
 use mathlib.Core.List.{List, _++_, append-nil}
 use mathlib.Core.Logic.{⊎-elim, by-cases}
-use lib.Dec.{ltb}
 use lib.ListN.{length, getD, set, drop, length-set, length-append, length-drop, List·getD-append}
 use lib.Seq.{ext-getD, getD-set-same, getD-set-other, getD-append-add, getD-drop, drop-length}
-use borrow.Author.Tests.{ltb-true, ltb-false}
 use Rattle.paper.specs.Tools.{column}
-use Rattle.paper.proofs.Tests.{decide}
 use Rattle.paper.proofs.Searches.{column-at, length-column}
+use Rattle.sets.proofs.Bits.{side}
 
 -- The first i elements are the new ones, and the others are still the old list's.
 pub record Passed (new : ℕ → ℕ) (old list : List ℕ) (i : ℕ) : Type 0 where
@@ -38,11 +36,10 @@ module _ {new : ℕ → ℕ} {old : List ℕ} where
         left = λ k b. getD-set-other list i k v 0 (λ s. omega arith) ∙ p .left k (omega arith);
       }
 
-  -- At the end.
-  pub first-passed : {list : List ℕ} {n : ℕ} → Passed new old list n → (g : ℕ → ℕ) → ((k : ℕ) → k < n → new k ≡ g k) → list ≡ column n g ++ drop n old
-  first-passed {list} {n} p g h =
-      ext-getD 0 list (column n g ++ drop n old) (omega (arith, p .sizes, size, p .within))
-      (λ k b. ⊎-elim (λ t. before k (ltb-true k n t)) (λ t. after k (ltb-false k n t)) (decide (ltb k n)))
+  -- At the end, after n turns.
+  pub first-passed : {list : List ℕ} {i : ℕ} → Passed new old list i → (n : ℕ) → i ≡ n → (g : ℕ → ℕ) → ((k : ℕ) → k < n → new k ≡ g k) → list ≡ column n g ++ drop n old
+  first-passed {list} {i} p n e g h =
+      ext-getD 0 list (column n g ++ drop n old) (omega (arith, p .sizes, size, p .within)) (λ k b. ⊎-elim (before k) (after k) (side k n))
     where
       front : length (column n g) ≡ n
       front = length-column n 0 g
@@ -51,24 +48,27 @@ module _ {new : ℕ → ℕ} {old : List ℕ} where
       size = simp (length-append, length-drop) (ap (λ x. x + (length old - n)) front)
 
       before : (k : ℕ) → k < n → getD list k 0 ≡ getD (column n g ++ drop n old) k 0
-      before k l = p .done k l ∙ h k l ∙ sym (List·getD-append (column n g) (drop n old) 0 k (omega (arith, front)) ∙ column-at n g 0 k l)
+      before k l = p .done k (omega arith) ∙ h k l ∙ sym (List·getD-append (column n g) (drop n old) 0 k (omega (arith, front)) ∙ column-at n g 0 k l)
 
       after : (k : ℕ) → n ≤ k → getD list k 0 ≡ getD (column n g ++ drop n old) k 0
       after k l =
           let there : length (column n g) + (k - n) ≡ k = omega (arith, front) in
           let here : n + (k - n) ≡ k = omega arith in
-          p .left k l
-          ∙ sym (ap (λ x. getD (column n g ++ drop n old) x 0) (sym there) ∙ getD-append-add (column n g) (drop n old) (k - n) 0 ∙ getD-drop n old (k - n) 0 ∙ ap (λ x. getD old x 0) here)
+          p .left k (omega arith)
+          ∙ sym
+          (ap (λ x. getD (column n g ++ drop n old) x 0) (sym there)
+          ∙ getD-append-add (column n g) (drop n old) (k - n) 0
+          ∙ getD-drop n old (k - n) 0
+          ∙ ap (λ x. getD old x 0) here)
 
+  -- At the end, where all of the list was passed.
   pub all-passed : {list : List ℕ} {i : ℕ} → Passed new old list i → length list ≤ i → (g : ℕ → ℕ) → ((k : ℕ) → k < length old → new k ≡ g k) → list ≡ column (length old) g
-  all-passed {list} {i} p l g h =
-      let e : i ≡ length old = omega (arith, p .within, p .sizes) in
-      first-passed p g (λ k b. h k (omega arith))
-      ∙ ap (λ x. column x g ++ drop x old) e
+  all-passed p l g h =
+      first-passed p (length old) (omega (arith, p .within, p .sizes)) g h
       ∙ ap (λ x. column (length old) g ++ x) (drop-length old)
       ∙ append-nil (column (length old) g)
 
-  -- At the end the list is any list of its length with the new elements.
+  -- The same, where the new list is known.
   pub same-elements : {list : List ℕ} {i : ℕ} → Passed new old list i → length list ≤ i → (other : List ℕ) → length other ≡ length old
       → ((k : ℕ) → k < length old → new k ≡ getD other k 0) → list ≡ other
   same-elements {list} {i} p l other s h =

@@ -151,9 +151,9 @@ fn parents(parent: &[u16], set: &mut [u8])
     let mut i = 1;
     while i < set.len() {
         let member = set[i];
-        let above = parent[i] as usize;
+        let up = parent[i] as usize;
         set[i] = 0;
-        set[above] = set[above] | member;
+        set[up] = set[up] | member;
         i += 1;
     }
 }

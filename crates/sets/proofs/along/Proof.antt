@@ -1,13 +1,13 @@
 -- `sets::along` meets its contract: an axis is known by its number, and what each pass ensures of its axis is what is asked. Assumes nothing.
 use native.Mathlib.Omega.{arith}
-use mathlib.Core.Path.{_≡_, sym, _∙_, ap, subst}
+use mathlib.Core.Path.{sym, _∙_, ap}
 use lib.ListN.{length}
 use denote.Ref.{now}
 use borrow.Author.Needs.{needs}
 use Rattle.paper.specs.Query.{Axis, child, descendantOrSelf, ancestorOrSelf}
-use Rattle.sets.specs.Sets.{bits, tableOf, image}
+use Rattle.sets.specs.Sets.{tableOf, image}
 use Rattle.sets.proofs.Bits.{bits-same}
-use Rattle.sets.proofs.Axes.{same-axis, other-axis, self-image}
+use Rattle.sets.proofs.Axes.{same-image, other-axis, self-image}
 use Rattle.sets.proofs.along.Statement.{statement}
 use Rattle.sets.proofs.along.Tie as tie
 
@@ -29,9 +29,7 @@ same-length c = search needs
 returns : tie.Need-returns
 returns c = λ kinds a f e s.
     let d = c .before .before .before .before .before .before .before .args in
-    let n : d .axis ≡ 1 = omega arith in
-    subst (λ x. c .before .before .children .last .1 .0 ≡ bits (length (now (d .set))) (image (tableOf (now (d .parent)) kinds) x f)) (same-axis child a (sym n ∙ e))
-    (c .before .before .children .ensures kinds f s)
+    same-image (tableOf (now (d .parent)) kinds) f (length (now (d .set))) (d .axis) child a (omega arith) e (c .before .before .children .ensures kinds f s)
 
 same-length-2 : tie.Need-same-length-2
 same-length-2 c = search needs
@@ -39,9 +37,7 @@ same-length-2 c = search needs
 returns-2 : tie.Need-returns-2
 returns-2 c = λ kinds a f e s.
     let d = c .before .before .before .before .before .before .before .args in
-    let n : d .axis ≡ 2 = omega arith in
-    subst (λ x. c .before .before .parents .last .1 .0 ≡ bits (length (now (d .set))) (image (tableOf (now (d .parent)) kinds) x f)) (same-axis Axis.parent a (sym n ∙ e))
-    (c .before .before .parents .ensures kinds f s)
+    same-image (tableOf (now (d .parent)) kinds) f (length (now (d .set))) (d .axis) Axis.parent a (omega arith) e (c .before .before .parents .ensures kinds f s)
 
 same-length-3 : tie.Need-same-length-3
 same-length-3 c = search needs
@@ -49,9 +45,7 @@ same-length-3 c = search needs
 returns-3 : tie.Need-returns-3
 returns-3 c = λ kinds a f e s.
     let d = c .before .before .before .before .before .before .before .args in
-    let n : d .axis ≡ 3 = omega arith in
-    subst (λ x. c .before .before .below .last .1 .0 ≡ bits (length (now (d .set))) (image (tableOf (now (d .parent)) kinds) x f)) (same-axis descendantOrSelf a (sym n ∙ e))
-    (c .before .before .below .ensures kinds f s)
+    same-image (tableOf (now (d .parent)) kinds) f (length (now (d .set))) (d .axis) descendantOrSelf a (omega arith) e (c .before .before .below .ensures kinds f s)
 
 same-length-4 : tie.Need-same-length-4
 same-length-4 c = search needs
@@ -59,9 +53,7 @@ same-length-4 c = search needs
 returns-4 : tie.Need-returns-4
 returns-4 c = λ kinds a f e s.
     let d = c .before .before .before .before .before .before .before .args in
-    let n : d .axis ≡ 4 = omega arith in
-    subst (λ x. c .before .before .above .last .1 .0 ≡ bits (length (now (d .set))) (image (tableOf (now (d .parent)) kinds) x f)) (same-axis ancestorOrSelf a (sym n ∙ e))
-    (c .before .before .above .ensures kinds f s)
+    same-image (tableOf (now (d .parent)) kinds) f (length (now (d .set))) (d .axis) ancestorOrSelf a (omega arith) e (c .before .before .above .ensures kinds f s)
 
 returns-5 : tie.Need-returns-5
 returns-5 c = λ kinds a f e s.

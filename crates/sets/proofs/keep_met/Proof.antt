@@ -13,6 +13,7 @@ use Rattle.paper.specs.Query.{Test}
 use Rattle.paper.specs.Items.{testNumber}
 use Rattle.paper.specs.Selection.{meets}
 use Rattle.item.proofs.Turning.{meets-node, meets-text, meets-element, meets-name}
+use Rattle.sets.specs.Sets.{bits}
 use Rattle.sets.proofs.Bits.{bits-same, and-all}
 use Rattle.sets.proofs.keep_met.Statement.{statement}
 use Rattle.sets.proofs.keep_met.Tie as tie
@@ -42,7 +43,8 @@ returns-2 c = λ t f g e s.
     let d = c .before .before .before .before .before .before .before .args in
     let n : d .test ≡ 258 = omega arith in
     let kind : ℕ → ℕ = λ k. getD (now (d .kind)) k 0 in
-    c .before .before .keep-at-least .ensures f s
+    let kept : c .before .before .keep-at-least .last .1 .1 .0 ≡ bits (length (now (d .set))) (λ k. f k && leb 2 (kind k)) = c .before .before .keep-at-least .ensures f s in
+    kept
     ∙ bits-same (length (now (d .set))) (λ k. f k && leb 2 (kind k)) (λ k. f k && meets t (kind k)) (λ k l. ap (λ x. f k && x) (meets-element t (kind k) g (sym n ∙ e)))
 
 same-length-2 : tie.Need-same-length-2

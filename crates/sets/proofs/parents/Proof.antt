@@ -38,14 +38,14 @@ loop-holds c =
 slice-read-member : tie.Need-slice-read-member Inv-loop μ-loop
 slice-read-member c = omega arith
 
-mul-above : tie.Need-mul-above Inv-loop μ-loop
-mul-above c = omega arith
+mul-up : tie.Need-mul-up Inv-loop μ-loop
+mul-up c = omega arith
 
-shared-slice-read-above : tie.Need-shared-slice-read-above Inv-loop μ-loop
-shared-slice-read-above c = omega arith
+shared-slice-read-up : tie.Need-shared-slice-read-up Inv-loop μ-loop
+shared-slice-read-up c = omega arith
 
-cast-above : tie.Need-cast-above Inv-loop μ-loop
-cast-above c = omega (arith, c .shared-slice-known .given (c .before .before .before .loop .i))
+cast-up : tie.Need-cast-up Inv-loop μ-loop
+cast-up c = omega (arith, c .shared-slice-known .given (c .before .before .before .loop .i))
 
 slice-write-set-2 : tie.Need-slice-write-set-2 Inv-loop μ-loop
 slice-write-set-2 c = omega arith
@@ -95,9 +95,9 @@ parents-spec =
     slice-write-set
     loop-holds
     slice-read-member
-    mul-above
-    shared-slice-read-above
-    cast-above
+    mul-up
+    shared-slice-read-up
+    cast-up
     slice-write-set-2
     slice-read-set
     slice-write-set-3
