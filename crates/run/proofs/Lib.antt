@@ -3,3 +3,5 @@ pub mod Running
 pub mod Operating
 pub mod Rows
 pub mod Slices
+pub mod Answering
+pub mod Selecting

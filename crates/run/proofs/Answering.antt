@@ -1,0 +1,137 @@
+-- The lines of a run, in their order: what refuses it, and what is known where nothing does. Assumes nothing.
+use Prim.Native.Nat.{ℕ, zero, suc, _+_, _-_, _*_, _≤_, _<_}
+use native.Mathlib.Omega.{arith}
+use native.Mathlib.Nat.{mul-le-mul, mul-le-mul-left, le-trans}
+use mathlib.Core.Path.{_≡_, refl, sym, _∙_, ap, ap₂}
+use mathlib.Core.Bool.{Bool, true, false, not, _||_}
+use mathlib.Core.List.{List, [], _++_}
+use mathlib.Core.Option.{Option, none, some}
+use lib.Dec.{eqb, ltb}
+use lib.ListN.{length, drop, replicate, length-replicate, drop-of-length-le}
+use borrow.Author.Tests.{lt-ltb, le-ltb, ltb-false, ltb-true, eq-eqb, ne-eqb, eqb-true, not-false}
+use Rattle.paper.specs.Tools.{when, written}
+use Rattle.paper.specs.Limits.{itemLimit, nodeLimit}
+use Rattle.paper.specs.Query.{Query}
+use Rattle.paper.specs.Items.{decode}
+use Rattle.paper.specs.Measures.{size, height}
+use Rattle.paper.specs.Document.{Table, nodes, tableFault, marksFault}
+use Rattle.paper.specs.Extraction.{rank}
+use Rattle.paper.specs.Selection.{kept}
+use Rattle.paper.specs.Answers.{Answer, value, refusal, line, lineQuery, tooLong, short, scratchOf, markedCount, atExit, runAnswer, runMarks, runScratch, keptGot, zerosGot}
+use Rattle.paper.proofs.Tests.{none-some, some-inj}
+use Rattle.paper.proofs.Sizes.{size-decoded, height-size}
+use Rattle.paper.proofs.Refusing.{line-value, when-none, or-none}
+use Rattle.paper.proofs.Keeping.{length-kept}
+use Rattle.shape.specs.Walks.{shapeOf}
+use Rattle.shape.specs.declared.Shape.the-variants.{Query as IsQuery, Malformed as NoQuery}
+use Rattle.run.specs.Evals.{roomAnswer}
+
+-- What the shape of items says of the query that they are.
+pub shaped-none : (o : Option Query) → NoQuery ≡ shapeOf o → o ≡ none
+shaped-none none h = refl
+shaped-none (some q) h = absurd (let z : _≡_ {A = ℕ} 0 1 = cc in omega arith)
+
+pub shaped-some {ℓ} : {C : Type ℓ} (o : Option Query) (n h : ℕ) → IsQuery n h ≡ shapeOf o → ((q : Query) → o ≡ some q → h ≡ height q → C) → C
+shaped-some none n h e k = absurd (let z : _≡_ {A = ℕ} 0 1 = cc in omega arith)
+shaped-some (some q) n h e k = k q refl (cc)
+
+module _ (query : List ℕ) (t : Table) (given : List ℕ) (marksRoom scratchRoom : ℕ) where
+  -- Does line 1 hold?
+  abbrev pub Long : Bool
+  Long = tooLong query itemLimit || ltb nodeLimit (nodes t) || not (eqb (length (t .kinds)) (nodes t)) || not (eqb (length given) (nodes t)) || not (eqb marksRoom (nodes t))
+
+  -- All lengths are right.
+  pub record Agree : Type 0 where
+    pub items-few : length query ≤ itemLimit
+    pub nodes-few : nodes t ≤ nodeLimit
+    pub kinds-all : length (t .kinds) ≡ nodes t
+    pub given-all : length given ≡ nodes t
+    pub marks-all : marksRoom ≡ nodes t
+
+  pub room-long : Long ≡ true → refusal 1 0 ≡ roomAnswer query t given marksRoom scratchRoom
+  unfolding roomAnswer
+  room-long h = rw h
+
+  pub room-agrees : Agree → roomAnswer query t given marksRoom scratchRoom
+      ≡ lineQuery 6 0 (decode query) (λ q. line 7 (tableFault t) (line 8 (marksFault t given) (line 10 (short scratchRoom (scratchOf t q)) (value (scratchOf t q)))))
+  unfolding roomAnswer
+  room-agrees a =
+      rw (le-ltb itemLimit (length query) (a .items-few), le-ltb nodeLimit (nodes t) (a .nodes-few), eq-eqb (length (t .kinds)) (nodes t) (a .kinds-all), eq-eqb (length given) (nodes t) (a .given-all), eq-eqb marksRoom (nodes t) (a .marks-all))
+
+  -- Where the room is answered, nothing refuses.
+  pub record Accepted (needed : ℕ) : Type 0 where
+    pub agree : Agree
+    pub query-is : Query
+    pub decodes : decode query ≡ some query-is
+    pub table-good : tableFault t ≡ none
+    pub marks-good : marksFault t given ≡ none
+    pub room-is : needed ≡ scratchOf t query-is
+    pub room-enough : needed ≤ scratchRoom
+
+  agrees : Long ≡ false → Agree
+  agrees h =
+      let a = or-none (tooLong query itemLimit || ltb nodeLimit (nodes t) || not (eqb (length (t .kinds)) (nodes t)) || not (eqb (length given) (nodes t))) (not (eqb marksRoom (nodes t))) h in
+      let b = or-none (tooLong query itemLimit || ltb nodeLimit (nodes t) || not (eqb (length (t .kinds)) (nodes t))) (not (eqb (length given) (nodes t))) (a .0) in
+      let c = or-none (tooLong query itemLimit || ltb nodeLimit (nodes t)) (not (eqb (length (t .kinds)) (nodes t))) (b .0) in
+      let d = or-none (tooLong query itemLimit) (ltb nodeLimit (nodes t)) (c .0) in
+      record {
+        items-few = ltb-false itemLimit (length query) (d .0);
+        nodes-few = ltb-false nodeLimit (nodes t) (d .1);
+        kinds-all = eqb-true _ _ (not-false _ (c .1));
+        given-all = eqb-true _ _ (not-false _ (b .1));
+        marks-all = eqb-true _ _ (not-false _ (a .1))
+      }
+
+  pub accepted : (needed : ℕ) → roomAnswer query t given marksRoom scratchRoom ≡ value needed → Accepted needed
+  unfolding roomAnswer
+  accepted needed h =
+      let first = line-value 1 needed (when Long 0) _ h in
+      go (decode query) refl (first .1) (agrees (when-none Long 0 (first .0)))
+    where
+      go : (o : Option Query) → decode query ≡ o → lineQuery 6 0 o (λ q. line 7 (tableFault t) (line 8 (marksFault t given) (line 10 (short scratchRoom (scratchOf t q)) (value (scratchOf t q))))) ≡ value needed
+          → Agree → Accepted needed
+      go none e k a = absurd (let z : _≡_ {A = ℕ} 0 1 = cc in omega arith)
+      go (some q) e k a =
+          let seven = line-value 7 needed (tableFault t) _ k in
+          let eight = line-value 8 needed (marksFault t given) _ (seven .1) in
+          let ten = line-value 10 needed (short scratchRoom (scratchOf t q)) _ (eight .1) in
+          let same : needed ≡ scratchOf t q = let r : scratchOf t q ≡ needed = cc in sym r in
+          record {
+            agree = a;
+            query-is = q;
+            decodes = e;
+            table-good = seven .0;
+            marks-good = eight .0;
+            room-is = same;
+            room-enough = omega (arith, ltb-false scratchRoom (scratchOf t q) (when-none (ltb scratchRoom (scratchOf t q)) (scratchOf t q) (ten .0)))
+          }
+
+  -- A run that nothing refuses answers the number of nodes kept,
+  pub runs : (needed : ℕ) (a : Accepted needed) → runAnswer query t given marksRoom scratchRoom ≡ value (markedCount t (kept t given (a .query-is)))
+  unfolding runAnswer
+  runs needed a =
+      rw (le-ltb itemLimit (length query) (a .agree .items-few), le-ltb nodeLimit (nodes t) (a .agree .nodes-few), eq-eqb (length (t .kinds)) (nodes t) (a .agree .kinds-all), eq-eqb (length given) (nodes t) (a .agree .given-all), eq-eqb marksRoom (nodes t) (a .agree .marks-all), a .decodes, a .table-good, a .marks-good, le-ltb scratchRoom (scratchOf t (a .query-is)) (omega (arith, a .room-enough, a .room-is)))
+
+  -- and one that something refuses answers that.
+  pub refuses : (number place : ℕ) → roomAnswer query t given marksRoom scratchRoom ≡ refusal number place → runAnswer query t given marksRoom scratchRoom ≡ refusal number place
+  unfolding roomAnswer runAnswer
+  refuses number place h = go (when Long 0) refl (decode query) refl (tableFault t) refl (marksFault t given) refl
+    where
+      same-line : (q : Query) → (o : Option ℕ) → line 10 o (value (scratchOf t q)) ≡ refusal number place → line 10 o (value (markedCount t (kept t given q))) ≡ refusal number place
+      same-line q none e = absurd (let z : _≡_ {A = ℕ} 0 1 = cc in omega arith)
+      same-line q (some p) e = e
+
+      go : (l : Option ℕ) → when Long 0 ≡ l → (o : Option Query) → decode query ≡ o → (u : Option ℕ) → tableFault t ≡ u → (v : Option ℕ) → marksFault t given ≡ v
+          → runAnswer query t given marksRoom scratchRoom ≡ refusal number place
+      go (some p) e o f u g v k = rw e (rw e at h)
+      go none e none f u g v k = rw (e, f) (rw (e, f) at h)
+      go none e (some q) f (some p) g v k = rw (e, f, g) (rw (e, f, g) at h)
+      go none e (some q) f none g (some p) k = rw (e, f, g, k) (rw (e, f, g, k) at h)
+      go none e (some q) f none g none k = rw (e, f, g, k) (same-line q (short scratchRoom (scratchOf t q)) (rw (e, f, g, k) at h))
+
+-- The scratch of a run fits a machine word.
+pub scratch-small : (query : List ℕ) (t : Table) (q : Query) → length query ≤ itemLimit → nodes t ≤ nodeLimit → decode query ≡ some q → nodes t * 2 * (height q + 1) ≤ 33562624
+scratch-small query t q li ln d =
+    let h : height q + 1 ≤ 4097 = omega (arith, height-size q, size-decoded query q d) in
+    let n : nodes t * 2 ≤ 8192 = omega arith in
+    le-trans (mul-le-mul n h) (omega arith)
