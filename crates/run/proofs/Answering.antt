@@ -58,6 +58,24 @@ module _ (query : List ℕ) (t : Table) (given : List ℕ) (marksRoom scratchRoo
   room-agrees a =
       rw (le-ltb itemLimit (length query) (a .items-few), le-ltb nodeLimit (nodes t) (a .nodes-few), eq-eqb (length (t .kinds)) (nodes t) (a .kinds-all), eq-eqb (length given) (nodes t) (a .given-all), eq-eqb marksRoom (nodes t) (a .marks-all))
 
+  -- Each later line, where those before it do not hold.
+  pub room-six : Agree → decode query ≡ none → refusal 6 0 ≡ roomAnswer query t given marksRoom scratchRoom
+  room-six a d = sym (room-agrees a ∙ rw d)
+
+  pub room-seven : (q : Query) (i : ℕ) → Agree → decode query ≡ some q → tableFault t ≡ some i → refusal 7 i ≡ roomAnswer query t given marksRoom scratchRoom
+  room-seven q i a d e = sym (room-agrees a ∙ rw (d, e))
+
+  pub room-eight : (q : Query) (i : ℕ) → Agree → decode query ≡ some q → tableFault t ≡ none → marksFault t given ≡ some i → refusal 8 i ≡ roomAnswer query t given marksRoom scratchRoom
+  room-eight q i a d e f = sym (room-agrees a ∙ rw (d, e, f))
+
+  pub room-ten : (q : Query) → Agree → decode query ≡ some q → tableFault t ≡ none → marksFault t given ≡ none → scratchRoom < scratchOf t q
+      → refusal 10 (scratchOf t q) ≡ roomAnswer query t given marksRoom scratchRoom
+  room-ten q a d e f l = sym (room-agrees a ∙ rw (d, e, f, lt-ltb scratchRoom (scratchOf t q) l))
+
+  pub room-value : (q : Query) → Agree → decode query ≡ some q → tableFault t ≡ none → marksFault t given ≡ none → scratchOf t q ≤ scratchRoom
+      → value (scratchOf t q) ≡ roomAnswer query t given marksRoom scratchRoom
+  room-value q a d e f l = sym (room-agrees a ∙ rw (d, e, f, le-ltb scratchRoom (scratchOf t q) l))
+
   -- Where the room is answered, nothing refuses.
   pub record Accepted (needed : ℕ) : Type 0 where
     pub agree : Agree
