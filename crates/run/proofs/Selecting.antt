@@ -365,3 +365,8 @@ module _ (t : Table) (m : List ℕ) (items : List ℕ) (room : ℕ) (r : Runs it
       factor true test ps = refl
       factor false test [] = refl
       factor false test (p ∷ ps) = factor false test ps
+
+-- Every query has a height.
+pub some-tall : (q : Query) → 1 ≤ height q
+unfolding height
+some-tall q = omega arith
