@@ -3,28 +3,36 @@ use Prim.Native.Nat.{ℕ, zero, suc, _+_, _-_, _*_, _≤_, _<_}
 use native.Mathlib.Omega.{arith}
 use native.Mathlib.Nat.{mul-le-mul, mul-le-mul-left, le-trans}
 use mathlib.Core.Path.{_≡_, refl, sym, _∙_, ap, ap₂}
-use mathlib.Core.Bool.{Bool, true, false, not, _||_}
-use mathlib.Core.List.{List, [], _++_}
+use mathlib.Core.Bool.{Bool, true, false, not, _||_, _&&_, cond}
+use mathlib.Core.List.{List, [], _++_, append-nil}
+use mathlib.Core.Logic.{⊎-elim}
 use mathlib.Core.Option.{Option, none, some}
 use lib.Dec.{eqb, ltb}
-use lib.ListN.{length, drop, replicate, length-replicate, drop-of-length-le}
+use lib.ListN.{length, getD, take, drop, replicate, length-replicate, drop-of-length-le}
+use lib.Seq.{ext-getD, length-take-le}
 use borrow.Author.Tests.{lt-ltb, le-ltb, ltb-false, ltb-true, eq-eqb, ne-eqb, eqb-true, not-false}
 use Rattle.paper.specs.Tools.{when, written}
 use Rattle.paper.specs.Limits.{itemLimit, nodeLimit}
 use Rattle.paper.specs.Query.{Query}
 use Rattle.paper.specs.Items.{decode}
 use Rattle.paper.specs.Measures.{size, height}
-use Rattle.paper.specs.Document.{Table, nodes, tableFault, marksFault}
+use Rattle.paper.specs.Document.{Table, nodes, parentOf, tableFault, marked, goodMark, marksFault}
 use Rattle.paper.specs.Extraction.{rank}
 use Rattle.paper.specs.Selection.{kept}
-use Rattle.paper.specs.Answers.{Answer, value, refusal, line, lineQuery, tooLong, short, scratchOf, markedCount, atExit, runAnswer, runMarks, runScratch, keptGot, zerosGot}
-use Rattle.paper.proofs.Tests.{none-some, some-inj}
+use Rattle.paper.specs.Answers.{value, refusal, line, lineQuery, tooLong, short, scratchOf, markedCount, atExit, runAnswer, runMarks, runScratch, keptGot, zerosGot}
+use Rattle.paper.specs.Answers.{Answer as Told}
+use Rattle.paper.specs.Told.{told}
+use Rattle.paper.specs.declared.Answer.{Answer}
+use Rattle.paper.proofs.Tests.{none-some, some-inj, and-true, or-true}
+use Rattle.paper.proofs.Searches.{length-column, column-at}
+use Rattle.paper.proofs.Trees.{tree, good-marks}
 use Rattle.paper.proofs.Sizes.{size-decoded, height-size}
-use Rattle.paper.proofs.Refusing.{line-value, when-none, or-none}
+use Rattle.paper.proofs.Refusing.{line-value, when-none, or-none, Refuses, refusal-told, refused-keeps}
 use Rattle.paper.proofs.Keeping.{length-kept}
+use Rattle.sets.specs.Sets.{bits, tableOf}
 use Rattle.shape.specs.Walks.{shapeOf}
 use Rattle.shape.specs.declared.Shape.the-variants.{Query as IsQuery, Malformed as NoQuery}
-use Rattle.run.specs.Evals.{roomAnswer}
+use Rattle.run.specs.Evals.{Ready, Runs, roomAnswer}
 
 -- What the shape of items says of the query that they are.
 pub shaped-none : (o : Option Query) → NoQuery ≡ shapeOf o → o ≡ none
@@ -97,7 +105,7 @@ module _ (query : List ℕ) (t : Table) (given : List ℕ) (marksRoom scratchRoo
         nodes-few = ltb-false nodeLimit (nodes t) (d .1);
         kinds-all = eqb-true _ _ (not-false _ (c .1));
         given-all = eqb-true _ _ (not-false _ (b .1));
-        marks-all = eqb-true _ _ (not-false _ (a .1))
+        marks-all = eqb-true _ _ (not-false _ (a .1));
       }
 
   pub accepted : (needed : ℕ) → roomAnswer query t given marksRoom scratchRoom ≡ value needed → Accepted needed
@@ -121,7 +129,7 @@ module _ (query : List ℕ) (t : Table) (given : List ℕ) (marksRoom scratchRoo
             table-good = seven .0;
             marks-good = eight .0;
             room-is = same;
-            room-enough = omega (arith, ltb-false scratchRoom (scratchOf t q) (when-none (ltb scratchRoom (scratchOf t q)) (scratchOf t q) (ten .0)))
+            room-enough = omega (arith, ltb-false scratchRoom (scratchOf t q) (when-none (ltb scratchRoom (scratchOf t q)) (scratchOf t q) (ten .0)));
           }
 
   -- A run that nothing refuses answers the number of nodes kept,
@@ -153,3 +161,72 @@ scratch-small query t q li ln d =
     let h : height q + 1 ≤ 4097 = omega (arith, height-size q, size-decoded query q d) in
     let n : nodes t * 2 ≤ 8192 = omega arith in
     le-trans (mul-le-mul n h) (omega arith)
+
+-- A run answers what refused it, and writes nothing,
+module _ (query : List ℕ) (t : Table) (given marks scratch : List ℕ) where
+  abbrev Said : Told → Type 0
+  Said r = r ≡ roomAnswer query t given (length marks) (length scratch)
+
+  pub refused-answer : (a : Answer) → Refuses a → Said (told a) → told a ≡ runAnswer query t given (length marks) (length scratch)
+  refused-answer a r h =
+      let says = refusal-told a r in
+      says .2 ∙ sym (refuses query t given (length marks) (length scratch) (says .0) (says .1) (sym h ∙ says .2))
+
+  pub refused-marks : (a : Answer) → Refuses a → Said (told a) → marks ≡ runMarks query t given marks (length scratch)
+  unfolding runMarks
+  refused-marks a r h = rw (← refused-answer a r h) (sym (refused-keeps a (keptGot t given (decode query)) marks r))
+
+  pub refused-scratch : (a : Answer) → Refuses a → Said (told a) → scratch ≡ runScratch query t given (length marks) scratch
+  unfolding runScratch
+  refused-scratch a r h = rw (← refused-answer a r h) (sym (refused-keeps a (zerosGot t (decode query)) scratch r))
+
+  -- and one that nothing refuses writes the marks of what is kept, and clears what it needed of the scratch.
+  pub run-marks : (needed : ℕ) (a : Accepted query t given (length marks) (length scratch) needed) → kept t given (a .query-is) ≡ runMarks query t given marks (length scratch)
+  unfolding runMarks
+  run-marks needed a =
+      let k = kept t given (a .query-is) in
+      let few : length marks ≤ length k = omega (arith, length-kept t given (a .query-is), a .agree .marks-all) in
+      let all : drop (length k) marks ≡ [] = drop-of-length-le marks few in
+      rw (runs query t given (length marks) (length scratch) needed a, a .decodes, all) (sym (append-nil k))
+
+  pub run-scratch : (needed : ℕ) (a : Accepted query t given (length marks) (length scratch) needed) (zeros : List ℕ) → zeros ≡ replicate needed 0
+      → zeros ++ drop needed scratch ≡ runScratch query t given (length marks) scratch
+  unfolding runScratch
+  run-scratch needed a zeros e =
+      rw (runs query t given (length marks) (length scratch) needed a, a .decodes)
+      (ap₂ _++_ (e ∙ ap (λ (k : ℕ). replicate k 0) (a .room-is)) (ap (λ (k : ℕ). drop k scratch) (a .room-is ∙ sym (length-replicate (scratchOf t (a .query-is)) 0))))
+
+-- Good marks are a set.
+one-bit : (x : ℕ) (b : Bool) → (eqb x 0 || eqb x 1 && b) ≡ true → x ≡ cond (eqb x 1) 1 0
+one-bit x b h =
+    ⊎-elim (λ z. let e : x ≡ 0 = eqb-true x 0 z in rw e refl)
+    (λ o. let e : x ≡ 1 = eqb-true x 1 (and-true (eqb x 1) b o .0) in rw e refl)
+    (or-true (eqb x 0) (eqb x 1 && b) h)
+
+marks-are-bits : (t : Table) (marks : List ℕ) → length marks ≡ nodes t → marksFault t marks ≡ none → marks ≡ bits (nodes t) (marked marks)
+unfolding goodMark
+marks-are-bits t marks e h =
+    ext-getD 0 marks (bits (nodes t) (marked marks)) (e ∙ sym (length-column (nodes t) 0 (λ k. cond (marked marks k) 1 0)))
+    (λ i l.
+    let inside : i < nodes t = omega (arith, e) in
+    one-bit (getD marks i 0) (marked marks (parentOf t i)) (good-marks t marks h i inside) ∙ sym (column-at (nodes t) (λ k. cond (marked marks k) 1 0) 0 i inside))
+
+-- Where nothing refuses, the document can be searched and the needed scratch is room for the query's sets.
+module _ (query parents kinds given : List ℕ) (marksRoom : ℕ) (scratch : List ℕ) (needed : ℕ) (a : Accepted query (tableOf parents kinds) given marksRoom (length scratch) needed) where
+  pub searchable : Ready parents kinds given
+  searchable =
+      record {
+        kinds-all = a .agree .kinds-all;
+        marks-all = a .agree .given-all;
+        tree = tree (tableOf parents kinds) (a .table-good);
+        marks-bits = marks-are-bits (tableOf parents kinds) given (a .agree .given-all) (a .marks-good);
+      }
+
+  pub runnable : Runs query (length parents) (length (take needed scratch))
+  runnable =
+      let few : length parents * height (a .query-is) ≤ length parents * 2 * (height (a .query-is) + 1) = omega arith in
+      record {
+        query = a .query-is;
+        decodes = a .decodes;
+        room-for = omega (arith, few, length-take-le needed scratch (a .room-enough), a .room-is);
+      }

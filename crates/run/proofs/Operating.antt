@@ -48,16 +48,16 @@ module _ (t : Table) (m : List ℕ) (items : List ℕ) (at nodes room depth : �
       by-cases (ℕ-discrete count 0)
       (λ z. none-some (sym (operand-bare (takeWithin depth) (getD items at 0) (drop (at + 1) items) (p ∙ ap some z)) ∙ operand-read items at nodes room depth f))
       (λ z.
-        found-some (takeSteps (takeWithin depth) count (drop (at + 1) items)) _ (f .what, f .rest)
-        (sym (operand-path (takeWithin depth) (getD items at 0) count (drop (at + 1) items) p (omega arith)) ∙ operand-read items at nodes room depth f)
-        (λ a q r.
-          record {
-            what = a .0;
-            rest = a .1;
-            reads = q;
-            room-for = enough nodes (heightExpr (f .what)) (1 + heightSteps (a .0)) room (f .room-for) (omega (arith, ap (λ (x : Expr × List ℕ). heightExpr (x .0)) (some-inj r)));
-            inside = omega (arith, operand-there items at nodes room depth f)
-          }))
+      found-some (takeSteps (takeWithin depth) count (drop (at + 1) items)) _ (f .what, f .rest)
+      (sym (operand-path (takeWithin depth) (getD items at 0) count (drop (at + 1) items) p (omega arith)) ∙ operand-read items at nodes room depth f)
+      (λ a q r.
+      record {
+        what = a .0;
+        rest = a .1;
+        reads = q;
+        room-for = enough nodes (heightExpr (f .what)) (1 + heightSteps (a .0)) room (f .room-for) (omega (arith, ap (λ (x : Expr × List ℕ). heightExpr (x .0)) (some-inj r)));
+        inside = omega (arith, operand-there items at nodes room depth f);
+      }))
 
   pub path-set : (count next : ℕ) (sets : List ℕ) → pathAt (getD items at 0) ≡ some count
       → Evaluates items (at + 1) nodes (takeSteps (takeWithin depth) count (drop (at + 1) items)) (finds t m) next sets
@@ -66,13 +66,13 @@ module _ (t : Table) (m : List ℕ) (items : List ℕ) (at nodes room depth : �
       by-cases (ℕ-discrete count 0)
       (λ z. none-some (sym (operand-bare (takeWithin depth) (getD items at 0) (drop (at + 1) items) (p ∙ ap some z)) ∙ operand-read items at nodes room depth f))
       (λ z.
-        record {
-          what = path (v .what);
-          reads = ap (takeOperand (takeWithin depth)) (at-place items at (operand-there items at nodes room depth f)) ∙ operand-path (takeWithin depth) (getD items at 0) count (drop (at + 1) items) p (omega arith) ∙ rw (v .reads);
-          onward = omega (arith, v .onward);
-          inside = v .inside;
-          set = v .set
-        })
+      record {
+        what = path (v .what);
+        reads = ap (takeOperand (takeWithin depth)) (at-place items at (operand-there items at nodes room depth f)) ∙ operand-path (takeWithin depth) (getD items at 0) count (drop (at + 1) items) p (omega arith) ∙ rw (v .reads);
+        onward = omega (arith, v .onward);
+        inside = v .inside;
+        set = v .set;
+      })
 
 -- A bracket of `and`, of `or` and of `not`, where d brackets may still be opened in it.
 module _ (t : Table) (m : List ℕ) (items : List ℕ) (at nodes room d : ℕ) (f : Fits items at nodes room (takeOperand (takeWithin (suc d)) (drop at items)) heightExpr) where
@@ -104,13 +104,13 @@ module _ (t : Table) (m : List ℕ) (items : List ℕ) (at nodes room d : ℕ) (
   not-fits taken e =
       found-some taken _ (f .what, f .rest) (sym e ∙ f .reads)
       (λ a q r.
-        record {
-          what = a .0;
-          rest = a .1;
-          reads = q;
-          room-for = enough nodes (heightExpr (f .what)) (heightExpr (a .0)) room (f .room-for) (omega (arith, ap (λ (x : Expr × List ℕ). heightExpr (x .0)) (some-inj r)));
-          inside = omega (arith, on)
-        })
+      record {
+        what = a .0;
+        rest = a .1;
+        reads = q;
+        room-for = enough nodes (heightExpr (f .what)) (heightExpr (a .0)) room (f .room-for) (omega (arith, ap (λ (x : Expr × List ℕ). heightExpr (x .0)) (some-inj r)));
+        inside = omega (arith, on);
+      })
 
   pub not-set : (taken : Taken Expr) (next : ℕ) (sets after : List ℕ) → takeOperand (takeWithin (suc d)) (drop at items) ≡ found taken (λ r. some (negated (r .0), r .1))
       → Evaluates items (at + 1) nodes taken (holds t m) next sets → ((g : ℕ → Bool) → take nodes sets ≡ bits nodes g → take nodes after ≡ bits nodes (λ i. not (g i)))
@@ -121,7 +121,7 @@ module _ (t : Table) (m : List ℕ) (items : List ℕ) (at nodes room d : ℕ) (
         reads = e ∙ rw (v .reads);
         onward = omega (arith, v .onward);
         inside = v .inside;
-        set = flips (holds t m (v .what)) (v .set)
+        set = flips (holds t m (v .what)) (v .set);
       }
 
 -- An item that is neither a path nor an operator, and can be read, is `not`.

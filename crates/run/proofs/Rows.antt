@@ -71,7 +71,7 @@ module _ (t : Table) (m : List ℕ) (items : List ℕ) (at nodes depth : ℕ) wh
         goes-on = go (takePreds (takeWithin depth) count (drop at items));
         set = λ f h. h ∙ bits-same nodes f (λ i. f i && true) (λ i. and-all (f i));
         onward = omega arith;
-        inside = l
+        inside = l;
       }
     where
       go : (o : Taken Preds) → o ≡ ahead (appendPreds bare) o
@@ -86,22 +86,22 @@ module _ (t : Table) (m : List ℕ) (items : List ℕ) (at nodes depth : ℕ) wh
   pred-fits room whole-row place (suc owed) before sets z f l k =
       ahead-some (appendPreds (l .so-far)) (takePreds (takeWithin depth) (suc owed) (drop place items)) (f .what, f .rest) (sym (l .goes-on) ∙ f .reads)
       (λ a p q r.
-        found-some (takeWithin depth (drop place items)) _ a p
-        (λ e u v.
-          found-some (takePreds (takeWithin depth) owed (e .1)) _ a v
-          (λ b x y.
-            let high : heightExpr (e .0) ≤ heightPreds (f .what) =
-              omega (arith, height-preds (l .so-far) (a .0), ap heightPreds q, ap (λ (z : Preds × List ℕ). heightPreds (z .0)) (some-inj y)) in
-            let deep : depth ≡ 0 → ⊥ = λ z. none-some (ap (λ (d : ℕ). takeWithin d (drop place items)) (sym z) ∙ u) in
-            k deep
-            (record {
-              what = e .0;
-              rest = e .1;
-              reads = opened depth deep u;
-              room-for = behind nodes (1 + heightPreds (f .what)) (heightExpr (e .0)) room (f .room-for) (omega arith);
-              inside = l .inside
-            })
-            (two-fit nodes (1 + heightPreds (f .what)) room (f .room-for) (omega (arith, some-height (e .0)))))))
+      found-some (takeWithin depth (drop place items)) _ a p
+      (λ e u v.
+      found-some (takePreds (takeWithin depth) owed (e .1)) _ a v
+      (λ b x y.
+      let high : heightExpr (e .0) ≤ heightPreds (f .what) =
+      omega (arith, height-preds (l .so-far) (a .0), ap heightPreds q, ap (λ (z : Preds × List ℕ). heightPreds (z .0)) (some-inj y)) in
+      let deep : depth ≡ 0 → ⊥ = λ z. none-some (ap (λ (d : ℕ). takeWithin d (drop place items)) (sym z) ∙ u) in
+      k deep
+      (record {
+        what = e .0;
+        rest = e .1;
+        reads = opened depth deep u;
+        room-for = behind nodes (1 + heightPreds (f .what)) (heightExpr (e .0)) room (f .room-for) (omega arith);
+        inside = l .inside;
+      })
+      (two-fit nodes (1 + heightPreds (f .what)) room (f .room-for) (omega (arith, some-height (e .0)))))))
     where
       opened : (d : ℕ) → (d ≡ 0 → ⊥) → {e : Expr × List ℕ} → takeWithin d (drop place items) ≡ some e → orsFrom (takeWithin (d - 1)) 0 (drop place items) ≡ some e
       opened zero z u = absurd (z refl)
@@ -117,17 +117,17 @@ module _ (t : Table) (m : List ℕ) (items : List ℕ) (at nodes depth : ℕ) wh
       record {
         so-far = appendPreds (l .so-far) (pred e bare);
         goes-on =
-          l .goes-on ∙ ap (ahead (appendPreds (l .so-far))) (pred-row depth items place e next d p owed) ∙ go (takePreds (takeWithin depth) owed (drop next items)) ∙
-          ap (λ (n : ℕ). ahead (appendPreds (appendPreds (l .so-far) (pred e bare))) (takePreds (takeWithin depth) n (drop next items))) (let q : owed ≡ suc owed - 1 = omega arith in q);
+            l .goes-on ∙ ap (ahead (appendPreds (l .so-far))) (pred-row depth items place e next d p owed) ∙ go (takePreds (takeWithin depth) owed (drop next items)) ∙
+            ap (λ (n : ℕ). ahead (appendPreds (appendPreds (l .so-far) (pred e bare))) (takePreds (takeWithin depth) n (drop next items))) (let q : owed ≡ suc owed - 1 = omega arith in q);
         set =
-          λ f h.
-          joins (λ i. f i && allHold t m (l .so-far) i) (holds t m e) (l .set f h) s ∙
-          bits-same nodes _ _
-          (λ i.
+            λ f h.
+            joins (λ i. f i && allHold t m (l .so-far) i) (holds t m e) (l .set f h) s ∙
+            bits-same nodes _ _
+            (λ i.
             regroup (f i) (allHold t m (l .so-far) i) (holds t m e i) ∙
             ap (λ b. f i && b) (ap (λ b. allHold t m (l .so-far) i && b) (and-all (holds t m e i)) ∙ sym (holds-append t m (l .so-far) (pred e bare) i)));
         onward = omega (arith, l .onward);
-        inside = i
+        inside = i;
       }
     where
       go : (o : Taken Preds) → ahead (appendPreds (l .so-far)) (ahead (appendPreds (pred e bare)) o) ≡ ahead (appendPreds (appendPreds (l .so-far) (pred e bare))) o
@@ -142,7 +142,7 @@ module _ (t : Table) (m : List ℕ) (items : List ℕ) (at nodes depth : ℕ) wh
         reads = l .goes-on ∙ ap (λ (ps : Preds). some (ps, drop place items)) (preds-bare (l .so-far));
         onward = l .onward;
         inside = l .inside;
-        set = l .set
+        set = l .set;
       }
   preds-end whole-row place (suc owed) before sets z l = absurd (omega arith)
 
@@ -176,15 +176,15 @@ split within (suc k) (suc count) [] s rest l h next = none-some h
 split within (suc k) (suc count) (w ∷ ws) s rest l h next =
     found-some (stepAt w) _ (s, rest) h
     (λ t p q.
-      found-some (takePreds within (t .count) ws) _ (s, rest) q
-      (λ a u v.
-        found-some (takeSteps within count (a .1)) _ (s, rest) v
-        (λ b x y.
-          split within k count (a .1) (b .0) (b .1) (omega arith) x
-          (λ first mid f g.
-            next (step (t .axis) (t .test) (a .0) first) mid (rw (p, u, f))
-            (ap (λ (n : ℕ). takeSteps within n mid) (let e : suc count - suc k ≡ count - k = omega arith in e) ∙ g ∙
-            ap₂ (λ (z : Steps) (r : List ℕ). some (z, r)) (ap (λ (z : Steps × List ℕ). later (suc k) (z .0)) (some-inj y)) (ap (λ (z : Steps × List ℕ). z .1) (some-inj y)))))))
+    found-some (takePreds within (t .count) ws) _ (s, rest) q
+    (λ a u v.
+    found-some (takeSteps within count (a .1)) _ (s, rest) v
+    (λ b x y.
+    split within k count (a .1) (b .0) (b .1) (omega arith) x
+    (λ first mid f g.
+    next (step (t .axis) (t .test) (a .0) first) mid (rw (p, u, f))
+    (ap (λ (n : ℕ). takeSteps within n mid) (let e : suc count - suc k ≡ count - k = omega arith in e) ∙ g ∙
+    ap₂ (λ (z : Steps) (r : List ℕ). some (z, r)) (ap (λ (z : Steps × List ℕ). later (suc k) (z .0)) (some-inj y)) (ap (λ (z : Steps × List ℕ). z .1) (some-inj y)))))))
 
 -- Where step k of a readable path stands: its item, its predicates, and what the steps from there on are.
 pub record StepHere (items : List ℕ) (place nodes room depth : ℕ) (s : Steps) (k : ℕ) (h : Head) : Type 0 where
@@ -204,10 +204,10 @@ module _ (items : List ℕ) (at nodes room depth count : ℕ) (f : Fits items at
   step-here {C = C} k place l e next =
       split (takeWithin depth) k count (drop at items) (f .what) (f .rest) (omega arith) (f .reads)
       (λ p mid u v.
-        let there : mid ≡ drop place items = ap (λ (z : Steps × List ℕ). z .1) (some-inj (sym u ∙ e .reads)) in
-        let read : takeSteps (takeWithin depth) (count - k) (drop place items) ≡ some (later k (f .what), f .rest) = ap (takeSteps (takeWithin depth) (count - k)) (sym there) ∙ v in
-        by-cases (decLt place (length items)) (λ on. go (count - k) (omega arith) on read)
-        (λ off. none-some (sym (past (count - k) (omega arith) (omega arith)) ∙ read)))
+      let there : mid ≡ drop place items = ap (λ (z : Steps × List ℕ). z .1) (some-inj (sym u ∙ e .reads)) in
+      let read : takeSteps (takeWithin depth) (count - k) (drop place items) ≡ some (later k (f .what), f .rest) = ap (takeSteps (takeWithin depth) (count - k)) (sym there) ∙ v in
+      by-cases (decLt place (length items)) (λ on. go (count - k) (omega arith) on read)
+      (λ off. none-some (sym (past (count - k) (omega arith) (omega arith)) ∙ read)))
     where
       past : (n : ℕ) → 0 < n → length items ≤ place → takeSteps (takeWithin depth) n (drop place items) ≡ none
       past zero z o = absurd (omega arith)
@@ -218,25 +218,25 @@ module _ (items : List ℕ) (at nodes room depth count : ℕ) (f : Fits items at
       go (suc n) z on read =
           found-some (stepAt (getD items place 0)) _ (later k (f .what), f .rest) (rw (drop-cons items place 0 on) at read)
           (λ h p q.
-            found-some (takePreds (takeWithin depth) (h .count) (drop (suc place) items)) _ (later k (f .what), f .rest) q
-            (λ a u v.
-              found-some (takeSteps (takeWithin depth) n (a .1)) _ (later k (f .what), f .rest) v
-              (λ b x y.
-                let is : step (h .axis) (h .test) (a .0) (b .0) ≡ later k (f .what) = ap (λ (z : Steps × List ℕ). z .0) (some-inj y) in
-                next on h p
-                (record {
-                  preds =
-                    record {
-                      what = a .0;
-                      rest = a .1;
-                      reads = ap (λ (j : ℕ). takePreds (takeWithin depth) (h .count) (drop j items)) (add-one place) ∙ u;
-                      room-for =
-                        enough nodes (1 + heightSteps (f .what)) (1 + heightPreds (a .0)) room (f .room-for)
-                        (omega (arith, later-height k (f .what), ap heightSteps is));
-                      inside = omega arith
-                    };
-                  here = sym is ∙ ap (step (h .axis) (h .test) (a .0)) (sym (later-next k (f .what) (h .axis) (h .test) (a .0) (b .0) (sym is)))
-                }))))
+          found-some (takePreds (takeWithin depth) (h .count) (drop (suc place) items)) _ (later k (f .what), f .rest) q
+          (λ a u v.
+          found-some (takeSteps (takeWithin depth) n (a .1)) _ (later k (f .what), f .rest) v
+          (λ b x y.
+          let is : step (h .axis) (h .test) (a .0) (b .0) ≡ later k (f .what) = ap (λ (z : Steps × List ℕ). z .0) (some-inj y) in
+          next on h p
+          (record {
+            preds =
+                record {
+                  what = a .0;
+                  rest = a .1;
+                  reads = ap (λ (j : ℕ). takePreds (takeWithin depth) (h .count) (drop j items)) (add-one place) ∙ u;
+                  room-for =
+                      enough nodes (1 + heightSteps (f .what)) (1 + heightPreds (a .0)) room (f .room-for)
+                      (omega (arith, later-height k (f .what), ap heightSteps is));
+                  inside = omega arith;
+                };
+            here = sym is ∙ ap (step (h .axis) (h .test) (a .0)) (sym (later-next k (f .what) (h .axis) (h .test) (a .0) (b .0) (sym is)));
+          }))))
 
 -- The steps of a path from the one that is next on have their set: the nodes from which they find a node.
 pub record PathSet (t : Table) (m : List ℕ) (items : List ℕ) (at nodes depth count left : ℕ) (sets : List ℕ) : Type 0 where
@@ -256,9 +256,9 @@ module _ (t : Table) (m : List ℕ) (items : List ℕ) (at nodes room depth coun
         reads = f .reads;
         fewer = omega arith;
         set =
-          front-back nodes (finds t m (later count (f .what))) part rest
-          (e ∙ ones nodes 0 ∙
-          ap (λ (s : Steps). bits nodes (finds t m s)) (sym (later-all (f .what)) ∙ ap (λ (k : ℕ). later k (f .what)) (count-steps items at nodes room depth count f)))
+            front-back nodes (finds t m (later count (f .what))) part rest
+            (e ∙ ones nodes 0 ∙
+            ap (λ (s : Steps). bits nodes (finds t m s)) (sym (later-all (f .what)) ∙ ap (λ (k : ℕ). later k (f .what)) (count-steps items at nodes room depth count f)));
       }
     where
       ones : (n from : ℕ) → replicate {A = ℕ} n 1 ≡ columnFrom n from (λ i. cond true 1 0)
@@ -289,9 +289,9 @@ module _ (t : Table) (m : List ℕ) (items : List ℕ) (at nodes room depth coun
         reads = f .reads;
         fewer = omega arith;
         set =
-          front-back nodes (image t (turned (h .axis)) g₂) part′ rest (moved g₂ second) ∙
-          bits-same nodes (image t (turned (h .axis)) g₂) (finds t m (step (h .axis) (h .test) (v .what) (later (suc k) (f .what)))) (λ i. back-step t m (h .axis) (h .test) (v .what) (later (suc k) (f .what)) i) ∙
-          ap (λ (s : Steps). bits nodes (finds t m s)) (ap (λ (ps : Preds). step (h .axis) (h .test) ps (later (suc k) (f .what))) same ∙ sym (here .here))
+            front-back nodes (image t (turned (h .axis)) g₂) part′ rest (moved g₂ second) ∙
+            bits-same nodes (image t (turned (h .axis)) g₂) (finds t m (step (h .axis) (h .test) (v .what) (later (suc k) (f .what)))) (λ i. back-step t m (h .axis) (h .test) (v .what) (later (suc k) (f .what)) i) ∙
+            ap (λ (s : Steps). bits nodes (finds t m s)) (ap (λ (ps : Preds). step (h .axis) (h .test) ps (later (suc k) (f .what))) same ∙ sym (here .here));
       }
 
   pub path-done : (next : ℕ) (sets : List ℕ) → PathSet t m items at nodes depth count 0 sets → Ends items at (takeSteps (takeWithin depth) count (drop at items)) next
@@ -302,5 +302,5 @@ module _ (t : Table) (m : List ℕ) (items : List ℕ) (at nodes room depth coun
         reads = e .reads;
         onward = e .onward;
         inside = e .inside;
-        set = path-now 0 sets p ∙ ap (λ (z : Steps × List ℕ). bits nodes (finds t m (z .0))) (some-inj (sym (f .reads) ∙ e .reads))
+        set = path-now 0 sets p ∙ ap (λ (z : Steps × List ℕ). bits nodes (finds t m (z .0))) (some-inj (sym (f .reads) ∙ e .reads));
       }

@@ -48,7 +48,6 @@ module _ (t : Table) (m : List ℕ) (one : List ℕ → Taken Expr) (more : ℕ 
     (goes : (n : ℕ) (e : Expr) (ws : List ℕ) → more (suc n) e ws ≡ found (one ws) (λ r. more n (join e (r .0)) (r .1)))
     (holds-join : (a b : Expr) (i : ℕ) → holds t m (join a b) i ≡ op (holds t m a i) (holds t m b i))
     (height-join : (a b : Expr) → heightExpr (join a b) ≡ 1 + max (heightExpr a) (heightExpr b)) where
-
   -- What has been read of the run, with so many operands owed, has its set.
   pub record SetLeft (items : List ℕ) (at nodes : ℕ) (whole : Taken Expr) (place owed : ℕ) (sets : List ℕ) : Type 0 where
     pub so-far : Expr
@@ -69,13 +68,13 @@ module _ (t : Table) (m : List ℕ) (one : List ℕ → Taken Expr) (more : ℕ 
   first-fits items at nodes room owed whole l f start ls e =
       found-some (one (drop start items)) _ (f .what, f .rest) (sym e ∙ f .reads)
       (λ a p q.
-        record {
-          what = a .0;
-          rest = a .1;
-          reads = p;
-          room-for = enough nodes (heightExpr (f .what)) (heightExpr (a .0)) room (f .room-for) (joined-height owed (a .0) (a .1) (f .what, f .rest) q);
-          inside = ls
-        })
+      record {
+        what = a .0;
+        rest = a .1;
+        reads = p;
+        room-for = enough nodes (heightExpr (f .what)) (heightExpr (a .0)) room (f .room-for) (joined-height owed (a .0) (a .1) (f .what, f .rest) q);
+        inside = ls;
+      })
 
   pub first-set : (items : List ℕ) (at nodes owed : ℕ) (whole : Taken Expr) (start next : ℕ) (sets : List ℕ) → at ≤ start
       → whole ≡ found (one (drop start items)) (λ r. more owed (r .0) (r .1)) → Evaluates items start nodes (one (drop start items)) (holds t m) next sets
@@ -90,17 +89,17 @@ module _ (t : Table) (m : List ℕ) (one : List ℕ → Taken Expr) (more : ℕ 
   owed-fits items at nodes room whole place (suc owed) sets z f l k =
       found-some (one (drop place items)) _ (f .what, f .rest) (sym (goes owed (l .so-far) (drop place items)) ∙ sym (l .goes-on) ∙ f .reads)
       (λ a p q.
-        let h = joined-height owed (join (l .so-far) (a .0)) (a .1) (f .what, f .rest) q in
-        let j = height-join (l .so-far) (a .0) in
-        k
-        (record {
-          what = a .0;
-          rest = a .1;
-          reads = p;
-          room-for = behind nodes (heightExpr (f .what)) (heightExpr (a .0)) room (f .room-for) (omega arith);
-          inside = l .inside
-        })
-        (two-fit nodes (heightExpr (f .what)) room (f .room-for) (omega (arith, some-height (a .0)))))
+      let h = joined-height owed (join (l .so-far) (a .0)) (a .1) (f .what, f .rest) q in
+      let j = height-join (l .so-far) (a .0) in
+      k
+      (record {
+        what = a .0;
+        rest = a .1;
+        reads = p;
+        room-for = behind nodes (heightExpr (f .what)) (heightExpr (a .0)) room (f .room-for) (omega arith);
+        inside = l .inside;
+      })
+      (two-fit nodes (heightExpr (f .what)) room (f .room-for) (omega (arith, some-height (a .0)))))
 
   -- One operand more, with its set joined to the first.
   pub set-more : (items : List ℕ) (at nodes : ℕ) (whole : Taken Expr) (place owed next : ℕ) (sets part after : List ℕ) → 0 < owed → SetLeft items at nodes whole place owed sets
@@ -112,13 +111,13 @@ module _ (t : Table) (m : List ℕ) (one : List ℕ → Taken Expr) (more : ℕ 
       record {
         so-far = join (l .so-far) (v .what);
         goes-on =
-          l .goes-on ∙ goes owed (l .so-far) (drop place items) ∙ ap (λ (o : Taken Expr). found o (λ r. more owed (join (l .so-far) (r .0)) (r .1))) (v .reads) ∙
-          ap (λ (n : ℕ). more n (join (l .so-far) (v .what)) (drop next items)) (let e : owed ≡ suc owed - 1 = omega arith in e);
+            l .goes-on ∙ goes owed (l .so-far) (drop place items) ∙ ap (λ (o : Taken Expr). found o (λ r. more owed (join (l .so-far) (r .0)) (r .1))) (v .reads) ∙
+            ap (λ (n : ℕ). more n (join (l .so-far) (v .what)) (drop next items)) (let e : owed ≡ suc owed - 1 = omega arith in e);
         set =
-          joins (holds t m (l .so-far)) (holds t m (v .what)) (l .set) (v .set) ∙
-          ap (bits nodes) (fun-ext (λ i. sym (holds-join (l .so-far) (v .what) i)));
+            joins (holds t m (l .so-far)) (holds t m (v .what)) (l .set) (v .set) ∙
+            ap (bits nodes) (fun-ext (λ i. sym (holds-join (l .so-far) (v .what) i)));
         onward = omega (arith, l .onward, v .onward);
-        inside = v .inside
+        inside = v .inside;
       }
 
   -- Nothing more owed.

@@ -50,16 +50,16 @@ split-or : (n : ℕ) (f g h : ℕ → Bool) → (someBelow n (λ k. f k && h k) 
 split-or n f g h =
     agree (someBelow n (λ k. f k && h k) || someBelow n (λ k. f k && g k)) (someBelow n (λ k. f k && (g k || h k)))
     (λ e.
-      ⊎-elim
-      (λ p. some-elim n (λ k. f k && h k) p (λ k l q. let r = and-true (f k) (h k) q in some-intro n (λ k. f k && (g k || h k)) k l (true-and (r .0) (or-right (g k) (r .1)))))
-      (λ p. some-elim n (λ k. f k && g k) p (λ k l q. let r = and-true (f k) (g k) q in some-intro n (λ k. f k && (g k || h k)) k l (true-and (r .0) (or-left (h k) (r .1)))))
-      (or-true (someBelow n (λ k. f k && h k)) (someBelow n (λ k. f k && g k)) e))
+    ⊎-elim
+    (λ p. some-elim n (λ k. f k && h k) p (λ k l q. let r = and-true (f k) (h k) q in some-intro n (λ k. f k && (g k || h k)) k l (true-and (r .0) (or-right (g k) (r .1)))))
+    (λ p. some-elim n (λ k. f k && g k) p (λ k l q. let r = and-true (f k) (g k) q in some-intro n (λ k. f k && (g k || h k)) k l (true-and (r .0) (or-left (h k) (r .1)))))
+    (or-true (someBelow n (λ k. f k && h k)) (someBelow n (λ k. f k && g k)) e))
     (λ e.
-      some-elim n (λ k. f k && (g k || h k)) e
-      (λ k l q.
-        let r = and-true (f k) (g k || h k) q in
-        ⊎-elim (λ p. or-right (someBelow n (λ k. f k && h k)) (some-intro n (λ k. f k && g k) k l (true-and (r .0) p)))
-        (λ p. or-left (someBelow n (λ k. f k && g k)) (some-intro n (λ k. f k && h k) k l (true-and (r .0) p))) (or-true (g k) (h k) (r .1))))
+    some-elim n (λ k. f k && (g k || h k)) e
+    (λ k l q.
+    let r = and-true (f k) (g k || h k) q in
+    ⊎-elim (λ p. or-right (someBelow n (λ k. f k && h k)) (some-intro n (λ k. f k && g k) k l (true-and (r .0) p)))
+    (λ p. or-left (someBelow n (λ k. f k && g k)) (some-intro n (λ k. f k && h k) k l (true-and (r .0) p))) (or-true (g k) (h k) (r .1))))
 
 and-comm : (a b : Bool) → (a && b) ≡ (b && a)
 and-comm true true = refl
@@ -110,7 +110,7 @@ module _ (t : Table) (m : List ℕ) (items : List ℕ) (at count room : ℕ) (f 
         low = omega arith;
         set = λ g h. (g, h, λ k. refl);
         onward = omega arith;
-        inside = f .inside
+        inside = f .inside;
       }
 
   -- The next step can be read: its item, its predicates, and the steps after it.
@@ -136,29 +136,29 @@ module _ (t : Table) (m : List ℕ) (items : List ℕ) (at count room : ℕ) (f 
       go on =
           found-some (stepAt (getD items place 0)) _ (g .ahead, g .rest) (rw (drop-cons items place 0 on) at (g .goes-on))
           (λ h p q.
-            found-some (takePreds (takeWithin bracketLimit) (h .count) (drop (suc place) items)) _ (g .ahead, g .rest) q
-            (λ a u v.
-              found-some (takeSteps (takeWithin bracketLimit) left (a .1)) _ (g .ahead, g .rest) v
-              (λ b x y.
-                let is : step (h .axis) (h .test) (a .0) (b .0) ≡ g .ahead = ap (λ (z : Steps × List ℕ). z .0) (some-inj y) in
-                k on h p
-                (record {
-                  later = b .0;
-                  preds =
-                    record {
-                      what = a .0;
-                      rest = a .1;
-                      reads = ap (λ (j : ℕ). takePreds (takeWithin bracketLimit) (h .count) (drop j items)) (add-one place) ∙ u;
-                      room-for =
-                        enough (nodes t) (1 + heightSteps (f .what)) (1 + heightPreds (a .0)) room (f .room-for)
-                        (omega (arith, g .low, whole-height, ap heightSteps is));
-                      inside = omega arith
-                    };
-                  here = sym is;
-                  then-read =
-                    ap (λ (n : ℕ). takeSteps (takeWithin bracketLimit) n (a .1)) (let e : suc left - 1 ≡ left = omega arith in e) ∙ x ∙
-                    ap (λ (r : List ℕ). some (b .0, r)) (ap (λ (z : Steps × List ℕ). z .1) (some-inj y))
-                }))))
+          found-some (takePreds (takeWithin bracketLimit) (h .count) (drop (suc place) items)) _ (g .ahead, g .rest) q
+          (λ a u v.
+          found-some (takeSteps (takeWithin bracketLimit) left (a .1)) _ (g .ahead, g .rest) v
+          (λ b x y.
+          let is : step (h .axis) (h .test) (a .0) (b .0) ≡ g .ahead = ap (λ (z : Steps × List ℕ). z .0) (some-inj y) in
+          k on h p
+          (record {
+            later = b .0;
+            preds =
+                record {
+                  what = a .0;
+                  rest = a .1;
+                  reads = ap (λ (j : ℕ). takePreds (takeWithin bracketLimit) (h .count) (drop j items)) (add-one place) ∙ u;
+                  room-for =
+                      enough (nodes t) (1 + heightSteps (f .what)) (1 + heightPreds (a .0)) room (f .room-for)
+                      (omega (arith, g .low, whole-height, ap heightSteps is));
+                  inside = omega arith;
+                };
+            here = sym is;
+            then-read =
+                ap (λ (n : ℕ). takeSteps (takeWithin bracketLimit) n (a .1)) (let e : suc left - 1 ≡ left = omega arith in e) ∙ x ∙
+                ap (λ (r : List ℕ). some (b .0, r)) (ap (λ (z : Steps × List ℕ). z .1) (some-inj y));
+          }))))
 
   -- One step forward: along the axis, then marks and test, then the predicates.
   pub going-on : (place left next : ℕ) (h : Head) (before sets part one part′ after : List ℕ) → 0 < left → (g : Going t m items at count place left before sets)
@@ -177,20 +177,22 @@ module _ (t : Table) (m : List ℕ) (items : List ℕ) (at count room : ℕ) (f 
         goes-on = ap (takeSteps (takeWithin bracketLimit) (left - 1)) (ap (λ (z : Preds × List ℕ). z .1) same-preds) ∙ n .then-read;
         low = omega (arith, g .low, ap heightSteps (n .here));
         set =
-          λ x e.
-          let now-set = g .set x e in
-          let y : ℕ → Bool = now-set .0 in
-          let y₁ : ℕ → Bool = image t (h .axis) y in
-          let y₂ : ℕ → Bool = λ i. (y₁ i && marked m i) && meets (h .test) (kindOf t i) in
-          let y₃ : ℕ → Bool = λ i. y₂ i && allHold t m (v .what) i in
-          let p₂ : part′ ≡ bits (nodes t) y₂ = restricted y₁ (moved y (now-set .1)) in
-          (y₃, v .set y₂ (front-back (nodes t) y₂ part′ one p₂),
-          λ k.
-          now-set .2 k ∙
-          ap (λ (s : Steps). someBelow (nodes t) (λ j. y j && arrives t m s j k)) (n .here ∙ ap (λ (ps : Preds). step (h .axis) (h .test) ps (n .later)) (sym (ap (λ (z : Preds × List ℕ). z .0) same-preds))) ∙
-          forward-step t m (h .axis) (h .test) (v .what) (n .later) y k);
+            λ x e.
+            let now-set = g .set x e in
+            let y : ℕ → Bool = now-set .0 in
+            let y₁ : ℕ → Bool = image t (h .axis) y in
+            let y₂ : ℕ → Bool = λ i. (y₁ i && marked m i) && meets (h .test) (kindOf t i) in
+            let y₃ : ℕ → Bool = λ i. y₂ i && allHold t m (v .what) i in
+            let p₂ : part′ ≡ bits (nodes t) y₂ = restricted y₁ (moved y (now-set .1)) in (
+              y₃,
+              v .set y₂ (front-back (nodes t) y₂ part′ one p₂),
+              λ k.
+                  now-set .2 k ∙
+                  ap (λ (s : Steps). someBelow (nodes t) (λ j. y j && arrives t m s j k)) (n .here ∙ ap (λ (ps : Preds). step (h .axis) (h .test) ps (n .later)) (sym (ap (λ (z : Preds × List ℕ). z .0) same-preds))) ∙
+                  forward-step t m (h .axis) (h .test) (v .what) (n .later) y k,
+            );
         onward = omega (arith, g .onward, v .onward);
-        inside = v .inside
+        inside = v .inside;
       }
 
   pub going-done : (place left : ℕ) (before sets : List ℕ) → left ≤ 0 → Going t m items at count place left before sets
@@ -203,13 +205,13 @@ module _ (t : Table) (m : List ℕ) (items : List ℕ) (at count room : ℕ) (f 
         onward = g .onward;
         inside = g .inside;
         set =
-          λ x e.
-          let now-set = g .set x e in
-          let y : ℕ → Bool = now-set .0 in
-          now-set .1 ∙
-          bits-below (nodes t) y (λ k. someBelow (nodes t) (λ i. x i && arrives t m (g .steps) i k))
-          (λ k l.
-            sym (stopped (nodes t) y k l) ∙ ap (λ (s : Steps). someBelow (nodes t) (λ j. y j && arrives t m s j k)) (ap (λ (x : Steps × List ℕ). x .0) end) ∙ sym (now-set .2 k))
+            λ x e.
+            let now-set = g .set x e in
+            let y : ℕ → Bool = now-set .0 in
+            now-set .1 ∙
+            bits-below (nodes t) y (λ k. someBelow (nodes t) (λ i. x i && arrives t m (g .steps) i k))
+            (λ k l.
+            sym (stopped (nodes t) y k l) ∙ ap (λ (s : Steps). someBelow (nodes t) (λ j. y j && arrives t m s j k)) (ap (λ (x : Steps × List ℕ). x .0) end) ∙ sym (now-set .2 k));
       }
   going-done place (suc left) before sets z g = absurd (omega arith)
 
@@ -240,17 +242,17 @@ unfolding decode
 paths-begin t m items room marks r e =
     found-some (takePaths (length items) items) asQuery (r .query) (r .decodes)
     (λ ps u v.
-      record {
-        query = r .query;
-        decodes = r .decodes;
-        so-far = [];
-        ahead = ps;
-        fuel = length items;
-        goes-on = u;
-        all = query-paths ps (r .query) v;
-        inside = omega arith;
-        set = e ∙ nothing-yet (nodes t) 0
-      })
+    record {
+      query = r .query;
+      decodes = r .decodes;
+      so-far = [];
+      ahead = ps;
+      fuel = length items;
+      goes-on = u;
+      all = query-paths ps (r .query) v;
+      inside = omega arith;
+      set = e ∙ nothing-yet (nodes t) 0;
+    })
 
 -- No path of a row is higher than the row.
 path-low : (so-far : List Steps) (p : Steps) (ps : List Steps) → 1 + heightSteps p ≤ heightPaths (so-far ++ (p ∷ ps))
@@ -276,30 +278,30 @@ module _ (t : Table) (m : List ℕ) (items : List ℕ) (room : ℕ) (r : Runs it
       go (suc fuel) e =
           found-some (takePath (takeWithin bracketLimit) true (getD items place 0 ∷ drop (suc place) items)) _ (d .ahead) e
           (λ a u v.
-            found-some (takePaths fuel (a .1)) _ (d .ahead) v
-            (λ ps x y.
-              found-some (pathAt (getD items place 0)) _ a u
-              (λ count p q.
-                let read : takeSteps (takeWithin bracketLimit) count (drop (suc place) items) ≡ some a = rw (or-right (leb 1 count) refl) at q in
-                let is : a .0 ∷ ps ≡ d .ahead = some-inj y in
-                let same : r .query ≡ d .query = some-inj (sym (r .decodes) ∙ d .decodes) in
-                k count p
-                (record {
-                  steps =
-                    record {
-                      what = a .0;
-                      rest = a .1;
-                      reads = ap (λ (j : ℕ). takeSteps (takeWithin bracketLimit) count (drop j items)) (add-one place) ∙ read;
-                      room-for =
-                        enough (nodes t) (height (r .query)) (1 + heightSteps (a .0)) room (r .room-for)
-                        (omega (arith, path-low (d .so-far) (a .0) ps, ap heightPaths (ap (λ (z : List Steps). d .so-far ++ z) is), ap heightPaths (d .all), ap (λ (q : Query). heightPaths (paths q)) same));
-                      inside = omega arith
-                    };
-                  later = ps;
-                  fuel = fuel;
-                  here = sym is;
-                  then-read = x
-                }))))
+          found-some (takePaths fuel (a .1)) _ (d .ahead) v
+          (λ ps x y.
+          found-some (pathAt (getD items place 0)) _ a u
+          (λ count p q.
+          let read : takeSteps (takeWithin bracketLimit) count (drop (suc place) items) ≡ some a = rw (or-right (leb 1 count) refl) at q in
+          let is : a .0 ∷ ps ≡ d .ahead = some-inj y in
+          let same : r .query ≡ d .query = some-inj (sym (r .decodes) ∙ d .decodes) in
+          k count p
+          (record {
+            steps =
+                record {
+                  what = a .0;
+                  rest = a .1;
+                  reads = ap (λ (j : ℕ). takeSteps (takeWithin bracketLimit) count (drop j items)) (add-one place) ∙ read;
+                  room-for =
+                      enough (nodes t) (height (r .query)) (1 + heightSteps (a .0)) room (r .room-for)
+                      (omega (arith, path-low (d .so-far) (a .0) ps, ap heightPaths (ap (λ (z : List Steps). d .so-far ++ z) is), ap heightPaths (d .all), ap (λ (q : Query). heightPaths (paths q)) same));
+                  inside = omega arith;
+                };
+            later = ps;
+            fuel = fuel;
+            here = sym is;
+            then-read = x;
+          }))))
 
   -- One path more: where it leads from the root is added to the marks.
   pub path-added : (place next count : ℕ) (marks sets before after marks′ : List ℕ) → (d : PathsDone t m items place marks) → NextPath t items place room (d .ahead) count
@@ -317,24 +319,24 @@ module _ (t : Table) (m : List ℕ) (items : List ℕ) (room : ℕ) (r : Runs it
         fuel = n .fuel;
         goes-on = ap (takePaths (n .fuel)) (ap (λ (x : Steps × List ℕ). x .1) same) ∙ n .then-read;
         all =
-          d .all ∙ ap (λ (z : List Steps). d .so-far ++ z) (n .here ∙ ap (λ (s : Steps). s ∷ n .later) (sym (ap (λ (x : Steps × List ℕ). x .0) same))) ∙
-          sym (append-assoc (d .so-far) (v .what ∷ []) (n .later));
+            d .all ∙ ap (λ (z : List Steps). d .so-far ++ z) (n .here ∙ ap (λ (s : Steps). s ∷ n .later) (sym (ap (λ (x : Steps × List ℕ). x .0) same))) ∙
+            sym (append-assoc (d .so-far) (v .what ∷ []) (n .later));
         inside = v .inside;
         set =
-          adds (λ k. someOf (λ p. marked m 0 && arrives t m p 0 k) (d .so-far)) (λ k. someBelow (nodes t) (λ i. (eqb i 0 && marked m 0) && arrives t m (v .what) i k)) (d .set)
-          (v .set (λ i. eqb i 0 && marked m 0) start) ∙
-          ap (bits (nodes t)) (fun-ext (λ k. ap (λ b. someOf (λ p. marked m 0 && arrives t m p 0 k) (d .so-far) || b) (from-root (v .what) k) ∙ sym (some-snoc (λ p. marked m 0 && arrives t m p 0 k) (d .so-far) (v .what))))
+            adds (λ k. someOf (λ p. marked m 0 && arrives t m p 0 k) (d .so-far)) (λ k. someBelow (nodes t) (λ i. (eqb i 0 && marked m 0) && arrives t m (v .what) i k)) (d .set)
+            (v .set (λ i. eqb i 0 && marked m 0) start) ∙
+            ap (bits (nodes t)) (fun-ext (λ k. ap (λ b. someOf (λ p. marked m 0 && arrives t m p 0 k) (d .so-far) || b) (from-root (v .what) k) ∙ sym (some-snoc (λ p. marked m 0 && arrives t m p 0 k) (d .so-far) (v .what))));
       }
     where
       from-root : (s : Steps) (k : ℕ) → someBelow (nodes t) (λ i. (eqb i 0 && marked m 0) && arrives t m s i k) ≡ (marked m 0 && arrives t m s 0 k)
       from-root s k =
           agree (someBelow (nodes t) (λ i. (eqb i 0 && marked m 0) && arrives t m s i k)) (marked m 0 && arrives t m s 0 k)
           (λ e.
-            some-elim (nodes t) (λ i. (eqb i 0 && marked m 0) && arrives t m s i k) e
-            (λ i l p.
-              let q = and-true (eqb i 0 && marked m 0) (arrives t m s i k) p in
-              let w = and-true (eqb i 0) (marked m 0) (q .0) in
-              true-and (w .1) (subst (λ (x : ℕ). arrives t m s x k ≡ true) (eqb-true i 0 (w .0)) (q .1))))
+          some-elim (nodes t) (λ i. (eqb i 0 && marked m 0) && arrives t m s i k) e
+          (λ i l p.
+          let q = and-true (eqb i 0 && marked m 0) (arrives t m s i k) p in
+          let w = and-true (eqb i 0) (marked m 0) (q .0) in
+          true-and (w .1) (subst (λ (x : ℕ). arrives t m s x k ≡ true) (eqb-true i 0 (w .0)) (q .1))))
           (λ e. let q = and-true (marked m 0) (arrives t m s 0 k) e in some-intro (nodes t) (λ i. (eqb i 0 && marked m 0) && arrives t m s i k) 0 rooted (true-and (true-and refl (q .0)) (q .1)))
 
       some-snoc : (test : Steps → Bool) (ps : List Steps) (p : Steps) → someOf test (ps ++ (p ∷ [])) ≡ (someOf test ps || test p)

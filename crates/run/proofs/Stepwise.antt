@@ -56,8 +56,8 @@ module _ (t : Table) (m : List ℕ) where
   back-step a x ps rest i =
       some-same (nodes t) _ _
       (λ j l.
-        ap (λ (b : Bool). (((finds t m rest j && marked m j) && meets x (kindOf t j)) && allHold t m ps j) && b) (converse t a j i) ∙
-        reorder (marked m j) (leads t a i j) (meets x (kindOf t j)) (finds t m rest j) (allHold t m ps j))
+      ap (λ (b : Bool). (((finds t m rest j && marked m j) && meets x (kindOf t j)) && allHold t m ps j) && b) (converse t a j i) ∙
+      reorder (marked m j) (leads t a i j) (meets x (kindOf t j)) (finds t m rest j) (allHold t m ps j))
 
   -- FORWARD: the nodes to which a path leads from a set are those to which its later steps lead from what its first step makes of the set.
   pub forward-step : (a : Axis) (x : Test) (ps : Preds) (rest : Steps) (f : ℕ → Bool) (k : ℕ)
@@ -67,24 +67,24 @@ module _ (t : Table) (m : List ℕ) where
   forward-step a x ps rest f k =
       some-agree (nodes t) (nodes t) _ _
       (λ i l h.
-        let p = and-true (f i) (arrives t m (step a x ps rest) i k) h in
-        some-elim (nodes t) _ (p .1)
-        (λ j lj g.
-          let q = and-true (((marked m j && leads t a i j) && meets x (kindOf t j)) && allHold t m ps j) (arrives t m rest j k) g in
-          let r = and-true ((marked m j && leads t a i j) && meets x (kindOf t j)) (allHold t m ps j) (q .0) in
-          let s = and-true (marked m j && leads t a i j) (meets x (kindOf t j)) (r .0) in
-          let u = and-true (marked m j) (leads t a i j) (s .0) in
-          some-intro (nodes t) (λ j. (((someBelow (nodes t) (λ i. f i && leads t a i j) && marked m j) && meets x (kindOf t j)) && allHold t m ps j) && arrives t m rest j k) j lj
-          (true-and (true-and (true-and (true-and (some-intro (nodes t) (λ i. f i && leads t a i j) i l (true-and (p .0) (u .1))) (u .0)) (s .1)) (r .1)) (q .1))))
+      let p = and-true (f i) (arrives t m (step a x ps rest) i k) h in
+      some-elim (nodes t) _ (p .1)
       (λ j lj g.
-        let q = and-true (((someBelow (nodes t) (λ i. f i && leads t a i j) && marked m j) && meets x (kindOf t j)) && allHold t m ps j) (arrives t m rest j k) g in
-        let r = and-true ((someBelow (nodes t) (λ i. f i && leads t a i j) && marked m j) && meets x (kindOf t j)) (allHold t m ps j) (q .0) in
-        let s = and-true (someBelow (nodes t) (λ i. f i && leads t a i j) && marked m j) (meets x (kindOf t j)) (r .0) in
-        let u = and-true (someBelow (nodes t) (λ i. f i && leads t a i j)) (marked m j) (s .0) in
-        some-elim (nodes t) _ (u .0)
-        (λ i l h.
-          let v = and-true (f i) (leads t a i j) h in
-          some-intro (nodes t) (λ i. f i && arrives t m (step a x ps rest) i k) i l
-          (true-and (v .0)
-          (some-intro (nodes t) (λ j. reaches t m a x i j && allHold t m ps j && arrives t m rest j k) j lj
-          (true-and (true-and (true-and (true-and (u .1) (v .1)) (s .1)) (r .1)) (q .1))))))
+      let q = and-true (((marked m j && leads t a i j) && meets x (kindOf t j)) && allHold t m ps j) (arrives t m rest j k) g in
+      let r = and-true ((marked m j && leads t a i j) && meets x (kindOf t j)) (allHold t m ps j) (q .0) in
+      let s = and-true (marked m j && leads t a i j) (meets x (kindOf t j)) (r .0) in
+      let u = and-true (marked m j) (leads t a i j) (s .0) in
+      some-intro (nodes t) (λ j. (((someBelow (nodes t) (λ i. f i && leads t a i j) && marked m j) && meets x (kindOf t j)) && allHold t m ps j) && arrives t m rest j k) j lj
+      (true-and (true-and (true-and (true-and (some-intro (nodes t) (λ i. f i && leads t a i j) i l (true-and (p .0) (u .1))) (u .0)) (s .1)) (r .1)) (q .1))))
+      (λ j lj g.
+      let q = and-true (((someBelow (nodes t) (λ i. f i && leads t a i j) && marked m j) && meets x (kindOf t j)) && allHold t m ps j) (arrives t m rest j k) g in
+      let r = and-true ((someBelow (nodes t) (λ i. f i && leads t a i j) && marked m j) && meets x (kindOf t j)) (allHold t m ps j) (q .0) in
+      let s = and-true (someBelow (nodes t) (λ i. f i && leads t a i j) && marked m j) (meets x (kindOf t j)) (r .0) in
+      let u = and-true (someBelow (nodes t) (λ i. f i && leads t a i j)) (marked m j) (s .0) in
+      some-elim (nodes t) _ (u .0)
+      (λ i l h.
+      let v = and-true (f i) (leads t a i j) h in
+      some-intro (nodes t) (λ i. f i && arrives t m (step a x ps rest) i k) i l
+      (true-and (v .0)
+      (some-intro (nodes t) (λ j. reaches t m a x i j && allHold t m ps j && arrives t m rest j k) j lj
+      (true-and (true-and (true-and (true-and (u .1) (v .1)) (s .1)) (r .1)) (q .1))))))

@@ -10,20 +10,21 @@ ghost use mathlib.Core.Path.{_≡_};
 ghost use mathlib.Core.Bool.{Bool, true, _&&_};
 ghost use mathlib.Core.Option.{some};
 ghost use lib.Dec.{eqb};
-ghost use lib.ListN.{length, getD, drop};
+ghost use lib.ListN.{length, getD, drop, replicate};
 ghost use Rattle.paper.specs.Answers.{runAnswer, runMarks, runScratch};
 ghost use Rattle.paper.specs.Told.{told};
 ghost use Rattle.paper.specs.Query.{Test, Query};
 ghost use Rattle.paper.specs.Document.{marked};
 ghost use Rattle.paper.specs.Items.{pathAt, testNumber, goodTest, decode, takePreds, takeSteps, takeOperand, takeWithin};
 ghost use Rattle.paper.specs.Measures.{heightExpr, heightSteps, heightPreds};
-ghost use Rattle.paper.specs.Selection.{meets, holds, finds, allHold, selects};
+ghost use Rattle.paper.specs.Selection.{meets, holds, finds, allHold, selects, kept};
 ghost use Rattle.paper.proofs.Decoding.{orsFrom, andsFrom};
 ghost use Rattle.sets.specs.Sets.{bits, tableOf};
 ghost use Rattle.run.specs.Evals.{Ready, Readable, Fits, Ends, StepThere, StepSaid, Evaluates, Narrows, Moves, PathThere, Runs, keepsBy, roomAnswer};
 
 // The numbers of the axes that spread what is selected.
 const DESCENDANT_OR_SELF: u32 = 3;
+
 const ANCESTOR_OR_SELF: u32 = 4;
 
 // Where so many steps end.
@@ -32,7 +33,12 @@ fn past_steps(items: &[u32], at: usize, count: usize, depth: usize) -> usize
     ensures { λ r. ⌜ Ends (now (items .entry)) at (takeSteps (takeWithin depth) count (drop at (now (items .entry)))) r ⌝ }
 {
     let walked = shape::steps(items, at, count, depth);
-    let Walked::Done { next, nesting: _, height: _ } = walked else {
+    let Walked::Done {
+        next,
+        nesting: _,
+        height: _,
+    } = walked
+    else {
         return at;
     };
     next
@@ -45,7 +51,11 @@ fn step_at(items: &[u32], place: usize) -> Step
 {
     let item = item::unpack(items[place]);
     let Item::Step(step) = item else {
-        return Step { axis: 0, test: 0, count: 0 };
+        return Step {
+            axis: 0,
+            test: 0,
+            count: 0,
+        };
     };
     step
 }
@@ -170,7 +180,16 @@ fn path(
         let place = past_steps(items, at, left, depth);
         let step = step_at(items, place);
         restrict(kind, given, step.test, &mut sets[..n]);
-        predicates(items, place + 1, step.count, depth, parent, kind, given, sets);
+        predicates(
+            items,
+            place + 1,
+            step.count,
+            depth,
+            parent,
+            kind,
+            given,
+            sets,
+        );
         sets::along(parent, item::turn(step.axis), &mut sets[..n]);
     }
     past_steps(items, at, count, depth)
@@ -196,7 +215,16 @@ fn predicates(
     let mut place = at;
     let mut owed = count;
     while 0 < owed {
-        place = expression(items, place, 0, depth - 1, parent, kind, given, &mut sets[n..]);
+        place = expression(
+            items,
+            place,
+            0,
+            depth - 1,
+            parent,
+            kind,
+            given,
+            &mut sets[n..],
+        );
         sets::keep_second(sets, n);
         owed -= 1;
     }
@@ -298,6 +326,27 @@ fn spread(parent: &[u16], kind: &[u16], given: &[u8], marks: &mut [u8], set: &mu
     sets::keep(given, marks);
 }
 
+// Marks the nodes that the query keeps, and clears the sets.
+fn keep(
+    items: &[u32],
+    parent: &[u16],
+    kind: &[u16],
+    given: &[u8],
+    marks: &mut [u8],
+    sets: &mut [u8],
+)
+    requires { ⌜ Ready (now parent) (now kind) (now given) ⌝ }
+    requires { ⌜ length (now marks) ≡ length (now parent) ⌝ }
+    requires { ⌜ Runs (now items) (length (now parent)) (length (now sets)) ⌝ }
+    ensures { λ _. ⌜ ((q : Query) → decode (now (items .entry)) ≡ some q → now (marks .exit) ≡ kept (tableOf (now (parent .entry)) (now (kind .entry))) (now (given .entry)) q) ⌝ }
+    ensures { λ _. ⌜ now (sets .exit) ≡ replicate (length (now (sets .entry))) 0 ⌝ }
+{
+    let n = parent.len();
+    select(items, parent, kind, given, marks, sets);
+    spread(parent, kind, given, marks, &mut sets[..n]);
+    sets::fill(sets, 0);
+}
+
 // What refuses a run, or the bytes of scratch that it needs.
 fn room(
     query: &[u32],
@@ -359,9 +408,6 @@ pub fn run(
     let Answer::Value(needed) = said else {
         return said;
     };
-    let n = parent.len();
-    select(query, parent, kind, given, marks, scratch);
-    spread(parent, kind, given, marks, &mut scratch[..n]);
-    sets::fill(&mut scratch[..needed], 0);
+    keep(query, parent, kind, given, marks, &mut scratch[..needed]);
     Answer::Value(table::count(marks))
 }

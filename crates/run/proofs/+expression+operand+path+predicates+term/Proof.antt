@@ -148,10 +148,17 @@ expression-term-requires t c κs =
     let start = c .before .before .before .before .before .before .before in
     let a = start .args in
     let r = c .before .run-of in
-    let pre = start .pre .1 in
-    (search needs, ((omega arith, omega arith), (pre .1 .0,
-    ors-first-fits (tableOf (now (a .parent)) (now (a .kind))) (now (a .given)) (a .depth) (now (a .items)) (a .at) (length (now (a .parent))) _ (r .result + a .counted) _ (pre .1 .1) (a .at + r .result) (r .ensures .1)
-    (ors-begin (a .depth) (now (a .items)) (a .at) (a .counted) (r .result) (r .ensures .0)))))
+    let pre = start .pre .1 in (
+      search needs,
+      (
+        (omega arith, omega arith),
+        (
+          pre .1 .0,
+          ors-first-fits (tableOf (now (a .parent)) (now (a .kind))) (now (a .given)) (a .depth) (now (a .items)) (a .at) (length (now (a .parent))) _ (r .result + a .counted) _ (pre .1 .1) (a .at + r .result) (r .ensures .1)
+              (ors-begin (a .depth) (now (a .items)) (a .at) (a .counted) (r .result) (r .ensures .0)),
+        ),
+      ),
+    )
 
 expression-add-owed : (t : ℕ) → expression-lts.Need-add-owed (
   run-of-reads.Asked,
@@ -173,10 +180,11 @@ expression-loop-holds : (t : ℕ) → expression-lts.Need-loop-holds (
 ) (expression-at t) expression.Post expression-Inv-loop expression-μ-loop
 expression-loop-holds t c =
     let a = c .before .before .before .before .before .before .before .before .before .before .args in
-    let r = c .before .before .before .before .run-of in
-    (refl,
-    ors-first-set (tableOf (now (a .parent)) (now (a .kind))) (now (a .given)) (a .depth) (now (a .items)) (a .at) (length (now (a .parent))) (r .result + a .counted) _ (a .at + r .result) _ _ (omega arith)
-    (ors-begin (a .depth) (now (a .items)) (a .at) (a .counted) (r .result) (r .ensures .0)) (c .before .before .term .ensures))
+    let r = c .before .before .before .before .run-of in (
+      refl,
+      ors-first-set (tableOf (now (a .parent)) (now (a .kind))) (now (a .given)) (a .depth) (now (a .items)) (a .at) (length (now (a .parent))) (r .result + a .counted) _ (a .at + r .result) _ _ (omega arith)
+          (ors-begin (a .depth) (now (a .items)) (a .at) (a .counted) (r .result) (r .ensures .0)) (c .before .before .term .ensures),
+    )
 
 expression-sub-term : (t : ℕ) → expression-lts.Need-sub-term (
   run-of-reads.Asked,
@@ -233,9 +241,16 @@ expression-term-requires-2 t c κs =
     let len : length (l .sets) ≡ length (now (a .sets)) = l .inv .0 ∙ c .before .before .before .before .before .term .kept .1 .1 .1 .1 .1 .1 .1 .0 in
     let n = length (now (a .parent)) in
     ors-owed-fits (tableOf (now (a .parent)) (now (a .kind))) (now (a .given)) (a .depth) (now (a .items)) (a .at) (length (now (a .parent))) _ _ (l .place) (l .owed) (l .sets) (c .before .loop-test .taken) (start .pre .1 .1 .1) (l .inv .1)
-    (λ f two.
-      (omega (arith, l .inv .1 .onward, l .inv .1 .inside, start .pre .0), ((omega arith, omega arith), (start .pre .1 .1 .0,
-      subst (λ (k : ℕ). Fits (now (a .items)) (l .place) n k (andsFrom (takeWithin (a .depth)) 0 (drop (l .place) (now (a .items)))) heightExpr) (ap (λ (k : ℕ). k - n) (sym len) ∙ sym (part-length n (l .sets) [] (omega arith))) f))))
+    (λ f two. (
+      omega (arith, l .inv .1 .onward, l .inv .1 .inside, start .pre .0),
+      (
+        (omega arith, omega arith),
+        (
+          start .pre .1 .1 .0,
+          subst (λ (k : ℕ). Fits (now (a .items)) (l .place) n k (andsFrom (takeWithin (a .depth)) 0 (drop (l .place) (now (a .items)))) heightExpr) (ap (λ (k : ℕ). k - n) (sym len) ∙ sym (part-length n (l .sets) [] (omega arith))) f,
+        ),
+      ),
+    ))
 
 expression-add-second-requires : (t : ℕ) → expression-lts.Need-add-second-requires (
   run-of-reads.Asked,
@@ -293,10 +308,11 @@ expression-loop-again t c =
     let joined = c .before .before .add-second in
     ors-owed-fits (tableOf (now (a .parent)) (now (a .kind))) (now (a .given)) (a .depth) (now (a .items)) (a .at) (length (now (a .parent))) _ _ (l .place) (l .owed) (l .sets) (c .before .before .before .before .before .before .before .before .loop-test .taken) (start .pre .1 .1 .1) (l .inv .1)
     (λ fit two.
-      let on : n ≤ length (l .sets) = omega arith in
-      (joined .kept .0 ∙ length-stays n (l .sets) part on kept ∙ l .inv .0,
+    let on : n ≤ length (l .sets) = omega arith in (
+      joined .kept .0 ∙ length-stays n (l .sets) part on kept ∙ l .inv .0,
       ors-set-more (tableOf (now (a .parent)) (now (a .kind))) (now (a .given)) (a .depth) (now (a .items)) (a .at) (length (now (a .parent))) _ (l .place) (l .owed) _ (l .sets) part (joined .last .0) (c .before .before .before .before .before .before .before .before .loop-test .taken) (l .inv .1) (c .before .before .before .before .before .before .term2 .ensures)
-      (λ f g p q. front-is n (λ i. f i || g i) _ _ (joined .ensures f g (first-stays n (l .sets) part on ∙ p) (second-comes n (l .sets) part on ∙ q)))))
+          (λ f g p q. front-is n (λ i. f i || g i) _ _ (joined .ensures f g (first-stays n (l .sets) part on ∙ p) (second-comes n (l .sets) part on ∙ q))),
+    ))
 
 expression-same-length : (t : ℕ) → expression-lts.Need-same-length (
   run-of-reads.Asked,
@@ -815,8 +831,8 @@ operand-returns-4 t c =
     let len : length (take n sets) ≡ n = length-take-le n sets (omega (arith, operand-room (now (a .items)) (a .at) _ _ (a .depth) f, c .before .before .before .before .before .before .expression2 .kept .1 .1 .1 .1 .1 .1 .1 .0)) in
     closes-not (tableOf (now (a .parent)) (now (a .kind))) (now (a .given)) (now (a .items)) (a .at) (length (now (a .parent))) _ (a .depth) deep f _ sets _ is (c .before .before .before .before .before .before .expression2 .ensures)
     (λ g p.
-      front-back n (λ i. not (g i)) (flipped .last .0) _
-      (flipped .ensures g (p ∙ ap (λ (k : ℕ). bits k g) (sym len)) ∙ ap (λ (k : ℕ). bits k (λ i. not (g i))) len))
+    front-back n (λ i. not (g i)) (flipped .last .0) _
+    (flipped .ensures g (p ∙ ap (λ (k : ℕ). bits k g) (sym len)) ∙ ap (λ (k : ℕ). bits k (λ i. not (g i))) len))
 
 abbrev path-Inv-loop : path-lts.InvT-loop
 path-Inv-loop items at count depth parent kind given sets₀ n left₀ sets left =
@@ -902,10 +918,11 @@ path-loop-holds : (t : ℕ) → path-lts.Need-loop-holds (
 path-loop-holds t c =
     let start = c .before .before .before .before .before .before .before .before .before in
     let a = start .args in
-    let n = length (now (a .parent)) in
-    (refl,
-    path-begin (tableOf (now (a .parent)) (now (a .kind))) (now (a .given)) (now (a .items)) (a .at) (length (now (a .parent))) (length (now (a .sets))) (a .depth) (a .count) (start .pre .1 .1 .1) (c .before .before .fill .last .0) _
-    (c .before .before .fill .ensures ∙ ap (λ (k : ℕ). replicate k 1) (length-take-le n (now (a .sets)) (one-fits (length (now (a .parent))) _ (length (now (a .sets))) (start .pre .1 .1 .1 .room-for) (omega arith)))))
+    let n = length (now (a .parent)) in (
+      refl,
+      path-begin (tableOf (now (a .parent)) (now (a .kind))) (now (a .given)) (now (a .items)) (a .at) (length (now (a .parent))) (length (now (a .sets))) (a .depth) (a .count) (start .pre .1 .1 .1) (c .before .before .fill .last .0) _
+          (c .before .before .fill .ensures ∙ ap (λ (k : ℕ). replicate k 1) (length-take-le n (now (a .sets)) (one-fits (length (now (a .parent))) _ (length (now (a .sets))) (start .pre .1 .1 .1 .room-for) (omega arith)))),
+    )
 
 path-sub-left : (t : ℕ) → path-lts.Need-sub-left (
   fill-reads.Asked,
@@ -1081,14 +1098,21 @@ path-predicates-requires t c κs =
     let said-step = c .before .before .before .before .before .step-at .ensures in
     let len : length (l .sets) ≡ length (now (a .sets)) = l .inv .0 ∙ front-length n (now (a .sets)) (c .before .before .before .before .before .before .before .before .before .before .before .fill .last .0) (one-fits n _ (length (now (a .sets))) (start .pre .1 .1 .1 .room-for) (omega arith)) (c .before .before .before .before .before .before .before .before .before .before .before .fill .kept .0) in
     let len1 : length (c .before .before .before .restrict .last .1 .1 .1 .0 ++ drop n (l .sets)) ≡ length (now (a .sets)) =
-      front-length n (l .sets) (c .before .before .before .restrict .last .1 .1 .1 .0) (omega (arith, one-fits n _ (length (now (a .sets))) (start .pre .1 .1 .1 .room-for) (omega arith))) (c .before .before .before .restrict .kept .1 .1 .1 .0) ∙ len in
+    front-length n (l .sets) (c .before .before .before .restrict .last .1 .1 .1 .0) (omega (arith, one-fits n _ (length (now (a .sets))) (start .pre .1 .1 .1 .room-for) (omega arith))) (c .before .before .before .restrict .kept .1 .1 .1 .0) ∙ len in
     step-here (now (a .items)) (a .at) (length (now (a .parent))) (length (now (a .sets))) (a .depth) (a .count) (start .pre .1 .1 .1) (l .left - 1) (c .before .before .before .before .before .before .past-steps .result) (omega (arith, l .inv .1 .fewer, c .before .before .before .before .before .before .before .loop-test .taken)) (c .before .before .before .before .before .before .past-steps .ensures)
     (λ on h p here.
-      let same : said-step .0 ≡ h = some-inj (sym (said-step .1) ∙ p) in
-      let count : c .before .before .before .before .before .step-at .result .count ≡ h .count = ap (λ (x : Step). x .count) (said-step .2) ∙ ap (λ (x : Head). x .count) same in
-      (omega (arith, c .before .before .before .before .before .before .past-steps .ensures .onward, start .pre .0), (start .pre .1 .0, (start .pre .1 .1 .0,
-      subst₂ (λ (k r : ℕ). Fits (now (a .items)) (c .before .before .before .before .before .before .past-steps .result + 1) n r (takePreds (takeWithin (a .depth)) k (drop (c .before .before .before .before .before .before .past-steps .result + 1) (now (a .items)))) (λ ps. 1 + heightPreds ps))
-      (sym count) (sym len1) (here .preds)))))
+    let same : said-step .0 ≡ h = some-inj (sym (said-step .1) ∙ p) in
+    let count : c .before .before .before .before .before .step-at .result .count ≡ h .count = ap (λ (x : Step). x .count) (said-step .2) ∙ ap (λ (x : Head). x .count) same in (
+      omega (arith, c .before .before .before .before .before .before .past-steps .ensures .onward, start .pre .0),
+      (
+        start .pre .1 .0,
+        (
+          start .pre .1 .1 .0,
+          subst₂ (λ (k r : ℕ). Fits (now (a .items)) (c .before .before .before .before .before .before .past-steps .result + 1) n r (takePreds (takeWithin (a .depth)) k (drop (c .before .before .before .before .before .before .past-steps .result + 1) (now (a .items)))) (λ ps. 1 + heightPreds ps))
+              (sym count) (sym len1) (here .preds),
+        ),
+      ),
+    ))
 
 path-turn-requires : (t : ℕ) → path-lts.Need-turn-requires (
   fill-reads.Asked,
@@ -1131,7 +1155,7 @@ path-slice-relend-prefix-along t c =
     let l = c .before .before .before .before .before .before .before .before .before .before .before .before .loop in
     let len : length (l .sets) ≡ length (now (a .sets)) = l .inv .0 ∙ front-length n (now (a .sets)) (c .before .before .before .before .before .before .before .before .before .before .before .before .before .before .before .fill .last .0) (one-fits n _ (length (now (a .sets))) (start .pre .1 .1 .1 .room-for) (omega arith)) (c .before .before .before .before .before .before .before .before .before .before .before .before .before .before .before .fill .kept .0) in
     let len1 : length (c .before .before .before .before .before .before .before .restrict .last .1 .1 .1 .0 ++ drop n (l .sets)) ≡ length (now (a .sets)) =
-      front-length n (l .sets) (c .before .before .before .before .before .before .before .restrict .last .1 .1 .1 .0) (omega (arith, one-fits n _ (length (now (a .sets))) (start .pre .1 .1 .1 .room-for) (omega arith))) (c .before .before .before .before .before .before .before .restrict .kept .1 .1 .1 .0) ∙ len in
+    front-length n (l .sets) (c .before .before .before .before .before .before .before .restrict .last .1 .1 .1 .0) (omega (arith, one-fits n _ (length (now (a .sets))) (start .pre .1 .1 .1 .room-for) (omega arith))) (c .before .before .before .before .before .before .before .restrict .kept .1 .1 .1 .0) ∙ len in
     let len2 : length (c .before .before .before .predicates .last .1 .1 .1 .1 .1 .1 .1 .0) ≡ length (now (a .sets)) = c .before .before .before .predicates .kept .1 .1 .1 .1 .1 .1 .1 .0 ∙ len1 in
     omega (arith, one-fits n _ (length (now (a .sets))) (start .pre .1 .1 .1 .room-for) (omega arith))
 
@@ -1158,7 +1182,7 @@ path-slice-aggregate-along t c =
     let l = c .before .before .before .before .before .before .before .before .before .before .before .before .before .loop in
     let len : length (l .sets) ≡ length (now (a .sets)) = l .inv .0 ∙ front-length n (now (a .sets)) (c .before .before .before .before .before .before .before .before .before .before .before .before .before .before .before .before .fill .last .0) (one-fits n _ (length (now (a .sets))) (start .pre .1 .1 .1 .room-for) (omega arith)) (c .before .before .before .before .before .before .before .before .before .before .before .before .before .before .before .before .fill .kept .0) in
     let len1 : length (c .before .before .before .before .before .before .before .before .restrict .last .1 .1 .1 .0 ++ drop n (l .sets)) ≡ length (now (a .sets)) =
-      front-length n (l .sets) (c .before .before .before .before .before .before .before .before .restrict .last .1 .1 .1 .0) (omega (arith, one-fits n _ (length (now (a .sets))) (start .pre .1 .1 .1 .room-for) (omega arith))) (c .before .before .before .before .before .before .before .before .restrict .kept .1 .1 .1 .0) ∙ len in
+    front-length n (l .sets) (c .before .before .before .before .before .before .before .before .restrict .last .1 .1 .1 .0) (omega (arith, one-fits n _ (length (now (a .sets))) (start .pre .1 .1 .1 .room-for) (omega arith))) (c .before .before .before .before .before .before .before .before .restrict .kept .1 .1 .1 .0) ∙ len in
     let len2 : length (c .before .before .before .before .predicates .last .1 .1 .1 .1 .1 .1 .1 .0) ≡ length (now (a .sets)) = c .before .before .before .before .predicates .kept .1 .1 .1 .1 .1 .1 .1 .0 ∙ len1 in
     sym (length-take-le n (c .before .before .before .before .predicates .last .1 .1 .1 .1 .1 .1 .1 .0) (omega (arith, one-fits n _ (length (now (a .sets))) (start .pre .1 .1 .1 .room-for) (omega arith))))
 
@@ -1185,7 +1209,7 @@ path-along-requires t c κs =
     let l = c .before .before .before .before .before .before .before .before .before .before .before .before .before .loop in
     let len : length (l .sets) ≡ length (now (a .sets)) = l .inv .0 ∙ front-length n (now (a .sets)) (c .before .before .before .before .before .before .before .before .before .before .before .before .before .before .before .before .fill .last .0) (one-fits n _ (length (now (a .sets))) (start .pre .1 .1 .1 .room-for) (omega arith)) (c .before .before .before .before .before .before .before .before .before .before .before .before .before .before .before .before .fill .kept .0) in
     let len1 : length (c .before .before .before .before .before .before .before .before .restrict .last .1 .1 .1 .0 ++ drop n (l .sets)) ≡ length (now (a .sets)) =
-      front-length n (l .sets) (c .before .before .before .before .before .before .before .before .restrict .last .1 .1 .1 .0) (omega (arith, one-fits n _ (length (now (a .sets))) (start .pre .1 .1 .1 .room-for) (omega arith))) (c .before .before .before .before .before .before .before .before .restrict .kept .1 .1 .1 .0) ∙ len in
+    front-length n (l .sets) (c .before .before .before .before .before .before .before .before .restrict .last .1 .1 .1 .0) (omega (arith, one-fits n _ (length (now (a .sets))) (start .pre .1 .1 .1 .room-for) (omega arith))) (c .before .before .before .before .before .before .before .before .restrict .kept .1 .1 .1 .0) ∙ len in
     let len2 : length (c .before .before .before .before .predicates .last .1 .1 .1 .1 .1 .1 .1 .0) ≡ length (now (a .sets)) = c .before .before .before .before .predicates .kept .1 .1 .1 .1 .1 .1 .1 .0 ∙ len1 in
     let w = start .pre .1 .1 .0 .tree in
     (sym (length-take-le n (c .before .before .before .before .predicates .last .1 .1 .1 .1 .1 .1 .1 .0) (omega (arith, one-fits n _ (length (now (a .sets))) (start .pre .1 .1 .1 .room-for) (omega arith)))), λ kinds. record { rooted = w .rooted; root = w .root; falls = w .falls })
@@ -1237,28 +1261,29 @@ path-loop-again t c =
     let kinds = now (a .kind) in
     let len : length (l .sets) ≡ length (now (a .sets)) = l .inv .0 ∙ front-length n (now (a .sets)) (c .before .before .before .before .before .before .before .before .before .before .before .before .before .before .before .before .before .before .before .fill .last .0) (one-fits n _ (length (now (a .sets))) (start .pre .1 .1 .1 .room-for) (omega arith)) (c .before .before .before .before .before .before .before .before .before .before .before .before .before .before .before .before .before .before .before .fill .kept .0) in
     let len1 : length (c .before .before .before .before .before .before .before .before .before .before .before .restrict .last .1 .1 .1 .0 ++ drop n (l .sets)) ≡ length (now (a .sets)) =
-      front-length n (l .sets) (c .before .before .before .before .before .before .before .before .before .before .before .restrict .last .1 .1 .1 .0) (omega (arith, one-fits n _ (length (now (a .sets))) (start .pre .1 .1 .1 .room-for) (omega arith))) (c .before .before .before .before .before .before .before .before .before .before .before .restrict .kept .1 .1 .1 .0) ∙ len in
+    front-length n (l .sets) (c .before .before .before .before .before .before .before .before .before .before .before .restrict .last .1 .1 .1 .0) (omega (arith, one-fits n _ (length (now (a .sets))) (start .pre .1 .1 .1 .room-for) (omega arith))) (c .before .before .before .before .before .before .before .before .before .before .before .restrict .kept .1 .1 .1 .0) ∙ len in
     let len2 : length (c .before .before .before .before .before .before .before .predicates .last .1 .1 .1 .1 .1 .1 .1 .0) ≡ length (now (a .sets)) = c .before .before .before .before .before .before .before .predicates .kept .1 .1 .1 .1 .1 .1 .1 .0 ∙ len1 in
     let front : length (take n sets) ≡ n = length-take-le n sets (omega (arith, one-fits n _ (length (now (a .sets))) (start .pre .1 .1 .1 .room-for) (omega arith))) in
     let front2 : length (take n (narrowed .last .1 .1 .1 .1 .1 .1 .1 .0)) ≡ n = length-take-le n (narrowed .last .1 .1 .1 .1 .1 .1 .1 .0) (omega (arith, one-fits n _ (length (now (a .sets))) (start .pre .1 .1 .1 .room-for) (omega arith))) in
     step-here (now (a .items)) (a .at) (length (now (a .parent))) (length (now (a .sets))) (a .depth) (a .count) (start .pre .1 .1 .1) (l .left - 1) (c .before .before .before .before .before .before .before .before .before .before .before .before .before .before .past-steps .result) (omega (arith, l .inv .1 .fewer, c .before .before .before .before .before .before .before .before .before .before .before .before .before .before .before .loop-test .taken)) (c .before .before .before .before .before .before .before .before .before .before .before .before .before .before .past-steps .ensures)
     (λ on h p here.
-      let same : said-step .0 ≡ h = some-inj (sym (said-step .1) ∙ p) in
-      let step-is = said-step .2 ∙ ap numbered same in
-      let count : c .before .before .before .before .before .before .before .before .before .before .before .before .before .step-at .result .count ≡ h .count = ap (λ (x : Step). x .count) step-is in
-      (front-length n (narrowed .last .1 .1 .1 .1 .1 .1 .1 .0) (moved .last .1 .1 .0) (omega (arith, one-fits n _ (length (now (a .sets))) (start .pre .1 .1 .1 .room-for) (omega arith))) (moved .kept .1 .1 .0) ∙ len2 ∙ sym len ∙ l .inv .0,
+    let same : said-step .0 ≡ h = some-inj (sym (said-step .1) ∙ p) in
+    let step-is = said-step .2 ∙ ap numbered same in
+    let count : c .before .before .before .before .before .before .before .before .before .before .before .before .before .step-at .result .count ≡ h .count = ap (λ (x : Step). x .count) step-is in (
+      front-length n (narrowed .last .1 .1 .1 .1 .1 .1 .1 .0) (moved .last .1 .1 .0) (omega (arith, one-fits n _ (length (now (a .sets))) (start .pre .1 .1 .1 .room-for) (omega arith))) (moved .kept .1 .1 .0) ∙ len2 ∙ sym len ∙ l .inv .0,
       path-back (tableOf (now (a .parent)) (now (a .kind))) (now (a .given)) (now (a .items)) (a .at) (length (now (a .parent))) (length (now (a .sets))) (a .depth) (a .count) (start .pre .1 .1 .1) (l .left - 1) (c .before .before .before .before .before .before .before .before .before .before .before .before .before .before .past-steps .result) h sets (restricted .last .1 .1 .1 .0) (drop n sets) (narrowed .last .1 .1 .1 .1 .1 .1 .1 .0) (moved .last .1 .1 .0) _
-      (omega (arith, l .inv .1 .fewer, c .before .before .before .before .before .before .before .before .before .before .before .before .before .before .before .loop-test .taken)) here
-      (subst (λ (k : ℕ). PathSet (tableOf (now (a .parent)) (now (a .kind))) (now (a .given)) (now (a .items)) (a .at) n (a .depth) (a .count) k sets) (let e : l .left ≡ suc (l .left - 1) = omega (arith, c .before .before .before .before .before .before .before .before .before .before .before .before .before .before .before .loop-test .taken) in e) (l .inv .1))
-      (λ g q.
-        restricted .ensures (h .test) g (step-found _ h p .1) (ap (λ (x : Step). x .test) step-is) (q ∙ ap (λ (k : ℕ). bits k g) (sym front)) ∙
-        ap (λ (k : ℕ). bits k (λ i. (g i && marked (now (a .given)) i) && meets (h .test) (getD kinds i 0))) front)
-      _
-      (subst (λ (k : ℕ). Narrows (now (a .items)) (c .before .before .before .before .before .before .before .before .before .before .before .before .before .before .past-steps .result + 1) n (takePreds (takeWithin (a .depth)) k (drop (c .before .before .before .before .before .before .before .before .before .before .before .before .before .before .past-steps .result + 1) (now (a .items)))) (allHold (tableOf (now (a .parent)) (now (a .kind))) (now (a .given))) (narrowed .result) (restricted .last .1 .1 .1 .0 ++ drop n sets) (narrowed .last .1 .1 .1 .1 .1 .1 .1 .0))
-      count (narrowed .ensures))
-      (λ g q.
-        moved .ensures kinds (turned (h .axis)) g (c .before .before .before .before .turn .ensures (h .axis) (ap (λ (x : Step). x .axis) step-is)) (q ∙ ap (λ (k : ℕ). bits k g) (sym front2)) ∙
-        ap (λ (k : ℕ). bits k (image (tableOf (now (a .parent)) kinds) (turned (h .axis)) g)) front2)))
+          (omega (arith, l .inv .1 .fewer, c .before .before .before .before .before .before .before .before .before .before .before .before .before .before .before .loop-test .taken)) here
+          (subst (λ (k : ℕ). PathSet (tableOf (now (a .parent)) (now (a .kind))) (now (a .given)) (now (a .items)) (a .at) n (a .depth) (a .count) k sets) (let e : l .left ≡ suc (l .left - 1) = omega (arith, c .before .before .before .before .before .before .before .before .before .before .before .before .before .before .before .loop-test .taken) in e) (l .inv .1))
+          (λ g q.
+          restricted .ensures (h .test) g (step-found _ h p .1) (ap (λ (x : Step). x .test) step-is) (q ∙ ap (λ (k : ℕ). bits k g) (sym front)) ∙
+          ap (λ (k : ℕ). bits k (λ i. (g i && marked (now (a .given)) i) && meets (h .test) (getD kinds i 0))) front)
+          _
+          (subst (λ (k : ℕ). Narrows (now (a .items)) (c .before .before .before .before .before .before .before .before .before .before .before .before .before .before .past-steps .result + 1) n (takePreds (takeWithin (a .depth)) k (drop (c .before .before .before .before .before .before .before .before .before .before .before .before .before .before .past-steps .result + 1) (now (a .items)))) (allHold (tableOf (now (a .parent)) (now (a .kind))) (now (a .given))) (narrowed .result) (restricted .last .1 .1 .1 .0 ++ drop n sets) (narrowed .last .1 .1 .1 .1 .1 .1 .1 .0))
+          count (narrowed .ensures))
+          (λ g q.
+          moved .ensures kinds (turned (h .axis)) g (c .before .before .before .before .turn .ensures (h .axis) (ap (λ (x : Step). x .axis) step-is)) (q ∙ ap (λ (k : ℕ). bits k g) (sym front2)) ∙
+          ap (λ (k : ℕ). bits k (image (tableOf (now (a .parent)) kinds) (turned (h .axis)) g)) front2),
+    ))
 
 path-past-steps-requires-2 : (t : ℕ) → path-lts.Need-past-steps-requires-2 (
   fill-reads.Asked,
@@ -1391,10 +1416,17 @@ predicates-expression-requires t c κs =
     let l = c .before .before .loop in
     let n = length (now (a .parent)) in
     pred-fits (tableOf (now (a .parent)) (now (a .kind))) (now (a .given)) (now (a .items)) (a .at) (length (now (a .parent))) (a .depth) _ _ (l .place) (l .owed) _ (l .sets) (c .before .loop-test .taken) (start .pre .1 .1 .1) (l .inv .1)
-    (λ deep f two.
-      (omega (arith, l .inv .1 .onward, l .inv .1 .inside, start .pre .0), ((omega arith, omega (arith, start .pre .1 .0)), (start .pre .1 .1 .0,
-      subst (λ (k : ℕ). Fits (now (a .items)) (l .place) n k (orsFrom (takeWithin (a .depth - 1)) 0 (drop (l .place) (now (a .items)))) heightExpr)
-      (ap (λ (k : ℕ). k - n) (sym (l .inv .0)) ∙ sym (part-length n (l .sets) [] (omega (arith, l .inv .0)))) f))))
+    (λ deep f two. (
+      omega (arith, l .inv .1 .onward, l .inv .1 .inside, start .pre .0),
+      (
+        (omega arith, omega (arith, start .pre .1 .0)),
+        (
+          start .pre .1 .1 .0,
+          subst (λ (k : ℕ). Fits (now (a .items)) (l .place) n k (orsFrom (takeWithin (a .depth - 1)) 0 (drop (l .place) (now (a .items)))) heightExpr)
+              (ap (λ (k : ℕ). k - n) (sym (l .inv .0)) ∙ sym (part-length n (l .sets) [] (omega (arith, l .inv .0)))) f,
+        ),
+      ),
+    ))
 
 predicates-keep-second-requires : (t : ℕ) → predicates-lts.Need-keep-second-requires (
   expression-below t,
@@ -1443,10 +1475,11 @@ predicates-loop-again t c =
     let v = c .before .before .before .before .before .before .expression .ensures in
     pred-fits (tableOf (now (a .parent)) (now (a .kind))) (now (a .given)) (now (a .items)) (a .at) (length (now (a .parent))) (a .depth) _ _ (l .place) (l .owed) _ (l .sets) (c .before .before .before .before .before .before .before .before .loop-test .taken) (start .pre .1 .1 .1) (l .inv .1)
     (λ deep fit two.
-      let on : n ≤ length (l .sets) = omega (arith, l .inv .0) in
-      (joined .kept .0 ∙ length-stays n (l .sets) part on kept ∙ l .inv .0,
+    let on : n ≤ length (l .sets) = omega (arith, l .inv .0) in (
+      joined .kept .0 ∙ length-stays n (l .sets) part on kept ∙ l .inv .0,
       preds-more (tableOf (now (a .parent)) (now (a .kind))) (now (a .given)) (now (a .items)) (a .at) (length (now (a .parent))) (a .depth) _ (l .place) (l .owed) _ (v .what) _ (l .sets) part (joined .last .0) (c .before .before .before .before .before .before .before .before .loop-test .taken) deep (l .inv .1) (v .reads) (v .onward) (v .inside) (v .set)
-      (λ f g p q. front-is n (λ i. f i && g i) _ _ (joined .ensures f g (first-stays n (l .sets) part on ∙ p) (second-comes n (l .sets) part on ∙ q)))))
+          (λ f g p q. front-is n (λ i. f i && g i) _ _ (joined .ensures f g (first-stays n (l .sets) part on ∙ p) (second-comes n (l .sets) part on ∙ q))),
+    ))
 
 predicates-same-length : (t : ℕ) → predicates-lts.Need-same-length (
   expression-below t,
@@ -1506,10 +1539,17 @@ term-operand-requires t c κs =
     let start = c .before .before .before .before .before .before .before in
     let a = start .args in
     let r = c .before .run-of in
-    let pre = start .pre .1 in
-    (search needs, (omega arith, (pre .1 .0,
-    ands-first-fits (tableOf (now (a .parent)) (now (a .kind))) (now (a .given)) (a .depth) (now (a .items)) (a .at) (length (now (a .parent))) _ (r .result + a .counted) _ (pre .1 .1) (a .at + r .result) (r .ensures .1)
-    (ands-begin (a .depth) (now (a .items)) (a .at) (a .counted) (r .result) (r .ensures .0)))))
+    let pre = start .pre .1 in (
+      search needs,
+      (
+        omega arith,
+        (
+          pre .1 .0,
+          ands-first-fits (tableOf (now (a .parent)) (now (a .kind))) (now (a .given)) (a .depth) (now (a .items)) (a .at) (length (now (a .parent))) _ (r .result + a .counted) _ (pre .1 .1) (a .at + r .result) (r .ensures .1)
+              (ands-begin (a .depth) (now (a .items)) (a .at) (a .counted) (r .result) (r .ensures .0)),
+        ),
+      ),
+    )
 
 term-add-owed : (t : ℕ) → term-lts.Need-add-owed (
   run-of-reads.Asked,
@@ -1531,10 +1571,11 @@ term-loop-holds : (t : ℕ) → term-lts.Need-loop-holds (
 ) (term-at t) term.Post term-Inv-loop term-μ-loop
 term-loop-holds t c =
     let a = c .before .before .before .before .before .before .before .before .before .before .args in
-    let r = c .before .before .before .before .run-of in
-    (refl,
-    ands-first-set (tableOf (now (a .parent)) (now (a .kind))) (now (a .given)) (a .depth) (now (a .items)) (a .at) (length (now (a .parent))) (r .result + a .counted) _ (a .at + r .result) _ _ (omega arith)
-    (ands-begin (a .depth) (now (a .items)) (a .at) (a .counted) (r .result) (r .ensures .0)) (c .before .before .operand .ensures))
+    let r = c .before .before .before .before .run-of in (
+      refl,
+      ands-first-set (tableOf (now (a .parent)) (now (a .kind))) (now (a .given)) (a .depth) (now (a .items)) (a .at) (length (now (a .parent))) (r .result + a .counted) _ (a .at + r .result) _ _ (omega arith)
+          (ands-begin (a .depth) (now (a .items)) (a .at) (a .counted) (r .result) (r .ensures .0)) (c .before .before .operand .ensures),
+    )
 
 term-sub-operand : (t : ℕ) → term-lts.Need-sub-operand (
   run-of-reads.Asked,
@@ -1591,9 +1632,16 @@ term-operand-requires-2 t c κs =
     let len : length (l .sets) ≡ length (now (a .sets)) = l .inv .0 ∙ c .before .before .before .before .before .operand .kept .1 .1 .1 .1 .1 .1 .0 in
     let n = length (now (a .parent)) in
     ands-owed-fits (tableOf (now (a .parent)) (now (a .kind))) (now (a .given)) (a .depth) (now (a .items)) (a .at) (length (now (a .parent))) _ _ (l .place) (l .owed) (l .sets) (c .before .loop-test .taken) (start .pre .1 .1 .1) (l .inv .1)
-    (λ f two.
-      (omega (arith, l .inv .1 .onward, l .inv .1 .inside, start .pre .0), (omega arith, (start .pre .1 .1 .0,
-      subst (λ (k : ℕ). Fits (now (a .items)) (l .place) n k (takeOperand (takeWithin (a .depth)) (drop (l .place) (now (a .items)))) heightExpr) (ap (λ (k : ℕ). k - n) (sym len) ∙ sym (part-length n (l .sets) [] (omega arith))) f))))
+    (λ f two. (
+      omega (arith, l .inv .1 .onward, l .inv .1 .inside, start .pre .0),
+      (
+        omega arith,
+        (
+          start .pre .1 .1 .0,
+          subst (λ (k : ℕ). Fits (now (a .items)) (l .place) n k (takeOperand (takeWithin (a .depth)) (drop (l .place) (now (a .items)))) heightExpr) (ap (λ (k : ℕ). k - n) (sym len) ∙ sym (part-length n (l .sets) [] (omega arith))) f,
+        ),
+      ),
+    ))
 
 term-keep-second-requires : (t : ℕ) → term-lts.Need-keep-second-requires (
   run-of-reads.Asked,
@@ -1651,10 +1699,11 @@ term-loop-again t c =
     let joined = c .before .before .keep-second in
     ands-owed-fits (tableOf (now (a .parent)) (now (a .kind))) (now (a .given)) (a .depth) (now (a .items)) (a .at) (length (now (a .parent))) _ _ (l .place) (l .owed) (l .sets) (c .before .before .before .before .before .before .before .before .loop-test .taken) (start .pre .1 .1 .1) (l .inv .1)
     (λ fit two.
-      let on : n ≤ length (l .sets) = omega arith in
-      (joined .kept .0 ∙ length-stays n (l .sets) part on kept ∙ l .inv .0,
+    let on : n ≤ length (l .sets) = omega arith in (
+      joined .kept .0 ∙ length-stays n (l .sets) part on kept ∙ l .inv .0,
       ands-set-more (tableOf (now (a .parent)) (now (a .kind))) (now (a .given)) (a .depth) (now (a .items)) (a .at) (length (now (a .parent))) _ (l .place) (l .owed) _ (l .sets) part (joined .last .0) (c .before .before .before .before .before .before .before .before .loop-test .taken) (l .inv .1) (c .before .before .before .before .before .before .operand2 .ensures)
-      (λ f g p q. front-is n (λ i. f i && g i) _ _ (joined .ensures f g (first-stays n (l .sets) part on ∙ p) (second-comes n (l .sets) part on ∙ q)))))
+          (λ f g p q. front-is n (λ i. f i && g i) _ _ (joined .ensures f g (first-stays n (l .sets) part on ∙ p) (second-comes n (l .sets) part on ∙ q))),
+    ))
 
 term-same-length : (t : ℕ) → term-lts.Need-same-length (
   run-of-reads.Asked,

@@ -26,7 +26,7 @@ use Rattle.run.proofs.forward.Statement.{statement}
 use Rattle.run.proofs.forward.Tie as tie
 
 abbrev Inv-loop : tie.InvT-loop
-Inv-loop items at count parent kind given sets₀ n place₀ left₀ sets place left = 
+Inv-loop items at count parent kind given sets₀ n place₀ left₀ sets place left =
     (length sets ≡ length sets₀) × Going (tableOf parent kind) given items at count place left sets₀ sets
 
 abbrev μ-loop : tie.MeasureT-loop
@@ -118,11 +118,15 @@ predicates-requires c κs =
     let said-step = c .before .before .before .before .before .before .before .before .before .step-at .ensures in
     next-step (tableOf (now (a .parent)) (now (a .kind))) (now (a .given)) (now (a .items)) (a .at) (a .count) (length (now (a .sets))) (start .pre .1) (l .place) (l .left) _ (l .sets) (c .before .before .before .before .before .before .before .before .before .before .loop-test .taken) (l .inv .1)
     (λ on h p next.
-      let same : said-step .0 ≡ h = some-inj (sym (said-step .1) ∙ p) in
-      let count : c .before .before .before .before .before .before .before .before .before .step-at .result .count ≡ h .count = ap (λ (x : Step). x .count) (said-step .2) ∙ ap (λ (x : Head). x .count) same in
-      (omega arith, (start .pre .0,
-      subst₂ (λ (k r : ℕ). Fits (now (a .items)) (l .place + 1) n r (takePreds (takeWithin 64) k (drop (l .place + 1) (now (a .items)))) (λ ps. 1 + heightPreds ps))
-      (sym count) (sym len2) (next .preds))))
+    let same : said-step .0 ≡ h = some-inj (sym (said-step .1) ∙ p) in
+    let count : c .before .before .before .before .before .before .before .before .before .step-at .result .count ≡ h .count = ap (λ (x : Step). x .count) (said-step .2) ∙ ap (λ (x : Head). x .count) same in (
+      omega arith,
+      (
+        start .pre .0,
+        subst₂ (λ (k r : ℕ). Fits (now (a .items)) (l .place + 1) n r (takePreds (takeWithin 64) k (drop (l .place + 1) (now (a .items)))) (λ ps. 1 + heightPreds ps))
+            (sym count) (sym len2) (next .preds),
+      ),
+    ))
 
 sub-left : tie.Need-sub-left Inv-loop μ-loop
 sub-left c = search needs
@@ -151,19 +155,20 @@ loop-again c =
     let front0 : length (take n (l .sets)) ≡ n = length-take-le n (l .sets) (omega arith) in
     next-step (tableOf (now (a .parent)) (now (a .kind))) (now (a .given)) (now (a .items)) (a .at) (a .count) (length (now (a .sets))) (start .pre .1) (l .place) (l .left) _ (l .sets) (c .before .before .before .before .before .before .before .before .before .before .before .before .before .loop-test .taken) (l .inv .1)
     (λ on h p next.
-      let same : said-step .0 ≡ h = some-inj (sym (said-step .1) ∙ p) in
-      let step-is = said-step .2 ∙ ap numbered same in
-      let count : c .before .before .before .before .before .before .before .before .before .before .before .before .step-at .result .count ≡ h .count = ap (λ (x : Step). x .count) step-is in
-      (narrowed .kept .1 .1 .1 .1 .1 .1 .1 .0 ∙ len2,
+    let same : said-step .0 ≡ h = some-inj (sym (said-step .1) ∙ p) in
+    let step-is = said-step .2 ∙ ap numbered same in
+    let count : c .before .before .before .before .before .before .before .before .before .before .before .before .step-at .result .count ≡ h .count = ap (λ (x : Step). x .count) step-is in (
+      narrowed .kept .1 .1 .1 .1 .1 .1 .1 .0 ∙ len2,
       going-on (tableOf (now (a .parent)) (now (a .kind))) (now (a .given)) (now (a .items)) (a .at) (a .count) (length (now (a .sets))) (start .pre .1) (l .place) (l .left) (narrowed .result) h _ (l .sets) (moved .last .1 .1 .0) (drop n sets1) (restricted .last .1 .1 .1 .0) (narrowed .last .1 .1 .1 .1 .1 .1 .1 .0) (c .before .before .before .before .before .before .before .before .before .before .before .before .before .loop-test .taken) (l .inv .1) next
-      (λ x q.
-        moved .ensures kinds (h .axis) x (ap (λ (y : Step). y .axis) step-is) (q ∙ ap (λ (k : ℕ). bits k x) (sym front0)) ∙
-        ap (λ (k : ℕ). bits k (image (tableOf (now (a .parent)) kinds) (h .axis) x)) front0)
-      (λ x q.
-        restricted .ensures (h .test) x (step-found _ h p .1) (ap (λ (y : Step). y .test) step-is) (front-back n x (moved .last .1 .1 .0) (drop n (l .sets)) q ∙ ap (λ (k : ℕ). bits k x) (sym front1)) ∙
-        ap (λ (k : ℕ). bits k (λ i. (x i && marked (now (a .given)) i) && meets (h .test) (getD kinds i 0))) front1)
-      (subst (λ (k : ℕ). Narrows (now (a .items)) (l .place + 1) n (takePreds (takeWithin 64) k (drop (l .place + 1) (now (a .items)))) (allHold (tableOf (now (a .parent)) (now (a .kind))) (now (a .given))) (narrowed .result) sets2 (narrowed .last .1 .1 .1 .1 .1 .1 .1 .0))
-      count (narrowed .ensures))))
+          (λ x q.
+          moved .ensures kinds (h .axis) x (ap (λ (y : Step). y .axis) step-is) (q ∙ ap (λ (k : ℕ). bits k x) (sym front0)) ∙
+          ap (λ (k : ℕ). bits k (image (tableOf (now (a .parent)) kinds) (h .axis) x)) front0)
+          (λ x q.
+          restricted .ensures (h .test) x (step-found _ h p .1) (ap (λ (y : Step). y .test) step-is) (front-back n x (moved .last .1 .1 .0) (drop n (l .sets)) q ∙ ap (λ (k : ℕ). bits k x) (sym front1)) ∙
+          ap (λ (k : ℕ). bits k (λ i. (x i && marked (now (a .given)) i) && meets (h .test) (getD kinds i 0))) front1)
+          (subst (λ (k : ℕ). Narrows (now (a .items)) (l .place + 1) n (takePreds (takeWithin 64) k (drop (l .place + 1) (now (a .items)))) (allHold (tableOf (now (a .parent)) (now (a .kind))) (now (a .given))) (narrowed .result) sets2 (narrowed .last .1 .1 .1 .1 .1 .1 .1 .0))
+          count (narrowed .ensures)),
+    ))
 
 same-length : tie.Need-same-length Inv-loop μ-loop
 same-length c = search needs

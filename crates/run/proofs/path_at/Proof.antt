@@ -22,14 +22,14 @@ enum-known-item : tie.Need-enum-known-item
 enum-known-item c = search needs
 
 returns : tie.Need-returns
-returns c = 
+returns c =
     let a = c .before .before .before .before .args in
     let w = getD (now (a .items)) (a .place) 0 in
     let u = c .before .unpack in
     none-some (sym (not-path w (u .result) (said w (u .result) (u .ensures)) (c .match .keys2)) ∙ c .before .before .before .before .pre .1 .1)
 
 returns-2 : tie.Need-returns-2
-returns-2 c = 
+returns-2 c =
     let a = c .before .before .before .before .before .before .args in
     let w = getD (now (a .items)) (a .place) 0 in
     let u = c .before .before .before .unpack in

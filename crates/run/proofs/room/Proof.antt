@@ -21,7 +21,7 @@ use Rattle.run.proofs.room.Statement.{statement}
 use Rattle.run.proofs.room.Tie as tie
 
 returns : tie.Need-returns
-returns c = 
+returns c =
     let a = c .before .before .before .before .before .args in
     let q = now (a .query) in
     let t = tableOf (now (a .parent)) (now (a .kind)) in
@@ -29,7 +29,7 @@ returns c =
     room-long q t g (a .marks-room) (a .scratch-room) (or-left (not (eqb (a .marks-room) (nodes t))) (or-left (not (eqb (length g) (nodes t))) (or-left (not (eqb (length (t .kinds)) (nodes t))) (or-left (ltb nodeLimit (nodes t)) (lt-ltb itemLimit (length q) (c .if1 .taken))))))
 
 returns-2 : tie.Need-returns-2
-returns-2 c = 
+returns-2 c =
     let a = c .before .before .before .before .before .before .args in
     let q = now (a .query) in
     let t = tableOf (now (a .parent)) (now (a .kind)) in
@@ -37,7 +37,7 @@ returns-2 c =
     room-long q t g (a .marks-room) (a .scratch-room) (or-left (not (eqb (a .marks-room) (nodes t))) (or-left (not (eqb (length g) (nodes t))) (or-left (not (eqb (length (t .kinds)) (nodes t))) (or-right (tooLong q itemLimit) (lt-ltb nodeLimit (nodes t) (c .if2 .taken))))))
 
 returns-3 : tie.Need-returns-3
-returns-3 c = 
+returns-3 c =
     let a = c .before .before .before .before .before .before .before .args in
     let q = now (a .query) in
     let t = tableOf (now (a .parent)) (now (a .kind)) in
@@ -45,7 +45,7 @@ returns-3 c =
     room-long q t g (a .marks-room) (a .scratch-room) (or-left (not (eqb (a .marks-room) (nodes t))) (or-left (not (eqb (length g) (nodes t))) (or-right (tooLong q itemLimit || ltb nodeLimit (nodes t)) (ap not (ne-eqb (length (t .kinds)) (nodes t) (c .if3 .taken))))))
 
 returns-4 : tie.Need-returns-4
-returns-4 c = 
+returns-4 c =
     let a = c .before .before .before .before .before .before .before .before .args in
     let q = now (a .query) in
     let t = tableOf (now (a .parent)) (now (a .kind)) in
@@ -53,7 +53,7 @@ returns-4 c =
     room-long q t g (a .marks-room) (a .scratch-room) (or-left (not (eqb (a .marks-room) (nodes t))) (or-right (tooLong q itemLimit || ltb nodeLimit (nodes t) || not (eqb (length (t .kinds)) (nodes t))) (ap not (ne-eqb (length g) (nodes t) (c .if4 .taken)))))
 
 returns-5 : tie.Need-returns-5
-returns-5 c = 
+returns-5 c =
     let a = c .before .before .before .before .before .before .before .before .before .args in
     let q = now (a .query) in
     let t = tableOf (now (a .parent)) (now (a .kind)) in
@@ -79,7 +79,7 @@ enum-told : tie.Need-enum-told
 enum-told c = search needs
 
 returns-6 : tie.Need-returns-6
-returns-6 c = 
+returns-6 c =
     let a = c .before .before .before .before .before .before .before .before .before .before .before .before .args in
     let q = now (a .query) in
     let t = tableOf (now (a .parent)) (now (a .kind)) in
@@ -93,7 +93,7 @@ enum-known-i : tie.Need-enum-known-i
 enum-known-i c = search needs
 
 returns-7 : tie.Need-returns-7
-returns-7 c = 
+returns-7 c =
     let a = c .before .before .before .before .before .before .before .before .before .before .before .before .before .before .before .before .before .args in
     let q = now (a .query) in
     let t = tableOf (now (a .parent)) (now (a .kind)) in
@@ -111,15 +111,15 @@ enum-known-i-2 : tie.Need-enum-known-i-2
 enum-known-i-2 c = search needs
 
 returns-8 : tie.Need-returns-8
-returns-8 c = 
+returns-8 c =
     let a = c .before .before .before .before .before .before .before .before .before .before .before .before .before .before .before .before .before .before .before .before .args in
     let q = now (a .query) in
     let t = tableOf (now (a .parent)) (now (a .kind)) in
     let g = now (a .given) in
     shaped-some (decode q) _ _ (sym (c .before .before .before .before .before .before .before .before .shaped .given .1) ∙ c .before .before .before .before .before .before .before .before .before .before .measure .ensures)
     (λ x d h.
-      room-eight q t g (a .marks-room) (a .scratch-room) x _ (agree (c .before .before .before .before .before .before .before .before .before .before .before)) d (sym (c .before .before .before .before .before .before .table-fault .ensures) ∙ ap faultOf (c .before .before .before .before .enum-told2 .given .1))
-      (sym (c .before .before .before .marks-fault .ensures (now (a .kind))) ∙ ap faultOf (c .before .i2 .given .1)))
+    room-eight q t g (a .marks-room) (a .scratch-room) x _ (agree (c .before .before .before .before .before .before .before .before .before .before .before)) d (sym (c .before .before .before .before .before .before .table-fault .ensures) ∙ ap faultOf (c .before .before .before .before .enum-told2 .given .1))
+    (sym (c .before .before .before .marks-fault .ensures (now (a .kind))) ∙ ap faultOf (c .before .i2 .given .1)))
 
 enum-told-3 : tie.Need-enum-told-3
 enum-told-3 c = search needs
@@ -128,7 +128,7 @@ mul-needed : tie.Need-mul-needed
 mul-needed c = search needs
 
 add-needed : tie.Need-add-needed
-add-needed c = 
+add-needed c =
     let a = c .before .before .before .before .before .before .before .before .before .before .before .before .before .before .before .before .before .before .before .args in
     let q = now (a .query) in
     let t = tableOf (now (a .parent)) (now (a .kind)) in
@@ -137,7 +137,7 @@ add-needed c =
     (λ x d h. omega (arith, h, height-size x, size-decoded q x d, c .before .before .before .before .before .before .before .before .before .before .before .before .before .before .if1 .left))
 
 mul-needed-2 : tie.Need-mul-needed-2
-mul-needed-2 c = 
+mul-needed-2 c =
     let a = c .before .before .before .before .before .before .before .before .before .before .before .before .before .before .before .before .before .before .before .args in
     let q = now (a .query) in
     let t = tableOf (now (a .parent)) (now (a .kind)) in
@@ -146,30 +146,30 @@ mul-needed-2 c =
     (λ x d h. omega (arith, ap (λ (k : ℕ). nodes t * 2 * (k + 1)) h, scratch-small q t x (c .before .before .before .before .before .before .before .before .before .before .before .before .before .before .if1 .left) (c .before .before .before .before .before .before .before .before .before .before .before .before .before .if2 .left) d))
 
 returns-9 : tie.Need-returns-9
-returns-9 c = 
+returns-9 c =
     let a = c .before .before .before .before .before .before .before .before .before .before .before .before .before .before .before .before .before .before .before .before .args in
     let q = now (a .query) in
     let t = tableOf (now (a .parent)) (now (a .kind)) in
     let g = now (a .given) in
     shaped-some (decode q) _ _ (sym (c .before .before .before .before .before .before .before .before .shaped .given .1) ∙ c .before .before .before .before .before .before .before .before .before .before .measure .ensures)
     (λ x d h.
-      let same = ap (λ (k : ℕ). nodes t * 2 * (k + 1)) h in
-      ap (refusal 10) same ∙
-      room-ten q t g (a .marks-room) (a .scratch-room) x (agree (c .before .before .before .before .before .before .before .before .before .before .before)) d (sym (c .before .before .before .before .before .before .table-fault .ensures) ∙ ap faultOf (c .before .before .before .before .enum-told2 .given .1))
-      (sym (c .before .before .before .marks-fault .ensures (now (a .kind))) ∙ ap faultOf (c .before .enum-told3 .given .1)) (omega (arith, same, c .if6 .taken)))
+    let same = ap (λ (k : ℕ). nodes t * 2 * (k + 1)) h in
+    ap (refusal 10) same ∙
+    room-ten q t g (a .marks-room) (a .scratch-room) x (agree (c .before .before .before .before .before .before .before .before .before .before .before)) d (sym (c .before .before .before .before .before .before .table-fault .ensures) ∙ ap faultOf (c .before .before .before .before .enum-told2 .given .1))
+    (sym (c .before .before .before .marks-fault .ensures (now (a .kind))) ∙ ap faultOf (c .before .enum-told3 .given .1)) (omega (arith, same, c .if6 .taken)))
 
 returns-10 : tie.Need-returns-10
-returns-10 c = 
+returns-10 c =
     let a = c .before .before .before .before .before .before .before .before .before .before .before .before .before .before .before .before .before .before .before .before .args in
     let q = now (a .query) in
     let t = tableOf (now (a .parent)) (now (a .kind)) in
     let g = now (a .given) in
     shaped-some (decode q) _ _ (sym (c .before .before .before .before .before .before .before .before .shaped .given .1) ∙ c .before .before .before .before .before .before .before .before .before .before .measure .ensures)
     (λ x d h.
-      let same = ap (λ (k : ℕ). nodes t * 2 * (k + 1)) h in
-      ap value same ∙
-      room-value q t g (a .marks-room) (a .scratch-room) x (agree (c .before .before .before .before .before .before .before .before .before .before .before)) d (sym (c .before .before .before .before .before .before .table-fault .ensures) ∙ ap faultOf (c .before .before .before .before .enum-told2 .given .1))
-      (sym (c .before .before .before .marks-fault .ensures (now (a .kind))) ∙ ap faultOf (c .before .enum-told3 .given .1)) (omega (arith, same, c .if6 .left)))
+    let same = ap (λ (k : ℕ). nodes t * 2 * (k + 1)) h in
+    ap value same ∙
+    room-value q t g (a .marks-room) (a .scratch-room) x (agree (c .before .before .before .before .before .before .before .before .before .before .before)) d (sym (c .before .before .before .before .before .before .table-fault .ensures) ∙ ap faultOf (c .before .before .before .before .enum-told2 .given .1))
+    (sym (c .before .before .before .marks-fault .ensures (now (a .kind))) ∙ ap faultOf (c .before .enum-told3 .given .1)) (omega (arith, same, c .if6 .left)))
 
 pub room-spec : {M : Type 1} → statement M
 room-spec =

@@ -36,9 +36,11 @@ loop-holds : tie.Need-loop-holds Inv-loop μ-loop
 loop-holds c =
     let start = c .before .before .before .before .before .before .before .before .before .before in
     let a = start .args in
-    let filled = c .before .before .fill in
-    (refl, filled .kept .0 ∙ start .pre .1 .0,
-    paths-begin (tableOf (now (a .parent)) (now (a .kind))) (now (a .given)) (now (a .items)) _ _ (start .pre .1 .1) (filled .ensures ∙ ap (λ (k : ℕ). replicate k 0) (start .pre .1 .0)))
+    let filled = c .before .before .fill in (
+      refl,
+      filled .kept .0 ∙ start .pre .1 .0,
+      paths-begin (tableOf (now (a .parent)) (now (a .kind))) (now (a .given)) (now (a .items)) _ _ (start .pre .1 .1) (filled .ensures ∙ ap (λ (k : ℕ). replicate k 0) (start .pre .1 .0)),
+    )
 
 path-at-requires : tie.Need-path-at-requires Inv-loop μ-loop
 path-at-requires c κs =
@@ -102,9 +104,10 @@ forward-requires c κs =
     let len1 : length sets1 ≡ length (now (a .sets)) = front-length n (l .sets) (c .before .before .before .start .last .1 .0) (omega arith) (c .before .before .before .start .kept .1 .0) ∙ len in
     next-path (tableOf (now (a .parent)) (now (a .kind))) (now (a .given)) (now (a .items)) (length (now (a .sets))) runs (l .place) (l .marks) (c .before .before .before .before .before .before .loop-test .taken) (l .inv .2)
     (λ count p next.
-      let same : c .before .before .before .before .before .path-at .result ≡ count = some-inj (sym (c .before .before .before .before .before .path-at .ensures) ∙ p) in
-      (start .pre .0,
-      subst₂ (λ (k r : ℕ). Fits (now (a .items)) (l .place + 1) n r (takeSteps (takeWithin 64) k (drop (l .place + 1) (now (a .items)))) (λ s. 1 + heightSteps s)) (sym same) (sym len1) (next .steps)))
+    let same : c .before .before .before .before .before .path-at .result ≡ count = some-inj (sym (c .before .before .before .before .before .path-at .ensures) ∙ p) in (
+      start .pre .0,
+      subst₂ (λ (k r : ℕ). Fits (now (a .items)) (l .place + 1) n r (takeSteps (takeWithin 64) k (drop (l .place + 1) (now (a .items)))) (λ s. 1 + heightSteps s)) (sym same) (sym len1) (next .steps),
+    ))
 
 slice-reshare-prefix-add : tie.Need-slice-reshare-prefix-add Inv-loop μ-loop
 slice-reshare-prefix-add c =
@@ -170,14 +173,16 @@ loop-again c =
     let front0 : length (take n (l .sets)) ≡ n = length-take-le n (l .sets) (omega arith) in
     next-path (tableOf (now (a .parent)) (now (a .kind))) (now (a .given)) (now (a .items)) (length (now (a .sets))) runs (l .place) (l .marks) (c .before .before .before .before .before .before .before .before .before .before .before .before .before .before .loop-test .taken) (l .inv .2)
     (λ count p next.
-      let same : c .before .before .before .before .before .before .before .before .before .before .before .before .before .path-at .result ≡ count = some-inj (sym (c .before .before .before .before .before .before .before .before .before .before .before .before .before .path-at .ensures) ∙ p) in
-      (moved .kept .1 .1 .1 .1 .1 .1 .0 ∙ len1, added .kept .1 .0 ∙ l .inv .1,
+    let same : c .before .before .before .before .before .before .before .before .before .before .before .before .before .path-at .result ≡ count = some-inj (sym (c .before .before .before .before .before .before .before .before .before .before .before .before .before .path-at .ensures) ∙ p) in (
+      moved .kept .1 .1 .1 .1 .1 .1 .0 ∙ len1,
+      added .kept .1 .0 ∙ l .inv .1,
       path-added (tableOf (now (a .parent)) (now (a .kind))) (now (a .given)) (now (a .items)) (length (now (a .sets))) runs (l .place) (moved .result) count (l .marks) (l .sets) sets1 (moved .last .1 .1 .1 .1 .1 .1 .0) (added .last .1 .0) (l .inv .2) next
-      (front-back n (λ i. eqb i 0 && marked (now (a .given)) 0) (started .last .1 .0) (drop n (l .sets)) (started .ensures ∙ ap (λ (k : ℕ). bits k (λ i. eqb i 0 && marked (now (a .given)) 0)) front0))
-      (subst (λ (k : ℕ). Moves (now (a .items)) (l .place + 1) (tableOf (now (a .parent)) (now (a .kind))) (now (a .given)) (takeSteps (takeWithin 64) k (drop (l .place + 1) (now (a .items)))) (moved .result) sets1 (moved .last .1 .1 .1 .1 .1 .1 .0)) same (moved .ensures))
-      (λ f g x y.
-        added .ensures f g (x ∙ ap (λ (k : ℕ). bits k f) (sym (l .inv .1))) (y ∙ ap (λ (k : ℕ). bits k g) (sym (l .inv .1))) ∙ ap (λ (k : ℕ). bits k (λ i. f i || g i)) (l .inv .1))
-      (start .pre .0 .tree .rooted)))
+          (front-back n (λ i. eqb i 0 && marked (now (a .given)) 0) (started .last .1 .0) (drop n (l .sets)) (started .ensures ∙ ap (λ (k : ℕ). bits k (λ i. eqb i 0 && marked (now (a .given)) 0)) front0))
+          (subst (λ (k : ℕ). Moves (now (a .items)) (l .place + 1) (tableOf (now (a .parent)) (now (a .kind))) (now (a .given)) (takeSteps (takeWithin 64) k (drop (l .place + 1) (now (a .items)))) (moved .result) sets1 (moved .last .1 .1 .1 .1 .1 .1 .0)) same (moved .ensures))
+          (λ f g x y.
+          added .ensures f g (x ∙ ap (λ (k : ℕ). bits k f) (sym (l .inv .1))) (y ∙ ap (λ (k : ℕ). bits k g) (sym (l .inv .1))) ∙ ap (λ (k : ℕ). bits k (λ i. f i || g i)) (l .inv .1))
+          (start .pre .0 .tree .rooted),
+    ))
 
 same-length : tie.Need-same-length Inv-loop μ-loop
 same-length c = search needs

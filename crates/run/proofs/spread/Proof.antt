@@ -36,7 +36,7 @@ same-length-2 : tie.Need-same-length-2
 same-length-2 c = search needs
 
 returns : tie.Need-returns
-returns c = 
+returns c =
     λ f h.
     let start = c .before .before .before .before .before .before .before .before .before .before .before .before .before .before .before .before .before .before .before .before .before .before .before .before .before .before .before in
     let a = start .args in
@@ -57,12 +57,12 @@ returns c =
     let la : length (added .last .1 .0) ≡ n = added .kept .1 .0 ∙ lu in
     let sel : copied .last .1 .0 ≡ bits n f = copied .ensures ∙ h in
     let below : down .last .1 .1 .0 ≡ bits n (image t descendantOrSelf f) =
-      down .ensures kinds descendantOrSelf f refl (sel ∙ sym (at-n _ ls f)) ∙ at-n _ ls (image t descendantOrSelf f) in
+    down .ensures kinds descendantOrSelf f refl (sel ∙ sym (at-n _ ls f)) ∙ at-n _ ls (image t descendantOrSelf f) in
     let above : up .last .1 .1 .0 ≡ bits n (image t ancestorOrSelf f) =
-      up .ensures kinds ancestorOrSelf f refl (h ∙ sym (at-n _ lm f)) ∙ at-n _ lm (image t ancestorOrSelf f) in
+    up .ensures kinds ancestorOrSelf f refl (h ∙ sym (at-n _ lm f)) ∙ at-n _ lm (image t ancestorOrSelf f) in
     let both : added .last .1 .0 ≡ bits n (λ i. image t ancestorOrSelf f i || image t descendantOrSelf f i) =
-      added .ensures (image t ancestorOrSelf f) (image t descendantOrSelf f) (above ∙ sym (at-n _ lu (image t ancestorOrSelf f))) (below ∙ sym (at-n _ lu (image t descendantOrSelf f))) ∙
-      at-n _ lu (λ i. image t ancestorOrSelf f i || image t descendantOrSelf f i) in
+    added .ensures (image t ancestorOrSelf f) (image t descendantOrSelf f) (above ∙ sym (at-n _ lu (image t ancestorOrSelf f))) (below ∙ sym (at-n _ lu (image t descendantOrSelf f))) ∙
+    at-n _ lu (λ i. image t ancestorOrSelf f i || image t descendantOrSelf f i) in
     kept .ensures (λ i. image t ancestorOrSelf f i || image t descendantOrSelf f i) (marked m) (both ∙ sym (at-n _ la (λ i. image t ancestorOrSelf f i || image t descendantOrSelf f i)))
     (ready .marks-bits ∙ sym (at-n _ la (marked m))) ∙
     at-n _ la (λ i. (image t ancestorOrSelf f i || image t descendantOrSelf f i) && marked m i) ∙
