@@ -8,7 +8,7 @@ use mathlib.Core.Option.{Option, none, some}
 use denote.Enum.Declared.{tagOf}
 use types.Run.{OneOf, miss}
 use Rattle.paper.specs.Tools.{when}
-use Rattle.paper.specs.Answers.{value, line, atExit}
+use Rattle.paper.specs.Answers.{value, refusal, line, atExit}
 use Rattle.paper.specs.Answers.{Answer as Told}
 use Rattle.paper.specs.Told.{told}
 use Rattle.paper.specs.declared.Answer.{Answer}
@@ -32,6 +32,20 @@ or-none false b h = (refl, h)
 -- An answer is a refusal: one of the cases of `Answer` after the first, as a branch on the case of an answer says it.
 abbrev pub Refuses : Answer → Type 0
 Refuses a = OneOf (1 ∷ 2 ∷ 3 ∷ 4 ∷ 5 ∷ 6 ∷ 7 ∷ 8 ∷ 9 ∷ 10 ∷ []) (tagOf the-type a)
+
+-- A refusal tells its number and place.
+pub refusal-told : (a : Answer) → Refuses a → (number : ℕ) × (place : ℕ) × (told a ≡ refusal number place)
+refusal-told (Value n) h = absurd (miss (1 ∷ 2 ∷ 3 ∷ 4 ∷ 5 ∷ 6 ∷ 7 ∷ 8 ∷ 9 ∷ 10 ∷ []) 0 tt h)
+refusal-told TooLong h = (1, 0, refl)
+refusal-told (BadName place) h = (2, place, refl)
+refusal-told (NoQuery place) h = (3, place, refl)
+refusal-told (TooDeep place) h = (4, place, refl)
+refusal-told (UnknownName place) h = (5, place, refl)
+refusal-told (BadQuery place) h = (6, place, refl)
+refusal-told (BadTable place) h = (7, place, refl)
+refusal-told (BadMarks place) h = (8, place, refl)
+refusal-told (TooNested place) h = (9, place, refl)
+refusal-told (Short place) h = (10, place, refl)
 
 -- A refused call writes nothing.
 pub refused-keeps : (a : Answer) (new old : List ℕ) → Refuses a → atExit (told a) new old ≡ old

@@ -31,7 +31,7 @@ use Rattle.shape.specs.Walks.{nestTerm, nestOperand, Walk, Walks, raised
 use Rattle.shape.proofs.Walking.{begins-and, begins-or}
 
 -- A number that is a path's is no operator's and not `not`.
-path-other : (w n count : ℕ) → pathAt w ≡ some count → 0 < n → n < 8 → eqb n w ≡ false
+pub path-other : (w n count : ℕ) → pathAt w ≡ some count → 0 < n → n < 8 → eqb n w ≡ false
 path-other w n count h p q = ne-eqb n w (λ e. omega (arith, path-found w count h .0))
 
 -- A path of at least one step.
@@ -96,7 +96,7 @@ operand-rest within w Not ws s k l = absurd (miss (0 ∷ 1 ∷ 5 ∷ []) 4 tt l)
 operand-rest within w Bad ws s k l = operand-other within w ws (s .0) (s .2) (s .3) (s .4)
 
 -- What stands at a place of the items.
-at-place : (items : List ℕ) (at : ℕ) → at < length items → drop at items ≡ getD items at 0 ∷ drop (at + 1) items
+pub at-place : (items : List ℕ) (at : ℕ) → at < length items → drop at items ≡ getD items at 0 ∷ drop (at + 1) items
 at-place items at l = drop-cons items at 0 l ∙ ap (λ (k : ℕ). getD items at 0 ∷ drop k items) (sym (add-one at))
 
 -- The walks of an operand, from those of what it holds.
@@ -214,7 +214,7 @@ small items at counted depth taken nestOf heightOf (Done next nest high) d l k w
 small items at counted depth taken nestOf heightOf Malformed d l k w = tt
 
 -- What holds of each number and the next one holds of any number but 0 and the one before it.
-deeper : (P : ℕ → ℕ → Type 0) → ((d : ℕ) → P d (suc d)) → (depth : ℕ) → (depth ≡ 0 → ⊥) → P (depth - 1) depth
+pub deeper : (P : ℕ → ℕ → Type 0) → ((d : ℕ) → P d (suc d)) → (depth : ℕ) → (depth ≡ 0 → ⊥) → P (depth - 1) depth
 deeper P next zero z = absurd (z refl)
 deeper P next (suc d) z = subst (λ (k : ℕ). P k (suc d)) (let e : d ≡ suc d - 1 = omega arith in e) (next d)
 

@@ -326,7 +326,7 @@ height-append stop s = omega arith
 height-append (step a t ps rest) s = omega (arith, height-append rest s)
 
 -- Predicates in a row.
-pub appendPreds : Preds → Preds → Preds
+unfoldable pub appendPreds : Preds → Preds → Preds
 appendPreds bare qs = qs
 appendPreds (pred e ps) qs = pred e (appendPreds ps qs)
 
@@ -366,7 +366,7 @@ PredRow depth items at whole place deep high owed =
     items at depth whole place deep high owed
 
 -- What is found and put behind something is what is taken with that ahead.
-found-ahead : {A : Type 0} (put : A → A) (o : Taken A) → found o (λ r. some (put (r .0), r .1)) ≡ ahead put o
+pub found-ahead : {A : Type 0} (put : A → A) (o : Taken A) → found o (λ r. some (put (r .0), r .1)) ≡ ahead put o
 found-ahead put none = refl
 found-ahead put (some r) = refl
 

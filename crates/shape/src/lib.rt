@@ -174,7 +174,7 @@ fn operand(items: &[u32], at: usize, depth: usize) -> Walked
 }
 
 // So many steps of a path, each with its predicates.
-fn steps(items: &[u32], at: usize, count: usize, depth: usize) -> Walked
+pub fn steps(items: &[u32], at: usize, count: usize, depth: usize) -> Walked
     requires { ⌜ (at ≤ length (now items)) × (depth ≤ 64) ⌝ }
     ensures { λ r. ⌜ Walks (now (items .entry)) at 0 depth (takeSteps (takeWithin depth) count (drop at (now (items .entry)))) nestSteps heightSteps r ⌝ }
 {

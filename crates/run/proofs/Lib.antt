@@ -1,0 +1,7 @@
+pub mod Stepwise
+pub mod Running
+pub mod Operating
+pub mod Rows
+pub mod Slices
+pub mod Answering
+pub mod Selecting

@@ -1,0 +1,413 @@
+// Running a query: predicates for all nodes at once, from a path's last step back; top-level paths forward from the root.
+use item::Item;
+use item::Step;
+use paper::Answer;
+use shape::Shape;
+use shape::Walked;
+use table::Fault;
+ghost use Prim.Native.Nat.{ℕ, _+_, _≤_, _<_};
+ghost use mathlib.Core.Path.{_≡_};
+ghost use mathlib.Core.Bool.{Bool, true, _&&_};
+ghost use mathlib.Core.Option.{some};
+ghost use lib.Dec.{eqb};
+ghost use lib.ListN.{length, getD, drop, replicate};
+ghost use Rattle.paper.specs.Answers.{runAnswer, runMarks, runScratch};
+ghost use Rattle.paper.specs.Told.{told};
+ghost use Rattle.paper.specs.Query.{Test, Query};
+ghost use Rattle.paper.specs.Document.{marked};
+ghost use Rattle.paper.specs.Items.{pathAt, testNumber, goodTest, decode, takePreds, takeSteps, takeOperand, takeWithin};
+ghost use Rattle.paper.specs.Measures.{heightExpr, heightSteps, heightPreds};
+ghost use Rattle.paper.specs.Selection.{meets, holds, finds, allHold, selects, kept};
+ghost use Rattle.paper.proofs.Decoding.{orsFrom, andsFrom};
+ghost use Rattle.sets.specs.Sets.{bits, tableOf};
+ghost use Rattle.run.specs.Evals.{Ready, Readable, Fits, Ends, StepThere, StepSaid, Evaluates, Narrows, Moves, PathThere, Runs, keepsBy, roomAnswer};
+
+// The numbers of the axes that spread what is selected.
+const DESCENDANT_OR_SELF: u32 = 3;
+
+const ANCESTOR_OR_SELF: u32 = 4;
+
+// Where so many steps end.
+fn past_steps(items: &[u32], at: usize, count: usize, depth: usize) -> usize
+    requires { ⌜ (at ≤ length (now items)) × (depth ≤ 64) × (Readable (takeSteps (takeWithin depth) count (drop at (now items)))) ⌝ }
+    ensures { λ r. ⌜ Ends (now (items .entry)) at (takeSteps (takeWithin depth) count (drop at (now (items .entry)))) r ⌝ }
+{
+    let walked = shape::steps(items, at, count, depth);
+    let Walked::Done {
+        next,
+        nesting: _,
+        height: _,
+    } = walked
+    else {
+        return at;
+    };
+    next
+}
+
+// The step at a place where one stands.
+fn step_at(items: &[u32], place: usize) -> Step
+    requires { ⌜ (place < length (now items)) × (StepThere (getD (now items) place 0)) ⌝ }
+    ensures { λ r. ⌜ StepSaid (getD (now (items .entry)) place 0) r ⌝ }
+{
+    let item = item::unpack(items[place]);
+    let Item::Step(step) = item else {
+        return Step {
+            axis: 0,
+            test: 0,
+            count: 0,
+        };
+    };
+    step
+}
+
+// Keeps of the set the marked nodes that meet the test.
+fn restrict(kind: &[u16], given: &[u8], test: u32, set: &mut [u8])
+    requires { ⌜ (length (now kind) ≡ length (now set)) × (length (now given) ≡ length (now set)) × (now given ≡ bits (length (now set)) (marked (now given))) ⌝ }
+    ensures { λ _. ⌜ ((t : Test) (f : ℕ → Bool) → goodTest t ≡ true → test ≡ testNumber t → now (set .entry) ≡ bits (length (now (set .entry))) f → now (set .exit) ≡ bits (length (now (set .entry))) (λ i. (f i && marked (now (given .entry)) i) && meets t (getD (now (kind .entry)) i 0))) ⌝ }
+{
+    sets::keep(given, set);
+    sets::keep_met(kind, test, set);
+}
+
+// An expression, of whose `or` items so many stand before `at`: its set comes first in `sets`. Answers where it ends.
+fn expression(
+    items: &[u32],
+    at: usize,
+    counted: usize,
+    depth: usize,
+    parent: &[u16],
+    kind: &[u16],
+    given: &[u8],
+    sets: &mut [u8],
+) -> usize
+    requires { ⌜ (counted ≤ 1) × (depth ≤ 64) ⌝ }
+    requires { ⌜ Ready (now parent) (now kind) (now given) ⌝ }
+    requires { ⌜ Fits (now items) at (length (now parent)) (length (now sets)) (orsFrom (takeWithin depth) counted (drop at (now items))) heightExpr ⌝ }
+    ensures { λ r. ⌜ Evaluates (now (items .entry)) at (length (now (parent .entry))) (orsFrom (takeWithin depth) counted (drop at (now (items .entry)))) (holds (tableOf (now (parent .entry)) (now (kind .entry))) (now (given .entry))) r (now (sets .exit)) ⌝ }
+{
+    let n = parent.len();
+    let run = shape::run_of(items, at, item::OR);
+    let mut place = term(items, at + run, 0, depth, parent, kind, given, sets);
+    let mut owed = run + counted;
+    while 0 < owed {
+        place = term(items, place, 0, depth, parent, kind, given, &mut sets[n..]);
+        sets::add_second(sets, n);
+        owed -= 1;
+    }
+    place
+}
+
+// A term of `or`, of whose `and` items so many stand before `at`.
+fn term(
+    items: &[u32],
+    at: usize,
+    counted: usize,
+    depth: usize,
+    parent: &[u16],
+    kind: &[u16],
+    given: &[u8],
+    sets: &mut [u8],
+) -> usize
+    requires { ⌜ (counted ≤ 1) × (depth ≤ 64) ⌝ }
+    requires { ⌜ Ready (now parent) (now kind) (now given) ⌝ }
+    requires { ⌜ Fits (now items) at (length (now parent)) (length (now sets)) (andsFrom (takeWithin depth) counted (drop at (now items))) heightExpr ⌝ }
+    ensures { λ r. ⌜ Evaluates (now (items .entry)) at (length (now (parent .entry))) (andsFrom (takeWithin depth) counted (drop at (now (items .entry)))) (holds (tableOf (now (parent .entry)) (now (kind .entry))) (now (given .entry))) r (now (sets .exit)) ⌝ }
+{
+    let n = parent.len();
+    let run = shape::run_of(items, at, item::AND);
+    let mut place = operand(items, at + run, depth, parent, kind, given, sets);
+    let mut owed = run + counted;
+    while 0 < owed {
+        place = operand(items, place, depth, parent, kind, given, &mut sets[n..]);
+        sets::keep_second(sets, n);
+        owed -= 1;
+    }
+    place
+}
+
+// An operand of `and`: a path, or what stands in a bracket of `not`, `and` or `or`.
+fn operand(
+    items: &[u32],
+    at: usize,
+    depth: usize,
+    parent: &[u16],
+    kind: &[u16],
+    given: &[u8],
+    sets: &mut [u8],
+) -> usize
+    requires { ⌜ depth ≤ 64 ⌝ }
+    requires { ⌜ Ready (now parent) (now kind) (now given) ⌝ }
+    requires { ⌜ Fits (now items) at (length (now parent)) (length (now sets)) (takeOperand (takeWithin depth) (drop at (now items))) heightExpr ⌝ }
+    ensures { λ r. ⌜ Evaluates (now (items .entry)) at (length (now (parent .entry))) (takeOperand (takeWithin depth) (drop at (now (items .entry)))) (holds (tableOf (now (parent .entry)) (now (kind .entry))) (now (given .entry))) r (now (sets .exit)) ⌝ }
+{
+    let n = parent.len();
+    let item = item::unpack(items[at]);
+    if let Item::Path(count) = item {
+        return path(items, at + 1, count, depth, parent, kind, given, sets);
+    }
+    if let Item::And = item {
+        return term(items, at + 1, 1, depth - 1, parent, kind, given, sets);
+    }
+    if let Item::Or = item {
+        return expression(items, at + 1, 1, depth - 1, parent, kind, given, sets);
+    }
+    let next = expression(items, at + 1, 0, depth - 1, parent, kind, given, sets);
+    sets::flip(&mut sets[..n]);
+    next
+}
+
+// A path in a predicate, from its last step back: the nodes from which its steps find a node.
+fn path(
+    items: &[u32],
+    at: usize,
+    count: usize,
+    depth: usize,
+    parent: &[u16],
+    kind: &[u16],
+    given: &[u8],
+    sets: &mut [u8],
+) -> usize
+    requires { ⌜ depth ≤ 64 ⌝ }
+    requires { ⌜ Ready (now parent) (now kind) (now given) ⌝ }
+    requires { ⌜ Fits (now items) at (length (now parent)) (length (now sets)) (takeSteps (takeWithin depth) count (drop at (now items))) (λ s. 1 + heightSteps s) ⌝ }
+    ensures { λ r. ⌜ Evaluates (now (items .entry)) at (length (now (parent .entry))) (takeSteps (takeWithin depth) count (drop at (now (items .entry)))) (finds (tableOf (now (parent .entry)) (now (kind .entry))) (now (given .entry))) r (now (sets .exit)) ⌝ }
+{
+    let n = parent.len();
+    sets::fill(&mut sets[..n], 1);
+    let mut left = count;
+    while 0 < left {
+        left -= 1;
+        let place = past_steps(items, at, left, depth);
+        let step = step_at(items, place);
+        restrict(kind, given, step.test, &mut sets[..n]);
+        predicates(
+            items,
+            place + 1,
+            step.count,
+            depth,
+            parent,
+            kind,
+            given,
+            sets,
+        );
+        sets::along(parent, item::turn(step.axis), &mut sets[..n]);
+    }
+    past_steps(items, at, count, depth)
+}
+
+// Keeps of the first set the nodes at which so many predicates hold.
+fn predicates(
+    items: &[u32],
+    at: usize,
+    count: usize,
+    depth: usize,
+    parent: &[u16],
+    kind: &[u16],
+    given: &[u8],
+    sets: &mut [u8],
+) -> usize
+    requires { ⌜ depth ≤ 64 ⌝ }
+    requires { ⌜ Ready (now parent) (now kind) (now given) ⌝ }
+    requires { ⌜ Fits (now items) at (length (now parent)) (length (now sets)) (takePreds (takeWithin depth) count (drop at (now items))) (λ ps. 1 + heightPreds ps) ⌝ }
+    ensures { λ r. ⌜ Narrows (now (items .entry)) at (length (now (parent .entry))) (takePreds (takeWithin depth) count (drop at (now (items .entry)))) (allHold (tableOf (now (parent .entry)) (now (kind .entry))) (now (given .entry))) r (now (sets .entry)) (now (sets .exit)) ⌝ }
+{
+    let n = parent.len();
+    let mut place = at;
+    let mut owed = count;
+    while 0 < owed {
+        place = expression(
+            items,
+            place,
+            0,
+            depth - 1,
+            parent,
+            kind,
+            given,
+            &mut sets[n..],
+        );
+        sets::keep_second(sets, n);
+        owed -= 1;
+    }
+    place
+}
+
+// Moves the first set forward along so many steps of a top-level path. Answers where they end.
+fn forward(
+    items: &[u32],
+    at: usize,
+    count: usize,
+    parent: &[u16],
+    kind: &[u16],
+    given: &[u8],
+    sets: &mut [u8],
+) -> usize
+    requires { ⌜ Ready (now parent) (now kind) (now given) ⌝ }
+    requires { ⌜ Fits (now items) at (length (now parent)) (length (now sets)) (takeSteps (takeWithin 64) count (drop at (now items))) (λ s. 1 + heightSteps s) ⌝ }
+    ensures { λ r. ⌜ Moves (now (items .entry)) at (tableOf (now (parent .entry)) (now (kind .entry))) (now (given .entry)) (takeSteps (takeWithin 64) count (drop at (now (items .entry)))) r (now (sets .entry)) (now (sets .exit)) ⌝ }
+{
+    let n = parent.len();
+    let mut place = at;
+    let mut left = count;
+    while 0 < left {
+        let step = step_at(items, place);
+        sets::along(parent, step.axis, &mut sets[..n]);
+        restrict(kind, given, step.test, &mut sets[..n]);
+        place = predicates(
+            items,
+            place + 1,
+            step.count,
+            paper::BRACKET_LIMIT,
+            parent,
+            kind,
+            given,
+            sets,
+        );
+        left -= 1;
+    }
+    place
+}
+
+// Makes the set that of the root alone, or empty where the root is unmarked.
+fn start(given: &[u8], set: &mut [u8])
+    requires { ⌜ (0 < length (now set)) × (length (now given) ≡ length (now set)) × (now given ≡ bits (length (now set)) (marked (now given))) ⌝ }
+    ensures { λ _. ⌜ now (set .exit) ≡ bits (length (now (set .entry))) (λ i. eqb i 0 && marked (now (given .entry)) 0) ⌝ }
+{
+    sets::fill(set, 0);
+    set[0] = given[0];
+}
+
+// The step count of the path at a place where one stands.
+fn path_at(items: &[u32], place: usize) -> usize
+    requires { ⌜ (place < length (now items)) × (PathThere (getD (now items) place 0)) ⌝ }
+    ensures { λ r. ⌜ pathAt (getD (now (items .entry)) place 0) ≡ some r ⌝ }
+{
+    let item = item::unpack(items[place]);
+    let Item::Path(count) = item else {
+        return 0;
+    };
+    count
+}
+
+// Marks the nodes that the query selects.
+fn select(
+    items: &[u32],
+    parent: &[u16],
+    kind: &[u16],
+    given: &[u8],
+    marks: &mut [u8],
+    sets: &mut [u8],
+)
+    requires { ⌜ Ready (now parent) (now kind) (now given) ⌝ }
+    requires { ⌜ length (now marks) ≡ length (now parent) ⌝ }
+    requires { ⌜ Runs (now items) (length (now parent)) (length (now sets)) ⌝ }
+    ensures { λ _. ⌜ ((q : Query) → decode (now (items .entry)) ≡ some q → now (marks .exit) ≡ bits (length (now (parent .entry))) (selects (tableOf (now (parent .entry)) (now (kind .entry))) (now (given .entry)) q)) ⌝ }
+{
+    let n = parent.len();
+    sets::fill(marks, 0);
+    let mut place = 0;
+    while place < items.len() {
+        let count = path_at(items, place);
+        start(given, &mut sets[..n]);
+        place = forward(items, place + 1, count, parent, kind, given, sets);
+        sets::add(&sets[..n], marks);
+    }
+}
+
+// Keeps, with the selected nodes, all above them and all below them that are marked.
+fn spread(parent: &[u16], kind: &[u16], given: &[u8], marks: &mut [u8], set: &mut [u8])
+    requires { ⌜ Ready (now parent) (now kind) (now given) ⌝ }
+    requires { ⌜ (length (now marks) ≡ length (now parent)) × (length (now set) ≡ length (now parent)) ⌝ }
+    ensures { λ _. ⌜ ((f : ℕ → Bool) → now (marks .entry) ≡ bits (length (now (parent .entry))) f → now (marks .exit) ≡ bits (length (now (parent .entry))) (keepsBy (tableOf (now (parent .entry)) (now (kind .entry))) (now (given .entry)) f)) ⌝ }
+{
+    sets::copy(marks, set);
+    sets::along(parent, DESCENDANT_OR_SELF, set);
+    sets::along(parent, ANCESTOR_OR_SELF, marks);
+    sets::add(set, marks);
+    sets::keep(given, marks);
+}
+
+// Marks the nodes that the query keeps, and clears the sets.
+fn keep(
+    items: &[u32],
+    parent: &[u16],
+    kind: &[u16],
+    given: &[u8],
+    marks: &mut [u8],
+    sets: &mut [u8],
+)
+    requires { ⌜ Ready (now parent) (now kind) (now given) ⌝ }
+    requires { ⌜ length (now marks) ≡ length (now parent) ⌝ }
+    requires { ⌜ Runs (now items) (length (now parent)) (length (now sets)) ⌝ }
+    ensures { λ _. ⌜ ((q : Query) → decode (now (items .entry)) ≡ some q → now (marks .exit) ≡ kept (tableOf (now (parent .entry)) (now (kind .entry))) (now (given .entry)) q) ⌝ }
+    ensures { λ _. ⌜ now (sets .exit) ≡ replicate (length (now (sets .entry))) 0 ⌝ }
+{
+    let n = parent.len();
+    select(items, parent, kind, given, marks, sets);
+    spread(parent, kind, given, marks, &mut sets[..n]);
+    sets::fill(sets, 0);
+}
+
+// What refuses a run, or the bytes of scratch that it needs.
+fn room(
+    query: &[u32],
+    parent: &[u16],
+    kind: &[u16],
+    given: &[u8],
+    marks_room: usize,
+    scratch_room: usize,
+) -> Answer
+    ensures { λ r. ⌜ told r ≡ roomAnswer (now (query .entry)) (tableOf (now (parent .entry)) (now (kind .entry))) (now (given .entry)) «marks_room» «scratch_room» ⌝ }
+{
+    if paper::ITEM_LIMIT < query.len() {
+        return Answer::TooLong;
+    }
+    let n = parent.len();
+    if paper::NODE_LIMIT < n {
+        return Answer::TooLong;
+    }
+    if kind.len() != n {
+        return Answer::TooLong;
+    }
+    if given.len() != n {
+        return Answer::TooLong;
+    }
+    if marks_room != n {
+        return Answer::TooLong;
+    }
+    let shaped = shape::measure(query);
+    let Shape::Query { nesting: _, height } = shaped else {
+        return Answer::BadQuery(0);
+    };
+    if let Fault::At(i) = table::table_fault(parent, kind) {
+        return Answer::BadTable(i);
+    }
+    if let Fault::At(i) = table::marks_fault(parent, given) {
+        return Answer::BadMarks(i);
+    }
+    let needed = n * 2 * (height + 1);
+    if scratch_room < needed {
+        return Answer::Short(needed);
+    }
+    Answer::Value(needed)
+}
+
+// Runs the query inside the given marks: writes the marks of the nodes kept, and answers their number.
+pub fn run(
+    query: &[u32],
+    parent: &[u16],
+    kind: &[u16],
+    given: &[u8],
+    marks: &mut [u8],
+    scratch: &mut [u8],
+) -> Answer
+    ensures { λ r. ⌜ told r ≡ runAnswer (now (query .entry)) (tableOf (now (parent .entry)) (now (kind .entry))) (now (given .entry)) (length (now (marks .entry))) (length (now (scratch .entry))) ⌝ }
+    ensures { λ _. ⌜ now (marks .exit) ≡ runMarks (now (query .entry)) (tableOf (now (parent .entry)) (now (kind .entry))) (now (given .entry)) (now (marks .entry)) (length (now (scratch .entry))) ⌝ }
+    ensures { λ _. ⌜ now (scratch .exit) ≡ runScratch (now (query .entry)) (tableOf (now (parent .entry)) (now (kind .entry))) (now (given .entry)) (length (now (marks .entry))) (now (scratch .entry)) ⌝ }
+{
+    let said = room(query, parent, kind, given, marks.len(), scratch.len());
+    let Answer::Value(needed) = said else {
+        return said;
+    };
+    keep(query, parent, kind, given, marks, &mut scratch[..needed]);
+    Answer::Value(table::count(marks))
+}
