@@ -1,0 +1,84 @@
+-- The grammar of queries over tokens, as 01 and XPath 1.0 have it. A token stands with its place, which plays no part.
+-- Each relation `XIn ts x rest` says: the tokens ts are those of x, then rest. No relation looks ahead.
+use Prim.Native.Nat.{ℕ, zero, suc}
+use mathlib.Core.Path.{_≡_}
+use mathlib.Core.List.{List, [], _∷_}
+use mathlib.Core.Option.{Option, some}
+use Rattle.paper.specs.Tools.{ascii}
+use Rattle.paper.specs.Tokens.{Token, slash, slashes, dot, dots, colons, bar, openSquare, closeSquare, openRound, closeRound, star, finish, word, Placed}
+use Rattle.paper.specs.Query.{Axis, self, child, parent, Test, anyNode, textNode, named, anyElement}
+use Rattle.paper.specs.Query.{Expr, path, both, either, negated, Steps, stop, Preds, bare, pred, Query, paths}
+use Rattle.paper.specs.Reading.{axisNamed, Step, before, deep}
+
+-- A token at a place.
+abbrev pub tok : ℕ → Token → Placed
+tok p t = record { place = p; token = t }
+
+-- The names are looked up by `look`; `Inside` says what stands in a bracket.
+module _ (look : List ℕ → Option ℕ) (Inside : List Placed → Expr → List Placed → Type 0) where
+  -- Predicates: any number of `[` expression `]`.
+  pub data PredsIn : List Placed → Preds → List Placed → Type 0 where
+    no-pred : {ts : List Placed} → PredsIn ts bare ts
+    one-pred : {p q : ℕ} {ts us rest : List Placed} {e : Expr} {ps : Preds} → Inside ts e (tok q closeSquare ∷ us) → PredsIn us ps rest
+        → PredsIn (tok p openSquare ∷ ts) (pred e ps) rest
+
+  -- A test: `*`, `node()`, `text()`, or a name.
+  pub data TestIn : List Placed → Test → List Placed → Type 0 where
+    star-test : {p : ℕ} {ts : List Placed} → TestIn (tok p star ∷ ts) anyElement ts
+    node-test : {p q r : ℕ} {ts : List Placed} → TestIn (tok p (word (ascii "node")) ∷ tok q openRound ∷ tok r closeRound ∷ ts) anyNode ts
+    text-test : {p q r : ℕ} {ts : List Placed} → TestIn (tok p (word (ascii "text")) ∷ tok q openRound ∷ tok r closeRound ∷ ts) textNode ts
+    name-test : {p v : ℕ} {w : List ℕ} {ts : List Placed} → look w ≡ some v → TestIn (tok p (word w) ∷ ts) (named v) ts
+
+  -- A step: `.`, `..`, or test and predicates, after an axis and `::` or alone.
+  pub data StepIn : List Placed → Step → List Placed → Type 0 where
+    dot-step : {p : ℕ} {ts : List Placed} → StepIn (tok p dot ∷ ts) (record { axis = self; test = anyNode; preds = bare }) ts
+    dots-step : {p : ℕ} {ts : List Placed} → StepIn (tok p dots ∷ ts) (record { axis = parent; test = anyNode; preds = bare }) ts
+    child-step : {ts us rest : List Placed} {t : Test} {ps : Preds} → TestIn ts t us → PredsIn us ps rest
+        → StepIn ts (record { axis = child; test = t; preds = ps }) rest
+    axis-step : {p q : ℕ} {w : List ℕ} {a : Axis} {ts us rest : List Placed} {t : Test} {ps : Preds} → axisNamed w ≡ some a → TestIn ts t us → PredsIn us ps rest
+        → StepIn (tok p (word w) ∷ tok q colons ∷ ts) (record { axis = a; test = t; preds = ps }) rest
+
+  -- Steps separated by `/` or `//`.
+  pub data StepsIn : List Placed → Steps → List Placed → Type 0 where
+    last-step : {ts rest : List Placed} {s : Step} → StepIn ts s rest → StepsIn ts (before s stop) rest
+    slash-step : {p : ℕ} {ts us rest : List Placed} {s : Step} {ss : Steps} → StepIn ts s (tok p slash ∷ us) → StepsIn us ss rest → StepsIn ts (before s ss) rest
+    slashes-step : {p : ℕ} {ts us rest : List Placed} {s : Step} {ss : Steps} → StepIn ts s (tok p slashes ∷ us) → StepsIn us ss rest
+        → StepsIn ts (before s (deep ss)) rest
+
+  -- An operand: steps, `(` expression `)`, or `not(` expression `)`.
+  pub data OperandIn : List Placed → Expr → List Placed → Type 0 where
+    path-operand : {ts rest : List Placed} {s : Steps} → StepsIn ts s rest → OperandIn ts (path s) rest
+    round-operand : {p q : ℕ} {ts rest : List Placed} {e : Expr} → Inside ts e (tok q closeRound ∷ rest) → OperandIn (tok p openRound ∷ ts) e rest
+    not-operand : {p q r : ℕ} {ts rest : List Placed} {e : Expr} → Inside ts e (tok r closeRound ∷ rest)
+        → OperandIn (tok p (word (ascii "not")) ∷ tok q openRound ∷ ts) (negated e) rest
+
+  -- A term: an operand, or a term, `and` and an operand.
+  pub data TermIn : List Placed → Expr → List Placed → Type 0 where
+    one-operand : {ts rest : List Placed} {e : Expr} → OperandIn ts e rest → TermIn ts e rest
+    and-operand : {p : ℕ} {ts us rest : List Placed} {a b : Expr} → TermIn ts a (tok p (word (ascii "and")) ∷ us) → OperandIn us b rest → TermIn ts (both a b) rest
+
+  -- An expression: a term, or an expression, `or` and a term.
+  pub data ExprIn : List Placed → Expr → List Placed → Type 0 where
+    one-term : {ts rest : List Placed} {e : Expr} → TermIn ts e rest → ExprIn ts e rest
+    or-term : {p : ℕ} {ts us rest : List Placed} {a b : Expr} → ExprIn ts a (tok p (word (ascii "or")) ∷ us) → TermIn us b rest → ExprIn ts (either a b) rest
+
+  -- An absolute path: `/` alone, or `/` or `//` and steps.
+  pub data PathIn : List Placed → Steps → List Placed → Type 0 where
+    root-path : {p : ℕ} {ts : List Placed} → PathIn (tok p slash ∷ ts) stop ts
+    slash-path : {p : ℕ} {ts rest : List Placed} {s : Steps} → StepsIn ts s rest → PathIn (tok p slash ∷ ts) s rest
+    slashes-path : {p : ℕ} {ts rest : List Placed} {s : Steps} → StepsIn ts s rest → PathIn (tok p slashes ∷ ts) (deep s) rest
+
+  -- Absolute paths joined by `|`.
+  pub data QueryIn : List Placed → Query → List Placed → Type 0 where
+    one-path : {ts rest : List Placed} {s : Steps} → PathIn ts s rest → QueryIn ts (record { first = s; others = [] }) rest
+    bar-path : {p : ℕ} {ts us rest : List Placed} {s : Steps} {q : Query} → PathIn ts s (tok p bar ∷ us) → QueryIn us q rest
+        → QueryIn ts (record { first = s; others = paths q }) rest
+
+-- What stands in a bracket, where so many brackets may be open at once, this one counted.
+abbrev pub Within : (List ℕ → Option ℕ) → ℕ → List Placed → Expr → List Placed → Type 0
+Within look zero ts e rest = ⊥
+Within look (suc d) ts e rest = ExprIn look (Within look d) ts e rest
+
+-- DERIVED: the tokens are those of a query with at most d brackets open at once, then the end of the text.
+abbrev pub Derives : (List ℕ → Option ℕ) → ℕ → List Placed → Query → Type 0
+Derives look d ts q = (p : ℕ) × QueryIn look (Within look d) ts q (tok p finish ∷ [])
