@@ -11,3 +11,5 @@ pub mod Sizes
 pub mod Nesting
 pub mod Height
 pub mod Forms
+pub mod Seeing
+pub mod Sound
