@@ -13,3 +13,4 @@ pub mod Height
 pub mod Forms
 pub mod Seeing
 pub mod Sound
+pub mod Fuel

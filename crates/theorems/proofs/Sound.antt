@@ -37,9 +37,9 @@ axis-ahead {C = C} ts a h k = chosen (sees colons (drop 1 ts)) h (λ c e. go (le
 module _ (look : List ℕ → Option ℕ) (within : ℕ → List Placed → Got Expr) (Inside : List Placed → Expr → List Placed → Type 0)
     (inside : (p : ℕ) (ts : List Placed) (e : Expr) (left : List Placed) → within p ts ≡ got e left → Inside ts e left) where
   -- What was read in a bracket, up to the token that closes it.
-  closed : (t : Token) → is t finish ≡ false → ((w : List ℕ) → ofSort (sort t) w ≡ t) → (p : ℕ) (ts : List Placed) (e : Expr) (left : List Placed)
+  pub closed-got : (t : Token) → is t finish ≡ false → ((w : List ℕ) → ofSort (sort t) w ≡ t) → (p : ℕ) (ts : List Placed) (e : Expr) (left : List Placed)
       → then (within p ts) (pass t) ≡ got e left → (q : ℕ) × Inside ts e (tok q t ∷ left)
-  closed t n plain p ts e left h =
+  closed-got t n plain p ts e left h =
       then-got (within p ts) (pass t) h
       (λ a mid u v.
       passed t a mid v
@@ -47,7 +47,7 @@ module _ (look : List ℕ → Option ℕ) (within : ℕ → List Placed → Got 
       let head : mid ≡ tok (at mid) t ∷ left = seen t mid n s ∙ ap (λ x. tok (at mid) x ∷ drop 1 mid) (plain (letters (next mid))) ∙ ap (λ l. tok (at mid) t ∷ l) el in
       (at mid, subst (λ x. Inside ts x (tok (at mid) t ∷ left)) ea (subst (λ l. Inside ts a l) head (inside p ts a mid u)))))
 
-  preds-got : (n : ℕ) (ts : List Placed) (ps : Preds) (left : List Placed) → readPreds look within n ts ≡ got ps left → PredsIn look Inside ts ps left
+  pub preds-got : (n : ℕ) (ts : List Placed) (ps : Preds) (left : List Placed) → readPreds look within n ts ≡ got ps left → PredsIn look Inside ts ps left
   preds-got zero ts ps left h = as-got (λ x l. PredsIn look Inside ts x l) h no-pred
   preds-got (suc n) ts ps left h =
       chosen (sees openSquare ts) h
@@ -56,7 +56,7 @@ module _ (look : List ℕ → Option ℕ) (within : ℕ → List Placed → Got 
       (λ e mid u v.
       then-got (readPreds look within n mid) _ v
       (λ qs l x y.
-      let i = closed closeSquare refl (λ w. refl) (at ts) (drop 1 ts) e mid u in
+      let i = closed-got closeSquare refl (λ w. refl) (at ts) (drop 1 ts) e mid u in
       as-got (λ z m. PredsIn look Inside ts z m) y
       (subst (λ m. PredsIn look Inside m (pred e qs) l) (sym (seen openSquare ts refl s)) (one-pred (i .1) (preds-got n mid qs l x))))))
       (λ s k. as-got (λ x l. PredsIn look Inside ts x l) k no-pred)
@@ -111,7 +111,7 @@ module _ (look : List ℕ → Option ℕ) (within : ℕ → List Placed → Got 
           (λ ps d f. k (named v) (drop 1 ts) ps (subst (λ m. TestIn look Inside m (named v) (drop 1 ts)) (sym (seen (word []) ts refl c)) (name-test p)) d f)
 
   -- A step.
-  step-got : (ts : List Placed) (s : Step) (left : List Placed) → readStep look within ts ≡ got s left → StepIn look Inside ts s left
+  pub step-got : (ts : List Placed) (s : Step) (left : List Placed) → readStep look within ts ≡ got s left → StepIn look Inside ts s left
   unfolding readStep
   step-got ts s left h =
       chosen (sees dot ts) h
@@ -130,7 +130,7 @@ module _ (look : List ℕ → Option ℕ) (within : ℕ → List Placed → Got 
           (λ t us ps d f q. subst (λ x. StepIn look Inside ts x left) q (subst (λ l. StepIn look Inside l (record { axis = a; test = t; preds = ps }) left) (sym m) (axis-step n d f))))
 
   -- Steps.
-  steps-got : (n : ℕ) (ts : List Placed) (ss : Steps) (left : List Placed) → readSteps look within n ts ≡ got ss left → StepsIn look Inside ts ss left
+  pub steps-got : (n : ℕ) (ts : List Placed) (ss : Steps) (left : List Placed) → readSteps look within n ts ≡ got ss left → StepsIn look Inside ts ss left
   steps-got zero ts ss left h = not-got h
   steps-got (suc n) ts ss left h =
       then-got (readStep look within ts) _ h
@@ -152,14 +152,14 @@ module _ (look : List ℕ → Option ℕ) (within : ℕ → List Placed → Got 
       (λ c e. as-got (λ z m. StepsIn look Inside ts z m) e (last-step d))))
 
   -- An operand.
-  operand-got : (ts : List Placed) (e : Expr) (left : List Placed) → readOperand look within ts ≡ got e left → OperandIn look Inside ts e left
+  pub operand-got : (ts : List Placed) (e : Expr) (left : List Placed) → readOperand look within ts ≡ got e left → OperandIn look Inside ts e left
   unfolding readOperand
   operand-got ts x left h =
       chosen (says (ascii "not") ts && sees openRound (drop 1 ts)) h
       (λ c e.
       then-got (then (within (at (drop 1 ts)) (drop 2 ts)) (pass closeRound)) _ e
       (λ a mid u v.
-      let i = closed closeRound refl (λ w. refl) (at (drop 1 ts)) (drop 2 ts) a mid u in
+      let i = closed-got closeRound refl (λ w. refl) (at (drop 1 ts)) (drop 2 ts) a mid u in
       let b = and-true (says (ascii "not") ts) (sees openRound (drop 1 ts)) c in
       let rest : drop 1 ts ≡ tok (at (drop 1 ts)) openRound ∷ drop 2 ts = seen openRound (drop 1 ts) refl (b .1) ∙ ap (λ l. tok (at (drop 1 ts)) openRound ∷ l) (drop-two ts) in
       let whole : ts ≡ tok (at ts) (word (ascii "not")) ∷ tok (at (drop 1 ts)) openRound ∷ drop 2 ts =
@@ -168,7 +168,7 @@ module _ (look : List ℕ → Option ℕ) (within : ℕ → List Placed → Got 
       (λ c1 e1.
       chosen (sees openRound ts) e1
       (λ c e.
-      let i = closed closeRound refl (λ w. refl) (at ts) (drop 1 ts) x left e in
+      let i = closed-got closeRound refl (λ w. refl) (at ts) (drop 1 ts) x left e in
       subst (λ m. OperandIn look Inside m x left) (sym (seen openRound ts refl c)) (round-operand (i .1)))
       (λ c e.
       then-got (readSteps look within (length ts) ts) _ e
@@ -187,7 +187,7 @@ module _ (look : List ℕ → Option ℕ) (within : ℕ → List Placed → Got 
       (and-operand (subst (λ m. TermIn look Inside start a m) (said 97 (ascii "nd") ts c) d) (operand-got (drop 1 ts) b mid u)) v))
       (λ c k. as-got (λ z m. TermIn look Inside start z m) k d)
 
-  term-got : (ts : List Placed) (e : Expr) (left : List Placed) → readTerm look within ts ≡ got e left → TermIn look Inside ts e left
+  pub term-got : (ts : List Placed) (e : Expr) (left : List Placed) → readTerm look within ts ≡ got e left → TermIn look Inside ts e left
   unfolding readTerm
   term-got ts e left h =
       then-got (readOperand look within ts) _ h (λ a mid u v. ands-got (length mid) a ts mid e left (one-operand (operand-got ts a mid u)) v)
