@@ -14,3 +14,4 @@ pub mod Forms
 pub mod Seeing
 pub mod Sound
 pub mod Fuel
+pub mod Complete
