@@ -15,3 +15,4 @@ pub mod Seeing
 pub mod Sound
 pub mod Fuel
 pub mod Complete
+pub mod Accepted

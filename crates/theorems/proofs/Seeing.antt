@@ -48,7 +48,8 @@ of-sort finish = refl
 of-sort stray = refl
 of-sort (word w) = refl
 
-same-sort : (t u : Token) → is t u ≡ true → ofSort (sort t) (letters u) ≡ u
+-- Tokens of one sort are one token, but for the letters of words.
+pub same-sort : (t u : Token) → is t u ≡ true → ofSort (sort t) (letters u) ≡ u
 same-sort t u h = ap (λ n. ofSort n (letters u)) (eqb-true (sort t) (sort u) h) ∙ of-sort u
 
 -- The token seen is the next one; the end of the text is seen also where no token is left.

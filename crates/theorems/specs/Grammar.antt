@@ -1,14 +1,18 @@
--- The grammar of queries over tokens, as 01 and XPath 1.0 have it. A token stands with its place, which plays no part.
+-- The grammar of queries over tokens, as 01 and XPath 1.0 have it, and what reading owes to it; the proofs are in proofs/. A token stands with its place, which plays no part.
 -- Each relation `XIn ts x rest` says: the tokens ts are those of x, then rest. No relation looks ahead.
 use Prim.Native.Nat.{ℕ, zero, suc}
 use mathlib.Core.Path.{_≡_}
+use mathlib.Core.Bool.{Bool, true, false, cond}
 use mathlib.Core.List.{List, [], _∷_}
+use mathlib.Core.Logic.{_↔_}
 use mathlib.Core.Option.{Option, some}
+use lib.ListN.{length}
 use Rattle.paper.specs.Tools.{ascii}
-use Rattle.paper.specs.Tokens.{Token, slash, slashes, dot, dots, colons, bar, openSquare, closeSquare, openRound, closeRound, star, finish, word, Placed}
+use Rattle.paper.specs.Limits.{bracketLimit}
+use Rattle.paper.specs.Tokens.{Token, slash, slashes, dot, dots, colons, bar, openSquare, closeSquare, openRound, closeRound, star, finish, word, is, Placed, tokens}
 use Rattle.paper.specs.Query.{Axis, self, child, parent, Test, anyNode, textNode, named, anyElement}
 use Rattle.paper.specs.Query.{Expr, path, both, either, negated, Steps, stop, Preds, bare, pred, Query, paths}
-use Rattle.paper.specs.Reading.{axisNamed, Step, before, deep}
+use Rattle.paper.specs.Reading.{Got, got, axisNamed, Step, before, deep, readPaths, readWithin, readText}
 
 -- A token at a place.
 abbrev pub tok : ℕ → Token → Placed
@@ -82,3 +86,32 @@ Within look (suc d) ts e rest = ExprIn look (Within look d) ts e rest
 -- DERIVED: the tokens are those of a query with at most d brackets open at once, then the end of the text.
 abbrev pub Derives : (List ℕ → Option ℕ) → ℕ → List Placed → Query → Type 0
 Derives look d ts q = (p : ℕ) × QueryIn look (Within look d) ts q (tok p finish ∷ [])
+
+-- Is the end of the text the last token, and no other?
+abbrev pub ended : List Placed → Bool
+ended [] = false
+ended (t ∷ ts) = cond (is finish (t .token)) (empty ts) (ended ts)
+  where
+    empty : List Placed → Bool
+    empty [] = true
+    empty (u ∷ us) = false
+
+-- Reading the tokens of a query, where at most d brackets may be open at once.
+abbrev pub reading : (List ℕ → Option ℕ) → ℕ → List Placed → Got Query
+reading look d ts = readPaths look (readWithin look d) (length ts) ts
+
+-- ACCEPTED: tokens are read as a query exactly if it is derived from them;
+abbrev pub Accepted : Type 0
+Accepted = (look : List ℕ → Option ℕ) (d : ℕ) (ts : List Placed) (q : Query) → ended ts ≡ true → (reading look d ts ≡ got q []) ↔ Derives look d ts q
+
+-- a text is read as a query exactly if it is derived from the text's tokens, with at most 64 brackets open at once;
+abbrev pub AcceptedText : Type 0
+AcceptedText = (look : List ℕ → Option ℕ) (text : List ℕ) (q : Query) → (readText look text ≡ got q []) ↔ Derives look bracketLimit (tokens text) q
+
+-- what is read of a text is all of it;
+abbrev pub AllRead : Type 0
+AllRead = (look : List ℕ → Option ℕ) (text : List ℕ) (q : Query) (left : List Placed) → readText look text ≡ got q left → left ≡ []
+
+-- UNIQUE: from the same tokens no two queries are derived, however many brackets may be open.
+abbrev pub Unique : Type 0
+Unique = (look : List ℕ → Option ℕ) (c d : ℕ) (ts : List Placed) (q r : Query) → Derives look c ts q → Derives look d ts r → q ≡ r
