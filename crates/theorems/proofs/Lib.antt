@@ -16,3 +16,4 @@ pub mod Sound
 pub mod Fuel
 pub mod Complete
 pub mod Accepted
+pub mod Local
