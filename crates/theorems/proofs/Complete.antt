@@ -39,7 +39,7 @@ comes-then : {A B : Type 0} {Short : Type 0} {r : Got B} {b : B} {mid : List Pla
 comes-then more (comes e) c = comes-on (rw e) c
 comes-then more (runs-short h e) c = runs-short h (ap (λ r. then r more) e)
 
-and-false : (b : Bool) → (b && false) ≡ false
+pub and-false : (b : Bool) → (b && false) ≡ false
 and-false true = refl
 and-false false = refl
 
@@ -62,10 +62,10 @@ pub record Done (ts : List Placed) : Type 0 where
   pub no-or : says (ascii "or") ts ≡ false
 
 -- So with the tokens that close a bracket.
-square-done : (p : ℕ) (ts : List Placed) → Done (tok p closeSquare ∷ ts)
+pub square-done : (p : ℕ) (ts : List Placed) → Done (tok p closeSquare ∷ ts)
 square-done p ts = record { over = record { stepped = record { square = refl; round = refl; colon = refl }; one = refl; two = refl }; no-and = refl; no-or = refl }
 
-round-done : (p : ℕ) (ts : List Placed) → Done (tok p closeRound ∷ ts)
+pub round-done : (p : ℕ) (ts : List Placed) → Done (tok p closeRound ∷ ts)
 round-done p ts = record { over = record { stepped = record { square = refl; round = refl; colon = refl }; one = refl; two = refl }; no-and = refl; no-or = refl }
 
 module _ (Short : Type 0) (look : List ℕ → Option ℕ) (within : ℕ → List Placed → Got Expr) (Inside Read : List Placed → Expr → List Placed → Type 0)

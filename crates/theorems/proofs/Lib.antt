@@ -17,3 +17,4 @@ pub mod Fuel
 pub mod Complete
 pub mod Accepted
 pub mod Local
+pub mod Stands
