@@ -401,3 +401,118 @@ module _ (look : List ℕ → Option ℕ) (total : (w : List ℕ) → (v : ℕ) 
       (λ e. default-pass closeRound refl refl refl (λ w. refl) round-shuts e))
       (λ us c. rw c)
       (inside p ts)
+
+  local-operand : (ts : List Placed) → Local false (readOperand look within) ts
+  local-operand [] = refuses [] (λ us e. no-operand us (ap startsStep e) (ap (is openRound) e)) (tok 0 (word (ascii "a")) ∷ []) (path name-steps) (λ us s. operand-name us s)
+  local-operand (t ∷ ts) = go (startsStep (t .token)) refl
+    where
+      steps : (b : Bool) → (says (ascii "not") (t ∷ ts) && sees openRound ts) ≡ b → startsStep (t .token) ≡ true → Local false (readOperand look within) (t ∷ ts)
+      steps true k h =
+          let b = and-true (says (ascii "not") (t ∷ ts)) (sees openRound ts) k in
+          subst (λ m. Local false (readOperand look within) m) (sym (said 110 (ascii "ot") (t ∷ ts) (b .0)))
+          (local-cons (λ us. readOperand look within (tok (t .place) (word (ascii "not")) ∷ us)) (tok (t .place) (word (ascii "not"))) refl (λ us. refl) (local-denied (t .place) ts (b .1)))
+      steps false k h =
+          local-cons (λ us. readOperand look within (t ∷ us)) t (starts-plain (t .token) h .1) (λ us. refl)
+          (local-when {gentle = true} (λ us. then (allSteps look within (t ∷ us)) (λ s. got (path s)))
+          (λ us f.
+          operand-steps (t ∷ us) (follow (λ x. says (ascii "not") (t ∷ []) && is openRound x) f k (λ s. rw (s .done .over .stepped .round) (and-false (says (ascii "not") (t ∷ []))))) (starts-plain (t .token) h .0))
+          (local-map path (local-steps-from (t .place) (t .token) ts h)))
+
+      other : (b : Bool) → is openRound (t .token) ≡ b → startsStep (t .token) ≡ false → Local false (readOperand look within) (t ∷ ts)
+      other true k h =
+          subst (λ m. Local false (readOperand look within) m) (sym (seen openRound (t ∷ ts) refl k)) (local-when (readOperand look within) (λ us f. refl) (local-round (t .place) ts))
+      other false k h =
+          refuses (t ∷ ts) (λ us e. no-operand us (ap startsStep e ∙ h) (ap (is openRound) e ∙ k)) (tok 0 (word (ascii "a")) ∷ []) (path name-steps) (λ us s. operand-name us s)
+
+      go : (b : Bool) → startsStep (t .token) ≡ b → Local false (readOperand look within) (t ∷ ts)
+      go true h = steps (says (ascii "not") (t ∷ ts) && sees openRound ts) refl h
+      go false h = other (is openRound (t .token)) refl h
+
+  -- A term.
+  default-ands : (a : Expr) → Default (allAnds look within a)
+  default-ands a = record { more = []; value = a; shuts = λ us s. s; reads = λ us s. ands-on look within Read sound less a us ∙ rw (s .done .no-and) }
+
+  ands-turn : (n : ℕ) → ((a : Expr) (us : List Placed) → length us < n → Local true (allAnds look within a) us) → (a : Expr) (ts : List Placed) → length ts < suc n
+      → Local true (allAnds look within a) ts
+  ands-turn n rec a ts l = go (says (ascii "and") ts) refl
+    where
+      go : (b : Bool) → says (ascii "and") ts ≡ b → Local true (allAnds look within a) ts
+      go true h =
+          let head = said 97 (ascii "nd") ts h in
+          let one : length ts ≡ suc (length (drop 1 ts)) = ap length head in
+          subst (λ m. Local true (allAnds look within a) m) (sym head)
+          (local-cons (λ us. then (readOperand look within us) (λ b. allAnds look within (both a b))) (tok (at ts) (word (ascii "and"))) refl
+          (λ us. ands-on look within Read sound less a (tok (at ts) (word (ascii "and")) ∷ us))
+          (local-then (λ b. allAnds look within (both a b)) (local-operand (drop 1 ts))
+          (λ b used left s. rec (both a b) left (omega (arith, shorter (drop 1 ts) used left s)))
+          (λ b. default-ands (both a b))))
+      go false h =
+          takes a [] ts refl (λ us. refl)
+          (λ us f. ands-on look within Read sound less a us ∙ rw (follow (λ x. same (ascii "and") (letters x)) f h (λ s. s .done .no-and)))
+
+  local-ands-below : (n : ℕ) (a : Expr) (ts : List Placed) → length ts < n → Local true (allAnds look within a) ts
+  local-ands-below zero a ts l = absurd (omega arith)
+  local-ands-below (suc n) a ts l = ands-turn n (λ b us m. local-ands-below n b us m) a ts l
+
+  local-term : (ts : List Placed) → Local false (readTerm look within) ts
+  unfolding readTerm allAnds
+  local-term ts =
+      local-then (allAnds look within) (local-operand ts) (λ a used left s. local-ands-below (suc (length left)) a left (omega arith)) (λ a. default-ands a)
+
+  -- An expression.
+  default-ors : (a : Expr) → Default (allOrs look within a)
+  default-ors a = record { more = []; value = a; shuts = λ us s. s; reads = λ us s. ors-on look within Read sound less a us ∙ rw (s .done .no-or) }
+
+  ors-turn : (n : ℕ) → ((a : Expr) (us : List Placed) → length us < n → Local true (allOrs look within a) us) → (a : Expr) (ts : List Placed) → length ts < suc n
+      → Local true (allOrs look within a) ts
+  ors-turn n rec a ts l = go (says (ascii "or") ts) refl
+    where
+      go : (b : Bool) → says (ascii "or") ts ≡ b → Local true (allOrs look within a) ts
+      go true h =
+          let head = said 111 (ascii "r") ts h in
+          let one : length ts ≡ suc (length (drop 1 ts)) = ap length head in
+          subst (λ m. Local true (allOrs look within a) m) (sym head)
+          (local-cons (λ us. then (readTerm look within us) (λ b. allOrs look within (either a b))) (tok (at ts) (word (ascii "or"))) refl
+          (λ us. ors-on look within Read sound less a (tok (at ts) (word (ascii "or")) ∷ us))
+          (local-then (λ b. allOrs look within (either a b)) (local-term (drop 1 ts))
+          (λ b used left s. rec (either a b) left (omega (arith, shorter (drop 1 ts) used left s)))
+          (λ b. default-ors (either a b))))
+      go false h =
+          takes a [] ts refl (λ us. refl)
+          (λ us f. ors-on look within Read sound less a us ∙ rw (follow (λ x. same (ascii "or") (letters x)) f h (λ s. s .done .no-or)))
+
+  local-ors-below : (n : ℕ) (a : Expr) (ts : List Placed) → length ts < n → Local true (allOrs look within a) ts
+  local-ors-below zero a ts l = absurd (omega arith)
+  local-ors-below (suc n) a ts l = ors-turn n (λ b us m. local-ors-below n b us m) a ts l
+
+  pub local-expr : (ts : List Placed) → Local false (readExpr look within) ts
+  unfolding readExpr allOrs
+  local-expr ts =
+      local-then (allOrs look within) (local-term ts) (λ a used left s. local-ors-below (suc (length left)) a left (omega arith)) (λ a. default-ors a)
+
+  -- An absolute path.
+  local-path : (ts : List Placed) → Local false (readPath look within) ts
+  unfolding readPath allSteps
+  local-path ts = deeply (sees slashes ts) refl
+    where
+      after : List Placed → Got Steps
+      after us = cond (startsStep (next us)) (allSteps look within us) (got stop us)
+
+      rest : (us : List Placed) (b : Bool) → startsStep (next us) ≡ b → Local true after us
+      rest [] true h = absurd (false≢true h)
+      rest (t ∷ us) true h =
+          local-cons (λ vs. allSteps look within (t ∷ vs)) t (starts-plain (t .token) h .1) (λ vs. rw h) (local-steps-from (t .place) (t .token) us h)
+      rest us false h = takes stop [] us refl (λ vs. refl) (λ vs f. rw (follow startsStep f h (λ s. s .no-step)))
+
+      plainly : (b : Bool) → sees slash ts ≡ b → sees slashes ts ≡ false → Local false (readPath look within) ts
+      plainly true h k =
+          subst (λ m. Local false (readPath look within) m) (sym (seen slash ts refl h))
+          (local-cons after (tok (at ts) slash) refl (λ us. refl) (rest (drop 1 ts) (startsStep (next (drop 1 ts))) refl))
+      plainly false h k =
+          refuses ts (λ us e. rw (ap (is slashes) e ∙ k, ap (is slash) e ∙ h)) (tok 0 slash ∷ []) stop (λ us s. rw (s .no-step))
+
+      deeply : (b : Bool) → sees slashes ts ≡ b → Local false (readPath look within) ts
+      deeply true h =
+          subst (λ m. Local false (readPath look within) m) (sym (seen slashes ts refl h))
+          (local-cons (λ us. then (allSteps look within us) (λ r. got (deep r))) (tok (at ts) slashes) refl (λ us. refl) (local-map deep (local-steps (drop 1 ts))))
+      deeply false h = plainly (sees slash ts) refl h
