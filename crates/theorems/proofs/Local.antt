@@ -39,6 +39,7 @@ Gentle false ts us = Unit {0}
 pub record Completion (gentle : Bool) {A : Type 0} (f : List Placed → Got A) (ts used : List Placed) : Type 0 where
   pub more : List Placed
   pub value : A
+  pub open-end : Unended more
   pub reads : (us : List Placed) → Shuts us → f (used ++ (more ++ us)) ≡ got value us
   pub mild : (us : List Placed) → Shuts us → Gentle gentle ts (used ++ (more ++ us))
 
@@ -61,6 +62,7 @@ pub data Local (gentle : Bool) {A : Type 0} (f : List Placed → Got A) (ts : Li
 pub record Default {A : Type 0} (f : List Placed → Got A) : Type 0 where
   pub more : List Placed
   pub value : A
+  pub open-end : Unended more
   pub shuts : (us : List Placed) → Shuts us → Shuts (more ++ us)
   pub reads : (us : List Placed) → Shuts us → f (more ++ us) ≡ got value us
 
@@ -90,7 +92,7 @@ local-cons {gentle} after t n e (fails m p x) =
       there = x .there;
       stands = λ us a. e (x .used ++ us) ∙ x .stands us a;
       completion = λ three. let c = x .completion three in
-          record { more = c .more; value = c .value; reads = λ us s. e (x .used ++ (c .more ++ us)) ∙ c .reads us s; mild = λ us s. gentle-of gentle (like (record { token = refl; place = refl })) };
+          record { more = c .more; value = c .value; open-end = c .open-end; reads = λ us s. e (x .used ++ (c .more ++ us)) ∙ c .reads us s; mild = λ us s. gentle-of gentle (like (record { token = refl; place = refl })) };
     })
 
 -- A reader that agrees with another.
@@ -106,7 +108,7 @@ local-same g e (fails m p x) =
       there = x .there;
       stands = λ us a. e (x .used ++ us) ∙ x .stands us a;
       completion = λ three. let c = x .completion three in
-          record { more = c .more; value = c .value; reads = λ us s. e (x .used ++ (c .more ++ us)) ∙ c .reads us s; mild = c .mild };
+          record { more = c .more; value = c .value; open-end = c .open-end; reads = λ us s. e (x .used ++ (c .more ++ us)) ∙ c .reads us s; mild = c .mild };
     })
 
 -- It is enough that it agrees before what may follow, if the other is gentle.
@@ -124,7 +126,7 @@ local-when {gentle} g e (fails m p x) =
       there = x .there;
       stands = λ us a. e (x .used ++ us) (subst (λ l. Follows l (x .used ++ us)) (sym (x .split)) (like (alike-append (x .used) a))) ∙ x .stands us a;
       completion = λ three. let c = x .completion three in
-          record { more = c .more; value = c .value; reads = λ us s. e (x .used ++ (c .more ++ us)) (c .mild us s) ∙ c .reads us s; mild = λ us s. gentle-of gentle (c .mild us s) };
+          record { more = c .more; value = c .value; open-end = c .open-end; reads = λ us s. e (x .used ++ (c .more ++ us)) (c .mild us s) ∙ c .reads us s; mild = λ us s. gentle-of gentle (c .mild us s) };
     })
 
 -- A reader that takes nothing.
@@ -132,7 +134,7 @@ pub local-got : {A : Type 0} (a : A) (ts : List Placed) → Local true (got a) t
 local-got a ts = takes a [] ts refl (λ us. refl) (λ us f. refl)
 
 pub default-got : {A : Type 0} (a : A) → Default (got a)
-default-got a = record { more = []; value = a; shuts = λ us s. s; reads = λ us s. refl }
+default-got a = record { more = []; value = a; open-end = λ us. refl; shuts = λ us s. s; reads = λ us s. refl }
 
 -- Two readers after each other.
 module _ {A B : Type 0} (k : A → List Placed → Got B) where
@@ -161,6 +163,7 @@ module _ {A B : Type 0} (k : A → List Placed → Got B) where
             record {
               more = c .more;
               value = c .value;
+              open-end = c .open-end;
               reads = λ us o.
                   ap (λ l. then (f l) k) (append-assoc used (x .used) (c .more ++ us)) ∙
                   ap (λ r. then r k) (st (x .used ++ (c .more ++ us)) (c .mild us o)) ∙
@@ -189,6 +192,7 @@ module _ {A B : Type 0} (k : A → List Placed → Got B) where
             record {
               more = c .more ++ y .more;
               value = y .value;
+              open-end = λ us. ap ended (append-assoc (c .more) (y .more) us) ∙ c .open-end (y .more ++ us) ∙ y .open-end us;
               reads = λ us o.
                   ap (λ l. then (f (x .used ++ l)) k) (append-assoc (c .more) (y .more) us) ∙
                   ap (λ r. then r k) (c .reads (y .more ++ us) (y .shuts us o)) ∙
@@ -220,8 +224,8 @@ module _ {A : Type 0} (t : Token) (itself : is t t ≡ true) (no-end : is t fini
             unended = λ us. refl;
             there = refl;
             stands = λ us o. let no : sees t us ≡ false = ap (is t) (sym (o .token)) ∙ h in rw (no, o .place);
-            completion = λ three. record { more = tok 0 t ∷ []; value = a; reads = λ us s. rw itself; mild = λ us s. shut (closes 0 us) };
+            completion = λ three. record { more = tok 0 t ∷ []; value = a; open-end = λ us. rw no-end′; reads = λ us s. rw itself; mild = λ us s. shut (closes 0 us) };
           })
 
   pub default-pass : Default (pass t a)
-  default-pass = record { more = tok 0 t ∷ []; value = a; shuts = λ us s. closes 0 us; reads = λ us s. rw itself }
+  default-pass = record { more = tok 0 t ∷ []; value = a; open-end = λ us. rw no-end′; shuts = λ us s. closes 0 us; reads = λ us s. rw itself }

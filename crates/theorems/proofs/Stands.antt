@@ -4,7 +4,7 @@ use Prim.Native.Nat.{ℕ, zero, suc, _-_, _≤_, _<_}
 use native.Mathlib.Omega.{arith}
 use mathlib.Core.Path.{_≡_, refl, sym, _∙_, ap, ap₂, subst}
 use mathlib.Core.Bool.{Bool, true, false, _&&_, _||_, cond, false≢true}
-use mathlib.Core.List.{List, [], _∷_, _++_}
+use mathlib.Core.List.{List, [], _∷_, _++_, append-assoc}
 use mathlib.Core.Logic.{_⊎_, inl, inr, ⊎-elim}
 use mathlib.Core.Option.{Option, none, some}
 use lib.ListN.{length, drop, length-drop, length-append}
@@ -43,7 +43,7 @@ shorter : (us used left : List Placed) → us ≡ used ++ left → length left �
 shorter us used left s = omega (arith, simp length-append at (ap length s))
 
 default-map : {A B : Type 0} (g : A → B) {f : List Placed → Got A} → Default f → Default (λ us. then (f us) (λ a. got (g a)))
-default-map g d = record { more = d .more; value = g (d .value); shuts = d .shuts; reads = λ us s. ap (λ r. then r (λ a. got (g a))) (d .reads us s) }
+default-map g d = record { more = d .more; value = g (d .value); open-end = d .open-end; shuts = d .shuts; reads = λ us s. ap (λ r. then r (λ a. got (g a))) (d .reads us s) }
 
 -- What is no word has no letters.
 not-word : (t : Token) → is (word []) t ≡ false → letters t ≡ []
@@ -108,8 +108,8 @@ no-axis false = refl
 
 -- A reader that refuses its first token.
 refuses : {A : Type 0} {f : List Placed → Got A} (ts : List Placed) → ((us : List Placed) → next us ≡ next ts → f us ≡ wrong us)
-    → (more : List Placed) (a : A) → ((us : List Placed) → Shuts us → f (more ++ us) ≡ got a us) → Local false f ts
-refuses ts h more a c =
+    → (t : Token) (a : A) → is finish t ≡ false → ((us : List Placed) → Shuts us → f (tok 0 t ∷ us) ≡ got a us) → Local false f ts
+refuses ts h t a n c =
     fails 3 (at ts)
     (record {
       used = [];
@@ -118,7 +118,7 @@ refuses ts h more a c =
       unended = λ us. refl;
       there = refl;
       stands = λ us o. h us (sym (o .token)) ∙ ap (refused 3) (sym (o .place));
-      completion = λ three. record { more = more; value = a; reads = c; mild = λ us s. tt };
+      completion = λ three. record { more = tok 0 t ∷ []; value = a; open-end = λ us. rw n; reads = c; mild = λ us s. tt };
     })
 
 -- What stands in a bracket at a place is read so, or the bracket is one too many.
@@ -149,7 +149,7 @@ module _ (look : List ℕ → Option ℕ) (total : (w : List ℕ) → (v : ℕ) 
     (inside : (p : ℕ) (ts : List Placed) → Bracket within p ts) where
   -- Predicates.
   default-preds : Default (allPreds look within)
-  default-preds = record { more = []; value = bare; shuts = λ us s. s; reads = λ us s. preds-on look within Read sound less us ∙ rw (s .done .over .stepped .square) }
+  default-preds = record { more = []; value = bare; open-end = λ us. refl; shuts = λ us s. s; reads = λ us s. preds-on look within Read sound less us ∙ rw (s .done .over .stepped .square) }
 
   preds-turn : (n : ℕ) → ((us : List Placed) → length us < n → Local true (allPreds look within) us) → (ts : List Placed) → length ts < suc n → Local true (allPreds look within) ts
   preds-turn n rec ts l = go (sees openSquare ts) refl
@@ -245,7 +245,7 @@ module _ (look : List ℕ → Option ℕ) (total : (w : List ℕ) → (v : ℕ) 
           subst (λ l. Local false (readTested look within a) l) (sym (seen (word []) ts refl h))
           (local-cons (λ us. readTested look within a (tok (at ts) (word (letters (next ts))) ∷ us)) (tok (at ts) (word (letters (next ts)))) refl (λ us. refl) (local-named a (at ts) (letters (next ts)) (drop 1 ts)))
       wordy false h k =
-          refuses ts (λ us e. no-test a us (ap (is star) e ∙ k) (ap (is (word [])) e ∙ h)) (tok 0 (word (ascii "a")) ∷ []) (record { axis = a; test = named (total (ascii "a") .0); preds = bare })
+          refuses ts (λ us e. no-test a us (ap (is star) e ∙ k) (ap (is (word [])) e ∙ h)) (word (ascii "a")) (record { axis = a; test = named (total (ascii "a") .0); preds = bare }) refl
           (λ us s. name-reads a us s)
 
       starred : (b : Bool) → sees star ts ≡ b → Local false (readTested look within a) ts
@@ -303,7 +303,7 @@ module _ (look : List ℕ → Option ℕ) (total : (w : List ℕ) → (v : ℕ) 
 
   default-on : (s : Step) → Default (goOn s)
   unfolding goOn
-  default-on s = record { more = []; value = before s stop; shuts = λ us c. c; reads = λ us c. rw (c .done .over .one, c .done .over .two) }
+  default-on s = record { more = []; value = before s stop; open-end = λ us. refl; shuts = λ us c. c; reads = λ us c. rw (c .done .over .one, c .done .over .two) }
 
   local-on : (n : ℕ) → ((us : List Placed) → length us < n → Local false (allSteps look within) us) → (s : Step) (ts : List Placed) → length ts ≤ n → Local true (goOn s) ts
   unfolding goOn
@@ -349,12 +349,12 @@ module _ (look : List ℕ → Option ℕ) (total : (w : List ℕ) → (v : ℕ) 
       steps-on look within Read sound less (tok 0 (word (ascii "a")) ∷ us) ∙ rw (one, s .done .over .one, s .done .over .two)
 
   steps-turn : (n : ℕ) → ((us : List Placed) → length us < n → Local false (allSteps look within) us) → (ts : List Placed) → length ts < suc n → Local false (allSteps look within) ts
-  steps-turn n rec [] l = refuses [] (λ us e. no-steps us (ap startsStep e)) (tok 0 (word (ascii "a")) ∷ []) name-steps (λ us s. steps-name us s)
+  steps-turn n rec [] l = refuses [] (λ us e. no-steps us (ap startsStep e)) (word (ascii "a")) name-steps refl (λ us s. steps-name us s)
   steps-turn n rec (t ∷ ts) l = go (startsStep (t .token)) refl
     where
       go : (b : Bool) → startsStep (t .token) ≡ b → Local false (allSteps look within) (t ∷ ts)
       go true h = local-cons (λ us. allSteps look within (t ∷ us)) t (starts-plain (t .token) h .1) (λ us. refl) (steps-from n rec (t .place) (t .token) ts h (omega arith))
-      go false h = refuses (t ∷ ts) (λ us e. no-steps us (ap startsStep e ∙ h)) (tok 0 (word (ascii "a")) ∷ []) name-steps (λ us s. steps-name us s)
+      go false h = refuses (t ∷ ts) (λ us e. no-steps us (ap startsStep e ∙ h)) (word (ascii "a")) name-steps refl (λ us s. steps-name us s)
 
   local-steps-below : (n : ℕ) (ts : List Placed) → length ts < n → Local false (allSteps look within) ts
   local-steps-below zero ts l = absurd (omega arith)
@@ -403,7 +403,7 @@ module _ (look : List ℕ → Option ℕ) (total : (w : List ℕ) → (v : ℕ) 
       (inside p ts)
 
   local-operand : (ts : List Placed) → Local false (readOperand look within) ts
-  local-operand [] = refuses [] (λ us e. no-operand us (ap startsStep e) (ap (is openRound) e)) (tok 0 (word (ascii "a")) ∷ []) (path name-steps) (λ us s. operand-name us s)
+  local-operand [] = refuses [] (λ us e. no-operand us (ap startsStep e) (ap (is openRound) e)) (word (ascii "a")) (path name-steps) refl (λ us s. operand-name us s)
   local-operand (t ∷ ts) = go (startsStep (t .token)) refl
     where
       steps : (b : Bool) → (says (ascii "not") (t ∷ ts) && sees openRound ts) ≡ b → startsStep (t .token) ≡ true → Local false (readOperand look within) (t ∷ ts)
@@ -422,7 +422,7 @@ module _ (look : List ℕ → Option ℕ) (total : (w : List ℕ) → (v : ℕ) 
       other true k h =
           subst (λ m. Local false (readOperand look within) m) (sym (seen openRound (t ∷ ts) refl k)) (local-when (readOperand look within) (λ us f. refl) (local-round (t .place) ts))
       other false k h =
-          refuses (t ∷ ts) (λ us e. no-operand us (ap startsStep e ∙ h) (ap (is openRound) e ∙ k)) (tok 0 (word (ascii "a")) ∷ []) (path name-steps) (λ us s. operand-name us s)
+          refuses (t ∷ ts) (λ us e. no-operand us (ap startsStep e ∙ h) (ap (is openRound) e ∙ k)) (word (ascii "a")) (path name-steps) refl (λ us s. operand-name us s)
 
       go : (b : Bool) → startsStep (t .token) ≡ b → Local false (readOperand look within) (t ∷ ts)
       go true h = steps (says (ascii "not") (t ∷ ts) && sees openRound ts) refl h
@@ -430,7 +430,7 @@ module _ (look : List ℕ → Option ℕ) (total : (w : List ℕ) → (v : ℕ) 
 
   -- A term.
   default-ands : (a : Expr) → Default (allAnds look within a)
-  default-ands a = record { more = []; value = a; shuts = λ us s. s; reads = λ us s. ands-on look within Read sound less a us ∙ rw (s .done .no-and) }
+  default-ands a = record { more = []; value = a; open-end = λ us. refl; shuts = λ us s. s; reads = λ us s. ands-on look within Read sound less a us ∙ rw (s .done .no-and) }
 
   ands-turn : (n : ℕ) → ((a : Expr) (us : List Placed) → length us < n → Local true (allAnds look within a) us) → (a : Expr) (ts : List Placed) → length ts < suc n
       → Local true (allAnds look within a) ts
@@ -461,7 +461,7 @@ module _ (look : List ℕ → Option ℕ) (total : (w : List ℕ) → (v : ℕ) 
 
   -- An expression.
   default-ors : (a : Expr) → Default (allOrs look within a)
-  default-ors a = record { more = []; value = a; shuts = λ us s. s; reads = λ us s. ors-on look within Read sound less a us ∙ rw (s .done .no-or) }
+  default-ors a = record { more = []; value = a; open-end = λ us. refl; shuts = λ us s. s; reads = λ us s. ors-on look within Read sound less a us ∙ rw (s .done .no-or) }
 
   ors-turn : (n : ℕ) → ((a : Expr) (us : List Placed) → length us < n → Local true (allOrs look within a) us) → (a : Expr) (ts : List Placed) → length ts < suc n
       → Local true (allOrs look within a) ts
@@ -509,10 +509,118 @@ module _ (look : List ℕ → Option ℕ) (total : (w : List ℕ) → (v : ℕ) 
           subst (λ m. Local false (readPath look within) m) (sym (seen slash ts refl h))
           (local-cons after (tok (at ts) slash) refl (λ us. refl) (rest (drop 1 ts) (startsStep (next (drop 1 ts))) refl))
       plainly false h k =
-          refuses ts (λ us e. rw (ap (is slashes) e ∙ k, ap (is slash) e ∙ h)) (tok 0 slash ∷ []) stop (λ us s. rw (s .no-step))
+          refuses ts (λ us e. rw (ap (is slashes) e ∙ k, ap (is slash) e ∙ h)) slash stop refl (λ us s. rw (s .no-step))
 
       deeply : (b : Bool) → sees slashes ts ≡ b → Local false (readPath look within) ts
       deeply true h =
           subst (λ m. Local false (readPath look within) m) (sym (seen slashes ts refl h))
           (local-cons (λ us. then (allSteps look within us) (λ r. got (deep r))) (tok (at ts) slashes) refl (λ us. refl) (local-map deep (local-steps (drop 1 ts))))
       deeply false h = plainly (sees slash ts) refl h
+
+  -- Tokens are read as a query; or they are refused at a token, whatever follows it, and after a refusal 3 the tokens before can be completed.
+  finish-shuts : (p : ℕ) (us : List Placed) → Shuts (tok p finish ∷ us)
+  finish-shuts p us =
+      record { done = record { over = record { stepped = record { square = refl; round = refl; colon = refl }; one = refl; two = refl }; no-and = refl; no-or = refl }; no-step = refl }
+
+  pub record Stops (ts : List Placed) (n p : ℕ) : Type 0 where
+    pub used : List Placed
+    pub left : List Placed
+    pub split : ts ≡ used ++ left
+    pub unended : Unended used
+    pub there : p ≡ at left
+    pub stands : (us : List Placed) → Alike left us → allPaths look within (used ++ us) ≡ refused n p
+    pub completion : n ≡ 3 → (more : List Placed) × (q : Query) × Unended more × (allPaths look within (used ++ (more ++ (tok 0 finish ∷ []))) ≡ got q [])
+
+  pub data Verdict (ts : List Placed) : Type 0 where
+    gets : (q : Query) (left : List Placed) → allPaths look within ts ≡ got q left → Verdict ts
+    stops : (n p : ℕ) → Stops ts n p → Verdict ts
+
+  -- The first path fails;
+  first-stops : (ts : List Placed) (n p : ℕ) → Fails false (readPath look within) ts n p → Stops ts n p
+  first-stops ts n p x =
+      record {
+        used = x .used;
+        left = x .left;
+        split = x .split;
+        unended = x .unended;
+        there = x .there;
+        stands = λ us a. paths-on look within Read sound less (x .used ++ us) ∙ rw (x .stands us a);
+        completion = λ three.
+            let c = x .completion three in
+            let fin = tok 0 finish ∷ [] in
+            (c .more, record { first = c .value; others = [] }, c .open-end,
+            paths-on look within Read sound less (x .used ++ (c .more ++ fin)) ∙ rw (c .reads fin (finish-shuts 0 [])));
+      }
+
+  module _ (ts : List Placed) (s : Steps) (used left : List Placed) (split : ts ≡ used ++ left) (unended : Unended used)
+      (took : (us : List Placed) → Follows left us → readPath look within (used ++ us) ≡ got s us) where
+    -- or another after `|`;
+    later-stops : (n p : ℕ) → sees bar left ≡ true → Stops (drop 1 left) n p → Stops ts n p
+    later-stops n p b x =
+        let t : Placed = tok (at left) bar in
+        let head : left ≡ t ∷ drop 1 left = seen bar left refl b in
+        let begun : (us : List Placed) → readPath look within (used ++ (t ∷ us)) ≡ got s (t ∷ us) =
+        λ us. took (t ∷ us) (subst (λ l. Follows l (t ∷ us)) (sym head) (like (record { token = refl; place = refl }))) in
+        let more : (us : List Placed) → allPaths look within ((used ++ (t ∷ x .used)) ++ us) ≡ then (allPaths look within (x .used ++ us)) (λ q. got (record { first = s; others = paths q })) =
+        λ us.
+            ap (allPaths look within) (append-assoc used (t ∷ x .used) us) ∙ paths-on look within Read sound less (used ++ (t ∷ (x .used ++ us))) ∙ rw (begun (x .used ++ us)) in
+        record {
+          used = used ++ (t ∷ x .used);
+          left = x .left;
+          split = split ∙ ap (λ l. used ++ l) (head ∙ ap (λ l. t ∷ l) (x .split)) ∙ sym (append-assoc used (t ∷ x .used) (x .left));
+          unended = λ us. ap ended (append-assoc used (t ∷ x .used) us) ∙ unended (t ∷ (x .used ++ us)) ∙ x .unended us;
+          there = x .there;
+          stands = λ us a. more us ∙ rw (x .stands us a);
+          completion = λ three.
+              let c = x .completion three in
+              (c .0, record { first = s; others = paths (c .1) }, c .2, more (c .0 ++ (tok 0 finish ∷ [])) ∙ rw (c .3));
+        }
+
+    -- or a path is followed by neither `|` nor the end.
+    end-stops : sees bar left ≡ false → sees finish left ≡ false → Stops ts 3 (at left)
+    end-stops b f =
+        record {
+          used = used;
+          left = left;
+          split = split;
+          unended = unended;
+          there = refl;
+          stands = λ us a.
+              let no-bar : sees bar us ≡ false = ap (is bar) (sym (a .token)) ∙ b in
+              let no-end : sees finish us ≡ false = ap (is finish) (sym (a .token)) ∙ f in
+              paths-on look within Read sound less (used ++ us) ∙ rw (took us (like a), no-bar, no-end, a .place);
+          completion = λ three.
+              ([], record { first = s; others = [] }, λ us. refl, paths-on look within Read sound less (used ++ (tok 0 finish ∷ [])) ∙ rw (took (tok 0 finish ∷ []) (shut (finish-shuts 0 []))));
+        }
+
+    verdict-on : ((us : List Placed) → length us < length ts → Verdict us) → Verdict ts
+    verdict-on rec = barred (sees bar left) refl
+      where
+        begun : allPaths look within ts ≡ cond (sees bar left) (then (allPaths look within (drop 1 left)) (λ q. got (record { first = s; others = paths q }))) (pass finish (record { first = s; others = [] }) left)
+        begun =
+            paths-on look within Read sound less ts ∙ rw (ap (readPath look within) split ∙ took left (like (record { token = refl; place = refl })))
+
+        again : sees bar left ≡ true → Verdict (drop 1 left) → Verdict ts
+        again b (gets q l e) = gets (record { first = s; others = paths q }) l (begun ∙ rw (b, e))
+        again b (stops n p x) = stops n p (later-stops n p b x)
+
+        closed : (c : Bool) → sees finish left ≡ c → sees bar left ≡ false → Verdict ts
+        closed true f b = gets (record { first = s; others = [] }) (drop 1 left) (begun ∙ rw (b, f))
+        closed false f b = stops 3 (at left) (end-stops b f)
+
+        barred : (c : Bool) → sees bar left ≡ c → Verdict ts
+        barred true b =
+            let one : length left ≡ suc (length (drop 1 left)) = ap length (seen bar left refl b) in
+            again b (rec (drop 1 left) (omega (arith, shorter ts used left split)))
+        barred false b = closed (sees finish left) refl b
+
+  verdict-turn : (n : ℕ) → ((us : List Placed) → length us < n → Verdict us) → (ts : List Placed) → length ts < suc n → Local false (readPath look within) ts → Verdict ts
+  verdict-turn n rec ts l (takes s used left split unended took) = verdict-on ts s used left split unended took (λ us m. rec us (omega arith))
+  verdict-turn n rec ts l (fails m p x) = stops m p (first-stops ts m p x)
+
+  verdict-below : (n : ℕ) (ts : List Placed) → length ts < n → Verdict ts
+  verdict-below zero ts l = absurd (omega arith)
+  verdict-below (suc n) ts l = verdict-turn n (λ us m. verdict-below n us m) ts l (local-path ts)
+
+  pub verdict : (ts : List Placed) → Verdict ts
+  verdict ts = verdict-below (suc (length ts)) ts (omega arith)
