@@ -81,7 +81,7 @@ at-end (t ∷ []) h s = ap (λ x. tok (t .place) x ∷ []) (sym (same-sort finis
 at-end (t ∷ u ∷ us) h s = absurd (false≢true (rw s at h))
 
 -- ACCEPTED EXACTLY IF DERIVED.
-derived-if : (look : List ℕ → Option ℕ) (d : ℕ) (ts : List Placed) (q : Query) (left : List Placed) → ended ts ≡ true → reading look d ts ≡ got q left
+pub derived-if : (look : List ℕ → Option ℕ) (d : ℕ) (ts : List Placed) (q : Query) (left : List Placed) → ended ts ≡ true → reading look d ts ≡ got q left
     → Derives look d ts q × (left ≡ [])
 derived-if look d ts q left n h =
     let r = paths-got look (readWithin look d) (Within look d) (within-got look d) (length ts) ts q left h in

@@ -18,3 +18,4 @@ pub mod Complete
 pub mod Accepted
 pub mod Local
 pub mod Stands
+pub mod Refusals

@@ -547,9 +547,12 @@ module _ (look : List ℕ → Option ℕ) (total : (w : List ℕ) → (v : ℕ) 
         stands = λ us a. paths-on look within Read sound less (x .used ++ us) ∙ rw (x .stands us a);
         completion = λ three.
             let c = x .completion three in
-            let fin = tok 0 finish ∷ [] in
-            (c .more, record { first = c .value; others = [] }, c .open-end,
-            paths-on look within Read sound less (x .used ++ (c .more ++ fin)) ∙ rw (c .reads fin (finish-shuts 0 [])));
+            let fin = tok 0 finish ∷ [] in (
+              c .more,
+              record { first = c .value; others = [] },
+              c .open-end,
+              paths-on look within Read sound less (x .used ++ (c .more ++ fin)) ∙ rw (c .reads fin (finish-shuts 0 [])),
+            );
       }
 
   module _ (ts : List Placed) (s : Steps) (used left : List Placed) (split : ts ≡ used ++ left) (unended : Unended used)
@@ -563,7 +566,7 @@ module _ (look : List ℕ → Option ℕ) (total : (w : List ℕ) → (v : ℕ) 
         λ us. took (t ∷ us) (subst (λ l. Follows l (t ∷ us)) (sym head) (like (record { token = refl; place = refl }))) in
         let more : (us : List Placed) → allPaths look within ((used ++ (t ∷ x .used)) ++ us) ≡ then (allPaths look within (x .used ++ us)) (λ q. got (record { first = s; others = paths q })) =
         λ us.
-            ap (allPaths look within) (append-assoc used (t ∷ x .used) us) ∙ paths-on look within Read sound less (used ++ (t ∷ (x .used ++ us))) ∙ rw (begun (x .used ++ us)) in
+        ap (allPaths look within) (append-assoc used (t ∷ x .used) us) ∙ paths-on look within Read sound less (used ++ (t ∷ (x .used ++ us))) ∙ rw (begun (x .used ++ us)) in
         record {
           used = used ++ (t ∷ x .used);
           left = x .left;

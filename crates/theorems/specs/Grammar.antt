@@ -3,7 +3,7 @@
 use Prim.Native.Nat.{ℕ, zero, suc}
 use mathlib.Core.Path.{_≡_}
 use mathlib.Core.Bool.{Bool, true, false, cond}
-use mathlib.Core.List.{List, [], _∷_}
+use mathlib.Core.List.{List, [], _∷_, _++_}
 use mathlib.Core.Logic.{_↔_}
 use mathlib.Core.Option.{Option, some}
 use lib.ListN.{length}
@@ -12,7 +12,8 @@ use Rattle.paper.specs.Limits.{bracketLimit}
 use Rattle.paper.specs.Tokens.{Token, slash, slashes, dot, dots, colons, bar, openSquare, closeSquare, openRound, closeRound, star, finish, word, is, Placed, tokens}
 use Rattle.paper.specs.Query.{Axis, self, child, parent, Test, anyNode, textNode, named, anyElement}
 use Rattle.paper.specs.Query.{Expr, path, both, either, negated, Steps, stop, Preds, bare, pred, Query, paths}
-use Rattle.paper.specs.Reading.{Got, got, axisNamed, Step, before, deep, readPaths, readWithin, readText}
+use Rattle.paper.specs.Answers.{anyName}
+use Rattle.paper.specs.Reading.{Got, got, refused, axisNamed, Step, before, deep, readPaths, readWithin, readText}
 
 -- A token at a place.
 abbrev pub tok : ℕ → Token → Placed
@@ -115,3 +116,24 @@ AllRead = (look : List ℕ → Option ℕ) (text : List ℕ) (q : Query) (left :
 -- UNIQUE: from the same tokens no two queries are derived, however many brackets may be open.
 abbrev pub Unique : Type 0
 Unique = (look : List ℕ → Option ℕ) (c d : ℕ) (ts : List Placed) (q r : Query) → Derives look c ts q → Derives look d ts r → q ≡ r
+
+-- Every name is known, as where only the syntax is judged.
+abbrev pub AllKnown : (List ℕ → Option ℕ) → Type 0
+AllKnown look = (w : List ℕ) → (v : ℕ) × (look w ≡ some v)
+
+-- The token at place p goes on with no query: those before it can be completed to one, and with it they cannot, with any names, at any nesting, whatever follows.
+pub record Wrong (look : List ℕ → Option ℕ) (d : ℕ) (ts : List Placed) (p : ℕ) : Type 0 where
+  pub before : List Placed
+  pub token : Placed
+  pub after : List Placed
+  pub split : ts ≡ before ++ (token ∷ after)
+  pub place : token .place ≡ p
+  pub completed : (more : List Placed) × (q : Query) × Derives look d (before ++ more) q
+  pub never : (names : List ℕ → Option ℕ) (depth : ℕ) (more : List Placed) (q : Query) → Derives names depth (before ++ (token ∷ more)) q → ⊥
+
+-- REFUSAL 3: tokens are refused with 3 only at the token that goes on with no query; so with texts, where a byte that starts no token and the end of the text are tokens too.
+abbrev pub RefusedWrong : Type 0
+RefusedWrong = (look : List ℕ → Option ℕ) (d : ℕ) (ts : List Placed) (p : ℕ) → AllKnown look → ended ts ≡ true → reading look d ts ≡ refused 3 p → Wrong look d ts p
+
+abbrev pub RefusedWrongText : Type 0
+RefusedWrongText = (text : List ℕ) (p : ℕ) → readText anyName text ≡ refused 3 p → Wrong anyName bracketLimit (tokens text) p

@@ -1,0 +1,132 @@
+-- A refusal 3 is given where the tokens before can be completed to a query, and with the token at its place they cannot.
+-- The refusal stands whatever follows; a derivation with other names, at another nesting, would be read instead or run short of brackets. Assumes nothing.
+use Prim.Native.Nat.{ℕ, zero, suc, _≤_}
+use native.Mathlib.Omega.{arith}
+use mathlib.Core.Path.{_≡_, refl, sym, _∙_, ap, subst}
+use mathlib.Core.Bool.{Bool, true, false, false≢true}
+use mathlib.Core.List.{List, [], _∷_, _++_}
+use mathlib.Core.Logic.{_⊎_, inl, inr}
+use mathlib.Core.Option.{Option, some}
+use lib.ListN.{length}
+use Rattle.paper.specs.Limits.{bracketLimit}
+use Rattle.paper.specs.Answers.{anyName}
+use Rattle.paper.specs.Tokens.{finish, Placed, tokens}
+use Rattle.paper.specs.Query.{Test, Expr, Steps, Preds, Query}
+use Rattle.paper.specs.Reading.{Got, got, refused, at, Step, readWithin, readText}
+use Rattle.theorems.specs.Grammar.{tok, PredsIn, no-pred, one-pred, TestIn, star-test, node-test, text-test, name-test}
+use Rattle.theorems.specs.Grammar.{StepIn, dot-step, dots-step, child-step, axis-step, StepsIn, last-step, slash-step, slashes-step}
+use Rattle.theorems.specs.Grammar.{OperandIn, path-operand, round-operand, not-operand, TermIn, one-operand, and-operand, ExprIn, one-term, or-term}
+use Rattle.theorems.specs.Grammar.{PathIn, root-path, slash-path, slashes-path, QueryIn, one-path, bar-path, Within, Derives, ended, reading, AllKnown, Wrong, RefusedWrong, RefusedWrongText}
+use Rattle.theorems.proofs.Sound.{within-got}
+use Rattle.theorems.proofs.Fuel.{within-less, allPaths}
+use Rattle.theorems.proofs.Complete.{Comes, comes, runs-short, within-read, query-read}
+use Rattle.theorems.proofs.Accepted.{derived-if, tokens-ended}
+use Rattle.theorems.proofs.Local.{Alike}
+use Rattle.theorems.proofs.Stands.{Bracket, opens, too-many, local-expr, Stops, Verdict, gets, stops, verdict}
+
+-- What is derived with some names is derived, as another query, with names that are all known.
+module _ (names look : List ℕ → Option ℕ) (known : AllKnown look) (Inside Other : List Placed → Expr → List Placed → Type 0)
+    (inside : (ts : List Placed) (e : Expr) (rest : List Placed) → Inside ts e rest → (x : Expr) × Other ts x rest) where
+  preds-known : {ts rest : List Placed} {ps : Preds} → PredsIn names Inside ts ps rest → (x : Preds) × PredsIn look Other ts x rest
+  preds-known no-pred = (_, no-pred)
+  preds-known (one-pred i d) = (_, one-pred (inside _ _ _ i .1) (preds-known d .1))
+
+  test-known : {ts rest : List Placed} {t : Test} → TestIn names Inside ts t rest → (x : Test) × TestIn look Other ts x rest
+  test-known star-test = (_, star-test)
+  test-known node-test = (_, node-test)
+  test-known text-test = (_, text-test)
+  test-known (name-test {w = w} h) = (_, name-test (known w .1))
+
+  step-known : {ts rest : List Placed} {s : Step} → StepIn names Inside ts s rest → (x : Step) × StepIn look Other ts x rest
+  step-known dot-step = (_, dot-step)
+  step-known dots-step = (_, dots-step)
+  step-known (child-step d f) = (_, child-step (test-known d .1) (preds-known f .1))
+  step-known (axis-step n d f) = (_, axis-step n (test-known d .1) (preds-known f .1))
+
+  steps-known : {ts rest : List Placed} {s : Steps} → StepsIn names Inside ts s rest → (x : Steps) × StepsIn look Other ts x rest
+  steps-known (last-step d) = (_, last-step (step-known d .1))
+  steps-known (slash-step d f) = (_, slash-step (step-known d .1) (steps-known f .1))
+  steps-known (slashes-step d f) = (_, slashes-step (step-known d .1) (steps-known f .1))
+
+  operand-known : {ts rest : List Placed} {e : Expr} → OperandIn names Inside ts e rest → (x : Expr) × OperandIn look Other ts x rest
+  operand-known (path-operand d) = (_, path-operand (steps-known d .1))
+  operand-known (round-operand i) = (_, round-operand (inside _ _ _ i .1))
+  operand-known (not-operand i) = (_, not-operand (inside _ _ _ i .1))
+
+  term-known : {ts rest : List Placed} {e : Expr} → TermIn names Inside ts e rest → (x : Expr) × TermIn look Other ts x rest
+  term-known (one-operand d) = (_, one-operand (operand-known d .1))
+  term-known (and-operand d f) = (_, and-operand (term-known d .1) (operand-known f .1))
+
+  expr-known : {ts rest : List Placed} {e : Expr} → ExprIn names Inside ts e rest → (x : Expr) × ExprIn look Other ts x rest
+  expr-known (one-term d) = (_, one-term (term-known d .1))
+  expr-known (or-term d f) = (_, or-term (expr-known d .1) (term-known f .1))
+
+  path-known : {ts rest : List Placed} {s : Steps} → PathIn names Inside ts s rest → (x : Steps) × PathIn look Other ts x rest
+  path-known root-path = (_, root-path)
+  path-known (slash-path d) = (_, slash-path (steps-known d .1))
+  path-known (slashes-path d) = (_, slashes-path (steps-known d .1))
+
+  query-known : {ts rest : List Placed} {q : Query} → QueryIn names Inside ts q rest → (x : Query) × QueryIn look Other ts x rest
+  query-known (one-path d) = (_, one-path (path-known d .1))
+  query-known (bar-path d f) = (_, bar-path (path-known d .1) (query-known f .1))
+
+within-known : (names look : List ℕ → Option ℕ) → AllKnown look → (d : ℕ) (ts : List Placed) (e : Expr) (rest : List Placed) → Within names d ts e rest → (x : Expr) × Within look d ts x rest
+within-known names look known zero ts e rest i = absurd i
+within-known names look known (suc d) ts e rest i = expr-known names look known (Within names d) (Within look d) (within-known names look known d) i
+
+-- Each bracket is read by the tokens in it, or is one too many.
+pub bracket : (look : List ℕ → Option ℕ) → AllKnown look → (d p : ℕ) (ts : List Placed) → Bracket (readWithin look d) p ts
+bracket look known zero p ts = too-many (λ us. refl)
+bracket look known (suc d) p ts = opens (local-expr look known (readWithin look d) (Within look d) (within-got look d) (within-less look d) (bracket look known d) ts)
+
+-- Where tokens are refused with 3, no query is derived from them.
+refused-never : (look : List ℕ → Option ℕ) → AllKnown look → (d p : ℕ) (ts : List Placed) → reading look d ts ≡ refused 3 p
+    → (names : List ℕ → Option ℕ) (depth : ℕ) (q : Query) → Derives names depth ts q → ⊥
+unfolding allPaths
+refused-never look known d p ts h names depth q (end, i) =
+    let k = query-known names look known (Within names depth) (Within look depth) (within-known names look known depth) i in
+    no
+    (query-read (Unit {0}) look (readWithin look d) (Within look depth) (Within look d) (within-got look d) (within-less look d)
+    (λ r us e rest j c. within-read (Unit {0}) look depth d r (inl tt) us e rest j c) (k .1) end [] refl)
+  where
+    no : {x : Query} → Comes (Unit {0}) (reading look d ts) (got x []) → ⊥
+    no (comes e) = let f = sym h ∙ e in let z : _≡_ {A = ℕ} 0 1 = cc in omega arith
+    no (runs-short s e) = let f = sym h ∙ e in let z : _≡_ {A = ℕ} 3 4 = cc in omega arith
+
+-- REFUSAL 3.
+pub refused-wrong : RefusedWrong
+unfolding allPaths
+refused-wrong look d ts p known fin h =
+    judged (verdict look known (readWithin look d) (Within look d) (within-got look d) (within-less look d) (bracket look known d) ts)
+  where
+    Stopped : ℕ → ℕ → Type 0
+    Stopped n r = Stops look known (readWithin look d) (Within look d) (within-got look d) (within-less look d) (bracket look known d) ts n r
+
+    wrong-at : (r : ℕ) (x : Stopped 3 r) (left : List Placed) → x .left ≡ left → Wrong look d ts r
+    wrong-at r x [] e = absurd (false≢true (sym (ap ended (x .split) ∙ x .unended (x .left) ∙ ap ended e) ∙ fin))
+    wrong-at r x (t ∷ after) e =
+        let c = x .completion refl in
+        record {
+          before = x .used;
+          token = t;
+          after = after;
+          split = x .split ∙ ap (λ l. x .used ++ l) e;
+          place = sym (x .there ∙ ap at e);
+          completed = (c .0 ++ (tok 0 finish ∷ []), c .1, derived-if look d (x .used ++ (c .0 ++ (tok 0 finish ∷ []))) (c .1) [] (x .unended (c .0 ++ (tok 0 finish ∷ [])) ∙ c .2 (tok 0 finish ∷ [])) (c .3) .0);
+          never = λ names depth more q i.
+              refused-never look known d r (x .used ++ (t ∷ more)) (x .stands (t ∷ more) (subst (λ l. Alike l (t ∷ more)) (sym e) (record { token = refl; place = refl }))) names depth q i;
+        }
+
+    stopped : (n r : ℕ) → Stopped n r → _≡_ {A = Got Query} (refused n r) (refused 3 p) → Wrong look d ts p
+    stopped n r x e =
+        let number : n ≡ 3 = cc in
+        let place : r ≡ p = cc in
+        subst (λ z. Wrong look d ts z) place (let y : Stopped 3 r = subst (λ m. Stopped m r) number x in wrong-at r y (y .left) refl)
+
+    judged : Verdict look known (readWithin look d) (Within look d) (within-got look d) (within-less look d) (bracket look known d) ts → Wrong look d ts p
+    judged (gets q left e) = absurd (let f = sym h ∙ e in let z : _≡_ {A = ℕ} 0 1 = cc in omega arith)
+    judged (stops n r x) = stopped n r x (sym (ap (reading look d) (x .split) ∙ x .stands (x .left) (record { token = refl; place = refl })) ∙ h)
+
+pub refused-wrong-text : RefusedWrongText
+unfolding readText
+refused-wrong-text text p h = refused-wrong anyName bracketLimit (tokens text) p (λ w. (0, refl)) (tokens-ended text) h
