@@ -88,7 +88,7 @@ derived-if look d ts q left n h =
     let e : r .0 ≡ tok (at (r .0)) finish ∷ [] = at-end (r .0) (sym (query-ended look (Within look d) (within-ended look d) (r .1)) ∙ n) (r .2) in
     ((at (r .0), subst (λ m. QueryIn look (Within look d) ts q m) e (r .1)), sym (r .3) ∙ ap (drop 1) e)
 
-read-if : (look : List ℕ → Option ℕ) (d most : ℕ) (ts : List Placed) (q : Query) → d ≤ most → Derives look d ts q → reading look most ts ≡ got q []
+pub read-if : (look : List ℕ → Option ℕ) (d most : ℕ) (ts : List Placed) (q : Query) → d ≤ most → Derives look d ts q → reading look most ts ≡ got q []
 unfolding allPaths
 read-if look d most ts q l (p, i) =
     exactly

@@ -19,3 +19,4 @@ pub mod Accepted
 pub mod Local
 pub mod Stands
 pub mod Refusals
+pub mod Abbreviations

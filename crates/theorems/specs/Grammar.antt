@@ -5,15 +5,15 @@ use mathlib.Core.Path.{_≡_}
 use mathlib.Core.Bool.{Bool, true, false, cond}
 use mathlib.Core.List.{List, [], _∷_, _++_}
 use mathlib.Core.Logic.{_↔_}
-use mathlib.Core.Option.{Option, some}
+use mathlib.Core.Option.{Option, none, some}
 use lib.ListN.{length}
 use Rattle.paper.specs.Tools.{ascii}
 use Rattle.paper.specs.Limits.{bracketLimit}
-use Rattle.paper.specs.Tokens.{Token, slash, slashes, dot, dots, colons, bar, openSquare, closeSquare, openRound, closeRound, star, finish, word, is, Placed, tokens}
+use Rattle.paper.specs.Tokens.{Token, slash, slashes, dot, dots, colons, bar, openSquare, closeSquare, openRound, closeRound, star, finish, stray, word, is, Placed, tokens}
 use Rattle.paper.specs.Query.{Axis, self, child, parent, Test, anyNode, textNode, named, anyElement}
 use Rattle.paper.specs.Query.{Expr, path, both, either, negated, Steps, stop, Preds, bare, pred, Query, paths}
 use Rattle.paper.specs.Answers.{anyName}
-use Rattle.paper.specs.Reading.{Got, got, refused, axisNamed, Step, before, deep, readPaths, readWithin, readText}
+use Rattle.paper.specs.Reading.{Got, got, refused, sees, axisNamed, axisAhead, Step, before, deep, readStep, readPaths, readWithin, readText}
 
 -- A token at a place.
 abbrev pub tok : ℕ → Token → Placed
@@ -137,3 +137,41 @@ RefusedWrong = (look : List ℕ → Option ℕ) (d : ℕ) (ts : List Placed) (p 
 
 abbrev pub RefusedWrongText : Type 0
 RefusedWrongText = (text : List ℕ) (p : ℕ) → readText anyName text ≡ refused 3 p → Wrong anyName bracketLimit (tokens text) p
+
+-- A token at a place written out: `//` as `/descendant-or-self::node()/`, `.` as `self::node()`, `..` as `parent::node()`.
+abbrev pub nodesAlong : ℕ → List ℕ → List Placed → List Placed
+nodesAlong p axis rest = tok p (word axis) ∷ tok p colons ∷ tok p (word (ascii "node")) ∷ tok p openRound ∷ tok p closeRound ∷ rest
+
+abbrev pub spell : Token → ℕ → List Placed → List Placed
+spell slash p rest = tok p slash ∷ rest
+spell slashes p rest = tok p slash ∷ nodesAlong p (ascii "descendant-or-self") (tok p slash ∷ rest)
+spell dot p rest = nodesAlong p (ascii "self") rest
+spell dots p rest = nodesAlong p (ascii "parent") rest
+spell colons p rest = tok p colons ∷ rest
+spell bar p rest = tok p bar ∷ rest
+spell openSquare p rest = tok p openSquare ∷ rest
+spell closeSquare p rest = tok p closeSquare ∷ rest
+spell openRound p rest = tok p openRound ∷ rest
+spell closeRound p rest = tok p closeRound ∷ rest
+spell star p rest = tok p star ∷ rest
+spell finish p rest = tok p finish ∷ rest
+spell stray p rest = tok p stray ∷ rest
+spell (word w) p rest = tok p (word w) ∷ rest
+
+-- Every such token written out.
+abbrev pub spelt : List Placed → List Placed
+spelt [] = []
+spelt (t ∷ ts) = spell (t .token) (t .place) (spelt ts)
+
+-- ABBREVIATIONS: the query derived from tokens is derived from them with every `//`, `.` and `..` written out, and so it is read;
+abbrev pub SpeltDerived : Type 0
+SpeltDerived = (look : List ℕ → Option ℕ) (d : ℕ) (ts : List Placed) (q : Query) → Derives look d ts q → Derives look d (spelt ts) q
+
+abbrev pub SpeltRead : Type 0
+SpeltRead = (look : List ℕ → Option ℕ) (d : ℕ) (ts : List Placed) (q : Query) → ended ts ≡ true → reading look d ts ≡ got q [] → reading look d (spelt ts) ≡ got q []
+
+-- and wherever a step is read that is no `.` or `..` and has no axis, it is read, or refused, as with `child::` before it.
+abbrev pub ChildRead : Type 0
+ChildRead =
+    (look : List ℕ → Option ℕ) (d p q : ℕ) (ts : List Placed) → sees dot ts ≡ false → sees dots ts ≡ false → axisAhead ts ≡ none
+    → readStep look (readWithin look d) (tok p (word (ascii "child")) ∷ tok q colons ∷ ts) ≡ readStep look (readWithin look d) ts
