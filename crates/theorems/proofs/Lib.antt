@@ -20,3 +20,4 @@ pub mod Local
 pub mod Stands
 pub mod Refusals
 pub mod Abbreviations
+pub mod Pieces

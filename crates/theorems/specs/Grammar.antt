@@ -1,6 +1,6 @@
 -- The grammar of queries over tokens, as 01 and XPath 1.0 have it, and what reading owes to it; the proofs are in proofs/. A token stands with its place, which plays no part.
 -- Each relation `XIn ts x rest` says: the tokens ts are those of x, then rest. No relation looks ahead.
-use Prim.Native.Nat.{ℕ, zero, suc}
+use Prim.Native.Nat.{ℕ, zero, suc, _+_}
 use mathlib.Core.Path.{_≡_}
 use mathlib.Core.Bool.{Bool, true, false, cond}
 use mathlib.Core.List.{List, [], _∷_, _++_}
@@ -137,6 +137,66 @@ RefusedWrong = (look : List ℕ → Option ℕ) (d : ℕ) (ts : List Placed) (p 
 
 abbrev pub RefusedWrongText : Type 0
 RefusedWrongText = (text : List ℕ) (p : ℕ) → readText anyName text ≡ refused 3 p → Wrong anyName bracketLimit (tokens text) p
+
+-- The brackets that tokens open, and those that they close.
+abbrev pub opening : Token → ℕ
+opening slash = 0
+opening slashes = 0
+opening dot = 0
+opening dots = 0
+opening colons = 0
+opening bar = 0
+opening openSquare = 1
+opening closeSquare = 0
+opening openRound = 1
+opening closeRound = 0
+opening star = 0
+opening finish = 0
+opening stray = 0
+opening (word w) = 0
+
+abbrev pub closing : Token → ℕ
+closing slash = 0
+closing slashes = 0
+closing dot = 0
+closing dots = 0
+closing colons = 0
+closing bar = 0
+closing openSquare = 0
+closing closeSquare = 1
+closing openRound = 0
+closing closeRound = 1
+closing star = 0
+closing finish = 0
+closing stray = 0
+closing (word w) = 0
+
+abbrev pub opened : List Placed → ℕ
+opened [] = 0
+opened (t ∷ ts) = opening (t .token) + opened ts
+
+abbrev pub closed : List Placed → ℕ
+closed [] = 0
+closed (t ∷ ts) = closing (t .token) + closed ts
+
+-- The bracket at place p is one too many: d are open before it; the tokens before it can be completed to a query with no more than d open at once, and with it to one with d + 1.
+pub record TooDeep (look : List ℕ → Option ℕ) (d : ℕ) (ts : List Placed) (p : ℕ) : Type 0 where
+  pub before : List Placed
+  pub token : Placed
+  pub after : List Placed
+  pub split : ts ≡ before ++ (token ∷ after)
+  pub place : token .place ≡ p
+  pub bracket : opening (token .token) ≡ 1
+  pub count : opened before ≡ closed before + d
+  pub fits : (more : List Placed) × (q : Query) × Derives look d (before ++ more) q
+  pub deeper : (more : List Placed) × (q : Query) × Derives look (suc d) (before ++ (token ∷ more)) q
+
+-- REFUSAL 4: tokens are refused with 4 only at the bracket that is one too many, where the tokens up to it begin a query.
+abbrev pub RefusedDeep : Type 0
+RefusedDeep = (look : List ℕ → Option ℕ) (d : ℕ) (ts : List Placed) (p : ℕ) → AllKnown look → reading look d ts ≡ refused 4 p → TooDeep look d ts p
+
+abbrev pub RefusedDeepText : Type 0
+RefusedDeepText = (text : List ℕ) (p : ℕ) → readText anyName text ≡ refused 4 p → TooDeep anyName bracketLimit (tokens text) p
 
 -- A token at a place written out: `//` as `/descendant-or-self::node()/`, `.` as `self::node()`, `..` as `parent::node()`.
 abbrev pub nodesAlong : ℕ → List ℕ → List Placed → List Placed
