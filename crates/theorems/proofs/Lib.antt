@@ -21,3 +21,4 @@ pub mod Stands
 pub mod Refusals
 pub mod Abbreviations
 pub mod Pieces
+pub mod Deep

@@ -19,12 +19,12 @@ use Rattle.theorems.specs.Grammar.{OperandIn, path-operand, round-operan
 use Rattle.theorems.specs.Grammar.{PathIn, root-path, slash-path, slashes-path, QueryIn, one-path, bar-path, Within}
 use Rattle.theorems.proofs.Seeing.{ofSort, seen, spelt, said, chosen, not-got, as-got, got-value, got-left, then-got, passed}
 
-drop-two : (ts : List Placed) → drop 1 (drop 1 ts) ≡ drop 2 ts
+pub drop-two : (ts : List Placed) → drop 1 (drop 1 ts) ≡ drop 2 ts
 drop-two [] = refl
 drop-two (t ∷ ts) = refl
 
 -- An axis before `::`.
-axis-ahead {ℓ} : {C : Type ℓ} (ts : List Placed) (a : Axis) → axisAhead ts ≡ some a
+pub axis-ahead {ℓ} : {C : Type ℓ} (ts : List Placed) (a : Axis) → axisAhead ts ≡ some a
     → ((w : List ℕ) → ts ≡ tok (at ts) (word w) ∷ tok (at (drop 1 ts)) colons ∷ drop 2 ts → axisNamed w ≡ some a → C) → C
 axis-ahead {C = C} ts a h k = chosen (sees colons (drop 1 ts)) h (λ c e. go (letters (next ts)) refl c e) (λ c e. none-some e)
   where
