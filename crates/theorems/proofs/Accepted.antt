@@ -107,7 +107,7 @@ pub unique : Unique
 unique look c d ts q r i j = got-value (sym (read-if look c (max c d) ts q (omega arith) i) ∙ read-if look d (max c d) ts r (omega arith) j)
 
 -- The end of the text is the last of its tokens, and no other.
-either-way : {A : Type 0} (P : A → Type 0) (b : Bool) {x y : A} → P x → P y → P (cond b x y)
+pub either-way : {A : Type 0} (P : A → Type 0) (b : Bool) {x y : A} → P x → P y → P (cond b x y)
 either-way P true p q = p
 either-way P false p q = q
 

@@ -8,18 +8,16 @@ use mathlib.Core.List.{List, [], _∷_, _++_}
 use mathlib.Core.Option.{Option, none, some}
 use lib.ListN.{length, drop}
 use Rattle.paper.specs.Tools.{ascii}
-use Rattle.paper.specs.Limits.{bracketLimit}
-use Rattle.paper.specs.Answers.{anyName}
-use Rattle.paper.specs.Tokens.{Token, slash, slashes, dot, dots, colons, bar, openSquare, closeSquare, openRound, closeRound, star, finish, word, letters, Placed, tokens}
+use Rattle.paper.specs.Tokens.{Token, slash, slashes, dot, dots, colons, bar, openSquare, closeSquare, openRound, closeRound, star, finish, word, letters, Placed}
 use Rattle.paper.specs.Query.{Axis, child, Test, anyNode, textNode, named, anyElement}
 use Rattle.paper.specs.Query.{Expr, path, both, either, negated, Steps, stop, Preds, bare, pred, Query, paths}
 use Rattle.paper.specs.Reading.{Got, got, refused, then, next, at, sees, says, pass, axisAhead, Step, before, deep, startsStep}
-use Rattle.paper.specs.Reading.{readPreds, readTail, readName, readTested, readAxis, readStep, readSteps, readOperand, readAnds, readTerm, readOrs, readExpr, readPath, readPaths, readWithin, readText}
+use Rattle.paper.specs.Reading.{readPreds, readTail, readName, readTested, readAxis, readStep, readSteps, readOperand, readAnds, readTerm, readOrs, readExpr, readPath, readPaths, readWithin}
 use Rattle.paper.proofs.Tests.{and-true, none-some}
 use Rattle.theorems.specs.Grammar.{tok, PredsIn, no-pred, one-pred, TestIn, star-test, node-test, text-test, name-test}
 use Rattle.theorems.specs.Grammar.{StepIn, child-step, axis-step, StepsIn, last-step, slash-step, slashes-step}
 use Rattle.theorems.specs.Grammar.{OperandIn, path-operand, round-operand, not-operand, TermIn, one-operand, and-operand, ExprIn, one-term, or-term}
-use Rattle.theorems.specs.Grammar.{PathIn, root-path, slash-path, slashes-path, QueryIn, one-path, bar-path, Within, Derives, opening, closing, AllKnown, TooDeep, RefusedDeep, RefusedDeepText}
+use Rattle.theorems.specs.Grammar.{PathIn, root-path, slash-path, slashes-path, QueryIn, one-path, bar-path, Within, Derives, reading, opening, closing, opened, closed, AllKnown}
 use Rattle.theorems.proofs.Seeing.{seen, said, chosen, passed}
 use Rattle.theorems.proofs.Sound.{drop-two, axis-ahead, closed-got, step-got, operand-got, term-got, path-got, within-got}
 use Rattle.theorems.proofs.Pieces.{Front, front-none, front-cons, front-open, front-close, front-then, Piece, step-piece, term-piece, expr-piece, path-piece, operand-piece, within-piece}
@@ -354,9 +352,20 @@ within-deep look known (suc d) q ts p h =
     later-one d (omega arith)
     (expr-deep look known (readWithin look d) (Within look d) (Within look (suc d)) d (within-got look d) (within-piece look d) (within-deep look known d) (name-in look known d) ts p h)
 
--- REFUSAL 4.
-pub refused-deep : RefusedDeep
-refused-deep look d ts p known h =
+-- What a refusal 4 says of the tokens before its bracket.
+pub record Reached (look : List ℕ → Option ℕ) (d : ℕ) (ts : List Placed) (p : ℕ) : Type 0 where
+  pub before : List Placed
+  pub token : Placed
+  pub after : List Placed
+  pub split : ts ≡ before ++ (token ∷ after)
+  pub place : token .place ≡ p
+  pub bracket : opening (token .token) ≡ 1
+  pub count : opened before ≡ closed before + d
+  pub fits : (more : List Placed) × (q : Query) × Derives look d (before ++ more) q
+  pub deeper : (more : List Placed) × (q : Query) × Derives look (suc d) (before ++ (token ∷ more)) q
+
+pub reached : (look : List ℕ → Option ℕ) (d : ℕ) (ts : List Placed) (p : ℕ) → AllKnown look → reading look d ts ≡ refused 4 p → Reached look d ts p
+reached look d ts p known h =
     let x = paths-deep look known (readWithin look d) (Within look d) (Within look (suc d)) d (within-got look d) (within-piece look d) (within-deep look known d) (name-in look known d) (length ts) ts p h in
     let fin : List Placed = tok 0 finish ∷ [] in
     record {
@@ -370,7 +379,3 @@ refused-deep look d ts p known h =
       fits = (x .fits .0 fin, x .fits .1, (0, subst (λ l. QueryIn look (Within look d) l (x .fits .1) fin) (x .front .apart (x .fits .0 fin)) (x .fits .2 fin)));
       deeper = (x .deeper .0 fin, x .deeper .1, (0, subst (λ l. QueryIn look (Within look (suc d)) l (x .deeper .1) fin) (x .front .apart (x .token ∷ x .deeper .0 fin)) (x .deeper .2 fin)));
     }
-
-pub refused-deep-text : RefusedDeepText
-unfolding readText
-refused-deep-text text p h = refused-deep anyName bracketLimit (tokens text) p (λ w. (0, refl)) h

@@ -18,7 +18,7 @@ pub mod Complete
 pub mod Accepted
 pub mod Local
 pub mod Stands
-pub mod Refusals
 pub mod Abbreviations
 pub mod Pieces
 pub mod Deep
+pub mod Refusals

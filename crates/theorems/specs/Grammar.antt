@@ -1,6 +1,6 @@
 -- The grammar of queries over tokens, as 01 and XPath 1.0 have it, and what reading owes to it; the proofs are in proofs/. A token stands with its place, which plays no part.
 -- Each relation `XIn ts x rest` says: the tokens ts are those of x, then rest. No relation looks ahead.
-use Prim.Native.Nat.{ℕ, zero, suc, _+_}
+use Prim.Native.Nat.{ℕ, zero, suc, _+_, _<_}
 use mathlib.Core.Path.{_≡_}
 use mathlib.Core.Bool.{Bool, true, false, cond}
 use mathlib.Core.List.{List, [], _∷_, _++_}
@@ -97,6 +97,15 @@ ended (t ∷ ts) = cond (is finish (t .token)) (empty ts) (ended ts)
     empty [] = true
     empty (u ∷ us) = false
 
+-- Do the places rise?
+abbrev pub beyond : ℕ → List Placed → Type 0
+beyond n [] = Unit {0}
+beyond n (t ∷ ts) = (n < t .place) × beyond n ts
+
+abbrev pub Rising : List Placed → Type 0
+Rising [] = Unit {0}
+Rising (t ∷ ts) = beyond (t .place) ts × Rising ts
+
 -- Reading the tokens of a query, where at most d brackets may be open at once.
 abbrev pub reading : (List ℕ → Option ℕ) → ℕ → List Placed → Got Query
 reading look d ts = readPaths look (readWithin look d) (length ts) ts
@@ -179,7 +188,7 @@ abbrev pub closed : List Placed → ℕ
 closed [] = 0
 closed (t ∷ ts) = closing (t .token) + closed ts
 
--- The bracket at place p is one too many: d are open before it; the tokens before it can be completed to a query with no more than d open at once, and with it to one with d + 1.
+-- The bracket at place p is one too many: d are open before it; the tokens before it can be completed to a query with no more than d open at once; with it they cannot, whatever names are known, but they can to one with d + 1.
 pub record TooDeep (look : List ℕ → Option ℕ) (d : ℕ) (ts : List Placed) (p : ℕ) : Type 0 where
   pub before : List Placed
   pub token : Placed
@@ -190,10 +199,11 @@ pub record TooDeep (look : List ℕ → Option ℕ) (d : ℕ) (ts : List Placed)
   pub count : opened before ≡ closed before + d
   pub fits : (more : List Placed) × (q : Query) × Derives look d (before ++ more) q
   pub deeper : (more : List Placed) × (q : Query) × Derives look (suc d) (before ++ (token ∷ more)) q
+  pub never : (names : List ℕ → Option ℕ) (more : List Placed) (q : Query) → Derives names d (before ++ (token ∷ more)) q → ⊥
 
 -- REFUSAL 4: tokens are refused with 4 only at the bracket that is one too many, where the tokens up to it begin a query.
 abbrev pub RefusedDeep : Type 0
-RefusedDeep = (look : List ℕ → Option ℕ) (d : ℕ) (ts : List Placed) (p : ℕ) → AllKnown look → reading look d ts ≡ refused 4 p → TooDeep look d ts p
+RefusedDeep = (look : List ℕ → Option ℕ) (d : ℕ) (ts : List Placed) (p : ℕ) → AllKnown look → ended ts ≡ true → Rising ts → reading look d ts ≡ refused 4 p → TooDeep look d ts p
 
 abbrev pub RefusedDeepText : Type 0
 RefusedDeepText = (text : List ℕ) (p : ℕ) → readText anyName text ≡ refused 4 p → TooDeep anyName bracketLimit (tokens text) p
