@@ -17,7 +17,7 @@ use Rattle.paper.proofs.Tests.{and-true, none-some}
 use Rattle.theorems.specs.Grammar.{tok, PredsIn, no-pred, one-pred, TestIn, star-test, node-test, text-test, name-test}
 use Rattle.theorems.specs.Grammar.{StepIn, child-step, axis-step, StepsIn, last-step, slash-step, slashes-step}
 use Rattle.theorems.specs.Grammar.{OperandIn, path-operand, round-operand, not-operand, TermIn, one-operand, and-operand, ExprIn, one-term, or-term}
-use Rattle.theorems.specs.Grammar.{PathIn, root-path, slash-path, slashes-path, QueryIn, one-path, bar-path, Within, Derives, reading, opening, closing, opened, closed, AllKnown}
+use Rattle.theorems.specs.Grammar.{PathIn, root-path, slash-path, slashes-path, QueryIn, one-path, bar-path, Within, Derives, reading, opening, closing, AllKnown, Reached}
 use Rattle.theorems.proofs.Seeing.{seen, said, chosen, passed}
 use Rattle.theorems.proofs.Sound.{drop-two, axis-ahead, closed-got, step-got, operand-got, term-got, path-got, within-got}
 use Rattle.theorems.proofs.Pieces.{Front, front-none, front-cons, front-open, front-close, front-then, Piece, step-piece, term-piece, expr-piece, path-piece, operand-piece, within-piece}
@@ -352,18 +352,7 @@ within-deep look known (suc d) q ts p h =
     later-one d (omega arith)
     (expr-deep look known (readWithin look d) (Within look d) (Within look (suc d)) d (within-got look d) (within-piece look d) (within-deep look known d) (name-in look known d) ts p h)
 
--- What a refusal 4 says of the tokens before its bracket.
-pub record Reached (look : List ℕ → Option ℕ) (d : ℕ) (ts : List Placed) (p : ℕ) : Type 0 where
-  pub before : List Placed
-  pub token : Placed
-  pub after : List Placed
-  pub split : ts ≡ before ++ (token ∷ after)
-  pub place : token .place ≡ p
-  pub bracket : opening (token .token) ≡ 1
-  pub count : opened before ≡ closed before + d
-  pub fits : (more : List Placed) × (q : Query) × Derives look d (before ++ more) q
-  pub deeper : (more : List Placed) × (q : Query) × Derives look (suc d) (before ++ (token ∷ more)) q
-
+-- What a refusal 4 says of its bracket and the tokens before it.
 pub reached : (look : List ℕ → Option ℕ) (d : ℕ) (ts : List Placed) (p : ℕ) → AllKnown look → reading look d ts ≡ refused 4 p → Reached look d ts p
 reached look d ts p known h =
     let x = paths-deep look known (readWithin look d) (Within look d) (Within look (suc d)) d (within-got look d) (within-piece look d) (within-deep look known d) (name-in look known d) (length ts) ts p h in

@@ -4,6 +4,7 @@ use Prim.Native.Nat.{ℕ, zero, suc}
 use mathlib.Core.Path.{_≡_, refl, sym, _∙_, ap, ap₂, subst, subst₂}
 use mathlib.Core.Bool.{Bool, true, false, _&&_, _||_, cond}
 use mathlib.Core.List.{List, [], _∷_, _++_, append-assoc}
+use mathlib.Core.Logic.{_⊎_, inl, inr}
 use lib.ListN.{length, drop}
 use Rattle.paper.specs.Tools.{ascii}
 use Rattle.paper.specs.Tokens.{Token, closeSquare, closeRound, bar, finish, word, sort, is, letters, Placed}
@@ -43,12 +44,13 @@ pub record Completion (gentle : Bool) {A : Type 0} (f : List Placed → Got A) (
   pub reads : (us : List Placed) → Shuts us → f (used ++ (more ++ us)) ≡ got value us
   pub mild : (us : List Placed) → Shuts us → Gentle gentle ts (used ++ (more ++ us))
 
--- A refusal at the first token that was not used stands whatever follows it; a refusal 3 can be mended before it.
+-- A refusal is 3 or 4. At the first token that was not used it stands whatever follows it; a refusal 3 can be mended before it.
 pub record Fails (gentle : Bool) {A : Type 0} (f : List Placed → Got A) (ts : List Placed) (n p : ℕ) : Type 0 where
   pub used : List Placed
   pub left : List Placed
   pub split : ts ≡ used ++ left
   pub unended : Unended used
+  pub number : (n ≡ 3) ⊎ (n ≡ 4)
   pub there : p ≡ at left
   pub stands : (us : List Placed) → Alike left us → f (used ++ us) ≡ refused n p
   pub completion : n ≡ 3 → Completion gentle f ts used
@@ -89,6 +91,7 @@ local-cons {gentle} after t n e (fails m p x) =
       left = x .left;
       split = ap (λ l. t ∷ l) (x .split);
       unended = λ us. rw n (x .unended us);
+      number = x .number;
       there = x .there;
       stands = λ us a. e (x .used ++ us) ∙ x .stands us a;
       completion = λ three. let c = x .completion three in
@@ -105,6 +108,7 @@ local-same g e (fails m p x) =
       left = x .left;
       split = x .split;
       unended = x .unended;
+      number = x .number;
       there = x .there;
       stands = λ us a. e (x .used ++ us) ∙ x .stands us a;
       completion = λ three. let c = x .completion three in
@@ -123,6 +127,7 @@ local-when {gentle} g e (fails m p x) =
       left = x .left;
       split = x .split;
       unended = x .unended;
+      number = x .number;
       there = x .there;
       stands = λ us a. e (x .used ++ us) (subst (λ l. Follows l (x .used ++ us)) (sym (x .split)) (like (alike-append (x .used) a))) ∙ x .stands us a;
       completion = λ three. let c = x .completion three in
@@ -154,6 +159,7 @@ module _ {A B : Type 0} (k : A → List Placed → Got B) where
         left = x .left;
         split = s ∙ ap (λ l. used ++ l) (x .split) ∙ sym (append-assoc used (x .used) (x .left));
         unended = λ us. ap ended (append-assoc used (x .used) us) ∙ u (x .used ++ us) ∙ x .unended us;
+        number = x .number;
         there = x .there;
         stands = λ us o.
             ap (λ l. then (f l) k) (append-assoc used (x .used) us) ∙
@@ -184,6 +190,7 @@ module _ {A B : Type 0} (k : A → List Placed → Got B) where
         left = x .left;
         split = x .split;
         unended = x .unended;
+        number = x .number;
         there = x .there;
         stands = λ us o. ap (λ r. then r k) (x .stands us o);
         completion = λ three.
@@ -222,6 +229,7 @@ module _ {A : Type 0} (t : Token) (itself : is t t ≡ true) (no-end : is t fini
             left = ts;
             split = refl;
             unended = λ us. refl;
+            number = inl refl;
             there = refl;
             stands = λ us o. let no : sees t us ≡ false = ap (is t) (sym (o .token)) ∙ h in rw (no, o .place);
             completion = λ three. record { more = tok 0 t ∷ []; value = a; open-end = λ us. rw no-end′; reads = λ us s. rw itself; mild = λ us s. shut (closes 0 us) };

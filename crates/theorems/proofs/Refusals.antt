@@ -16,13 +16,13 @@ use Rattle.paper.specs.Reading.{Got, got, refused, at, Step, readWithin, readTe
 use Rattle.theorems.specs.Grammar.{tok, PredsIn, no-pred, one-pred, TestIn, star-test, node-test, text-test, name-test}
 use Rattle.theorems.specs.Grammar.{StepIn, dot-step, dots-step, child-step, axis-step, StepsIn, last-step, slash-step, slashes-step}
 use Rattle.theorems.specs.Grammar.{OperandIn, path-operand, round-operand, not-operand, TermIn, one-operand, and-operand, ExprIn, one-term, or-term}
-use Rattle.theorems.specs.Grammar.{PathIn, root-path, slash-path, slashes-path, QueryIn, one-path, bar-path, Within, Derives, ended, reading, AllKnown, beyond, Rising, Wrong, RefusedWrong, RefusedWrongText, RefusedDeep, RefusedDeepText}
+use Rattle.theorems.specs.Grammar.{PathIn, root-path, slash-path, slashes-path, QueryIn, one-path, bar-path, Within, Derives, ended, reading, AllKnown, beyond, Rising, Reached, TooDeep, Wrong, RefusedWrong, RefusedWrongText, RefusedDeep, RefusedDeepText}
 use Rattle.theorems.proofs.Sound.{within-got}
 use Rattle.theorems.proofs.Fuel.{within-less, allPaths}
 use Rattle.theorems.proofs.Complete.{Comes, comes, runs-short, within-read, query-read}
 use Rattle.theorems.proofs.Accepted.{derived-if, read-if, either-way, tokens-ended}
 use Rattle.theorems.proofs.Local.{Alike}
-use Rattle.theorems.proofs.Deep.{Reached, reached}
+use Rattle.theorems.proofs.Deep.{reached}
 use Rattle.theorems.proofs.Stands.{Bracket, opens, too-many, local-expr, Stops, Verdict, gets, stops, verdict}
 
 -- What is derived with some names is derived, as another query, with names that are all known.
@@ -155,6 +155,7 @@ record StopsAt (look : List ℕ → Option ℕ) (d : ℕ) (ts : List Placed) (n 
   after : List Placed
   split : ts ≡ before ++ (token ∷ after)
   place : token .place ≡ p
+  number : (n ≡ 3) ⊎ (n ≡ 4)
   stands : (more : List Placed) → reading look d (before ++ (token ∷ more)) ≡ refused n p
   completed : n ≡ 3 → (more : List Placed) × (q : Query) × Derives look d (before ++ more) q
 
@@ -175,6 +176,7 @@ stops-at look d ts n p known fin h =
           after = after;
           split = x .split ∙ ap (λ l. x .used ++ l) e;
           place = sym (x .there ∙ ap at e);
+          number = x .number;
           stands = λ more. x .stands (t ∷ more) (subst (λ l. Alike l (t ∷ more)) (sym e) (record { token = refl; place = refl }));
           completed = λ three.
               let c = x .completion three in
@@ -218,15 +220,7 @@ refused-deep look d ts p known fin rise h =
     let rest : y .before ++ (y .token ∷ y .after) ≡ y .before ++ (x .token ∷ x .after) = sym (y .split) ∙ x .split ∙ ap (λ l. l ++ (x .token ∷ x .after)) (sym same) in
     let token : y .token ≡ x .token = same-head (append-cancel (y .before) (y .token ∷ y .after) (x .token ∷ x .after) rest) in
     record {
-      before = y .before;
-      token = y .token;
-      after = y .after;
-      split = y .split;
-      place = y .place;
-      bracket = y .bracket;
-      count = y .count;
-      fits = y .fits;
-      deeper = y .deeper;
+      reached = y;
       never = λ names more q i.
           deep-never look known d p (y .before ++ (y .token ∷ more)) (subst₂ (λ b t. reading look d (b ++ (t ∷ more)) ≡ refused 4 p) (sym same) (sym token) (x .stands more)) names q i;
     }

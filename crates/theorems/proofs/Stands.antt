@@ -116,6 +116,7 @@ refuses ts h t a n c =
       left = ts;
       split = refl;
       unended = λ us. refl;
+      number = inl refl;
       there = refl;
       stands = λ us o. h us (sym (o .token)) ∙ ap (refused 3) (sym (o .place));
       completion = λ three. record { more = tok 0 t ∷ []; value = a; open-end = λ us. rw n; reads = c; mild = λ us s. tt };
@@ -137,6 +138,7 @@ local-bracket {f = f} within after p t ts n e o c (too-many h) =
       left = tok p t ∷ ts;
       split = refl;
       unended = λ us. refl;
+      number = inr refl;
       there = refl;
       stands = λ us a. ap f (alike-cons p t ts us a n) ∙ e (drop 1 us) ∙ c (drop 1 us) (h (drop 1 us));
       completion = λ three. absurd (omega arith);
@@ -527,6 +529,7 @@ module _ (look : List ℕ → Option ℕ) (total : (w : List ℕ) → (v : ℕ) 
     pub left : List Placed
     pub split : ts ≡ used ++ left
     pub unended : Unended used
+    pub number : (n ≡ 3) ⊎ (n ≡ 4)
     pub there : p ≡ at left
     pub stands : (us : List Placed) → Alike left us → allPaths look within (used ++ us) ≡ refused n p
     pub completion : n ≡ 3 → (more : List Placed) × (q : Query) × Unended more × (allPaths look within (used ++ (more ++ (tok 0 finish ∷ []))) ≡ got q [])
@@ -543,6 +546,7 @@ module _ (look : List ℕ → Option ℕ) (total : (w : List ℕ) → (v : ℕ) 
         left = x .left;
         split = x .split;
         unended = x .unended;
+        number = x .number;
         there = x .there;
         stands = λ us a. paths-on look within Read sound less (x .used ++ us) ∙ rw (x .stands us a);
         completion = λ three.
@@ -572,6 +576,7 @@ module _ (look : List ℕ → Option ℕ) (total : (w : List ℕ) → (v : ℕ) 
           left = x .left;
           split = split ∙ ap (λ l. used ++ l) (head ∙ ap (λ l. t ∷ l) (x .split)) ∙ sym (append-assoc used (t ∷ x .used) (x .left));
           unended = λ us. ap ended (append-assoc used (t ∷ x .used) us) ∙ unended (t ∷ (x .used ++ us)) ∙ x .unended us;
+          number = x .number;
           there = x .there;
           stands = λ us a. more us ∙ rw (x .stands us a);
           completion = λ three.
@@ -587,6 +592,7 @@ module _ (look : List ℕ → Option ℕ) (total : (w : List ℕ) → (v : ℕ) 
           left = left;
           split = split;
           unended = unended;
+          number = inl refl;
           there = refl;
           stands = λ us a.
               let no-bar : sees bar us ≡ false = ap (is bar) (sym (a .token)) ∙ b in

@@ -188,8 +188,8 @@ abbrev pub closed : List Placed → ℕ
 closed [] = 0
 closed (t ∷ ts) = closing (t .token) + closed ts
 
--- The bracket at place p is one too many: d are open before it; the tokens before it can be completed to a query with no more than d open at once; with it they cannot, whatever names are known, but they can to one with d + 1.
-pub record TooDeep (look : List ℕ → Option ℕ) (d : ℕ) (ts : List Placed) (p : ℕ) : Type 0 where
+-- With the bracket at place p d + 1 are open: d are before it, and the tokens before it can be completed to a query with at most d open at once, and with it to one with d + 1.
+pub record Reached (look : List ℕ → Option ℕ) (d : ℕ) (ts : List Placed) (p : ℕ) : Type 0 where
   pub before : List Placed
   pub token : Placed
   pub after : List Placed
@@ -199,7 +199,11 @@ pub record TooDeep (look : List ℕ → Option ℕ) (d : ℕ) (ts : List Placed)
   pub count : opened before ≡ closed before + d
   pub fits : (more : List Placed) × (q : Query) × Derives look d (before ++ more) q
   pub deeper : (more : List Placed) × (q : Query) × Derives look (suc d) (before ++ (token ∷ more)) q
-  pub never : (names : List ℕ → Option ℕ) (more : List Placed) (q : Query) → Derives names d (before ++ (token ∷ more)) q → ⊥
+
+-- It is one too many: with it no query has at most d open at once, whatever names are known and whatever follows.
+pub record TooDeep (look : List ℕ → Option ℕ) (d : ℕ) (ts : List Placed) (p : ℕ) : Type 0 where
+  pub reached : Reached look d ts p
+  pub never : (names : List ℕ → Option ℕ) (more : List Placed) (q : Query) → Derives names d (reached .before ++ (reached .token ∷ more)) q → ⊥
 
 -- REFUSAL 4: tokens are refused with 4 only at the bracket that is one too many, where the tokens up to it begin a query.
 abbrev pub RefusedDeep : Type 0
