@@ -22,3 +22,4 @@ pub mod Abbreviations
 pub mod Pieces
 pub mod Deep
 pub mod Refusals
+pub mod Exactly

@@ -81,7 +81,7 @@ bracket look known zero p ts = too-many (λ us. refl)
 bracket look known (suc d) p ts = opens (local-expr look known (readWithin look d) (Within look d) (within-got look d) (within-less look d) (bracket look known d) ts)
 
 -- Where tokens are refused with 3, no query is derived from them.
-refused-never : (look : List ℕ → Option ℕ) → AllKnown look → (d p : ℕ) (ts : List Placed) → reading look d ts ≡ refused 3 p
+pub refused-never : (look : List ℕ → Option ℕ) → AllKnown look → (d p : ℕ) (ts : List Placed) → reading look d ts ≡ refused 3 p
     → (names : List ℕ → Option ℕ) (depth : ℕ) (q : Query) → Derives names depth ts q → ⊥
 unfolding allPaths
 refused-never look known d p ts h names depth q (end, i) =
@@ -94,10 +94,10 @@ refused-never look known d p ts h names depth q (end, i) =
     no (comes e) = let f = sym h ∙ e in let z : _≡_ {A = ℕ} 0 1 = cc in omega arith
     no (runs-short s e) = let f = sym h ∙ e in let z : _≡_ {A = ℕ} 3 4 = cc in omega arith
 
-same-head : {t u : Placed} {a e : List Placed} → t ∷ a ≡ u ∷ e → t ≡ u
+pub same-head : {t u : Placed} {a e : List Placed} → t ∷ a ≡ u ∷ e → t ≡ u
 same-head h = cc
 
-append-cancel : (b c e : List Placed) → b ++ c ≡ b ++ e → c ≡ e
+pub append-cancel : (b c e : List Placed) → b ++ c ≡ b ++ e → c ≡ e
 append-cancel [] c e h = h
 append-cancel (x ∷ b) c e h = append-cancel b c e (let f = h in cc)
 
@@ -149,17 +149,17 @@ deep-never look known d p ts h names q (end, i) =
     omega arith
 
 -- Where reading stops, and with which number.
-record StopsAt (look : List ℕ → Option ℕ) (d : ℕ) (ts : List Placed) (n p : ℕ) : Type 0 where
-  before : List Placed
-  token : Placed
-  after : List Placed
-  split : ts ≡ before ++ (token ∷ after)
-  place : token .place ≡ p
-  number : (n ≡ 3) ⊎ (n ≡ 4)
-  stands : (more : List Placed) → reading look d (before ++ (token ∷ more)) ≡ refused n p
-  completed : n ≡ 3 → (more : List Placed) × (q : Query) × Derives look d (before ++ more) q
+pub record StopsAt (look : List ℕ → Option ℕ) (d : ℕ) (ts : List Placed) (n p : ℕ) : Type 0 where
+  pub before : List Placed
+  pub token : Placed
+  pub after : List Placed
+  pub split : ts ≡ before ++ (token ∷ after)
+  pub place : token .place ≡ p
+  pub number : (n ≡ 3) ⊎ (n ≡ 4)
+  pub stands : (more : List Placed) → reading look d (before ++ (token ∷ more)) ≡ refused n p
+  pub completed : n ≡ 3 → (more : List Placed) × (q : Query) × Derives look d (before ++ more) q
 
-stops-at : (look : List ℕ → Option ℕ) (d : ℕ) (ts : List Placed) (n p : ℕ) → AllKnown look → ended ts ≡ true → reading look d ts ≡ refused n p → StopsAt look d ts n p
+pub stops-at : (look : List ℕ → Option ℕ) (d : ℕ) (ts : List Placed) (n p : ℕ) → AllKnown look → ended ts ≡ true → reading look d ts ≡ refused n p → StopsAt look d ts n p
 unfolding allPaths
 stops-at look d ts n p known fin h =
     judged (verdict look known (readWithin look d) (Within look d) (within-got look d) (within-less look d) (bracket look known d) ts)

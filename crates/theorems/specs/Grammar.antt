@@ -212,6 +212,18 @@ RefusedDeep = (look : List ℕ → Option ℕ) (d : ℕ) (ts : List Placed) (p :
 abbrev pub RefusedDeepText : Type 0
 RefusedDeepText = (text : List ℕ) (p : ℕ) → readText anyName text ≡ refused 4 p → TooDeep anyName bracketLimit (tokens text) p
 
+-- EXACTLY: each of the two is given wherever its line holds; so a text is read, refused with 3 or refused with 4, and the grammar says which and where.
+abbrev pub WrongRefused : Type 0
+WrongRefused = (look : List ℕ → Option ℕ) (d : ℕ) (ts : List Placed) (p : ℕ) → AllKnown look → ended ts ≡ true → Rising ts → Wrong look d ts p → reading look d ts ≡ refused 3 p
+
+abbrev pub DeepRefused : Type 0
+DeepRefused = (look : List ℕ → Option ℕ) (d : ℕ) (ts : List Placed) (p : ℕ) → AllKnown look → ended ts ≡ true → Rising ts → TooDeep look d ts p → reading look d ts ≡ refused 4 p
+
+abbrev pub ExactText : Type 0
+ExactText =
+    (text : List ℕ) (p : ℕ)
+    → ((readText anyName text ≡ refused 3 p) ↔ Wrong anyName bracketLimit (tokens text) p) × ((readText anyName text ≡ refused 4 p) ↔ TooDeep anyName bracketLimit (tokens text) p)
+
 -- A token at a place written out: `//` as `/descendant-or-self::node()/`, `.` as `self::node()`, `..` as `parent::node()`.
 abbrev pub nodesAlong : ℕ → List ℕ → List Placed → List Placed
 nodesAlong p axis rest = tok p (word axis) ∷ tok p colons ∷ tok p (word (ascii "node")) ∷ tok p openRound ∷ tok p closeRound ∷ rest
