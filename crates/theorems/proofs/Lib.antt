@@ -23,3 +23,4 @@ pub mod Pieces
 pub mod Deep
 pub mod Refusals
 pub mod Exactly
+pub mod Places

@@ -1,4 +1,4 @@
--- The grammar of queries over tokens, as 01 and XPath 1.0 have it, and what reading owes to it; the proofs are in proofs/. A token stands with its place, which plays no part.
+-- The grammar of queries over tokens, as 01 and XPath 1.0 have it, and what reading owes to it; the proofs are in proofs/. A token stands with its place, which plays no part (`PlacesApart`).
 -- Each relation `XIn ts x rest` says: the tokens ts are those of x, then rest. No relation looks ahead.
 use Prim.Native.Nat.{ℕ, zero, suc, _+_, _<_}
 use mathlib.Core.Path.{_≡_}
@@ -87,6 +87,15 @@ Within look (suc d) ts e rest = ExprIn look (Within look d) ts e rest
 -- DERIVED: the tokens are those of a query with at most d brackets open at once, then the end of the text.
 abbrev pub Derives : (List ℕ → Option ℕ) → ℕ → List Placed → Query → Type 0
 Derives look d ts q = (p : ℕ) × QueryIn look (Within look d) ts q (tok p finish ∷ [])
+
+-- The tokens without their places.
+abbrev pub bareTokens : List Placed → List Token
+bareTokens [] = []
+bareTokens (t ∷ ts) = t .token ∷ bareTokens ts
+
+-- PLACES: they play no part in what is derived.
+abbrev pub PlacesApart : Type 0
+PlacesApart = (look : List ℕ → Option ℕ) (d : ℕ) (ts us : List Placed) (q : Query) → bareTokens ts ≡ bareTokens us → Derives look d ts q → Derives look d us q
 
 -- Is the end of the text the last token, and no other?
 abbrev pub ended : List Placed → Bool
