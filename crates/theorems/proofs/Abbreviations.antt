@@ -1,8 +1,8 @@
 -- Abbreviations mean what XPath 1.0 says: a derivation goes over into one of the tokens with each abbreviation written out. Assumes nothing.
 use Prim.Native.Nat.{ℕ, zero, suc}
 use native.Mathlib.Omega.{arith}
-use mathlib.Core.Path.{_≡_, refl}
-use mathlib.Core.List.{List, [], _∷_}
+use mathlib.Core.Path.{refl}
+use mathlib.Core.List.{List, []}
 use mathlib.Core.Option.{Option}
 use Rattle.paper.specs.Tokens.{Placed}
 use Rattle.paper.specs.Query.{Test, Expr, Steps, Preds, Query}

@@ -5,16 +5,16 @@ use native.Mathlib.Omega.{arith}
 use mathlib.Core.Path.{_≡_, refl, sym, _∙_, ap, subst}
 use mathlib.Core.Bool.{Bool, true, false, cond, false≢true}
 use mathlib.Core.List.{List, [], _∷_}
-use mathlib.Core.Logic.{_⊎_, inl, inr, ⊎-elim}
-use mathlib.Core.Option.{Option, none, some}
+use mathlib.Core.Logic.{inr}
+use mathlib.Core.Option.{Option}
 use lib.Dec.{eqb}
-use lib.ListN.{length, drop, take}
+use lib.ListN.{length, drop}
 use Rattle.paper.specs.Tools.{begins}
 use Rattle.paper.specs.Names.{nameStart}
 use Rattle.paper.specs.Limits.{bracketLimit}
-use Rattle.paper.specs.Tokens.{Token, slash, slashes, dot, dots, colons, bar, openSquare, closeSquare, openRound, closeRound, star, finish, stray, word, is, Placed, run, white, tokenAt, beyond, tokensFrom, tokens}
+use Rattle.paper.specs.Tokens.{Token, finish, is, Placed, white, tokenAt, beyond, tokensFrom, tokens}
 use Rattle.paper.specs.Query.{Test, Expr, Steps, Preds, Query}
-use Rattle.paper.specs.Reading.{Got, got, refused, next, at, sees, Step, readPaths, readWithin, readText}
+use Rattle.paper.specs.Reading.{got, at, sees, Step, readWithin, readText}
 use Rattle.theorems.specs.Grammar.{tok, PredsIn, no-pred, one-pred, TestIn, star-test, node-test, text-test, name-test}
 use Rattle.theorems.specs.Grammar.{StepIn, dot-step, dots-step, child-step, axis-step, StepsIn, last-step, slash-step, slashes-step}
 use Rattle.theorems.specs.Grammar.{OperandIn, path-operand, round-operand, not-operand, TermIn, one-operand, and-operand, ExprIn, one-term, or-term}

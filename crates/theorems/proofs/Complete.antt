@@ -2,18 +2,18 @@
 -- By induction over the derivation. Where fewer brackets may be opened than the derivation has, reading may end in refusal 4 instead. Assumes nothing.
 use Prim.Native.Nat.{ℕ, zero, suc, _≤_}
 use native.Mathlib.Omega.{arith}
-use mathlib.Core.Path.{_≡_, refl, sym, _∙_, ap, subst}
-use mathlib.Core.Bool.{Bool, true, false, _&&_, _||_, cond}
+use mathlib.Core.Path.{_≡_, refl, _∙_, ap}
+use mathlib.Core.Bool.{Bool, true, false, _&&_}
 use mathlib.Core.List.{List, [], _∷_}
 use mathlib.Core.Logic.{_⊎_, inl, inr, ⊎-elim}
-use mathlib.Core.Option.{Option, none, some}
+use mathlib.Core.Option.{Option}
 use lib.ListN.{length, drop}
 use Rattle.paper.specs.Tools.{ascii, same}
-use Rattle.paper.specs.Tokens.{Token, slash, slashes, dot, dots, colons, bar, openSquare, closeSquare, openRound, closeRound, star, finish, word, Placed}
-use Rattle.paper.specs.Query.{Axis, self, child, parent, Test, anyNode, textNode, named, anyElement}
-use Rattle.paper.specs.Query.{Expr, path, both, either, negated, Steps, stop, Preds, bare, pred, Query, paths}
-use Rattle.paper.specs.Reading.{Got, got, refused, then, next, at, sees, says, wrong, pass, axisNamed, axisAhead, Step, before, deep, startsStep}
-use Rattle.paper.specs.Reading.{readTail, readName, readTested, readAxis, readStep, readOperand, readTerm, readExpr, readPath, readWithin}
+use Rattle.paper.specs.Tokens.{slash, slashes, colons, openSquare, closeSquare, openRound, closeRound, finish, word, Placed}
+use Rattle.paper.specs.Query.{Axis, child, Test}
+use Rattle.paper.specs.Query.{Expr, path, Steps, Preds, Query}
+use Rattle.paper.specs.Reading.{Got, got, refused, then, next, sees, says, Step, startsStep}
+use Rattle.paper.specs.Reading.{readTail, readTested, readStep, readOperand, readTerm, readExpr, readPath, readWithin}
 use Rattle.theorems.specs.Grammar.{tok, PredsIn, no-pred, one-pred, TestIn, star-test, node-test, text-test, name-test}
 use Rattle.theorems.specs.Grammar.{StepIn, dot-step, dots-step, child-step, axis-step, StepsIn, last-step, slash-step, slashes-step}
 use Rattle.theorems.specs.Grammar.{OperandIn, path-operand, round-operand, not-operand, TermIn, one-operand, and-operand, ExprIn, one-term, or-term}

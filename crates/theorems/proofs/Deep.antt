@@ -3,24 +3,24 @@
 use Prim.Native.Nat.{ℕ, zero, suc, _+_}
 use native.Mathlib.Omega.{arith}
 use mathlib.Core.Path.{_≡_, refl, sym, _∙_, ap, subst}
-use mathlib.Core.Bool.{Bool, true, false, _&&_, cond}
-use mathlib.Core.List.{List, [], _∷_, _++_}
+use mathlib.Core.Bool.{true, _&&_}
+use mathlib.Core.List.{List, [], _∷_}
 use mathlib.Core.Option.{Option, none, some}
 use lib.ListN.{length, drop}
 use Rattle.paper.specs.Tools.{ascii}
 use Rattle.paper.specs.Tokens.{Token, slash, slashes, dot, dots, colons, bar, openSquare, closeSquare, openRound, closeRound, star, finish, word, letters, Placed}
 use Rattle.paper.specs.Query.{Axis, child, Test, anyNode, textNode, named, anyElement}
-use Rattle.paper.specs.Query.{Expr, path, both, either, negated, Steps, stop, Preds, bare, pred, Query, paths}
-use Rattle.paper.specs.Reading.{Got, got, refused, then, next, at, sees, says, pass, axisAhead, Step, before, deep, startsStep}
+use Rattle.paper.specs.Query.{Expr, path, both, either, negated, stop, Preds, bare, pred, paths}
+use Rattle.paper.specs.Reading.{Got, got, refused, then, next, at, sees, says, pass, axisAhead, before, deep, startsStep}
 use Rattle.paper.specs.Reading.{readPreds, readTail, readName, readTested, readAxis, readStep, readSteps, readOperand, readAnds, readTerm, readOrs, readExpr, readPath, readPaths, readWithin}
-use Rattle.paper.proofs.Tests.{and-true, none-some}
+use Rattle.paper.proofs.Tests.{and-true}
 use Rattle.theorems.specs.Grammar.{tok, PredsIn, no-pred, one-pred, TestIn, star-test, node-test, text-test, name-test}
 use Rattle.theorems.specs.Grammar.{StepIn, child-step, axis-step, StepsIn, last-step, slash-step, slashes-step}
 use Rattle.theorems.specs.Grammar.{OperandIn, path-operand, round-operand, not-operand, TermIn, one-operand, and-operand, ExprIn, one-term, or-term}
-use Rattle.theorems.specs.Grammar.{PathIn, root-path, slash-path, slashes-path, QueryIn, one-path, bar-path, Within, Derives, reading, opening, closing, AllKnown, Reached}
+use Rattle.theorems.specs.Grammar.{PathIn, slash-path, slashes-path, QueryIn, one-path, bar-path, Within, reading, opening, closing, AllKnown, Reached}
 use Rattle.theorems.proofs.Seeing.{seen, said, chosen, passed}
 use Rattle.theorems.proofs.Sound.{drop-two, axis-ahead, closed-got, step-got, operand-got, term-got, path-got, within-got}
-use Rattle.theorems.proofs.Pieces.{Front, front-none, front-cons, front-open, front-close, front-then, Piece, step-piece, term-piece, expr-piece, path-piece, operand-piece, within-piece}
+use Rattle.theorems.proofs.Pieces.{Front, front-none, front-cons, front-open, front-close, front-then, Piece, step-piece, term-piece, expr-piece, path-piece, within-piece}
 
 -- What was read up to a bracket that is one too many, and how it can go on.
 record Deep {X : Type 0} (F More : List Placed → X → List Placed → Type 0) (d : ℕ) (ts : List Placed) (p : ℕ) : Type 0 where

@@ -2,21 +2,21 @@
 -- A reader leaves no more tokens than it was given, since what it gets is derived from them. Assumes nothing.
 use Prim.Native.Nat.{ℕ, zero, suc, _-_, _≤_}
 use native.Mathlib.Omega.{arith}
-use mathlib.Core.Path.{_≡_, refl, sym, _∙_, ap, ap₂, subst}
-use mathlib.Core.Bool.{Bool, true, false, _&&_, _||_, cond}
+use mathlib.Core.Path.{_≡_, refl, _∙_, ap}
+use mathlib.Core.Bool.{Bool, true, false, cond}
 use mathlib.Core.List.{List, [], _∷_}
-use mathlib.Core.Option.{Option, none, some}
+use mathlib.Core.Option.{Option}
 use lib.ListN.{length, drop, length-drop}
 use Rattle.paper.specs.Tools.{ascii}
-use Rattle.paper.specs.Tokens.{Token, slash, slashes, dot, dots, colons, bar, openSquare, closeSquare, openRound, closeRound, star, finish, word, Placed}
+use Rattle.paper.specs.Tokens.{slash, slashes, bar, openSquare, closeSquare, finish, Placed}
 use Rattle.paper.specs.Query.{Expr, both, either, Steps, stop, Preds, bare, pred, Query, paths, Test}
-use Rattle.paper.specs.Reading.{Got, got, refused, then, next, at, sees, says, wrong, pass, Step, before, deep}
-use Rattle.paper.specs.Reading.{readPreds, readTested, readStep, readSteps, readOperand, readAnds, readTerm, readOrs, readPath, readPaths, readWithin}
-use Rattle.theorems.specs.Grammar.{tok, PredsIn, no-pred, one-pred, TestIn, star-test, node-test, text-test, name-test}
+use Rattle.paper.specs.Reading.{Got, got, refused, then, at, sees, says, pass, Step, before, deep}
+use Rattle.paper.specs.Reading.{readPreds, readTested, readStep, readSteps, readOperand, readAnds, readTerm, readOrs, readPath, readPaths}
+use Rattle.theorems.specs.Grammar.{PredsIn, no-pred, one-pred, TestIn, star-test, node-test, text-test, name-test}
 use Rattle.theorems.specs.Grammar.{StepIn, dot-step, dots-step, child-step, axis-step, StepsIn, last-step, slash-step, slashes-step}
 use Rattle.theorems.specs.Grammar.{OperandIn, path-operand, round-operand, not-operand, TermIn, one-operand, and-operand, ExprIn, one-term, or-term}
 use Rattle.theorems.specs.Grammar.{PathIn, root-path, slash-path, slashes-path, Within}
-use Rattle.theorems.proofs.Sound.{closed-got, preds-got, step-got, steps-got, operand-got, term-got, expr-got, path-got}
+use Rattle.theorems.proofs.Sound.{closed-got, step-got, operand-got, term-got, path-got}
 
 -- The readers with a bound of all tokens left.
 module _ (look : List ℕ → Option ℕ) (within : ℕ → List Placed → Got Expr) where

@@ -1,14 +1,13 @@
 -- A reader decides by the tokens that it takes and the one after them; a refusal 3 stands whatever follows its token, and without that token the text can be completed.
 -- Here: what that means for a reader, and how it carries over from readers to those made of them. Assumes nothing.
-use Prim.Native.Nat.{ℕ, zero, suc}
-use mathlib.Core.Path.{_≡_, refl, sym, _∙_, ap, ap₂, subst, subst₂}
-use mathlib.Core.Bool.{Bool, true, false, _&&_, _||_, cond}
+use Prim.Native.Nat.{ℕ}
+use mathlib.Core.Path.{_≡_, refl, sym, _∙_, ap, subst, subst₂}
+use mathlib.Core.Bool.{Bool, true, false}
 use mathlib.Core.List.{List, [], _∷_, _++_, append-assoc}
-use mathlib.Core.Logic.{_⊎_, inl, inr}
-use lib.ListN.{length, drop}
-use Rattle.paper.specs.Tools.{ascii}
-use Rattle.paper.specs.Tokens.{Token, closeSquare, closeRound, bar, finish, word, sort, is, letters, Placed}
-use Rattle.paper.specs.Reading.{Got, got, refused, then, next, at, sees, says, wrong, pass, startsStep}
+use mathlib.Core.Logic.{_⊎_, inl}
+use lib.ListN.{drop}
+use Rattle.paper.specs.Tokens.{Token, finish, sort, is, letters, Placed}
+use Rattle.paper.specs.Reading.{Got, got, refused, then, next, at, sees, pass, startsStep}
 use Rattle.theorems.specs.Grammar.{tok, ended}
 use Rattle.theorems.proofs.Seeing.{ofSort, seen}
 use Rattle.theorems.proofs.Complete.{Done}

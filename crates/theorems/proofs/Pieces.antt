@@ -2,17 +2,17 @@
 -- By induction over the derivation. Assumes nothing.
 use Prim.Native.Nat.{ℕ, zero, suc, _+_}
 use native.Mathlib.Omega.{arith}
-use mathlib.Core.Path.{_≡_, refl, sym, _∙_, ap, subst}
+use mathlib.Core.Path.{_≡_, refl, sym, _∙_, ap}
 use mathlib.Core.List.{List, [], _∷_, _++_, append-assoc}
 use mathlib.Core.Option.{Option}
 use Rattle.paper.specs.Tools.{ascii}
-use Rattle.paper.specs.Tokens.{slash, slashes, dot, dots, colons, bar, openSquare, closeSquare, openRound, closeRound, star, finish, word, Placed}
-use Rattle.paper.specs.Query.{Test, Expr, Steps, Preds, Query}
+use Rattle.paper.specs.Tokens.{slash, slashes, dot, dots, colons, openSquare, closeSquare, openRound, closeRound, star, word, Placed}
+use Rattle.paper.specs.Query.{Test, Expr, Steps, Preds}
 use Rattle.paper.specs.Reading.{Step}
 use Rattle.theorems.specs.Grammar.{tok, PredsIn, no-pred, one-pred, TestIn, star-test, node-test, text-test, name-test}
 use Rattle.theorems.specs.Grammar.{StepIn, dot-step, dots-step, child-step, axis-step, StepsIn, last-step, slash-step, slashes-step}
 use Rattle.theorems.specs.Grammar.{OperandIn, path-operand, round-operand, not-operand, TermIn, one-operand, and-operand, ExprIn, one-term, or-term}
-use Rattle.theorems.specs.Grammar.{PathIn, root-path, slash-path, slashes-path, QueryIn, one-path, bar-path, Within, opened, closed}
+use Rattle.theorems.specs.Grammar.{PathIn, root-path, slash-path, slashes-path, Within, opened, closed}
 
 -- Tokens put before others, which leave so many brackets open.
 pub record Front (n : ℕ) (h : List Placed → List Placed) : Type 0 where

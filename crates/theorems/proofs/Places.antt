@@ -2,10 +2,9 @@
 -- By induction over the derivation, which leaves the same tokens in both lists. Assumes nothing.
 use Prim.Native.Nat.{ℕ, zero, suc}
 use native.Mathlib.Omega.{arith}
-use mathlib.Core.Path.{_≡_, refl, sym, ap, subst}
+use mathlib.Core.Path.{_≡_, refl, sym, ap}
 use mathlib.Core.List.{List, [], _∷_}
 use mathlib.Core.Option.{Option}
-use Rattle.paper.specs.Tools.{ascii}
 use Rattle.paper.specs.Tokens.{Token, finish, Placed}
 use Rattle.paper.specs.Query.{Test, Expr, Steps, Preds, Query}
 use Rattle.paper.specs.Reading.{Step}

@@ -3,11 +3,10 @@
 use Prim.Native.Nat.{ℕ, zero, suc, _<_}
 use native.Mathlib.Omega.{arith}
 use mathlib.Core.Path.{_≡_, refl, sym, _∙_, ap, subst, subst₂}
-use mathlib.Core.Bool.{Bool, true, false, false≢true}
+use mathlib.Core.Bool.{true, false≢true}
 use mathlib.Core.List.{List, [], _∷_, _++_}
-use mathlib.Core.Logic.{_⊎_, inl, inr}
-use mathlib.Core.Option.{Option, some}
-use lib.ListN.{length}
+use mathlib.Core.Logic.{_⊎_, inl}
+use mathlib.Core.Option.{Option}
 use Rattle.paper.specs.Limits.{bracketLimit}
 use Rattle.paper.specs.Answers.{anyName}
 use Rattle.paper.specs.Tokens.{finish, Placed, white, tokenAt, beyond as token-more, tokensFrom, tokens}
@@ -16,7 +15,7 @@ use Rattle.paper.specs.Reading.{Got, got, refused, at, Step, readWithin, readTe
 use Rattle.theorems.specs.Grammar.{tok, PredsIn, no-pred, one-pred, TestIn, star-test, node-test, text-test, name-test}
 use Rattle.theorems.specs.Grammar.{StepIn, dot-step, dots-step, child-step, axis-step, StepsIn, last-step, slash-step, slashes-step}
 use Rattle.theorems.specs.Grammar.{OperandIn, path-operand, round-operand, not-operand, TermIn, one-operand, and-operand, ExprIn, one-term, or-term}
-use Rattle.theorems.specs.Grammar.{PathIn, root-path, slash-path, slashes-path, QueryIn, one-path, bar-path, Within, Derives, ended, reading, AllKnown, beyond, Rising, Reached, TooDeep, Wrong, RefusedWrong, RefusedWrongText, RefusedDeep, RefusedDeepText}
+use Rattle.theorems.specs.Grammar.{PathIn, root-path, slash-path, slashes-path, QueryIn, one-path, bar-path, Within, Derives, ended, reading, AllKnown, beyond, Rising, RefusedWrong, RefusedWrongText, RefusedDeep, RefusedDeepText}
 use Rattle.theorems.proofs.Sound.{within-got}
 use Rattle.theorems.proofs.Fuel.{within-less, allPaths}
 use Rattle.theorems.proofs.Complete.{Comes, comes, runs-short, within-read, query-read}

@@ -1,16 +1,15 @@
 -- What a test on the next token says, and how to take apart what a reader got.
 -- Assumes nothing.
-use Prim.Native.Nat.{ℕ, zero, suc}
+use Prim.Native.Nat.{ℕ}
 use native.Mathlib.Omega.{arith}
-use mathlib.Core.Path.{_≡_, refl, sym, _∙_, ap, subst, subst₂}
+use mathlib.Core.Path.{_≡_, refl, sym, _∙_, ap, subst₂}
 use mathlib.Core.Bool.{Bool, true, false, cond, false≢true}
 use mathlib.Core.List.{List, [], _∷_}
 use lib.Dec.{eqb}
 use lib.ListN.{drop}
 use borrow.Author.Tests.{eqb-true}
-use Rattle.paper.specs.Tools.{same}
 use Rattle.paper.specs.Tokens.{Token, slash, slashes, dot, dots, colons, bar, openSquare, closeSquare, openRound, closeRound, star, finish, stray, word, sort, is, letters, Placed}
-use Rattle.paper.specs.Reading.{Got, got, refused, then, next, at, sees, says, wrong, pass}
+use Rattle.paper.specs.Reading.{Got, got, refused, then, next, at, sees, says, pass}
 use Rattle.paper.proofs.Same.{same-equal}
 use Rattle.theorems.specs.Grammar.{tok}
 

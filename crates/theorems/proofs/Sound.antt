@@ -2,15 +2,15 @@
 -- By induction over the brackets that may still be opened, and over the most steps, predicates and operands that may come. Assumes nothing.
 use Prim.Native.Nat.{ℕ, zero, suc}
 use mathlib.Core.Path.{_≡_, refl, sym, _∙_, ap, subst}
-use mathlib.Core.Bool.{Bool, true, false, _&&_, _||_, cond}
+use mathlib.Core.Bool.{true, false, _&&_}
 use mathlib.Core.List.{List, [], _∷_}
 use mathlib.Core.Option.{Option, none, some}
 use lib.ListN.{length, drop}
 use Rattle.paper.specs.Tools.{ascii}
 use Rattle.paper.specs.Tokens.{Token, slash, slashes, dot, dots, colons, bar, openSquare, closeSquare, openRound, closeRound, star, finish, word, sort, is, letters, Placed}
 use Rattle.paper.specs.Query.{Axis, self, child, parent, Test, anyNode, textNode, named, anyElement}
-use Rattle.paper.specs.Query.{Expr, path, both, either, negated, Steps, stop, Preds, bare, pred, Query, paths}
-use Rattle.paper.specs.Reading.{Got, got, refused, then, next, at, sees, says, wrong, pass, axisNamed, axisAhead, Step, before, deep, startsStep}
+use Rattle.paper.specs.Query.{Expr, both, either, negated, Steps, stop, Preds, bare, pred, Query}
+use Rattle.paper.specs.Reading.{Got, got, then, next, at, sees, says, pass, axisNamed, axisAhead, Step, deep, startsStep}
 use Rattle.paper.specs.Reading.{readPreds, readTail, readName, readTested, readAxis, readStep, readSteps, readOperand, readAnds, readTerm, readOrs, readExpr, readPath, readPaths, readWithin}
 use Rattle.paper.proofs.Tests.{and-true, none-some}
 use Rattle.theorems.specs.Grammar.{tok, PredsIn, no-pred, one-pred, TestIn, star-test, node-test, text-test, name-test}

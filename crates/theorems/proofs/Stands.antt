@@ -1,27 +1,27 @@
 -- Each reader decides by the tokens that it takes and the one after them, where every name is known.
 -- Reader by reader, in the order in which they are made of each other; runs by induction over the tokens left. Assumes nothing.
-use Prim.Native.Nat.{ℕ, zero, suc, _-_, _≤_, _<_}
+use Prim.Native.Nat.{ℕ, zero, suc, _≤_, _<_}
 use native.Mathlib.Omega.{arith}
 use mathlib.Core.Path.{_≡_, refl, sym, _∙_, ap, ap₂, subst}
-use mathlib.Core.Bool.{Bool, true, false, _&&_, _||_, cond, false≢true}
+use mathlib.Core.Bool.{Bool, true, false, _&&_, cond, false≢true}
 use mathlib.Core.List.{List, [], _∷_, _++_, append-assoc}
-use mathlib.Core.Logic.{_⊎_, inl, inr, ⊎-elim}
+use mathlib.Core.Logic.{_⊎_, inl, inr}
 use mathlib.Core.Option.{Option, none, some}
-use lib.ListN.{length, drop, length-drop, length-append}
+use lib.ListN.{length, drop, length-append}
 use Rattle.paper.specs.Tools.{ascii, same}
 use Rattle.paper.specs.Tokens.{Token, slash, slashes, dot, dots, colons, bar, openSquare, closeSquare, openRound, closeRound, star, finish, stray, word, is, letters, Placed}
 use Rattle.paper.specs.Query.{Axis, self, child, parent, Test, anyNode, textNode, named, anyElement}
 use Rattle.paper.specs.Query.{Expr, path, both, either, negated, Steps, stop, Preds, bare, pred, Query, paths}
 use Rattle.paper.specs.Reading.{Got, got, refused, then, next, at, sees, says, wrong, pass, axisNamed, axisAhead, Step, before, deep, startsStep}
-use Rattle.paper.specs.Reading.{readTail, readName, readTested, readAxis, readStep, readOperand, readTerm, readExpr, readPath, readWithin}
+use Rattle.paper.specs.Reading.{readTail, readTested, readStep, readOperand, readTerm, readExpr, readPath}
 use Rattle.paper.proofs.Tests.{and-true, none-some}
 use Rattle.paper.proofs.Same.{same-equal}
 use Rattle.theorems.specs.Grammar.{tok, ended}
 use Rattle.theorems.proofs.Seeing.{seen, said, chosen}
 use Rattle.theorems.proofs.Fuel.{allPreds, allSteps, allAnds, allOrs, allPaths, preds-on, steps-on, ands-on, ors-on, paths-on}
-use Rattle.theorems.proofs.Complete.{and-false, square-done, round-done, Done}
-use Rattle.theorems.proofs.Local.{Alike, Shuts, Follows, like, shut, Unended, Completion, Fails, Local, takes, fails, Default}
-use Rattle.theorems.proofs.Local.{local-cons, local-same, local-when, local-got, default-got, local-then, local-map, local-pass, default-pass}
+use Rattle.theorems.proofs.Complete.{and-false, square-done, round-done}
+use Rattle.theorems.proofs.Local.{Alike, Shuts, Follows, like, shut, Unended, Fails, Local, takes, fails, Default}
+use Rattle.theorems.proofs.Local.{local-cons, local-same, local-when, local-got, local-then, local-map, local-pass, default-pass}
 
 -- Tokens that end whatever was read before them.
 square-shuts : (p : ℕ) (us : List Placed) → Shuts (tok p closeSquare ∷ us)
