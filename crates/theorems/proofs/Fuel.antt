@@ -35,6 +35,31 @@ module _ (look : List ℕ → Option ℕ) (within : ℕ → List Placed → Got 
   unfoldable pub allPaths : List Placed → Got Query
   allPaths ts = readPaths look within (length ts) ts
 
+-- One turn of each, which goes on with another reader.
+module _ (look : List ℕ → Option ℕ) (within : ℕ → List Placed → Got Expr) where
+  abbrev pub predsTurn : (List Placed → Got Preds) → List Placed → Got Preds
+  predsTurn more ts =
+      cond (sees openSquare ts) (then (then (within (at ts) (drop 1 ts)) (pass closeSquare)) (λ e left. then (more left) (λ ps. got (pred e ps)))) (got bare ts)
+
+  abbrev pub stepsTurn : (List Placed → Got Steps) → List Placed → Got Steps
+  stepsTurn more ts =
+      then (readStep look within ts)
+      (λ s left.
+      cond (sees slash left) (then (more (drop 1 left)) (λ rest. got (before s rest)))
+      (cond (sees slashes left) (then (more (drop 1 left)) (λ rest. got (before s (deep rest)))) (got (before s stop) left)))
+
+  abbrev pub andsTurn : (Expr → List Placed → Got Expr) → Expr → List Placed → Got Expr
+  andsTurn more a ts = cond (says (ascii "and") ts) (then (readOperand look within (drop 1 ts)) (λ b. more (both a b))) (got a ts)
+
+  abbrev pub orsTurn : (Expr → List Placed → Got Expr) → Expr → List Placed → Got Expr
+  orsTurn more a ts = cond (says (ascii "or") ts) (then (readTerm look within (drop 1 ts)) (λ b. more (either a b))) (got a ts)
+
+  abbrev pub pathsTurn : (List Placed → Got Query) → List Placed → Got Query
+  pathsTurn more ts =
+      then (readPath look within ts)
+      (λ p left.
+      cond (sees bar left) (then (more (drop 1 left)) (λ q. got (record { first = p; others = paths q }))) (pass finish (record { first = p; others = [] }) left))
+
 -- What is derived leaves no more tokens than there were.
 module _ (look : List ℕ → Option ℕ) (Inside : List Placed → Expr → List Placed → Type 0)
     (inside : (ts : List Placed) (e : Expr) (rest : List Placed) → Inside ts e rest → length rest ≤ length ts) where
@@ -93,21 +118,66 @@ cond-same false p q = q
 module _ (look : List ℕ → Option ℕ) (within : ℕ → List Placed → Got Expr) (Inside : List Placed → Expr → List Placed → Type 0)
     (sound : (p : ℕ) (ts : List Placed) (e : Expr) (left : List Placed) → within p ts ≡ got e left → Inside ts e left)
     (inside : (ts : List Placed) (e : Expr) (rest : List Placed) → Inside ts e rest → length rest ≤ length ts) where
+  -- A turn goes on with fewer tokens than it was given.
+  preds-same : (f g : List Placed → Got Preds) (ts : List Placed) → ((left : List Placed) → length left ≤ length ts - 1 → f left ≡ g left) → predsTurn look within f ts ≡ predsTurn look within g ts
+  preds-same f g ts same =
+      cond-same (sees openSquare ts)
+      (then-same (then (within (at ts) (drop 1 ts)) (pass closeSquare)) _ _
+      (λ e left u.
+      let i = closed-got look within Inside sound closeSquare refl (λ w. refl) (at ts) (drop 1 ts) e left u in
+      let less : suc (length left) ≤ length (drop 1 ts) = inside _ _ _ (i .1) in
+      let one : length (drop 1 ts) ≡ length ts - 1 = length-drop 1 ts in
+      ap (λ r. then r (λ ps. got (pred e ps))) (same left (omega arith))))
+      refl
+
+  steps-same : (f g : List Placed → Got Steps) (ts : List Placed) → ((left : List Placed) → length left ≤ length ts - 1 → f left ≡ g left) → stepsTurn look within f ts ≡ stepsTurn look within g ts
+  steps-same f g ts same =
+      then-same (readStep look within ts) _ _
+      (λ s left u.
+      let less : length left ≤ length ts = step-less look Inside inside (step-got look within Inside sound ts s left u) in
+      let one : length (drop 1 left) ≡ length left - 1 = length-drop 1 left in
+      let e = same (drop 1 left) (omega arith) in
+      cond-same (sees slash left) (ap (λ r. then r (λ rest. got (before s rest))) e)
+      (cond-same (sees slashes left) (ap (λ r. then r (λ rest. got (before s (deep rest)))) e) refl))
+
+  ands-same : (f g : Expr → List Placed → Got Expr) (a : Expr) (ts : List Placed) → ((b : Expr) (left : List Placed) → length left ≤ length ts - 1 → f b left ≡ g b left)
+      → andsTurn look within f a ts ≡ andsTurn look within g a ts
+  ands-same f g a ts same =
+      cond-same (says (ascii "and") ts)
+      (then-same (readOperand look within (drop 1 ts)) _ _
+      (λ b left u.
+      let less : length left ≤ length (drop 1 ts) = operand-less look Inside inside (operand-got look within Inside sound (drop 1 ts) b left u) in
+      let one : length (drop 1 ts) ≡ length ts - 1 = length-drop 1 ts in
+      same (both a b) left (omega arith)))
+      refl
+
+  ors-same : (f g : Expr → List Placed → Got Expr) (a : Expr) (ts : List Placed) → ((b : Expr) (left : List Placed) → length left ≤ length ts - 1 → f b left ≡ g b left)
+      → orsTurn look within f a ts ≡ orsTurn look within g a ts
+  ors-same f g a ts same =
+      cond-same (says (ascii "or") ts)
+      (then-same (readTerm look within (drop 1 ts)) _ _
+      (λ b left u.
+      let less : length left ≤ length (drop 1 ts) = term-less look Inside inside (term-got look within Inside sound (drop 1 ts) b left u) in
+      let one : length (drop 1 ts) ≡ length ts - 1 = length-drop 1 ts in
+      same (either a b) left (omega arith)))
+      refl
+
+  paths-same : (f g : List Placed → Got Query) (ts : List Placed) → ((left : List Placed) → length left ≤ length ts - 1 → f left ≡ g left) → pathsTurn look within f ts ≡ pathsTurn look within g ts
+  paths-same f g ts same =
+      then-same (readPath look within ts) _ _
+      (λ p left u.
+      let less : length left ≤ length ts = path-less look Inside inside (path-got look within Inside sound ts p left u) in
+      let one : length (drop 1 left) ≡ length left - 1 = length-drop 1 left in
+      cond-same (sees bar left) (ap (λ r. then r (λ q. got (record { first = p; others = paths q }))) (same (drop 1 left) (omega arith))) refl)
+
+  -- Any two bounds that suffice read alike.
   preds-any : (n m : ℕ) (ts : List Placed) → length ts ≤ n → length ts ≤ m → readPreds look within n ts ≡ readPreds look within m ts
   preds-any zero zero ts h k = refl
   preds-any zero (suc m) [] h k = refl
   preds-any zero (suc m) (t ∷ ts) h k = absurd (omega arith)
   preds-any (suc n) zero [] h k = refl
   preds-any (suc n) zero (t ∷ ts) h k = absurd (omega arith)
-  preds-any (suc n) (suc m) ts h k =
-      cond-same (sees openSquare ts)
-      (then-same (then (within (at ts) (drop 1 ts)) (pass closeSquare)) _ _
-      (λ e left u.
-      let i = closed-got look within Inside sound closeSquare refl (λ w. refl) (at ts) (drop 1 ts) e left u in
-      let less : suc (length left) ≤ length (drop 1 ts) = inside _ _ _ (i .1) in
-      let one : suc (length left) ≤ length ts - 1 = rw (← length-drop 1 ts) less in
-      ap (λ r. then r (λ ps. got (pred e ps))) (preds-any n m left (omega arith) (omega arith))))
-      refl
+  preds-any (suc n) (suc m) ts h k = preds-same (readPreds look within n) (readPreds look within m) ts (λ left l. preds-any n m left (omega arith) (omega arith))
 
   steps-any : (n m : ℕ) (ts : List Placed) → length ts ≤ n → length ts ≤ m → readSteps look within n ts ≡ readSteps look within m ts
   unfolding readStep readTested
@@ -116,14 +186,7 @@ module _ (look : List ℕ → Option ℕ) (within : ℕ → List Placed → Got 
   steps-any zero (suc m) (t ∷ ts) h k = absurd (omega arith)
   steps-any (suc n) zero [] h k = refl
   steps-any (suc n) zero (t ∷ ts) h k = absurd (omega arith)
-  steps-any (suc n) (suc m) ts h k =
-      then-same (readStep look within ts) _ _
-      (λ s left u.
-      let less : length left ≤ length ts = step-less look Inside inside (step-got look within Inside sound ts s left u) in
-      let one : length (drop 1 left) ≡ length left - 1 = length-drop 1 left in
-      let same = steps-any n m (drop 1 left) (omega arith) (omega arith) in
-      cond-same (sees slash left) (ap (λ r. then r (λ rest. got (before s rest))) same)
-      (cond-same (sees slashes left) (ap (λ r. then r (λ rest. got (before s (deep rest)))) same) refl))
+  steps-any (suc n) (suc m) ts h k = steps-same (readSteps look within n) (readSteps look within m) ts (λ left l. steps-any n m left (omega arith) (omega arith))
 
   ands-any : (n m : ℕ) (a : Expr) (ts : List Placed) → length ts ≤ n → length ts ≤ m → readAnds look within n a ts ≡ readAnds look within m a ts
   ands-any zero zero a ts h k = refl
@@ -131,14 +194,7 @@ module _ (look : List ℕ → Option ℕ) (within : ℕ → List Placed → Got 
   ands-any zero (suc m) a (t ∷ ts) h k = absurd (omega arith)
   ands-any (suc n) zero a [] h k = refl
   ands-any (suc n) zero a (t ∷ ts) h k = absurd (omega arith)
-  ands-any (suc n) (suc m) a ts h k =
-      cond-same (says (ascii "and") ts)
-      (then-same (readOperand look within (drop 1 ts)) _ _
-      (λ b left u.
-      let less : length left ≤ length (drop 1 ts) = operand-less look Inside inside (operand-got look within Inside sound (drop 1 ts) b left u) in
-      let one : length (drop 1 ts) ≡ length ts - 1 = length-drop 1 ts in
-      ands-any n m (both a b) left (omega arith) (omega arith)))
-      refl
+  ands-any (suc n) (suc m) a ts h k = ands-same (readAnds look within n) (readAnds look within m) a ts (λ b left l. ands-any n m b left (omega arith) (omega arith))
 
   ors-any : (n m : ℕ) (a : Expr) (ts : List Placed) → length ts ≤ n → length ts ≤ m → readOrs look within n a ts ≡ readOrs look within m a ts
   ors-any zero zero a ts h k = refl
@@ -146,14 +202,7 @@ module _ (look : List ℕ → Option ℕ) (within : ℕ → List Placed → Got 
   ors-any zero (suc m) a (t ∷ ts) h k = absurd (omega arith)
   ors-any (suc n) zero a [] h k = refl
   ors-any (suc n) zero a (t ∷ ts) h k = absurd (omega arith)
-  ors-any (suc n) (suc m) a ts h k =
-      cond-same (says (ascii "or") ts)
-      (then-same (readTerm look within (drop 1 ts)) _ _
-      (λ b left u.
-      let less : length left ≤ length (drop 1 ts) = term-less look Inside inside (term-got look within Inside sound (drop 1 ts) b left u) in
-      let one : length (drop 1 ts) ≡ length ts - 1 = length-drop 1 ts in
-      ors-any n m (either a b) left (omega arith) (omega arith)))
-      refl
+  ors-any (suc n) (suc m) a ts h k = ors-same (readOrs look within n) (readOrs look within m) a ts (λ b left l. ors-any n m b left (omega arith) (omega arith))
 
   paths-any : (n m : ℕ) (ts : List Placed) → length ts ≤ n → length ts ≤ m → readPaths look within n ts ≡ readPaths look within m ts
   unfolding readPath
@@ -162,69 +211,35 @@ module _ (look : List ℕ → Option ℕ) (within : ℕ → List Placed → Got 
   paths-any zero (suc m) (t ∷ ts) h k = absurd (omega arith)
   paths-any (suc n) zero [] h k = refl
   paths-any (suc n) zero (t ∷ ts) h k = absurd (omega arith)
-  paths-any (suc n) (suc m) ts h k =
-      then-same (readPath look within ts) _ _
-      (λ p left u.
-      let less : length left ≤ length ts = path-less look Inside inside (path-got look within Inside sound ts p left u) in
-      let one : length (drop 1 left) ≡ length left - 1 = length-drop 1 left in
-      cond-same (sees bar left) (ap (λ r. then r (λ q. got (record { first = p; others = paths q }))) (paths-any n m (drop 1 left) (omega arith) (omega arith))) refl)
+  paths-any (suc n) (suc m) ts h k = paths-same (readPaths look within n) (readPaths look within m) ts (λ left l. paths-any n m left (omega arith) (omega arith))
 
   -- How each goes on.
-  pub preds-on : (ts : List Placed) → allPreds look within ts ≡ cond (sees openSquare ts) (then (then (within (at ts) (drop 1 ts)) (pass closeSquare)) (λ e left. then (allPreds look within left) (λ ps. got (pred e ps)))) (got bare ts)
+  pub preds-on : (ts : List Placed) → allPreds look within ts ≡ predsTurn look within (allPreds look within) ts
   unfolding allPreds
   preds-on ts =
       preds-any (length ts) (suc (length ts)) ts (omega arith) (omega arith) ∙
-      cond-same (sees openSquare ts)
-      (then-same (then (within (at ts) (drop 1 ts)) (pass closeSquare)) _ _
-      (λ e left u.
-      let i = closed-got look within Inside sound closeSquare refl (λ w. refl) (at ts) (drop 1 ts) e left u in
-      let less : suc (length left) ≤ length (drop 1 ts) = inside _ _ _ (i .1) in
-      let one : length (drop 1 ts) ≡ length ts - 1 = length-drop 1 ts in
-      ap (λ r. then r (λ ps. got (pred e ps))) (preds-any (length ts) (length left) left (omega arith) (omega arith))))
-      refl
+      preds-same (readPreds look within (length ts)) (allPreds look within) ts (λ left l. preds-any (length ts) (length left) left (omega arith) (omega arith))
 
-  pub steps-on : (ts : List Placed) → allSteps look within ts ≡ then (readStep look within ts) (λ s left. cond (sees slash left) (then (allSteps look within (drop 1 left)) (λ rest. got (before s rest))) (cond (sees slashes left) (then (allSteps look within (drop 1 left)) (λ rest. got (before s (deep rest)))) (got (before s stop) left)))
+  pub steps-on : (ts : List Placed) → allSteps look within ts ≡ stepsTurn look within (allSteps look within) ts
   unfolding allSteps
   steps-on ts =
       steps-any (length ts) (suc (length ts)) ts (omega arith) (omega arith) ∙
-      then-same (readStep look within ts) _ _
-      (λ s left u.
-      let less : length left ≤ length ts = step-less look Inside inside (step-got look within Inside sound ts s left u) in
-      let one : length (drop 1 left) ≡ length left - 1 = length-drop 1 left in
-      let same = steps-any (length ts) (length (drop 1 left)) (drop 1 left) (omega arith) (omega arith) in
-      cond-same (sees slash left) (ap (λ r. then r (λ rest. got (before s rest))) same)
-      (cond-same (sees slashes left) (ap (λ r. then r (λ rest. got (before s (deep rest)))) same) refl))
+      steps-same (readSteps look within (length ts)) (allSteps look within) ts (λ left l. steps-any (length ts) (length left) left (omega arith) (omega arith))
 
-  pub ands-on : (a : Expr) (ts : List Placed) → allAnds look within a ts ≡ cond (says (ascii "and") ts) (then (readOperand look within (drop 1 ts)) (λ b. allAnds look within (both a b))) (got a ts)
+  pub ands-on : (a : Expr) (ts : List Placed) → allAnds look within a ts ≡ andsTurn look within (allAnds look within) a ts
   unfolding allAnds
   ands-on a ts =
       ands-any (length ts) (suc (length ts)) a ts (omega arith) (omega arith) ∙
-      cond-same (says (ascii "and") ts)
-      (then-same (readOperand look within (drop 1 ts)) _ _
-      (λ b left u.
-      let less : length left ≤ length (drop 1 ts) = operand-less look Inside inside (operand-got look within Inside sound (drop 1 ts) b left u) in
-      let one : length (drop 1 ts) ≡ length ts - 1 = length-drop 1 ts in
-      ands-any (length ts) (length left) (both a b) left (omega arith) (omega arith)))
-      refl
+      ands-same (readAnds look within (length ts)) (allAnds look within) a ts (λ b left l. ands-any (length ts) (length left) b left (omega arith) (omega arith))
 
-  pub ors-on : (a : Expr) (ts : List Placed) → allOrs look within a ts ≡ cond (says (ascii "or") ts) (then (readTerm look within (drop 1 ts)) (λ b. allOrs look within (either a b))) (got a ts)
+  pub ors-on : (a : Expr) (ts : List Placed) → allOrs look within a ts ≡ orsTurn look within (allOrs look within) a ts
   unfolding allOrs
   ors-on a ts =
       ors-any (length ts) (suc (length ts)) a ts (omega arith) (omega arith) ∙
-      cond-same (says (ascii "or") ts)
-      (then-same (readTerm look within (drop 1 ts)) _ _
-      (λ b left u.
-      let less : length left ≤ length (drop 1 ts) = term-less look Inside inside (term-got look within Inside sound (drop 1 ts) b left u) in
-      let one : length (drop 1 ts) ≡ length ts - 1 = length-drop 1 ts in
-      ors-any (length ts) (length left) (either a b) left (omega arith) (omega arith)))
-      refl
+      ors-same (readOrs look within (length ts)) (allOrs look within) a ts (λ b left l. ors-any (length ts) (length left) b left (omega arith) (omega arith))
 
-  pub paths-on : (ts : List Placed) → allPaths look within ts ≡ then (readPath look within ts) (λ p left. cond (sees bar left) (then (allPaths look within (drop 1 left)) (λ q. got (record { first = p; others = paths q }))) (pass finish (record { first = p; others = [] }) left))
+  pub paths-on : (ts : List Placed) → allPaths look within ts ≡ pathsTurn look within (allPaths look within) ts
   unfolding allPaths
   paths-on ts =
       paths-any (length ts) (suc (length ts)) ts (omega arith) (omega arith) ∙
-      then-same (readPath look within ts) _ _
-      (λ p left u.
-      let less : length left ≤ length ts = path-less look Inside inside (path-got look within Inside sound ts p left u) in
-      let one : length (drop 1 left) ≡ length left - 1 = length-drop 1 left in
-      cond-same (sees bar left) (ap (λ r. then r (λ q. got (record { first = p; others = paths q }))) (paths-any (length ts) (length (drop 1 left)) (drop 1 left) (omega arith) (omega arith))) refl)
+      paths-same (readPaths look within (length ts)) (allPaths look within) ts (λ left l. paths-any (length ts) (length left) left (omega arith) (omega arith))

@@ -9,13 +9,13 @@ use mathlib.Core.Logic.{_⊎_, inl}
 use mathlib.Core.Option.{Option}
 use Rattle.paper.specs.Limits.{bracketLimit}
 use Rattle.paper.specs.Answers.{anyName}
-use Rattle.paper.specs.Tokens.{finish, Placed, white, tokenAt, beyond as token-more, tokensFrom, tokens}
+use Rattle.paper.specs.Tokens.{finish, Placed, white, tokenAt, beyond, tokensFrom, tokens}
 use Rattle.paper.specs.Query.{Test, Expr, Steps, Preds, Query}
 use Rattle.paper.specs.Reading.{Got, got, refused, at, Step, readWithin, readText}
 use Rattle.theorems.specs.Grammar.{tok, PredsIn, no-pred, one-pred, TestIn, star-test, node-test, text-test, name-test}
 use Rattle.theorems.specs.Grammar.{StepIn, dot-step, dots-step, child-step, axis-step, StepsIn, last-step, slash-step, slashes-step}
 use Rattle.theorems.specs.Grammar.{OperandIn, path-operand, round-operand, not-operand, TermIn, one-operand, and-operand, ExprIn, one-term, or-term}
-use Rattle.theorems.specs.Grammar.{PathIn, root-path, slash-path, slashes-path, QueryIn, one-path, bar-path, Within, Derives, ended, reading, AllKnown, beyond, Rising, RefusedWrong, RefusedWrongText, RefusedDeep, RefusedDeepText}
+use Rattle.theorems.specs.Grammar.{PathIn, root-path, slash-path, slashes-path, QueryIn, one-path, bar-path, Within, Derives, ended, reading, AllKnown, allBeyond, Rising, RefusedWrong, RefusedWrongText, RefusedDeep, RefusedDeepText}
 use Rattle.theorems.proofs.Sound.{within-got}
 use Rattle.theorems.proofs.Fuel.{within-less, allPaths}
 use Rattle.theorems.proofs.Complete.{Comes, comes, runs-short, within-read, query-read}
@@ -101,7 +101,7 @@ append-cancel [] c e h = h
 append-cancel (x ∷ b) c e h = append-cancel b c e (let f = h in cc)
 
 -- In tokens whose places rise, a place is that of one token.
-beyond-not : (n : ℕ) (b : List Placed) (t : Placed) (a : List Placed) → beyond n (b ++ (t ∷ a)) → t .place ≡ n → ⊥
+beyond-not : (n : ℕ) (b : List Placed) (t : Placed) (a : List Placed) → allBeyond n (b ++ (t ∷ a)) → t .place ≡ n → ⊥
 beyond-not n [] t a h e = omega (arith, h .0)
 beyond-not n (x ∷ b) t a h e = beyond-not n b t a (h .1) e
 
@@ -110,7 +110,7 @@ same-place [] [] t u a e r s p = refl
 same-place [] (y ∷ c) t u a e r s p =
     let head : t ≡ y = cc in
     let tail : a ≡ c ++ (u ∷ e) = cc in
-    absurd (beyond-not (t .place) c u e (subst (λ l. beyond (t .place) l) tail (r .0)) (sym p))
+    absurd (beyond-not (t .place) c u e (subst (λ l. allBeyond (t .place) l) tail (r .0)) (sym p))
 same-place (x ∷ b) [] t u a e r s p =
     let head : x ≡ u = cc in
     absurd (beyond-not (x .place) b t a (r .0) (p ∙ ap (λ (z : Placed). z .place) (sym head)))
@@ -121,18 +121,18 @@ same-place (x ∷ b) (y ∷ c) t u a e r s p =
     cc
 
 -- The places of a text's tokens rise.
-from-beyond : (n taken at : ℕ) (bs : List ℕ) → n < at → beyond n (tokensFrom taken at bs)
+from-beyond : (n taken at : ℕ) (bs : List ℕ) → n < at → allBeyond n (tokensFrom taken at bs)
 from-beyond n taken at [] l = (l, tt)
 from-beyond n (suc taken) at (b ∷ bs) l = from-beyond n taken (suc at) bs (omega arith)
 from-beyond n zero at (b ∷ bs) l =
-    either-way (λ ts. beyond n ts) (white b) (from-beyond n 0 (suc at) bs (omega arith)) (l, from-beyond n (token-more (tokenAt b bs)) (suc at) bs (omega arith))
+    either-way (λ ts. allBeyond n ts) (white b) (from-beyond n 0 (suc at) bs (omega arith)) (l, from-beyond n (beyond (tokenAt b bs)) (suc at) bs (omega arith))
 
 from-rising : (taken at : ℕ) (bs : List ℕ) → Rising (tokensFrom taken at bs)
 from-rising taken at [] = (tt, tt)
 from-rising (suc taken) at (b ∷ bs) = from-rising taken (suc at) bs
 from-rising zero at (b ∷ bs) =
     either-way Rising (white b) (from-rising 0 (suc at) bs)
-    (from-beyond at (token-more (tokenAt b bs)) (suc at) bs (omega arith), from-rising (token-more (tokenAt b bs)) (suc at) bs)
+    (from-beyond at (beyond (tokenAt b bs)) (suc at) bs (omega arith), from-rising (beyond (tokenAt b bs)) (suc at) bs)
 
 pub tokens-rising : (text : List ℕ) → Rising (tokens text)
 unfolding tokens

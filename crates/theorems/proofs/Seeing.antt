@@ -73,12 +73,12 @@ has-letters x w finish h = absurd (let z : _≡_ {A = ℕ} 0 1 = cc in omega ari
 has-letters x w stray h = absurd (let z : _≡_ {A = ℕ} 0 1 = cc in omega arith)
 has-letters x w (word v) h = ap word h
 
-pub spelt : (x : ℕ) (w : List ℕ) (ts : List Placed) → x ∷ w ≡ letters (next ts) → ts ≡ tok (at ts) (word (x ∷ w)) ∷ drop 1 ts
-spelt x w [] h = absurd (let z : _≡_ {A = ℕ} 0 1 = cc in omega arith)
-spelt x w (u ∷ us) h = ap (λ t. tok (u .place) t ∷ us) (sym (has-letters x w (u .token) h))
+pub lettered : (x : ℕ) (w : List ℕ) (ts : List Placed) → x ∷ w ≡ letters (next ts) → ts ≡ tok (at ts) (word (x ∷ w)) ∷ drop 1 ts
+lettered x w [] h = absurd (let z : _≡_ {A = ℕ} 0 1 = cc in omega arith)
+lettered x w (u ∷ us) h = ap (λ t. tok (u .place) t ∷ us) (sym (has-letters x w (u .token) h))
 
 pub said : (x : ℕ) (w : List ℕ) (ts : List Placed) → says (x ∷ w) ts ≡ true → ts ≡ tok (at ts) (word (x ∷ w)) ∷ drop 1 ts
-said x w ts h = spelt x w ts (same-equal (x ∷ w) (letters (next ts)) h)
+said x w ts h = lettered x w ts (same-equal (x ∷ w) (letters (next ts)) h)
 
 -- A choice made.
 pub chosen {ℓ} : {A : Type 0} {C : Type ℓ} (b : Bool) {x y r : A} → cond b x y ≡ r → (b ≡ true → x ≡ r → C) → (b ≡ false → y ≡ r → C) → C

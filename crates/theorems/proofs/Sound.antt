@@ -17,7 +17,7 @@ use Rattle.theorems.specs.Grammar.{tok, PredsIn, no-pred, one-pred, Test
 use Rattle.theorems.specs.Grammar.{StepIn, dot-step, dots-step, child-step, axis-step, StepsIn, last-step, slash-step, slashes-step}
 use Rattle.theorems.specs.Grammar.{OperandIn, path-operand, round-operand, not-operand, TermIn, one-operand, and-operand, ExprIn, one-term, or-term}
 use Rattle.theorems.specs.Grammar.{PathIn, root-path, slash-path, slashes-path, QueryIn, one-path, bar-path, Within}
-use Rattle.theorems.proofs.Seeing.{ofSort, seen, spelt, said, chosen, not-got, as-got, got-value, got-left, then-got, passed}
+use Rattle.theorems.proofs.Seeing.{ofSort, seen, lettered, said, chosen, not-got, as-got, got-value, got-left, then-got, passed}
 
 pub drop-two : (ts : List Placed) → drop 1 (drop 1 ts) ≡ drop 2 ts
 drop-two [] = refl
@@ -32,7 +32,7 @@ axis-ahead {C = C} ts a h k = chosen (sees colons (drop 1 ts)) h (λ c e. go (le
     go [] p c e = none-some e
     go (x ∷ w) p c e =
         let rest : drop 1 ts ≡ tok (at (drop 1 ts)) colons ∷ drop 2 ts = seen colons (drop 1 ts) refl c ∙ ap (λ l. tok (at (drop 1 ts)) colons ∷ l) (drop-two ts) in
-        k (x ∷ w) (spelt x w ts (sym p) ∙ ap (λ l. tok (at ts) (word (x ∷ w)) ∷ l) rest) e
+        k (x ∷ w) (lettered x w ts (sym p) ∙ ap (λ l. tok (at ts) (word (x ∷ w)) ∷ l) rest) e
 
 module _ (look : List ℕ → Option ℕ) (within : ℕ → List Placed → Got Expr) (Inside : List Placed → Expr → List Placed → Type 0)
     (inside : (p : ℕ) (ts : List Placed) (e : Expr) (left : List Placed) → within p ts ≡ got e left → Inside ts e left) where

@@ -107,13 +107,13 @@ ended (t ∷ ts) = cond (is finish (t .token)) (empty ts) (ended ts)
     empty (u ∷ us) = false
 
 -- Do the places rise?
-abbrev pub beyond : ℕ → List Placed → Type 0
-beyond n [] = Unit {0}
-beyond n (t ∷ ts) = (n < t .place) × beyond n ts
+abbrev pub allBeyond : ℕ → List Placed → Type 0
+allBeyond n [] = Unit {0}
+allBeyond n (t ∷ ts) = (n < t .place) × allBeyond n ts
 
 abbrev pub Rising : List Placed → Type 0
 Rising [] = Unit {0}
-Rising (t ∷ ts) = beyond (t .place) ts × Rising ts
+Rising (t ∷ ts) = allBeyond (t .place) ts × Rising ts
 
 -- Reading the tokens of a query, where at most d brackets may be open at once.
 abbrev pub reading : (List ℕ → Option ℕ) → ℕ → List Placed → Got Query
