@@ -5,15 +5,15 @@ use native.Mathlib.Omega.{arith}
 use mathlib.Core.Path.{_≡_, refl, sym, _∙_, ap, ap₂, subst, subst₂}
 use mathlib.Core.Bool.{true}
 use mathlib.Core.List.{List, [], _∷_, _++_, append-assoc}
-use mathlib.Core.Logic.{⊎-elim}
+use mathlib.Core.Logic.{_⊎_, inl, inr, ⊎-elim}
 use mathlib.Core.Option.{Option}
 use Rattle.paper.specs.Limits.{bracketLimit}
 use Rattle.paper.specs.Answers.{anyName}
 use Rattle.paper.specs.Tokens.{Placed, tokens}
 use Rattle.paper.specs.Query.{Query}
 use Rattle.paper.specs.Reading.{Got, got, refused, readText}
-use Rattle.theorems.specs.Grammar.{Derives, ended, Rising, reading, AllKnown, Wrong, Reached, TooDeep, WrongRefused, DeepRefused, ExactText}
-use Rattle.theorems.proofs.Accepted.{derived-if, read-if, tokens-ended}
+use Rattle.theorems.specs.Grammar.{Derives, ended, Rising, reading, AllKnown, Wrong, Reached, TooDeep, WrongRefused, DeepRefused, ExactText, Settled}
+use Rattle.theorems.proofs.Accepted.{derived-if, read-if, tokens-ended, all-read}
 use Rattle.theorems.proofs.Refusals.{same-head, append-cancel, same-place, tokens-rising, refused-never, StopsAt, stops-at, refused-wrong-text, refused-deep, refused-deep-text}
 
 -- Two tokens of one list, with those before each.
@@ -129,3 +129,17 @@ exact-text text p = (
   (refused-wrong-text text p, λ w. wrong-refused anyName bracketLimit (tokens text) p (λ v. (0, refl)) (tokens-ended text) (tokens-rising text) w),
   (refused-deep-text text p, λ w. deep-refused anyName bracketLimit (tokens text) p (λ v. (0, refl)) (tokens-ended text) (tokens-rising text) w),
 )
+
+pub settled : Settled
+unfolding readText
+settled text = go (readText anyName text) refl
+  where
+    go : (r : Got Query) → readText anyName text ≡ r
+        → ((q : Query) × (readText anyName text ≡ got q [])) ⊎ ((p : ℕ) × ((readText anyName text ≡ refused 3 p) ⊎ (readText anyName text ≡ refused 4 p)))
+    go (got q left) h = inl (q, h ∙ ap (got q) (all-read anyName text q left h))
+    go (refused n p) h =
+        inr (
+          p,
+          ⊎-elim (λ three. inl (h ∙ ap (λ m. refused m p) three)) (λ four. inr (h ∙ ap (λ m. refused m p) four))
+              (stops-at anyName bracketLimit (tokens text) n p (λ w. (0, refl)) (tokens-ended text) h .number),
+        )

@@ -4,7 +4,7 @@ use Prim.Native.Nat.{ℕ, zero, suc, _+_, _<_}
 use mathlib.Core.Path.{_≡_}
 use mathlib.Core.Bool.{Bool, true, false, cond}
 use mathlib.Core.List.{List, [], _∷_, _++_}
-use mathlib.Core.Logic.{_↔_}
+use mathlib.Core.Logic.{_↔_, _⊎_}
 use mathlib.Core.Option.{Option, none, some}
 use lib.ListN.{length}
 use Rattle.paper.specs.Tools.{ascii}
@@ -221,7 +221,7 @@ RefusedDeep = (look : List ℕ → Option ℕ) (d : ℕ) (ts : List Placed) (p :
 abbrev pub RefusedDeepText : Type 0
 RefusedDeepText = (text : List ℕ) (p : ℕ) → readText anyName text ≡ refused 4 p → TooDeep anyName bracketLimit (tokens text) p
 
--- EXACTLY: each of the two is given wherever its line holds; so a text is read, refused with 3 or refused with 4, and the grammar says which and where.
+-- EXACTLY: each of the two is given wherever its line holds;
 abbrev pub WrongRefused : Type 0
 WrongRefused = (look : List ℕ → Option ℕ) (d : ℕ) (ts : List Placed) (p : ℕ) → AllKnown look → ended ts ≡ true → Rising ts → Wrong look d ts p → reading look d ts ≡ refused 3 p
 
@@ -232,6 +232,11 @@ abbrev pub ExactText : Type 0
 ExactText =
     (text : List ℕ) (p : ℕ)
     → ((readText anyName text ≡ refused 3 p) ↔ Wrong anyName bracketLimit (tokens text) p) × ((readText anyName text ≡ refused 4 p) ↔ TooDeep anyName bracketLimit (tokens text) p)
+
+-- and with any names a text is read whole, refused with 3 or refused with 4.
+abbrev pub Settled : Type 0
+Settled =
+    (text : List ℕ) → ((q : Query) × (readText anyName text ≡ got q [])) ⊎ ((p : ℕ) × ((readText anyName text ≡ refused 3 p) ⊎ (readText anyName text ≡ refused 4 p)))
 
 -- A token at a place written out: `//` as `/descendant-or-self::node()/`, `.` as `self::node()`, `..` as `parent::node()`.
 abbrev pub nodesAlong : ℕ → List ℕ → List Placed → List Placed
