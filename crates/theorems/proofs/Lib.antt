@@ -11,3 +11,16 @@ pub mod Sizes
 pub mod Nesting
 pub mod Height
 pub mod Forms
+pub mod Seeing
+pub mod Sound
+pub mod Fuel
+pub mod Complete
+pub mod Accepted
+pub mod Local
+pub mod Stands
+pub mod Abbreviations
+pub mod Pieces
+pub mod Deep
+pub mod Refusals
+pub mod Exactly
+pub mod Places

@@ -1,0 +1,214 @@
+-- What is derived stands on its own: its tokens, before any others, are those of the same thing, also where more brackets may be open; and each bracket that they open they close.
+-- By induction over the derivation. Assumes nothing.
+use Prim.Native.Nat.{ℕ, zero, suc, _+_}
+use native.Mathlib.Omega.{arith}
+use mathlib.Core.Path.{_≡_, refl, sym, _∙_, ap}
+use mathlib.Core.List.{List, [], _∷_, _++_, append-assoc}
+use mathlib.Core.Option.{Option}
+use Rattle.paper.specs.Tools.{ascii}
+use Rattle.paper.specs.Tokens.{slash, slashes, dot, dots, colons, openSquare, closeSquare, openRound, closeRound, star, word, Placed}
+use Rattle.paper.specs.Query.{Test, Expr, Steps, Preds}
+use Rattle.paper.specs.Reading.{Step}
+use Rattle.theorems.specs.Grammar.{tok, PredsIn, no-pred, one-pred, TestIn, star-test, node-test, text-test, name-test}
+use Rattle.theorems.specs.Grammar.{StepIn, dot-step, dots-step, child-step, axis-step, StepsIn, last-step, slash-step, slashes-step}
+use Rattle.theorems.specs.Grammar.{OperandIn, path-operand, round-operand, not-operand, TermIn, one-operand, and-operand, ExprIn, one-term, or-term}
+use Rattle.theorems.specs.Grammar.{PathIn, root-path, slash-path, slashes-path, Within, opened, closed}
+
+-- Tokens put before others, which leave so many brackets open.
+pub record Front (n : ℕ) (h : List Placed → List Placed) : Type 0 where
+  pub apart : (us : List Placed) → h us ≡ h [] ++ us
+  pub open-by : (us : List Placed) → opened (h us) + closed us ≡ closed (h us) + opened us + n
+
+pub front-none : Front 0 (λ us. us)
+front-none = record { apart = λ us. refl; open-by = λ us. omega arith }
+
+pub front-cons : {n : ℕ} {h : List Placed → List Placed} (t : Placed) → opened (t ∷ []) ≡ 0 → closed (t ∷ []) ≡ 0 → Front n h → Front n (λ us. t ∷ h us)
+front-cons t o c f = record { apart = λ us. ap (λ l. t ∷ l) (f .apart us); open-by = λ us. omega (arith, f .open-by us) }
+
+pub front-open : {n : ℕ} {h : List Placed → List Placed} (t : Placed) → opened (t ∷ []) ≡ 1 → closed (t ∷ []) ≡ 0 → Front n h → Front (1 + n) (λ us. t ∷ h us)
+front-open t o c f = record { apart = λ us. ap (λ l. t ∷ l) (f .apart us); open-by = λ us. omega (arith, f .open-by us) }
+
+pub front-close : {n : ℕ} {h : List Placed → List Placed} (t : Placed) → opened (t ∷ []) ≡ 0 → closed (t ∷ []) ≡ 1 → Front (1 + n) h → Front n (λ us. h (t ∷ us))
+front-close {h = h} t o c f =
+    record {
+      apart = λ us. f .apart (t ∷ us) ∙ sym (append-assoc (h []) (t ∷ []) us) ∙ ap (λ l. l ++ us) (sym (f .apart (t ∷ [])));
+      open-by = λ us. omega (arith, f .open-by (t ∷ us));
+    }
+
+pub front-then : {n : ℕ} {g h : List Placed → List Placed} → Front 0 g → Front n h → Front n (λ us. g (h us))
+front-then {g = g} {h = h} e f =
+    record {
+      apart = λ us. e .apart (h us) ∙ ap (λ l. g [] ++ l) (f .apart us) ∙ sym (append-assoc (g []) (h []) us) ∙ ap (λ l. l ++ us) (sym (e .apart (h [])));
+      open-by = λ us. omega (arith, e .open-by (h us), f .open-by us);
+    }
+
+-- The tokens of a thing, before any others.
+pub record Piece {X : Type 0} (F Deeper : List Placed → X → List Placed → Type 0) (ts : List Placed) (x : X) (rest : List Placed) : Type 0 where
+  pub put : List Placed → List Placed
+  pub front : Front 0 put
+  pub split : ts ≡ put rest
+  pub here : (us : List Placed) → F (put us) x us
+  pub deeper : (us : List Placed) → Deeper (put us) x us
+
+module _ (look : List ℕ → Option ℕ) (Inside More : List Placed → Expr → List Placed → Type 0)
+    (inside : (ts : List Placed) (e : Expr) (rest : List Placed) → Inside ts e rest → Piece Inside More ts e rest) where
+  pub preds-piece : {ts rest : List Placed} {ps : Preds} → PredsIn look Inside ts ps rest → Piece (PredsIn look Inside) (PredsIn look More) ts ps rest
+  preds-piece no-pred = record { put = λ us. us; front = front-none; split = refl; here = λ us. no-pred; deeper = λ us. no-pred }
+  preds-piece (one-pred {p = p} {q = q} i d) =
+      let e = inside _ _ _ i in
+      let f = preds-piece d in
+      record {
+        put = λ us. tok p openSquare ∷ e .put (tok q closeSquare ∷ f .put us);
+        front = front-then (front-close (tok q closeSquare) refl refl (front-open (tok p openSquare) refl refl (e .front))) (f .front);
+        split = ap (λ l. tok p openSquare ∷ l) (e .split ∙ ap (λ l. e .put (tok q closeSquare ∷ l)) (f .split));
+        here = λ us. one-pred (e .here (tok q closeSquare ∷ f .put us)) (f .here us);
+        deeper = λ us. one-pred (e .deeper (tok q closeSquare ∷ f .put us)) (f .deeper us);
+      }
+
+  test-piece : {ts rest : List Placed} {t : Test} → TestIn look Inside ts t rest → Piece (TestIn look Inside) (TestIn look More) ts t rest
+  test-piece (star-test {p = p}) = record { put = λ us. tok p star ∷ us; front = front-cons (tok p star) refl refl front-none; split = refl; here = λ us. star-test; deeper = λ us. star-test }
+  test-piece (node-test {p = p} {q = q} {r = r}) =
+      record {
+        put = λ us. tok p (word (ascii "node")) ∷ tok q openRound ∷ tok r closeRound ∷ us;
+        front = front-cons (tok p (word (ascii "node"))) refl refl (front-close (tok r closeRound) refl refl (front-open (tok q openRound) refl refl front-none));
+        split = refl;
+        here = λ us. node-test;
+        deeper = λ us. node-test;
+      }
+  test-piece (text-test {p = p} {q = q} {r = r}) =
+      record {
+        put = λ us. tok p (word (ascii "text")) ∷ tok q openRound ∷ tok r closeRound ∷ us;
+        front = front-cons (tok p (word (ascii "text"))) refl refl (front-close (tok r closeRound) refl refl (front-open (tok q openRound) refl refl front-none));
+        split = refl;
+        here = λ us. text-test;
+        deeper = λ us. text-test;
+      }
+  test-piece (name-test {p = p} {w = w} h) =
+      record { put = λ us. tok p (word w) ∷ us; front = front-cons (tok p (word w)) refl refl front-none; split = refl; here = λ us. name-test h; deeper = λ us. name-test h }
+
+  pub step-piece : {ts rest : List Placed} {s : Step} → StepIn look Inside ts s rest → Piece (StepIn look Inside) (StepIn look More) ts s rest
+  step-piece (dot-step {p = p}) = record { put = λ us. tok p dot ∷ us; front = front-cons (tok p dot) refl refl front-none; split = refl; here = λ us. dot-step; deeper = λ us. dot-step }
+  step-piece (dots-step {p = p}) = record { put = λ us. tok p dots ∷ us; front = front-cons (tok p dots) refl refl front-none; split = refl; here = λ us. dots-step; deeper = λ us. dots-step }
+  step-piece (child-step d f) =
+      let a = test-piece d in
+      let b = preds-piece f in
+      record {
+        put = λ us. a .put (b .put us);
+        front = front-then (a .front) (b .front);
+        split = a .split ∙ ap (a .put) (b .split);
+        here = λ us. child-step (a .here (b .put us)) (b .here us);
+        deeper = λ us. child-step (a .deeper (b .put us)) (b .deeper us);
+      }
+  step-piece (axis-step {p = p} {q = q} {w = w} n d f) =
+      let a = test-piece d in
+      let b = preds-piece f in
+      record {
+        put = λ us. tok p (word w) ∷ tok q colons ∷ a .put (b .put us);
+        front = front-cons (tok p (word w)) refl refl (front-cons (tok q colons) refl refl (front-then (a .front) (b .front)));
+        split = ap (λ l. tok p (word w) ∷ tok q colons ∷ l) (a .split ∙ ap (a .put) (b .split));
+        here = λ us. axis-step n (a .here (b .put us)) (b .here us);
+        deeper = λ us. axis-step n (a .deeper (b .put us)) (b .deeper us);
+      }
+
+  pub steps-piece : {ts rest : List Placed} {s : Steps} → StepsIn look Inside ts s rest → Piece (StepsIn look Inside) (StepsIn look More) ts s rest
+  steps-piece (last-step d) =
+      let a = step-piece d in
+      record { put = a .put; front = a .front; split = a .split; here = λ us. last-step (a .here us); deeper = λ us. last-step (a .deeper us) }
+  steps-piece (slash-step {p = p} d f) =
+      let a = step-piece d in
+      let b = steps-piece f in
+      record {
+        put = λ us. a .put (tok p slash ∷ b .put us);
+        front = front-then (a .front) (front-cons (tok p slash) refl refl (b .front));
+        split = a .split ∙ ap (λ l. a .put (tok p slash ∷ l)) (b .split);
+        here = λ us. slash-step (a .here (tok p slash ∷ b .put us)) (b .here us);
+        deeper = λ us. slash-step (a .deeper (tok p slash ∷ b .put us)) (b .deeper us);
+      }
+  steps-piece (slashes-step {p = p} d f) =
+      let a = step-piece d in
+      let b = steps-piece f in
+      record {
+        put = λ us. a .put (tok p slashes ∷ b .put us);
+        front = front-then (a .front) (front-cons (tok p slashes) refl refl (b .front));
+        split = a .split ∙ ap (λ l. a .put (tok p slashes ∷ l)) (b .split);
+        here = λ us. slashes-step (a .here (tok p slashes ∷ b .put us)) (b .here us);
+        deeper = λ us. slashes-step (a .deeper (tok p slashes ∷ b .put us)) (b .deeper us);
+      }
+
+  pub operand-piece : {ts rest : List Placed} {e : Expr} → OperandIn look Inside ts e rest → Piece (OperandIn look Inside) (OperandIn look More) ts e rest
+  operand-piece (path-operand d) =
+      let a = steps-piece d in
+      record { put = a .put; front = a .front; split = a .split; here = λ us. path-operand (a .here us); deeper = λ us. path-operand (a .deeper us) }
+  operand-piece (round-operand {p = p} {q = q} i) =
+      let a = inside _ _ _ i in
+      record {
+        put = λ us. tok p openRound ∷ a .put (tok q closeRound ∷ us);
+        front = front-close (tok q closeRound) refl refl (front-open (tok p openRound) refl refl (a .front));
+        split = ap (λ l. tok p openRound ∷ l) (a .split);
+        here = λ us. round-operand (a .here (tok q closeRound ∷ us));
+        deeper = λ us. round-operand (a .deeper (tok q closeRound ∷ us));
+      }
+  operand-piece (not-operand {p = p} {q = q} {r = r} i) =
+      let a = inside _ _ _ i in
+      record {
+        put = λ us. tok p (word (ascii "not")) ∷ tok q openRound ∷ a .put (tok r closeRound ∷ us);
+        front = front-cons (tok p (word (ascii "not"))) refl refl (front-close (tok r closeRound) refl refl (front-open (tok q openRound) refl refl (a .front)));
+        split = ap (λ l. tok p (word (ascii "not")) ∷ tok q openRound ∷ l) (a .split);
+        here = λ us. not-operand (a .here (tok r closeRound ∷ us));
+        deeper = λ us. not-operand (a .deeper (tok r closeRound ∷ us));
+      }
+
+  pub term-piece : {ts rest : List Placed} {e : Expr} → TermIn look Inside ts e rest → Piece (TermIn look Inside) (TermIn look More) ts e rest
+  term-piece (one-operand d) =
+      let a = operand-piece d in
+      record { put = a .put; front = a .front; split = a .split; here = λ us. one-operand (a .here us); deeper = λ us. one-operand (a .deeper us) }
+  term-piece (and-operand {p = p} d f) =
+      let a = term-piece d in
+      let b = operand-piece f in
+      record {
+        put = λ us. a .put (tok p (word (ascii "and")) ∷ b .put us);
+        front = front-then (a .front) (front-cons (tok p (word (ascii "and"))) refl refl (b .front));
+        split = a .split ∙ ap (λ l. a .put (tok p (word (ascii "and")) ∷ l)) (b .split);
+        here = λ us. and-operand (a .here (tok p (word (ascii "and")) ∷ b .put us)) (b .here us);
+        deeper = λ us. and-operand (a .deeper (tok p (word (ascii "and")) ∷ b .put us)) (b .deeper us);
+      }
+
+  pub expr-piece : {ts rest : List Placed} {e : Expr} → ExprIn look Inside ts e rest → Piece (ExprIn look Inside) (ExprIn look More) ts e rest
+  expr-piece (one-term d) =
+      let a = term-piece d in
+      record { put = a .put; front = a .front; split = a .split; here = λ us. one-term (a .here us); deeper = λ us. one-term (a .deeper us) }
+  expr-piece (or-term {p = p} d f) =
+      let a = expr-piece d in
+      let b = term-piece f in
+      record {
+        put = λ us. a .put (tok p (word (ascii "or")) ∷ b .put us);
+        front = front-then (a .front) (front-cons (tok p (word (ascii "or"))) refl refl (b .front));
+        split = a .split ∙ ap (λ l. a .put (tok p (word (ascii "or")) ∷ l)) (b .split);
+        here = λ us. or-term (a .here (tok p (word (ascii "or")) ∷ b .put us)) (b .here us);
+        deeper = λ us. or-term (a .deeper (tok p (word (ascii "or")) ∷ b .put us)) (b .deeper us);
+      }
+
+  pub path-piece : {ts rest : List Placed} {s : Steps} → PathIn look Inside ts s rest → Piece (PathIn look Inside) (PathIn look More) ts s rest
+  path-piece (root-path {p = p}) = record { put = λ us. tok p slash ∷ us; front = front-cons (tok p slash) refl refl front-none; split = refl; here = λ us. root-path; deeper = λ us. root-path }
+  path-piece (slash-path {p = p} d) =
+      let a = steps-piece d in
+      record {
+        put = λ us. tok p slash ∷ a .put us;
+        front = front-cons (tok p slash) refl refl (a .front);
+        split = ap (λ l. tok p slash ∷ l) (a .split);
+        here = λ us. slash-path (a .here us);
+        deeper = λ us. slash-path (a .deeper us);
+      }
+  path-piece (slashes-path {p = p} d) =
+      let a = steps-piece d in
+      record {
+        put = λ us. tok p slashes ∷ a .put us;
+        front = front-cons (tok p slashes) refl refl (a .front);
+        split = ap (λ l. tok p slashes ∷ l) (a .split);
+        here = λ us. slashes-path (a .here us);
+        deeper = λ us. slashes-path (a .deeper us);
+      }
+
+pub within-piece : (look : List ℕ → Option ℕ) (d : ℕ) (ts : List Placed) (e : Expr) (rest : List Placed) → Within look d ts e rest → Piece (Within look d) (Within look (suc d)) ts e rest
+within-piece look zero ts e rest i = absurd i
+within-piece look (suc d) ts e rest i = expr-piece look (Within look d) (Within look (suc d)) (within-piece look d) i

@@ -1,0 +1,249 @@
+-- What a reader gets is derived from the tokens that it took.
+-- By induction over the brackets that may still be opened, and over the most steps, predicates and operands that may come. Assumes nothing.
+use Prim.Native.Nat.{ℕ, zero, suc}
+use mathlib.Core.Path.{_≡_, refl, sym, _∙_, ap, subst}
+use mathlib.Core.Bool.{true, false, _&&_}
+use mathlib.Core.List.{List, [], _∷_}
+use mathlib.Core.Option.{Option, none, some}
+use lib.ListN.{length, drop}
+use Rattle.paper.specs.Tools.{ascii}
+use Rattle.paper.specs.Tokens.{Token, slash, slashes, dot, dots, colons, bar, openSquare, closeSquare, openRound, closeRound, star, finish, word, sort, is, letters, Placed}
+use Rattle.paper.specs.Query.{Axis, self, child, parent, Test, anyNode, textNode, named, anyElement}
+use Rattle.paper.specs.Query.{Expr, both, either, negated, Steps, stop, Preds, bare, pred, Query}
+use Rattle.paper.specs.Reading.{Got, got, then, next, at, sees, says, pass, axisNamed, axisAhead, Step, deep, startsStep}
+use Rattle.paper.specs.Reading.{readPreds, readTail, readName, readTested, readAxis, readStep, readSteps, readOperand, readAnds, readTerm, readOrs, readExpr, readPath, readPaths, readWithin}
+use Rattle.paper.proofs.Tests.{and-true, none-some}
+use Rattle.theorems.specs.Grammar.{tok, PredsIn, no-pred, one-pred, TestIn, star-test, node-test, text-test, name-test}
+use Rattle.theorems.specs.Grammar.{StepIn, dot-step, dots-step, child-step, axis-step, StepsIn, last-step, slash-step, slashes-step}
+use Rattle.theorems.specs.Grammar.{OperandIn, path-operand, round-operand, not-operand, TermIn, one-operand, and-operand, ExprIn, one-term, or-term}
+use Rattle.theorems.specs.Grammar.{PathIn, root-path, slash-path, slashes-path, QueryIn, one-path, bar-path, Within}
+use Rattle.theorems.proofs.Seeing.{ofSort, seen, lettered, said, chosen, not-got, as-got, got-value, got-left, then-got, passed}
+
+pub drop-two : (ts : List Placed) → drop 1 (drop 1 ts) ≡ drop 2 ts
+drop-two [] = refl
+drop-two (t ∷ ts) = refl
+
+-- An axis before `::`.
+pub axis-ahead {ℓ} : {C : Type ℓ} (ts : List Placed) (a : Axis) → axisAhead ts ≡ some a
+    → ((w : List ℕ) → ts ≡ tok (at ts) (word w) ∷ tok (at (drop 1 ts)) colons ∷ drop 2 ts → axisNamed w ≡ some a → C) → C
+axis-ahead {C = C} ts a h k = chosen (sees colons (drop 1 ts)) h (λ c e. go (letters (next ts)) refl c e) (λ c e. none-some e)
+  where
+    go : (w : List ℕ) → letters (next ts) ≡ w → sees colons (drop 1 ts) ≡ true → axisNamed w ≡ some a → C
+    go [] p c e = none-some e
+    go (x ∷ w) p c e =
+        let rest : drop 1 ts ≡ tok (at (drop 1 ts)) colons ∷ drop 2 ts = seen colons (drop 1 ts) refl c ∙ ap (λ l. tok (at (drop 1 ts)) colons ∷ l) (drop-two ts) in
+        k (x ∷ w) (lettered x w ts (sym p) ∙ ap (λ l. tok (at ts) (word (x ∷ w)) ∷ l) rest) e
+
+module _ (look : List ℕ → Option ℕ) (within : ℕ → List Placed → Got Expr) (Inside : List Placed → Expr → List Placed → Type 0)
+    (inside : (p : ℕ) (ts : List Placed) (e : Expr) (left : List Placed) → within p ts ≡ got e left → Inside ts e left) where
+  -- What was read in a bracket, up to the token that closes it.
+  pub closed-got : (t : Token) → is t finish ≡ false → ((w : List ℕ) → ofSort (sort t) w ≡ t) → (p : ℕ) (ts : List Placed) (e : Expr) (left : List Placed)
+      → then (within p ts) (pass t) ≡ got e left → (q : ℕ) × Inside ts e (tok q t ∷ left)
+  closed-got t n plain p ts e left h =
+      then-got (within p ts) (pass t) h
+      (λ a mid u v.
+      passed t a mid v
+      (λ s ea el.
+      let head : mid ≡ tok (at mid) t ∷ left = seen t mid n s ∙ ap (λ x. tok (at mid) x ∷ drop 1 mid) (plain (letters (next mid))) ∙ ap (λ l. tok (at mid) t ∷ l) el in
+      (at mid, subst (λ x. Inside ts x (tok (at mid) t ∷ left)) ea (subst (λ l. Inside ts a l) head (inside p ts a mid u)))))
+
+  pub preds-got : (n : ℕ) (ts : List Placed) (ps : Preds) (left : List Placed) → readPreds look within n ts ≡ got ps left → PredsIn look Inside ts ps left
+  preds-got zero ts ps left h = as-got (λ x l. PredsIn look Inside ts x l) h no-pred
+  preds-got (suc n) ts ps left h =
+      chosen (sees openSquare ts) h
+      (λ s k.
+      then-got (then (within (at ts) (drop 1 ts)) (pass closeSquare)) _ k
+      (λ e mid u v.
+      then-got (readPreds look within n mid) _ v
+      (λ qs l x y.
+      let i = closed-got closeSquare refl (λ w. refl) (at ts) (drop 1 ts) e mid u in
+      as-got (λ z m. PredsIn look Inside ts z m) y
+      (subst (λ m. PredsIn look Inside m (pred e qs) l) (sym (seen openSquare ts refl s)) (one-pred (i .1) (preds-got n mid qs l x))))))
+      (λ s k. as-got (λ x l. PredsIn look Inside ts x l) k no-pred)
+
+  tail-got {ℓ} : {C : Type ℓ} (a : Axis) (t : Test) (ts : List Placed) (s : Step) (left : List Placed) → readTail look within a t ts ≡ got s left
+      → ((ps : Preds) → PredsIn look Inside ts ps left → record { axis = a; test = t; preds = ps } ≡ s → C) → C
+  unfolding readTail
+  tail-got a t ts s left h k =
+      then-got (readPreds look within (length ts) ts) _ h
+      (λ ps mid u v. k ps (subst (λ l. PredsIn look Inside ts ps l) (got-left v) (preds-got (length ts) ts ps mid u)) (got-value v))
+
+  -- `node()` and `text()`, each with the predicates after it.
+  call-got {ℓ} : {C : Type ℓ} (x : ℕ) (w : List ℕ) (a : Axis) (t : Test) (ts : List Placed) (s : Step) (left : List Placed)
+      → (sees openRound (drop 1 ts) && says (x ∷ w) ts) ≡ true → then (pass closeRound t (drop 2 ts)) (readTail look within a) ≡ got s left
+      → ((p q r : ℕ) (us : List Placed) (ps : Preds) → ts ≡ tok p (word (x ∷ w)) ∷ tok q openRound ∷ tok r closeRound ∷ us → PredsIn look Inside us ps left
+      → record { axis = a; test = t; preds = ps } ≡ s → C) → C
+  call-got x w a t ts s left c h k =
+      then-got (pass closeRound t (drop 2 ts)) (readTail look within a) h
+      (λ t′ mid u v.
+      passed closeRound t (drop 2 ts) u
+      (λ z et el.
+      tail-got a t′ mid s left v
+      (λ ps d f.
+      let b = and-true (sees openRound (drop 1 ts)) (says (x ∷ w) ts) c in
+      let two : drop 1 (drop 1 ts) ≡ tok (at (drop 2 ts)) closeRound ∷ mid = drop-two ts ∙ seen closeRound (drop 2 ts) refl z ∙ ap (λ l. tok (at (drop 2 ts)) closeRound ∷ l) el in
+      let one : drop 1 ts ≡ tok (at (drop 1 ts)) openRound ∷ tok (at (drop 2 ts)) closeRound ∷ mid =
+      seen openRound (drop 1 ts) refl (b .0) ∙ ap (λ l. tok (at (drop 1 ts)) openRound ∷ l) two in
+      k (at ts) (at (drop 1 ts)) (at (drop 2 ts)) mid ps (said x w ts (b .1) ∙ ap (λ l. tok (at ts) (word (x ∷ w)) ∷ l) one) d
+      (ap (λ y. record { axis = a; test = y; preds = ps }) et ∙ f))))
+
+  -- Test and predicates.
+  tested-got {ℓ} : {C : Type ℓ} (a : Axis) (ts : List Placed) (s : Step) (left : List Placed) → readTested look within a ts ≡ got s left
+      → ((t : Test) (us : List Placed) (ps : Preds) → TestIn look Inside ts t us → PredsIn look Inside us ps left → record { axis = a; test = t; preds = ps } ≡ s → C) → C
+  unfolding readTested
+  tested-got {C = C} a ts s left h k =
+      chosen (sees star ts) h
+      (λ c e.
+      tail-got a anyElement (drop 1 ts) s left e
+      (λ ps d f. k anyElement (drop 1 ts) ps (subst (λ m. TestIn look Inside m anyElement (drop 1 ts)) (sym (seen star ts refl c)) star-test) d f))
+      (λ c1 e1.
+      chosen (sees openRound (drop 1 ts) && says (ascii "node") ts) e1
+      (λ c e. call-got 110 (ascii "ode") a anyNode ts s left c e (λ p q r us ps m d f. k anyNode us ps (subst (λ l. TestIn look Inside l anyNode us) (sym m) node-test) d f))
+      (λ c2 e2.
+      chosen (sees openRound (drop 1 ts) && says (ascii "text") ts) e2
+      (λ c e. call-got 116 (ascii "ext") a textNode ts s left c e (λ p q r us ps m d f. k textNode us ps (subst (λ l. TestIn look Inside l textNode us) (sym m) text-test) d f))
+      (λ c3 e3. chosen (sees (word []) ts) e3 (λ c e. name (look (letters (next ts))) refl c e) (λ c e. not-got e))))
+    where
+      name : (o : Option ℕ) → look (letters (next ts)) ≡ o → sees (word []) ts ≡ true → readName look within o a ts ≡ got s left → C
+      name none p c e = not-got e
+      name (some v) p c e =
+          tail-got a (named v) (drop 1 ts) s left e
+          (λ ps d f. k (named v) (drop 1 ts) ps (subst (λ m. TestIn look Inside m (named v) (drop 1 ts)) (sym (seen (word []) ts refl c)) (name-test p)) d f)
+
+  -- A step.
+  pub step-got : (ts : List Placed) (s : Step) (left : List Placed) → readStep look within ts ≡ got s left → StepIn look Inside ts s left
+  unfolding readStep
+  step-got ts s left h =
+      chosen (sees dot ts) h
+      (λ c e. as-got (λ x l. StepIn look Inside ts x l) e (subst (λ m. StepIn look Inside m (record { axis = self; test = anyNode; preds = bare }) (drop 1 ts)) (sym (seen dot ts refl c)) dot-step))
+      (λ c1 e1.
+      chosen (sees dots ts) e1
+      (λ c e. as-got (λ x l. StepIn look Inside ts x l) e (subst (λ m. StepIn look Inside m (record { axis = parent; test = anyNode; preds = bare }) (drop 1 ts)) (sym (seen dots ts refl c)) dots-step))
+      (λ c e. full (axisAhead ts) refl e))
+    where
+      full : (o : Option Axis) → axisAhead ts ≡ o → readAxis look within o ts ≡ got s left → StepIn look Inside ts s left
+      full none p e = tested-got child ts s left e (λ t us ps d f q. subst (λ x. StepIn look Inside ts x left) q (child-step d f))
+      full (some a) p e =
+          axis-ahead ts a p
+          (λ w m n.
+          tested-got a (drop 2 ts) s left e
+          (λ t us ps d f q. subst (λ x. StepIn look Inside ts x left) q (subst (λ l. StepIn look Inside l (record { axis = a; test = t; preds = ps }) left) (sym m) (axis-step n d f))))
+
+  -- Steps.
+  pub steps-got : (n : ℕ) (ts : List Placed) (ss : Steps) (left : List Placed) → readSteps look within n ts ≡ got ss left → StepsIn look Inside ts ss left
+  steps-got zero ts ss left h = not-got h
+  steps-got (suc n) ts ss left h =
+      then-got (readStep look within ts) _ h
+      (λ s mid u v.
+      let d = step-got ts s mid u in
+      chosen (sees slash mid) v
+      (λ c e.
+      then-got (readSteps look within n (drop 1 mid)) _ e
+      (λ rest l x y.
+      as-got (λ z m. StepsIn look Inside ts z m) y
+      (slash-step (subst (λ m. StepIn look Inside ts s m) (seen slash mid refl c) d) (steps-got n (drop 1 mid) rest l x))))
+      (λ c1 e1.
+      chosen (sees slashes mid) e1
+      (λ c e.
+      then-got (readSteps look within n (drop 1 mid)) _ e
+      (λ rest l x y.
+      as-got (λ z m. StepsIn look Inside ts z m) y
+      (slashes-step (subst (λ m. StepIn look Inside ts s m) (seen slashes mid refl c) d) (steps-got n (drop 1 mid) rest l x))))
+      (λ c e. as-got (λ z m. StepsIn look Inside ts z m) e (last-step d))))
+
+  -- An operand.
+  pub operand-got : (ts : List Placed) (e : Expr) (left : List Placed) → readOperand look within ts ≡ got e left → OperandIn look Inside ts e left
+  unfolding readOperand
+  operand-got ts x left h =
+      chosen (says (ascii "not") ts && sees openRound (drop 1 ts)) h
+      (λ c e.
+      then-got (then (within (at (drop 1 ts)) (drop 2 ts)) (pass closeRound)) _ e
+      (λ a mid u v.
+      let i = closed-got closeRound refl (λ w. refl) (at (drop 1 ts)) (drop 2 ts) a mid u in
+      let b = and-true (says (ascii "not") ts) (sees openRound (drop 1 ts)) c in
+      let rest : drop 1 ts ≡ tok (at (drop 1 ts)) openRound ∷ drop 2 ts = seen openRound (drop 1 ts) refl (b .1) ∙ ap (λ l. tok (at (drop 1 ts)) openRound ∷ l) (drop-two ts) in
+      let whole : ts ≡ tok (at ts) (word (ascii "not")) ∷ tok (at (drop 1 ts)) openRound ∷ drop 2 ts =
+      said 110 (ascii "ot") ts (b .0) ∙ ap (λ l. tok (at ts) (word (ascii "not")) ∷ l) rest in
+      as-got (λ z m. OperandIn look Inside ts z m) v (subst (λ m. OperandIn look Inside m (negated a) mid) (sym whole) (not-operand (i .1)))))
+      (λ c1 e1.
+      chosen (sees openRound ts) e1
+      (λ c e.
+      let i = closed-got closeRound refl (λ w. refl) (at ts) (drop 1 ts) x left e in
+      subst (λ m. OperandIn look Inside m x left) (sym (seen openRound ts refl c)) (round-operand (i .1)))
+      (λ c e.
+      then-got (readSteps look within (length ts) ts) _ e
+      (λ s mid u v. as-got (λ z m. OperandIn look Inside ts z m) v (path-operand (steps-got (length ts) ts s mid u)))))
+
+  -- A term: the operands that `and` joins are added to what was read before them.
+  ands-got : (n : ℕ) (a : Expr) (start ts : List Placed) (e : Expr) (left : List Placed) → TermIn look Inside start a ts → readAnds look within n a ts ≡ got e left
+      → TermIn look Inside start e left
+  ands-got zero a start ts e left d h = as-got (λ z m. TermIn look Inside start z m) h d
+  ands-got (suc n) a start ts e left d h =
+      chosen (says (ascii "and") ts) h
+      (λ c k.
+      then-got (readOperand look within (drop 1 ts)) _ k
+      (λ b mid u v.
+      ands-got n (both a b) start mid e left
+      (and-operand (subst (λ m. TermIn look Inside start a m) (said 97 (ascii "nd") ts c) d) (operand-got (drop 1 ts) b mid u)) v))
+      (λ c k. as-got (λ z m. TermIn look Inside start z m) k d)
+
+  pub term-got : (ts : List Placed) (e : Expr) (left : List Placed) → readTerm look within ts ≡ got e left → TermIn look Inside ts e left
+  unfolding readTerm
+  term-got ts e left h =
+      then-got (readOperand look within ts) _ h (λ a mid u v. ands-got (length mid) a ts mid e left (one-operand (operand-got ts a mid u)) v)
+
+  -- An expression: so with `or`.
+  ors-got : (n : ℕ) (a : Expr) (start ts : List Placed) (e : Expr) (left : List Placed) → ExprIn look Inside start a ts → readOrs look within n a ts ≡ got e left
+      → ExprIn look Inside start e left
+  ors-got zero a start ts e left d h = as-got (λ z m. ExprIn look Inside start z m) h d
+  ors-got (suc n) a start ts e left d h =
+      chosen (says (ascii "or") ts) h
+      (λ c k.
+      then-got (readTerm look within (drop 1 ts)) _ k
+      (λ b mid u v.
+      ors-got n (either a b) start mid e left
+      (or-term (subst (λ m. ExprIn look Inside start a m) (said 111 (ascii "r") ts c) d) (term-got (drop 1 ts) b mid u)) v))
+      (λ c k. as-got (λ z m. ExprIn look Inside start z m) k d)
+
+  pub expr-got : (ts : List Placed) (e : Expr) (left : List Placed) → readExpr look within ts ≡ got e left → ExprIn look Inside ts e left
+  unfolding readExpr
+  expr-got ts e left h = then-got (readTerm look within ts) _ h (λ a mid u v. ors-got (length mid) a ts mid e left (one-term (term-got ts a mid u)) v)
+
+  -- An absolute path.
+  pub path-got : (ts : List Placed) (s : Steps) (left : List Placed) → readPath look within ts ≡ got s left → PathIn look Inside ts s left
+  unfolding readPath
+  path-got ts s left h =
+      chosen (sees slashes ts) h
+      (λ c e.
+      then-got (readSteps look within (length (drop 1 ts)) (drop 1 ts)) _ e
+      (λ r mid u v.
+      as-got (λ z m. PathIn look Inside ts z m) v
+      (subst (λ m. PathIn look Inside m (deep r) mid) (sym (seen slashes ts refl c)) (slashes-path (steps-got (length (drop 1 ts)) (drop 1 ts) r mid u)))))
+      (λ c1 e1.
+      chosen (sees slash ts) e1
+      (λ c e.
+      chosen (startsStep (next (drop 1 ts))) e
+      (λ f g. subst (λ m. PathIn look Inside m s left) (sym (seen slash ts refl c)) (slash-path (steps-got (length (drop 1 ts)) (drop 1 ts) s left g)))
+      (λ f g. as-got (λ z m. PathIn look Inside ts z m) g (subst (λ m. PathIn look Inside m stop (drop 1 ts)) (sym (seen slash ts refl c)) root-path)))
+      (λ c e. not-got e))
+
+  -- Paths joined by `|`, up to the end of the text.
+  pub paths-got : (n : ℕ) (ts : List Placed) (q : Query) (left : List Placed) → readPaths look within n ts ≡ got q left
+      → (mid : List Placed) × QueryIn look Inside ts q mid × (sees finish mid ≡ true) × (drop 1 mid ≡ left)
+  paths-got zero ts q left h = not-got h
+  paths-got (suc n) ts q left h =
+      then-got (readPath look within ts) _ h
+      (λ p mid u v.
+      let d = path-got ts p mid u in
+      chosen (sees bar mid) v
+      (λ c e.
+      then-got (readPaths look within n (drop 1 mid)) _ e
+      (λ r l x y.
+      let i = paths-got n (drop 1 mid) r l x in
+      (i .0, subst (λ z. QueryIn look Inside ts z (i .0)) (got-value y) (bar-path (subst (λ m. PathIn look Inside ts p m) (seen bar mid refl c) d) (i .1)), i .2, i .3 ∙ got-left y)))
+      (λ c e. passed finish (record { first = p; others = [] }) mid e (λ s ea el. (mid, subst (λ z. QueryIn look Inside ts z mid) ea (one-path d), s, el))))
+
+-- What was read in a bracket, by the number of brackets that may be opened.
+pub within-got : (look : List ℕ → Option ℕ) (d p : ℕ) (ts : List Placed) (e : Expr) (left : List Placed) → readWithin look d p ts ≡ got e left → Within look d ts e left
+within-got look zero p ts e left h = not-got h
+within-got look (suc d) p ts e left h = expr-got look (readWithin look d) (Within look d) (within-got look d) ts e left h

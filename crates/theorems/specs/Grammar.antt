@@ -1,0 +1,277 @@
+-- The grammar of queries over tokens, as 01 and XPath 1.0 have it, and what reading owes to it; the proofs are in proofs/. A token stands with its place, which plays no part (`PlacesApart`).
+-- Each relation `XIn ts x rest` says: the tokens ts are those of x, then rest. No relation looks ahead.
+use Prim.Native.Nat.{ℕ, zero, suc, _+_, _<_}
+use mathlib.Core.Path.{_≡_}
+use mathlib.Core.Bool.{Bool, true, false, cond}
+use mathlib.Core.List.{List, [], _∷_, _++_}
+use mathlib.Core.Logic.{_↔_, _⊎_}
+use mathlib.Core.Option.{Option, none, some}
+use lib.ListN.{length}
+use Rattle.paper.specs.Tools.{ascii}
+use Rattle.paper.specs.Limits.{bracketLimit}
+use Rattle.paper.specs.Tokens.{Token, slash, slashes, dot, dots, colons, bar, openSquare, closeSquare, openRound, closeRound, star, finish, stray, word, is, Placed, tokens}
+use Rattle.paper.specs.Query.{Axis, self, child, parent, Test, anyNode, textNode, named, anyElement}
+use Rattle.paper.specs.Query.{Expr, path, both, either, negated, Steps, stop, Preds, bare, pred, Query, paths}
+use Rattle.paper.specs.Answers.{anyName}
+use Rattle.paper.specs.Reading.{Got, got, refused, sees, axisNamed, axisAhead, Step, before, deep, readStep, readPaths, readWithin, readText}
+
+-- A token at a place.
+abbrev pub tok : ℕ → Token → Placed
+tok p t = record { place = p; token = t }
+
+-- The names are looked up by `look`; `Inside` says what stands in a bracket.
+module _ (look : List ℕ → Option ℕ) (Inside : List Placed → Expr → List Placed → Type 0) where
+  -- Predicates: any number of `[` expression `]`.
+  pub data PredsIn : List Placed → Preds → List Placed → Type 0 where
+    no-pred : {ts : List Placed} → PredsIn ts bare ts
+    one-pred : {p q : ℕ} {ts us rest : List Placed} {e : Expr} {ps : Preds} → Inside ts e (tok q closeSquare ∷ us) → PredsIn us ps rest
+        → PredsIn (tok p openSquare ∷ ts) (pred e ps) rest
+
+  -- A test: `*`, `node()`, `text()`, or a name.
+  pub data TestIn : List Placed → Test → List Placed → Type 0 where
+    star-test : {p : ℕ} {ts : List Placed} → TestIn (tok p star ∷ ts) anyElement ts
+    node-test : {p q r : ℕ} {ts : List Placed} → TestIn (tok p (word (ascii "node")) ∷ tok q openRound ∷ tok r closeRound ∷ ts) anyNode ts
+    text-test : {p q r : ℕ} {ts : List Placed} → TestIn (tok p (word (ascii "text")) ∷ tok q openRound ∷ tok r closeRound ∷ ts) textNode ts
+    name-test : {p v : ℕ} {w : List ℕ} {ts : List Placed} → look w ≡ some v → TestIn (tok p (word w) ∷ ts) (named v) ts
+
+  -- A step: `.`, `..`, or test and predicates, after an axis and `::` or alone.
+  pub data StepIn : List Placed → Step → List Placed → Type 0 where
+    dot-step : {p : ℕ} {ts : List Placed} → StepIn (tok p dot ∷ ts) (record { axis = self; test = anyNode; preds = bare }) ts
+    dots-step : {p : ℕ} {ts : List Placed} → StepIn (tok p dots ∷ ts) (record { axis = parent; test = anyNode; preds = bare }) ts
+    child-step : {ts us rest : List Placed} {t : Test} {ps : Preds} → TestIn ts t us → PredsIn us ps rest
+        → StepIn ts (record { axis = child; test = t; preds = ps }) rest
+    axis-step : {p q : ℕ} {w : List ℕ} {a : Axis} {ts us rest : List Placed} {t : Test} {ps : Preds} → axisNamed w ≡ some a → TestIn ts t us → PredsIn us ps rest
+        → StepIn (tok p (word w) ∷ tok q colons ∷ ts) (record { axis = a; test = t; preds = ps }) rest
+
+  -- Steps separated by `/` or `//`.
+  pub data StepsIn : List Placed → Steps → List Placed → Type 0 where
+    last-step : {ts rest : List Placed} {s : Step} → StepIn ts s rest → StepsIn ts (before s stop) rest
+    slash-step : {p : ℕ} {ts us rest : List Placed} {s : Step} {ss : Steps} → StepIn ts s (tok p slash ∷ us) → StepsIn us ss rest → StepsIn ts (before s ss) rest
+    slashes-step : {p : ℕ} {ts us rest : List Placed} {s : Step} {ss : Steps} → StepIn ts s (tok p slashes ∷ us) → StepsIn us ss rest
+        → StepsIn ts (before s (deep ss)) rest
+
+  -- An operand: steps, `(` expression `)`, or `not(` expression `)`.
+  pub data OperandIn : List Placed → Expr → List Placed → Type 0 where
+    path-operand : {ts rest : List Placed} {s : Steps} → StepsIn ts s rest → OperandIn ts (path s) rest
+    round-operand : {p q : ℕ} {ts rest : List Placed} {e : Expr} → Inside ts e (tok q closeRound ∷ rest) → OperandIn (tok p openRound ∷ ts) e rest
+    not-operand : {p q r : ℕ} {ts rest : List Placed} {e : Expr} → Inside ts e (tok r closeRound ∷ rest)
+        → OperandIn (tok p (word (ascii "not")) ∷ tok q openRound ∷ ts) (negated e) rest
+
+  -- A term: an operand, or a term, `and` and an operand.
+  pub data TermIn : List Placed → Expr → List Placed → Type 0 where
+    one-operand : {ts rest : List Placed} {e : Expr} → OperandIn ts e rest → TermIn ts e rest
+    and-operand : {p : ℕ} {ts us rest : List Placed} {a b : Expr} → TermIn ts a (tok p (word (ascii "and")) ∷ us) → OperandIn us b rest → TermIn ts (both a b) rest
+
+  -- An expression: a term, or an expression, `or` and a term.
+  pub data ExprIn : List Placed → Expr → List Placed → Type 0 where
+    one-term : {ts rest : List Placed} {e : Expr} → TermIn ts e rest → ExprIn ts e rest
+    or-term : {p : ℕ} {ts us rest : List Placed} {a b : Expr} → ExprIn ts a (tok p (word (ascii "or")) ∷ us) → TermIn us b rest → ExprIn ts (either a b) rest
+
+  -- An absolute path: `/` alone, or `/` or `//` and steps.
+  pub data PathIn : List Placed → Steps → List Placed → Type 0 where
+    root-path : {p : ℕ} {ts : List Placed} → PathIn (tok p slash ∷ ts) stop ts
+    slash-path : {p : ℕ} {ts rest : List Placed} {s : Steps} → StepsIn ts s rest → PathIn (tok p slash ∷ ts) s rest
+    slashes-path : {p : ℕ} {ts rest : List Placed} {s : Steps} → StepsIn ts s rest → PathIn (tok p slashes ∷ ts) (deep s) rest
+
+  -- Absolute paths joined by `|`.
+  pub data QueryIn : List Placed → Query → List Placed → Type 0 where
+    one-path : {ts rest : List Placed} {s : Steps} → PathIn ts s rest → QueryIn ts (record { first = s; others = [] }) rest
+    bar-path : {p : ℕ} {ts us rest : List Placed} {s : Steps} {q : Query} → PathIn ts s (tok p bar ∷ us) → QueryIn us q rest
+        → QueryIn ts (record { first = s; others = paths q }) rest
+
+-- What stands in a bracket, where so many brackets may be open at once, this one counted.
+abbrev pub Within : (List ℕ → Option ℕ) → ℕ → List Placed → Expr → List Placed → Type 0
+Within look zero ts e rest = ⊥
+Within look (suc d) ts e rest = ExprIn look (Within look d) ts e rest
+
+-- DERIVED: the tokens are those of a query with at most d brackets open at once, then the end of the text.
+abbrev pub Derives : (List ℕ → Option ℕ) → ℕ → List Placed → Query → Type 0
+Derives look d ts q = (p : ℕ) × QueryIn look (Within look d) ts q (tok p finish ∷ [])
+
+-- The tokens without their places.
+abbrev pub bareTokens : List Placed → List Token
+bareTokens [] = []
+bareTokens (t ∷ ts) = t .token ∷ bareTokens ts
+
+-- PLACES: they play no part in what is derived.
+abbrev pub PlacesApart : Type 0
+PlacesApart = (look : List ℕ → Option ℕ) (d : ℕ) (ts us : List Placed) (q : Query) → bareTokens ts ≡ bareTokens us → Derives look d ts q → Derives look d us q
+
+-- Is the end of the text the last token, and no other?
+abbrev pub ended : List Placed → Bool
+ended [] = false
+ended (t ∷ ts) = cond (is finish (t .token)) (empty ts) (ended ts)
+  where
+    empty : List Placed → Bool
+    empty [] = true
+    empty (u ∷ us) = false
+
+-- Do the places rise?
+abbrev pub allBeyond : ℕ → List Placed → Type 0
+allBeyond n [] = Unit {0}
+allBeyond n (t ∷ ts) = (n < t .place) × allBeyond n ts
+
+abbrev pub Rising : List Placed → Type 0
+Rising [] = Unit {0}
+Rising (t ∷ ts) = allBeyond (t .place) ts × Rising ts
+
+-- Reading the tokens of a query, where at most d brackets may be open at once.
+abbrev pub reading : (List ℕ → Option ℕ) → ℕ → List Placed → Got Query
+reading look d ts = readPaths look (readWithin look d) (length ts) ts
+
+-- ACCEPTED: tokens are read as a query exactly if it is derived from them;
+abbrev pub Accepted : Type 0
+Accepted = (look : List ℕ → Option ℕ) (d : ℕ) (ts : List Placed) (q : Query) → ended ts ≡ true → (reading look d ts ≡ got q []) ↔ Derives look d ts q
+
+-- a text is read as a query exactly if it is derived from the text's tokens, with at most 64 brackets open at once;
+abbrev pub AcceptedText : Type 0
+AcceptedText = (look : List ℕ → Option ℕ) (text : List ℕ) (q : Query) → (readText look text ≡ got q []) ↔ Derives look bracketLimit (tokens text) q
+
+-- what is read of a text is all of it;
+abbrev pub AllRead : Type 0
+AllRead = (look : List ℕ → Option ℕ) (text : List ℕ) (q : Query) (left : List Placed) → readText look text ≡ got q left → left ≡ []
+
+-- UNIQUE: from the same tokens no two queries are derived, however many brackets may be open.
+abbrev pub Unique : Type 0
+Unique = (look : List ℕ → Option ℕ) (c d : ℕ) (ts : List Placed) (q r : Query) → Derives look c ts q → Derives look d ts r → q ≡ r
+
+-- Every name is known, as where only the syntax is judged.
+abbrev pub AllKnown : (List ℕ → Option ℕ) → Type 0
+AllKnown look = (w : List ℕ) → (v : ℕ) × (look w ≡ some v)
+
+-- The token at place p goes on with no query: those before it can be completed to one, and with it they cannot, with any names, at any nesting, whatever follows.
+pub record Wrong (look : List ℕ → Option ℕ) (d : ℕ) (ts : List Placed) (p : ℕ) : Type 0 where
+  pub before : List Placed
+  pub token : Placed
+  pub after : List Placed
+  pub split : ts ≡ before ++ (token ∷ after)
+  pub place : token .place ≡ p
+  pub completed : (more : List Placed) × (q : Query) × Derives look d (before ++ more) q
+  pub never : (names : List ℕ → Option ℕ) (depth : ℕ) (more : List Placed) (q : Query) → Derives names depth (before ++ (token ∷ more)) q → ⊥
+
+-- REFUSAL 3: tokens are refused with 3 only at the token that goes on with no query; so with texts, where a byte that starts no token and the end of the text are tokens too.
+abbrev pub RefusedWrong : Type 0
+RefusedWrong = (look : List ℕ → Option ℕ) (d : ℕ) (ts : List Placed) (p : ℕ) → AllKnown look → ended ts ≡ true → reading look d ts ≡ refused 3 p → Wrong look d ts p
+
+abbrev pub RefusedWrongText : Type 0
+RefusedWrongText = (text : List ℕ) (p : ℕ) → readText anyName text ≡ refused 3 p → Wrong anyName bracketLimit (tokens text) p
+
+-- The brackets that tokens open, and those that they close.
+abbrev pub opening : Token → ℕ
+opening slash = 0
+opening slashes = 0
+opening dot = 0
+opening dots = 0
+opening colons = 0
+opening bar = 0
+opening openSquare = 1
+opening closeSquare = 0
+opening openRound = 1
+opening closeRound = 0
+opening star = 0
+opening finish = 0
+opening stray = 0
+opening (word w) = 0
+
+abbrev pub closing : Token → ℕ
+closing slash = 0
+closing slashes = 0
+closing dot = 0
+closing dots = 0
+closing colons = 0
+closing bar = 0
+closing openSquare = 0
+closing closeSquare = 1
+closing openRound = 0
+closing closeRound = 1
+closing star = 0
+closing finish = 0
+closing stray = 0
+closing (word w) = 0
+
+abbrev pub opened : List Placed → ℕ
+opened [] = 0
+opened (t ∷ ts) = opening (t .token) + opened ts
+
+abbrev pub closed : List Placed → ℕ
+closed [] = 0
+closed (t ∷ ts) = closing (t .token) + closed ts
+
+-- With the bracket at place p d + 1 are open: d are before it, and the tokens before it can be completed to a query with at most d open at once, and with it to one with d + 1.
+pub record Reached (look : List ℕ → Option ℕ) (d : ℕ) (ts : List Placed) (p : ℕ) : Type 0 where
+  pub before : List Placed
+  pub token : Placed
+  pub after : List Placed
+  pub split : ts ≡ before ++ (token ∷ after)
+  pub place : token .place ≡ p
+  pub bracket : opening (token .token) ≡ 1
+  pub count : opened before ≡ closed before + d
+  pub fits : (more : List Placed) × (q : Query) × Derives look d (before ++ more) q
+  pub deeper : (more : List Placed) × (q : Query) × Derives look (suc d) (before ++ (token ∷ more)) q
+
+-- It is one too many: with it no query has at most d open at once, whatever names are known and whatever follows.
+pub record TooDeep (look : List ℕ → Option ℕ) (d : ℕ) (ts : List Placed) (p : ℕ) : Type 0 where
+  pub reached : Reached look d ts p
+  pub never : (names : List ℕ → Option ℕ) (more : List Placed) (q : Query) → Derives names d (reached .before ++ (reached .token ∷ more)) q → ⊥
+
+-- REFUSAL 4: tokens are refused with 4 only at the bracket that is one too many, where the tokens up to it begin a query.
+abbrev pub RefusedDeep : Type 0
+RefusedDeep = (look : List ℕ → Option ℕ) (d : ℕ) (ts : List Placed) (p : ℕ) → AllKnown look → ended ts ≡ true → Rising ts → reading look d ts ≡ refused 4 p → TooDeep look d ts p
+
+abbrev pub RefusedDeepText : Type 0
+RefusedDeepText = (text : List ℕ) (p : ℕ) → readText anyName text ≡ refused 4 p → TooDeep anyName bracketLimit (tokens text) p
+
+-- EXACTLY: each of the two is given wherever its line holds;
+abbrev pub WrongRefused : Type 0
+WrongRefused = (look : List ℕ → Option ℕ) (d : ℕ) (ts : List Placed) (p : ℕ) → AllKnown look → ended ts ≡ true → Rising ts → Wrong look d ts p → reading look d ts ≡ refused 3 p
+
+abbrev pub DeepRefused : Type 0
+DeepRefused = (look : List ℕ → Option ℕ) (d : ℕ) (ts : List Placed) (p : ℕ) → AllKnown look → ended ts ≡ true → Rising ts → TooDeep look d ts p → reading look d ts ≡ refused 4 p
+
+abbrev pub ExactText : Type 0
+ExactText =
+    (text : List ℕ) (p : ℕ)
+    → ((readText anyName text ≡ refused 3 p) ↔ Wrong anyName bracketLimit (tokens text) p) × ((readText anyName text ≡ refused 4 p) ↔ TooDeep anyName bracketLimit (tokens text) p)
+
+-- and with any names a text is read whole, refused with 3 or refused with 4.
+abbrev pub Settled : Type 0
+Settled =
+    (text : List ℕ) → ((q : Query) × (readText anyName text ≡ got q [])) ⊎ ((p : ℕ) × ((readText anyName text ≡ refused 3 p) ⊎ (readText anyName text ≡ refused 4 p)))
+
+-- A token at a place written out: `//` as `/descendant-or-self::node()/`, `.` as `self::node()`, `..` as `parent::node()`.
+abbrev pub nodesAlong : ℕ → List ℕ → List Placed → List Placed
+nodesAlong p axis rest = tok p (word axis) ∷ tok p colons ∷ tok p (word (ascii "node")) ∷ tok p openRound ∷ tok p closeRound ∷ rest
+
+abbrev pub spell : Token → ℕ → List Placed → List Placed
+spell slash p rest = tok p slash ∷ rest
+spell slashes p rest = tok p slash ∷ nodesAlong p (ascii "descendant-or-self") (tok p slash ∷ rest)
+spell dot p rest = nodesAlong p (ascii "self") rest
+spell dots p rest = nodesAlong p (ascii "parent") rest
+spell colons p rest = tok p colons ∷ rest
+spell bar p rest = tok p bar ∷ rest
+spell openSquare p rest = tok p openSquare ∷ rest
+spell closeSquare p rest = tok p closeSquare ∷ rest
+spell openRound p rest = tok p openRound ∷ rest
+spell closeRound p rest = tok p closeRound ∷ rest
+spell star p rest = tok p star ∷ rest
+spell finish p rest = tok p finish ∷ rest
+spell stray p rest = tok p stray ∷ rest
+spell (word w) p rest = tok p (word w) ∷ rest
+
+-- Every such token written out.
+abbrev pub spelt : List Placed → List Placed
+spelt [] = []
+spelt (t ∷ ts) = spell (t .token) (t .place) (spelt ts)
+
+-- ABBREVIATIONS: the query derived from tokens is derived from them with every `//`, `.` and `..` written out, and so it is read;
+abbrev pub SpeltDerived : Type 0
+SpeltDerived = (look : List ℕ → Option ℕ) (d : ℕ) (ts : List Placed) (q : Query) → Derives look d ts q → Derives look d (spelt ts) q
+
+abbrev pub SpeltRead : Type 0
+SpeltRead = (look : List ℕ → Option ℕ) (d : ℕ) (ts : List Placed) (q : Query) → ended ts ≡ true → reading look d ts ≡ got q [] → reading look d (spelt ts) ≡ got q []
+
+-- and wherever a step is read that is no `.` or `..` and has no axis, it is read, or refused, as with `child::` before it.
+abbrev pub ChildRead : Type 0
+ChildRead =
+    (look : List ℕ → Option ℕ) (d p q : ℕ) (ts : List Placed) → sees dot ts ≡ false → sees dots ts ≡ false → axisAhead ts ≡ none
+    → readStep look (readWithin look d) (tok p (word (ascii "child")) ∷ tok q colons ∷ ts) ≡ readStep look (readWithin look d) ts
