@@ -81,13 +81,13 @@ lookOf false list = anyName
 
 -- ITEMS. Where there is room for the items and they are no more than a query has, they stand from `place` on and all else is as it was.
 pub record Wrote (old new : List ℕ) (place : ℕ) (items : List ℕ) : Type 0 where
-  pub puts : (front gone back : List ℕ) → old ≡ front ++ gone ++ back → length front ≡ place → length gone ≡ length items → length items ≤ itemLimit
-      → new ≡ front ++ items ++ back
+  pub puts : (front gone back : List ℕ) → old ≡ front ++ (gone ++ back) → length front ≡ place → length gone ≡ length items → length items ≤ itemLimit
+      → new ≡ front ++ (items ++ back)
 
 -- So many of an operator's items are put before what stands from `place` to `end`, where there is room for them.
 pub record Grouped (old new : List ℕ) (place end count item : ℕ) : Type 0 where
-  pub puts : (front raw gone back : List ℕ) → old ≡ front ++ raw ++ gone ++ back → length front ≡ place → place + length raw ≡ end → length gone ≡ count
-      → new ≡ front ++ replicate count item ++ raw ++ back
+  pub puts : (front raw gone back : List ℕ) → old ≡ front ++ (raw ++ (gone ++ back)) → length front ≡ place → place + length raw ≡ end → length gone ≡ count
+      → new ≡ front ++ (replicate count item ++ (raw ++ back))
 
 -- The item of the step that `//` stands for, where it is written.
 abbrev pub deepItem : ℕ
@@ -229,15 +229,15 @@ Numbered look Absent = look ≡ none
 -- MOVING. What stands from `place` to `end` stands `count` further on.
 pub record MovedTo (new front raw back : List ℕ) (count : ℕ) : Type 0 where
   pub gap : List ℕ
-  pub is : new ≡ front ++ gap ++ raw ++ back
+  pub is : new ≡ front ++ (gap ++ (raw ++ back))
   pub wide : length gap ≡ count
 
 pub record Moved (old new : List ℕ) (place end count : ℕ) : Type 0 where
-  pub puts : (front raw gone back : List ℕ) → old ≡ front ++ raw ++ gone ++ back → length front ≡ place → place + length raw ≡ end → length gone ≡ count
+  pub puts : (front raw gone back : List ℕ) → old ≡ front ++ (raw ++ (gone ++ back)) → length front ≡ place → place + length raw ≡ end → length gone ≡ count
       → MovedTo new front raw back count
 
 pub record Filled (old new : List ℕ) (place count item : ℕ) : Type 0 where
-  pub puts : (front gone back : List ℕ) → old ≡ front ++ gone ++ back → length front ≡ place → length gone ≡ count → new ≡ front ++ replicate count item ++ back
+  pub puts : (front gone back : List ℕ) → old ≡ front ++ (gone ++ back) → length front ≡ place → length gone ≡ count → new ≡ front ++ (replicate count item ++ back)
 
 -- What every reading function asks: a text that is not too long, a list with its starts, a place in the text.
 pub record Ready (text list starts : List ℕ) (count from depth : ℕ) : Type 0 where

@@ -1,0 +1,42 @@
+use borrow.Author.Needs.{needs}
+use Rattle.read.proofs.refusal.Statement.{statement}
+use Rattle.read.proofs.refusal.Tie as tie
+use Rattle.read.proofs.refusal.Reads as reads
+use Rattle.read.proofs.refusal.Lts as lts
+
+enum-known-part : tie.Need-enum-known-part
+enum-known-part c = search needs
+
+enum-known-part-2 : tie.Need-enum-known-part-2
+enum-known-part-2 c = search needs
+
+enum-known-part-3 : tie.Need-enum-known-part-3
+enum-known-part-3 c = search needs
+
+enum-known-part-4 : tie.Need-enum-known-part-4
+enum-known-part-4 c = search needs
+
+returns : tie.Need-returns
+returns c = ?
+
+returns-2 : tie.Need-returns-2
+returns-2 c = ?
+
+returns-3 : tie.Need-returns-3
+returns-3 c = ?
+
+returns-4 : tie.Need-returns-4
+returns-4 c = ?
+
+pub refusal-spec : {M : Type 1} → statement M
+refusal-spec =
+    tie.close
+    (tie.spec
+    enum-known-part
+    enum-known-part-2
+    enum-known-part-3
+    enum-known-part-4
+    returns
+    returns-2
+    returns-3
+    returns-4)
