@@ -1,1 +1,4 @@
+pub mod Heading
+pub mod Lexed
+pub mod Naming
 pub mod Writing

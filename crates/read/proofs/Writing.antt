@@ -8,7 +8,7 @@ use mathlib.Core.List.{List, [], _∷_, _++_, append-assoc, append-nil}
 use lib.ListN.{length, getD, set, take, drop, replicate, length-append, length-drop, take-append-drop, length-replicate, replicate-append-replicate}
 use lib.Seq.{length-take-le, take-suc, take-all, set-at, getD-at}
 use Rattle.paper.specs.Limits.{itemLimit}
-use Rattle.read.specs.Parts.{Wrote, Grouped, MovedTo, Moved, Filled}
+use Rattle.read.specs.Parts.{Wrote, Grouped, MovedTo, Moved, Filled, deepItem, deepItems}
 
 -- A list of so many elements, cut in two.
 record Cut (l : List ℕ) (m n : ℕ) : Type 0 where
@@ -222,3 +222,11 @@ grouped-done old mid new place end count item m f =
           let p = m .puts front raw gone back h lf lr lg in
           f .puts front (p .gap) (raw ++ back) (p .is) lf (p .wide);
     }
+
+-- THE STEP THAT `//` STANDS FOR, written or not.
+pub deep-there : (old new : List ℕ) (place : ℕ) (deep : Bool) → deep ≡ true → Wrote old new place (deepItem ∷ [])
+    → (Wrote old new place (deepItems deep)) × (place + 1 ≡ place + length (deepItems deep))
+deep-there old new place deep d w = rw d (w, refl)
+
+pub deep-not : (old : List ℕ) (place : ℕ) (deep : Bool) → deep ≡ false → (Wrote old old place (deepItems deep)) × (place ≡ place + length (deepItems deep))
+deep-not old place deep d = rw d (wrote-nothing old place, omega arith)

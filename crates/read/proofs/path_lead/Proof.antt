@@ -1,10 +1,9 @@
+-- `read::path_lead` meets its contract, by what stands before the steps. Assumes nothing.
+use Rattle.read.proofs.Lexed.{lead-deep, lead-before, lead-alone}
+use mathlib.Core.Path.{sym, _∙_}
 use borrow.Author.Needs.{needs}
 use Rattle.read.proofs.path_lead.Statement.{statement}
 use Rattle.read.proofs.path_lead.Tie as tie
-use Rattle.read.proofs.path_lead.Reads as reads
-use Rattle.read.proofs.path_lead.Lts as lts
-use Rattle.read.proofs.joined.Reads as joined-reads
-use Rattle.read.proofs.starts_step.Reads as starts-step-reads
 
 joined-requires : tie.Need-joined-requires
 joined-requires c κs = search needs
@@ -13,7 +12,7 @@ enum-known-joint : tie.Need-enum-known-joint
 enum-known-joint c = search needs
 
 returns : tie.Need-returns
-returns c = ?
+returns c = lead-deep _ _ _ _ (c .if1 .taken) (rw (c .before .before .joint .given .1) at (c .before .before .before .before .joined .ensures))
 
 starts-step-requires : tie.Need-starts-step-requires
 starts-step-requires c κs = ?
@@ -22,13 +21,13 @@ enum-known-joint-2 : tie.Need-enum-known-joint-2
 enum-known-joint-2 c = search needs
 
 returns-2 : tie.Need-returns-2
-returns-2 c = ?
+returns-2 c = lead-before _ _ _ _ (c .before .before .if1 .left) (rw (c .before .before .before .before .joint .given .1) at (c .before .before .before .before .before .before .joined .ensures)) (sym (c .before .starts-step .ensures) ∙ c .if2 .taken)
 
 returns-3 : tie.Need-returns-3
-returns-3 c = ?
+returns-3 c = lead-alone _ _ _ _ (c .before .before .if1 .left) (rw (c .before .before .before .before .joint .given .1) at (c .before .before .before .before .before .before .joined .ensures)) (sym (c .before .starts-step .ensures) ∙ c .if2 .left)
 
 returns-4 : tie.Need-returns-4
-returns-4 c = ?
+returns-4 c = let j = rw (c .before .joint2 .given .1) at (c .before .before .before .joined .ensures) in (j .1, j .0, j .2)
 
 pub path-lead-spec : {M : Type 1} → statement M
 path-lead-spec =

@@ -1,8 +1,7 @@
+-- `read::refusal` meets its contract, case by case. Assumes nothing.
 use borrow.Author.Needs.{needs}
 use Rattle.read.proofs.refusal.Statement.{statement}
 use Rattle.read.proofs.refusal.Tie as tie
-use Rattle.read.proofs.refusal.Reads as reads
-use Rattle.read.proofs.refusal.Lts as lts
 
 enum-known-part : tie.Need-enum-known-part
 enum-known-part c = search needs
@@ -17,16 +16,16 @@ enum-known-part-4 : tie.Need-enum-known-part-4
 enum-known-part-4 c = search needs
 
 returns : tie.Need-returns
-returns c = ?
+returns c = rw (c .before .part .given .1)
 
 returns-2 : tie.Need-returns-2
-returns-2 c = ?
+returns-2 c = rw (c .before .part2 .given .1)
 
 returns-3 : tie.Need-returns-3
-returns-3 c = ?
+returns-3 c = rw (c .before .part3 .given .1)
 
 returns-4 : tie.Need-returns-4
-returns-4 c = ?
+returns-4 c = rw (c .before .part4 .given .1)
 
 pub refusal-spec : {M : Type 1} → statement M
 refusal-spec =

@@ -1,10 +1,8 @@
+-- `read::starts_step` meets its contract: the four sorts are compared. Assumes nothing.
+use Rattle.read.proofs.Lexed.{taken-sort}
 use borrow.Author.Needs.{needs}
 use Rattle.read.proofs.starts_step.Statement.{statement}
 use Rattle.read.proofs.starts_step.Tie as tie
-use Rattle.read.proofs.starts_step.Reads as reads
-use Rattle.read.proofs.starts_step.Lts as lts
-use Rattle.read.proofs.sort_of.Reads as sort-of-reads
-use Rattle.token.proofs.Cursor.take.Reads as take-reads
 
 take-requires : tie.Need-take-requires
 take-requires c κs = search needs
@@ -13,7 +11,7 @@ sort-of-requires : tie.Need-sort-of-requires
 sort-of-requires c κs = search needs
 
 returns : tie.Need-returns
-returns c = ?
+returns c = rw (taken-sort _ _ _ (c .before .take .ensures), c .sort-of .ensures)
 
 pub starts-step-spec : {M : Type 1} → statement M
 starts-step-spec = tie.close (tie.spec take-requires sort-of-requires returns)
