@@ -1,4 +1,6 @@
 pub mod Heading
 pub mod Lexed
 pub mod Naming
+pub mod Rows
+pub mod Runs
 pub mod Writing
