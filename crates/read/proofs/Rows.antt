@@ -148,6 +148,10 @@ module _ (look : List ℕ → Option ℕ) (within : ℕ → List Placed → Got 
         over (suc n) = rw s
 
 -- STEPS.
+pub joined-past : (text : List ℕ) (past : ℕ) (here : Cursor) (lead : Bool) → Joins text past (Next here lead) → Past text past (here .at)
+joined-past text past here true j = j .2
+joined-past text past here false j = j .1
+
 before-code : (lead : Bool) (s : Step) (rest : Steps) → encodeSteps (deepIf lead (before s rest)) ≡ (deepItems lead ++ stepItems s) ++ encodeSteps rest
 before-code true s rest = refl
 before-code false s rest = refl
@@ -156,7 +160,7 @@ before-count : (lead : Bool) (s : Step) (rest : Steps) → stepCount (deepIf lea
 before-count true s rest = omega arith
 before-count false s rest = omega arith
 
-deep-few : (lead : Bool) → length (deepItems lead) ≤ 1
+pub deep-few : (lead : Bool) → length (deepItems lead) ≤ 1
 deep-few true = omega arith
 deep-few false = omega arith
 

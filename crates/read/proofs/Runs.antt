@@ -139,6 +139,7 @@ module _ (op : Operator) (text old : List ℕ) (from place : ℕ) (all : Got Exp
   pub start-stuck : (n spot : ℕ) → op .one (tokensAt text from) ≡ refused n spot → all ≡ refused n spot
   start-stuck n spot h = is ∙ ap (λ o. then o (λ a left. op .more (length left) a left)) h
 
+module _ (op : Operator) (text old : List ℕ) (from place : ℕ) (all : Got Expr) where
   module _ (out : List ℕ) (here filled run : ℕ) (l : Left op text old out from place all here filled run) where
     -- The operator's word comes next.
     module _ (mid : ℕ) (s : says (op .word) (tokensAt text here) ≡ true) (p : Past text here mid) where

@@ -1,3 +1,20 @@
+-- The functions of `read` that call each other meet their contracts: path, step and expression, with falling remaining text.
+-- Each loop's invariant is that what is left to read gives the answer of the whole (`Left` of a run of operands, `PredRow` and `StepRow`).
+-- The measure of a call is the number of bytes left, then the order bracketed, expression, term, operand, steps, step. Assumes nothing.
+use Prim.Native.Nat.{_-_, _+_, _*_}
+use mathlib.Core.Path.{_≡_, refl, sym, _∙_, ap}
+use mathlib.Core.List.{List}
+use native.Mathlib.Omega.{arith}
+use borrow.Author.Needs.{needs}
+use denote.Ref.{now}
+use lib.ListN.{length}
+use Rattle.paper.specs.Query.{Expr}
+use Rattle.paper.specs.Reading.{Got, got, then, readSteps, readWithin}
+use Rattle.read.specs.Parts.{tokensAt, lookOf, deepIf, passSort}
+use Rattle.read.proofs.Heading.{axis-small}
+use Rattle.read.proofs.Runs.{ors, ands, Left, left-start, start-stuck, left-more, left-stuck, left-done, term-whole, expr-whole, passed-on}
+use Rattle.read.proofs.Rows.{PredRow, preds-start, preds-more, preds-stuck, preds-done, StepRow, Stepped, steps-start, step-more, step-stuck, steps-more, steps-done, joined-past, deep-few}
+use Rattle.read.proofs.Operands.{too-deep, opened, closed, unclosed, not-stuck, not-done, round-done, path-done, plain-done, tested-done}
 use Prim.Native.Nat.{ℕ, _<_}
 use borrow.Fn.Kinds.{In}
 use borrow.Fn.PlainCycle.{Measures, is, falls, and}
@@ -36,25 +53,25 @@ use Rattle.read.proofs.+bracketed+expression+operand+predicates+step+st
 use Rattle.read.proofs.+bracketed+expression+operand+predicates+step+steps+term.Tie.{close}
 
 abbrev μ-bracketed : Measures 4 bracketed-kinds.ps ℕ
-μ-bracketed κs a = ?
+μ-bracketed κs a = (length (now (a .0)) - a .1 .1 .1 .1 .1 .0 .at) * 8 + 5
 
 abbrev μ-expression : Measures 4 expression-kinds.ps ℕ
-μ-expression κs a = ?
+μ-expression κs a = (length (now (a .0)) - a .1 .1 .1 .1 .1 .0 .at) * 8 + 4
 
 abbrev μ-operand : Measures 4 operand-kinds.ps ℕ
-μ-operand κs a = ?
+μ-operand κs a = (length (now (a .0)) - a .1 .1 .1 .1 .1 .0 .at) * 8 + 2
 
 abbrev μ-predicates : Measures 4 predicates-kinds.ps ℕ
-μ-predicates κs a = ?
+μ-predicates κs a = (length (now (a .0)) - a .1 .1 .1 .1 .1 .0 .at) * 8 + 0
 
 abbrev μ-step : Measures 4 step-kinds.ps ℕ
-μ-step κs a = ?
+μ-step κs a = (length (now (a .0)) - a .1 .1 .1 .1 .1 .0 .at) * 8 + 0
 
 abbrev μ-steps : Measures 4 steps-kinds.ps ℕ
-μ-steps κs a = ?
+μ-steps κs a = (length (now (a .0)) - a .1 .1 .1 .1 .1 .0 .at) * 8 + 1
 
 abbrev μ-term : Measures 4 term-kinds.ps ℕ
-μ-term κs a = ?
+μ-term κs a = (length (now (a .0)) - a .1 .1 .1 .1 .1 .0 .at) * 8 + 3
 
 abbrev bracketed-at : ℕ → In 4 bracketed-kinds.ps
 bracketed-at t = and 4 bracketed-kinds.ps (is 4 bracketed-kinds.ps μ-bracketed t) bracketed.Pre
@@ -109,7 +126,8 @@ bracketed-returns : (t : ℕ) → bracketed-lts.Need-returns (
   mark-reads.Asked,
   mark-reads.Learnt,
 ) (bracketed-at t) bracketed.Post
-bracketed-returns t c = ?
+bracketed-returns t c =
+    too-deep (lookOf (c .before .before .before .before .args .known) (now (c .before .before .before .before .args .list))) (c .before .before .before .before .args .depth) (c .before .before .before .before .args .bracket) (c .before .before .before .before .args .closer) (tokensAt (now (c .before .before .before .before .args .text)) (c .before .before .before .before .args .cursor .at)) (c .if1 .taken)
 
 bracketed-sub-expression : (t : ℕ) → bracketed-lts.Need-sub-expression (
   expression-below t,
@@ -117,7 +135,7 @@ bracketed-sub-expression : (t : ℕ) → bracketed-lts.Need-sub-expression (
   mark-reads.Asked,
   mark-reads.Learnt,
 ) (bracketed-at t) bracketed.Post
-bracketed-sub-expression t c = ?
+bracketed-sub-expression t c = search needs
 
 bracketed-expression-requires : (t : ℕ) → bracketed-lts.Need-expression-requires (
   expression-below t,
@@ -125,7 +143,9 @@ bracketed-expression-requires : (t : ℕ) → bracketed-lts.Need-expression-requ
   mark-reads.Asked,
   mark-reads.Learnt,
 ) (bracketed-at t) bracketed.Post
-bracketed-expression-requires t c κs = ?
+bracketed-expression-requires t c κs =
+    let s = c .before .before .before .before .before in
+    (search needs, (record { short = s .pre .1 .0 .short; names = s .pre .1 .0 .names; inside = s .pre .1 .0 .inside; shallow = omega (arith, s .pre .1 .0 .shallow) }, s .pre .1 .1 .0))
 
 bracketed-enum-known-inner : (t : ℕ) → bracketed-lts.Need-enum-known-inner (
   expression-below t,
@@ -133,7 +153,7 @@ bracketed-enum-known-inner : (t : ℕ) → bracketed-lts.Need-enum-known-inner (
   mark-reads.Asked,
   mark-reads.Learnt,
 ) (bracketed-at t) bracketed.Post
-bracketed-enum-known-inner t c = ?
+bracketed-enum-known-inner t c = search needs
 
 bracketed-same-length : (t : ℕ) → bracketed-lts.Need-same-length (
   expression-below t,
@@ -141,7 +161,7 @@ bracketed-same-length : (t : ℕ) → bracketed-lts.Need-same-length (
   mark-reads.Asked,
   mark-reads.Learnt,
 ) (bracketed-at t) bracketed.Post
-bracketed-same-length t c = ?
+bracketed-same-length t c = search needs
 
 bracketed-returns-2 : (t : ℕ) → bracketed-lts.Need-returns-2 (
   expression-below t,
@@ -149,7 +169,10 @@ bracketed-returns-2 : (t : ℕ) → bracketed-lts.Need-returns-2 (
   mark-reads.Asked,
   mark-reads.Learnt,
 ) (bracketed-at t) bracketed.Post
-bracketed-returns-2 t c = ?
+bracketed-returns-2 t c =
+    let s = c .before .before .before .before .before .before .before .before .before in
+    passed-on _ _ _ _ _ _ _ _ _ _ _ _ _ _ _ _ _ _ (c .before .before .before .expression .result) (c .match .keys2) (c .before .before .before .expression .ensures)
+    (λ n spot h. ap (λ x. then x (passSort (s .args .closer))) (opened (lookOf (s .args .known) (now (s .args .list))) (s .args .depth) (s .args .bracket) (tokensAt (now (s .args .text)) (s .args .cursor .at)) (c .before .before .before .before .before .if1 .left) ∙ h))
 
 bracketed-mark-requires : (t : ℕ) → bracketed-lts.Need-mark-requires (
   expression-below t,
@@ -157,7 +180,8 @@ bracketed-mark-requires : (t : ℕ) → bracketed-lts.Need-mark-requires (
   mark-reads.Asked,
   mark-reads.Learnt,
 ) (bracketed-at t) bracketed.Post
-bracketed-mark-requires t c κs = ?
+bracketed-mark-requires t c κs =
+    ((rw (c .before .inner .given .1) at (c .before .before .before .before .before .expression .ensures)) .inside, c .before .before .before .before .before .before .before .before .before .before .before .pre .1 .1 .1)
 
 bracketed-enum-known-close : (t : ℕ) → bracketed-lts.Need-enum-known-close (
   expression-below t,
@@ -165,7 +189,7 @@ bracketed-enum-known-close : (t : ℕ) → bracketed-lts.Need-enum-known-close (
   mark-reads.Asked,
   mark-reads.Learnt,
 ) (bracketed-at t) bracketed.Post
-bracketed-enum-known-close t c = ?
+bracketed-enum-known-close t c = search needs
 
 bracketed-enum-known-close-2 : (t : ℕ) → bracketed-lts.Need-enum-known-close-2 (
   expression-below t,
@@ -173,7 +197,7 @@ bracketed-enum-known-close-2 : (t : ℕ) → bracketed-lts.Need-enum-known-close
   mark-reads.Asked,
   mark-reads.Learnt,
 ) (bracketed-at t) bracketed.Post
-bracketed-enum-known-close-2 t c = ?
+bracketed-enum-known-close-2 t c = search needs
 
 bracketed-same-length-2 : (t : ℕ) → bracketed-lts.Need-same-length-2 (
   expression-below t,
@@ -181,7 +205,7 @@ bracketed-same-length-2 : (t : ℕ) → bracketed-lts.Need-same-length-2 (
   mark-reads.Asked,
   mark-reads.Learnt,
 ) (bracketed-at t) bracketed.Post
-bracketed-same-length-2 t c = ?
+bracketed-same-length-2 t c = search needs
 
 bracketed-returns-3 : (t : ℕ) → bracketed-lts.Need-returns-3 (
   expression-below t,
@@ -189,7 +213,11 @@ bracketed-returns-3 : (t : ℕ) → bracketed-lts.Need-returns-3 (
   mark-reads.Asked,
   mark-reads.Learnt,
 ) (bracketed-at t) bracketed.Post
-bracketed-returns-3 t c = ?
+bracketed-returns-3 t c =
+    let s = c .before .before .before .before .before .before .before .before .before .before .before .before .before .before .before in
+    let g = rw (c .before .before .before .before .before .inner .given .1) at (c .before .before .before .before .before .before .before .before .before .expression .ensures) in
+    let m = rw (c .before .close .given .1) at (c .before .before .before .mark .ensures) in
+    closed _ _ _ _ _ (s .args .closer) _ _ (opened (lookOf (s .args .known) (now (s .args .list))) (s .args .depth) (s .args .bracket) (tokensAt (now (s .args .text)) (s .args .cursor .at)) (c .before .before .before .before .before .before .before .before .before .before .before .if1 .left)) _ _ _ g (m .0) (m .2)
 
 bracketed-same-length-3 : (t : ℕ) → bracketed-lts.Need-same-length-3 (
   expression-below t,
@@ -197,7 +225,7 @@ bracketed-same-length-3 : (t : ℕ) → bracketed-lts.Need-same-length-3 (
   mark-reads.Asked,
   mark-reads.Learnt,
 ) (bracketed-at t) bracketed.Post
-bracketed-same-length-3 t c = ?
+bracketed-same-length-3 t c = search needs
 
 bracketed-returns-4 : (t : ℕ) → bracketed-lts.Need-returns-4 (
   expression-below t,
@@ -205,15 +233,19 @@ bracketed-returns-4 : (t : ℕ) → bracketed-lts.Need-returns-4 (
   mark-reads.Asked,
   mark-reads.Learnt,
 ) (bracketed-at t) bracketed.Post
-bracketed-returns-4 t c = ?
+bracketed-returns-4 t c =
+    let s = c .before .before .before .before .before .before .before .before .before .before .before .before .before .before .before in
+    let g = rw (c .before .before .before .before .before .inner .given .1) at (c .before .before .before .before .before .before .before .before .before .expression .ensures) in
+    let m = rw (c .before .close2 .given .1) at (c .before .before .before .mark .ensures) in
+    unclosed _ _ _ _ _ (s .args .closer) _ _ (opened (lookOf (s .args .known) (now (s .args .list))) (s .args .depth) (s .args .bracket) (tokensAt (now (s .args .text)) (s .args .cursor .at)) (c .before .before .before .before .before .before .before .before .before .before .before .if1 .left)) _ _ _ g (m .0) (m .1)
 
 abbrev expression-Inv-loop : expression-lts.InvT-loop
 expression-Inv-loop text list starts count known depth out₀ place end here₀ filled₀ run₀ t21 out here filled run =
-    ?
+    (length out ≡ length out₀) × ((old : List ℕ) (from : ℕ) (all : Got Expr) → Left (ors (lookOf known list) (readWithin (lookOf known list) depth)) text old out₀ from place all (here₀ .at) filled₀ 0 → Left (ors (lookOf known list) (readWithin (lookOf known list) depth)) text old out from place all (here .at) filled run)
 
 abbrev expression-μ-loop : expression-lts.MeasureT-loop
 expression-μ-loop text list starts count known depth out₀ place end here₀ filled₀ run₀ t21 out here filled run =
-    ?
+    length text - here .at
 
 expression-term-requires : (t : ℕ) → expression-lts.Need-term-requires (
   term-below t,
@@ -223,7 +255,7 @@ expression-term-requires : (t : ℕ) → expression-lts.Need-term-requires (
   group-reads.Asked,
   group-reads.Learnt,
 ) (expression-at t) expression.Post expression-Inv-loop expression-μ-loop
-expression-term-requires t c κs = ?
+expression-term-requires t c κs = search needs
 
 expression-enum-known-first : (t : ℕ) → expression-lts.Need-enum-known-first (
   term-below t,
@@ -233,7 +265,7 @@ expression-enum-known-first : (t : ℕ) → expression-lts.Need-enum-known-first
   group-reads.Asked,
   group-reads.Learnt,
 ) (expression-at t) expression.Post expression-Inv-loop expression-μ-loop
-expression-enum-known-first t c = ?
+expression-enum-known-first t c = search needs
 
 expression-same-length : (t : ℕ) → expression-lts.Need-same-length (
   term-below t,
@@ -243,7 +275,7 @@ expression-same-length : (t : ℕ) → expression-lts.Need-same-length (
   group-reads.Asked,
   group-reads.Learnt,
 ) (expression-at t) expression.Post expression-Inv-loop expression-μ-loop
-expression-same-length t c = ?
+expression-same-length t c = search needs
 
 expression-returns : (t : ℕ) → expression-lts.Need-returns (
   term-below t,
@@ -253,7 +285,9 @@ expression-returns : (t : ℕ) → expression-lts.Need-returns (
   group-reads.Asked,
   group-reads.Learnt,
 ) (expression-at t) expression.Post expression-Inv-loop expression-μ-loop
-expression-returns t c = ?
+expression-returns t c =
+    let s = c .before .before .before .before .before .before .before .before in
+    passed-on _ _ _ _ _ _ _ _ _ _ _ _ _ _ _ _ _ _ (c .before .before .before .term .result) (c .match .keys2) (c .before .before .before .term .ensures) (start-stuck (ors (lookOf (s .args .known) (now (s .args .list))) (readWithin (lookOf (s .args .known) (now (s .args .list))) (s .args .depth))) _ (s .args .out .now) _ (s .args .place) _ (expr-whole (lookOf (s .args .known) (now (s .args .list))) (readWithin (lookOf (s .args .known) (now (s .args .list))) (s .args .depth)) (tokensAt (now (s .args .text)) (s .args .cursor .at))))
 
 expression-loop-holds : (t : ℕ) → expression-lts.Need-loop-holds (
   term-below t,
@@ -263,7 +297,7 @@ expression-loop-holds : (t : ℕ) → expression-lts.Need-loop-holds (
   group-reads.Asked,
   group-reads.Learnt,
 ) (expression-at t) expression.Post expression-Inv-loop expression-μ-loop
-expression-loop-holds t c = ?
+expression-loop-holds t c = search needs
 
 expression-slice-aggregate-word-ahead : (t : ℕ) → expression-lts.Need-slice-aggregate-word-ahead (
   term-below t,
@@ -273,7 +307,7 @@ expression-slice-aggregate-word-ahead : (t : ℕ) → expression-lts.Need-slice-
   group-reads.Asked,
   group-reads.Learnt,
 ) (expression-at t) expression.Post expression-Inv-loop expression-μ-loop
-expression-slice-aggregate-word-ahead t c = ?
+expression-slice-aggregate-word-ahead t c = search needs
 
 expression-word-ahead-requires : (t : ℕ) → expression-lts.Need-word-ahead-requires (
   term-below t,
@@ -283,7 +317,10 @@ expression-word-ahead-requires : (t : ℕ) → expression-lts.Need-word-ahead-re
   group-reads.Asked,
   group-reads.Learnt,
 ) (expression-at t) expression.Post expression-Inv-loop expression-μ-loop
-expression-word-ahead-requires t c κs = ?
+expression-word-ahead-requires t c κs =
+    let s = c .before .before .before .before .before .before .before .before .before .before .before .before in
+    let l = c .before .loop .inv .1 _ _ _ (left-start (ors (lookOf (s .args .known) (now (s .args .list))) (readWithin (lookOf (s .args .known) (now (s .args .list))) (s .args .depth))) _ _ _ _ _ (expr-whole (lookOf (s .args .known) (now (s .args .list))) (readWithin (lookOf (s .args .known) (now (s .args .list))) (s .args .depth)) (tokensAt (now (s .args .text)) (s .args .cursor .at))) _ _ _ (rw (c .before .before .before .first .given .1) at (c .before .before .before .before .before .before .before .term .ensures))) in
+    (l .inside, search needs)
 
 expression-enum-known-ahead : (t : ℕ) → expression-lts.Need-enum-known-ahead (
   term-below t,
@@ -293,7 +330,7 @@ expression-enum-known-ahead : (t : ℕ) → expression-lts.Need-enum-known-ahead
   group-reads.Asked,
   group-reads.Learnt,
 ) (expression-at t) expression.Post expression-Inv-loop expression-μ-loop
-expression-enum-known-ahead t c = ?
+expression-enum-known-ahead t c = search needs
 
 expression-enum-told : (t : ℕ) → expression-lts.Need-enum-told (
   term-below t,
@@ -303,7 +340,7 @@ expression-enum-told : (t : ℕ) → expression-lts.Need-enum-told (
   group-reads.Asked,
   group-reads.Learnt,
 ) (expression-at t) expression.Post expression-Inv-loop expression-μ-loop
-expression-enum-told t c = ?
+expression-enum-told t c = search needs
 
 expression-term-requires-2 : (t : ℕ) → expression-lts.Need-term-requires-2 (
   term-below t,
@@ -313,7 +350,11 @@ expression-term-requires-2 : (t : ℕ) → expression-lts.Need-term-requires-2 (
   group-reads.Asked,
   group-reads.Learnt,
 ) (expression-at t) expression.Post expression-Inv-loop expression-μ-loop
-expression-term-requires-2 t c κs = ?
+expression-term-requires-2 t c κs =
+    let s = c .before .before .before .before .before .before .before .before .before .before .before .before .before .before .before .before .before in
+    let l = c .before .before .before .before .before .before .loop .inv .1 _ _ _ (left-start (ors (lookOf (s .args .known) (now (s .args .list))) (readWithin (lookOf (s .args .known) (now (s .args .list))) (s .args .depth))) _ _ _ _ _ (expr-whole (lookOf (s .args .known) (now (s .args .list))) (readWithin (lookOf (s .args .known) (now (s .args .list))) (s .args .depth)) (tokensAt (now (s .args .text)) (s .args .cursor .at))) _ _ _ (rw (c .before .before .before .before .before .before .before .before .first .given .1) at (c .before .before .before .before .before .before .before .before .before .before .before .before .term .ensures))) in
+    let w = rw (c .before .before .ahead .given .1) at (c .before .before .before .before .word-ahead .ensures) in
+    (omega (arith, l .onward, w .2 .onward, w .2 .inside, s .pre .0), (record { short = s .pre .1 .0 .short; names = s .pre .1 .0 .names; inside = w .2 .inside; shallow = s .pre .1 .0 .shallow }, omega (arith, l .grows, w .2 .onward, s .pre .1 .1)))
 
 expression-enum-known-more : (t : ℕ) → expression-lts.Need-enum-known-more (
   term-below t,
@@ -323,7 +364,7 @@ expression-enum-known-more : (t : ℕ) → expression-lts.Need-enum-known-more (
   group-reads.Asked,
   group-reads.Learnt,
 ) (expression-at t) expression.Post expression-Inv-loop expression-μ-loop
-expression-enum-known-more t c = ?
+expression-enum-known-more t c = search needs
 
 expression-same-length-2 : (t : ℕ) → expression-lts.Need-same-length-2 (
   term-below t,
@@ -333,7 +374,7 @@ expression-same-length-2 : (t : ℕ) → expression-lts.Need-same-length-2 (
   group-reads.Asked,
   group-reads.Learnt,
 ) (expression-at t) expression.Post expression-Inv-loop expression-μ-loop
-expression-same-length-2 t c = ?
+expression-same-length-2 t c = search needs
 
 expression-returns-2 : (t : ℕ) → expression-lts.Need-returns-2 (
   term-below t,
@@ -343,7 +384,11 @@ expression-returns-2 : (t : ℕ) → expression-lts.Need-returns-2 (
   group-reads.Asked,
   group-reads.Learnt,
 ) (expression-at t) expression.Post expression-Inv-loop expression-μ-loop
-expression-returns-2 t c = ?
+expression-returns-2 t c =
+    let s = c .before .before .before .before .before .before .before .before .before .before .before .before .before .before .before .before .before .before .before .before .before in
+    let l = c .before .before .before .before .before .before .before .before .before .before .loop .inv .1 _ _ _ (left-start (ors (lookOf (s .args .known) (now (s .args .list))) (readWithin (lookOf (s .args .known) (now (s .args .list))) (s .args .depth))) _ _ _ _ _ (expr-whole (lookOf (s .args .known) (now (s .args .list))) (readWithin (lookOf (s .args .known) (now (s .args .list))) (s .args .depth)) (tokensAt (now (s .args .text)) (s .args .cursor .at))) _ _ _ (rw (c .before .before .before .before .before .before .before .before .before .before .before .before .first .given .1) at (c .before .before .before .before .before .before .before .before .before .before .before .before .before .before .before .before .term .ensures))) in
+    let w = rw (c .before .before .before .before .before .before .ahead .given .1) at (c .before .before .before .before .before .before .before .before .word-ahead .ensures) in
+    passed-on _ _ _ _ _ _ _ _ _ _ _ _ _ _ _ _ _ _ (c .before .before .before .term2 .result) (c .match3 .keys2) (c .before .before .before .term2 .ensures) (left-stuck (ors (lookOf (s .args .known) (now (s .args .list))) (readWithin (lookOf (s .args .known) (now (s .args .list))) (s .args .depth))) _ _ _ _ _ _ _ _ _ l _ (w .0) (w .2))
 
 expression-add-run : (t : ℕ) → expression-lts.Need-add-run (
   term-below t,
@@ -353,7 +398,10 @@ expression-add-run : (t : ℕ) → expression-lts.Need-add-run (
   group-reads.Asked,
   group-reads.Learnt,
 ) (expression-at t) expression.Post expression-Inv-loop expression-μ-loop
-expression-add-run t c = ?
+expression-add-run t c =
+    let s = c .before .before .before .before .before .before .before .before .before .before .before .before .before .before .before .before .before .before .before .before .before .before .before in
+    let l = c .before .before .before .before .before .before .before .before .before .before .before .before .loop .inv .1 _ _ _ (left-start (ors (lookOf (s .args .known) (now (s .args .list))) (readWithin (lookOf (s .args .known) (now (s .args .list))) (s .args .depth))) _ _ _ _ _ (expr-whole (lookOf (s .args .known) (now (s .args .list))) (readWithin (lookOf (s .args .known) (now (s .args .list))) (s .args .depth)) (tokensAt (now (s .args .text)) (s .args .cursor .at))) _ _ _ (rw (c .before .before .before .before .before .before .before .before .before .before .before .before .before .before .first .given .1) at (c .before .before .before .before .before .before .before .before .before .before .before .before .before .before .before .before .before .before .term .ensures))) in
+    omega (arith, l .grows, l .inside, s .pre .1 .0 .short, s .pre .1 .1)
 
 expression-loop-less : (t : ℕ) → expression-lts.Need-loop-less (
   term-below t,
@@ -363,7 +411,10 @@ expression-loop-less : (t : ℕ) → expression-lts.Need-loop-less (
   group-reads.Asked,
   group-reads.Learnt,
 ) (expression-at t) expression.Post expression-Inv-loop expression-μ-loop
-expression-loop-less t c = ?
+expression-loop-less t c =
+    let g = rw (c .before .more .given .1) at (c .before .before .before .before .before .term2 .ensures) in
+    let w = rw (c .before .before .before .before .before .before .before .before .ahead .given .1) at (c .before .before .before .before .before .before .before .before .before .before .word-ahead .ensures) in
+    omega (arith, w .2 .onward, g .onward, g .inside)
 
 expression-loop-again : (t : ℕ) → expression-lts.Need-loop-again (
   term-below t,
@@ -373,7 +424,12 @@ expression-loop-again : (t : ℕ) → expression-lts.Need-loop-again (
   group-reads.Asked,
   group-reads.Learnt,
 ) (expression-at t) expression.Post expression-Inv-loop expression-μ-loop
-expression-loop-again t c = ?
+expression-loop-again t c =
+    (search needs,
+    let s = c .before .before .before .before .before .before .before .before .before .before .before .before .before .before .before .before .before .before .before .before .before .before .before in
+    let g = rw (c .before .more .given .1) at (c .before .before .before .before .before .term2 .ensures) in
+    let w = rw (c .before .before .before .before .before .before .before .before .ahead .given .1) at (c .before .before .before .before .before .before .before .before .before .before .word-ahead .ensures) in
+    λ old from all l. left-more (ors (lookOf (s .args .known) (now (s .args .list))) (readWithin (lookOf (s .args .known) (now (s .args .list))) (s .args .depth))) _ old from _ all _ _ _ _ (c .before .before .before .before .before .before .before .before .before .before .before .before .loop .inv .1 old from all l) _ (w .0) (w .2) _ _ _ g)
 
 expression-group-requires : (t : ℕ) → expression-lts.Need-group-requires (
   term-below t,
@@ -383,7 +439,10 @@ expression-group-requires : (t : ℕ) → expression-lts.Need-group-requires (
   group-reads.Asked,
   group-reads.Learnt,
 ) (expression-at t) expression.Post expression-Inv-loop expression-μ-loop
-expression-group-requires t c κs = ?
+expression-group-requires t c κs =
+    let s = c .before .before .before .before .before .before .before .before .before .before .before .before .before .before .before .before in
+    let l = c .before .before .before .before .before .loop .inv .1 _ _ _ (left-start (ors (lookOf (s .args .known) (now (s .args .list))) (readWithin (lookOf (s .args .known) (now (s .args .list))) (s .args .depth))) _ _ _ _ _ (expr-whole (lookOf (s .args .known) (now (s .args .list))) (readWithin (lookOf (s .args .known) (now (s .args .list))) (s .args .depth)) (tokensAt (now (s .args .text)) (s .args .cursor .at))) _ _ _ (rw (c .before .before .before .before .before .before .before .first .given .1) at (c .before .before .before .before .before .before .before .before .before .before .before .term .ensures))) in
+    (omega (arith, l .ends), omega (arith, l .grows, l .inside, s .pre .1 .0 .short, s .pre .1 .1), omega (arith, l .grows, l .inside, s .pre .1 .0 .short, s .pre .1 .1))
 
 expression-add-t31 : (t : ℕ) → expression-lts.Need-add-t31 (
   term-below t,
@@ -393,7 +452,10 @@ expression-add-t31 : (t : ℕ) → expression-lts.Need-add-t31 (
   group-reads.Asked,
   group-reads.Learnt,
 ) (expression-at t) expression.Post expression-Inv-loop expression-μ-loop
-expression-add-t31 t c = ?
+expression-add-t31 t c =
+    let s = c .before .before .before .before .before .before .before .before .before .before .before .before .before .before .before .before .before .before .before in
+    let l = c .before .before .before .before .before .before .before .before .loop .inv .1 _ _ _ (left-start (ors (lookOf (s .args .known) (now (s .args .list))) (readWithin (lookOf (s .args .known) (now (s .args .list))) (s .args .depth))) _ _ _ _ _ (expr-whole (lookOf (s .args .known) (now (s .args .list))) (readWithin (lookOf (s .args .known) (now (s .args .list))) (s .args .depth)) (tokensAt (now (s .args .text)) (s .args .cursor .at))) _ _ _ (rw (c .before .before .before .before .before .before .before .before .before .before .first .given .1) at (c .before .before .before .before .before .before .before .before .before .before .before .before .before .before .term .ensures))) in
+    omega (arith, l .grows, l .inside, s .pre .1 .0 .short, s .pre .1 .1)
 
 expression-same-length-3 : (t : ℕ) → expression-lts.Need-same-length-3 (
   term-below t,
@@ -403,7 +465,7 @@ expression-same-length-3 : (t : ℕ) → expression-lts.Need-same-length-3 (
   group-reads.Asked,
   group-reads.Learnt,
 ) (expression-at t) expression.Post expression-Inv-loop expression-μ-loop
-expression-same-length-3 t c = ?
+expression-same-length-3 t c = search needs
 
 expression-returns-3 : (t : ℕ) → expression-lts.Need-returns-3 (
   term-below t,
@@ -413,7 +475,11 @@ expression-returns-3 : (t : ℕ) → expression-lts.Need-returns-3 (
   group-reads.Asked,
   group-reads.Learnt,
 ) (expression-at t) expression.Post expression-Inv-loop expression-μ-loop
-expression-returns-3 t c = ?
+expression-returns-3 t c =
+    let s = c .before .before .before .before .before .before .before .before .before .before .before .before .before .before .before .before .before .before .before in
+    let l = c .before .before .before .before .before .before .before .before .loop .inv .1 _ _ _ (left-start (ors (lookOf (s .args .known) (now (s .args .list))) (readWithin (lookOf (s .args .known) (now (s .args .list))) (s .args .depth))) _ _ _ _ _ (expr-whole (lookOf (s .args .known) (now (s .args .list))) (readWithin (lookOf (s .args .known) (now (s .args .list))) (s .args .depth)) (tokensAt (now (s .args .text)) (s .args .cursor .at))) _ _ _ (rw (c .before .before .before .before .before .before .before .before .before .before .first .given .1) at (c .before .before .before .before .before .before .before .before .before .before .before .before .before .before .term .ensures))) in
+    let w = rw (c .before .before .before .before .enum-told .given .1) at (c .before .before .before .before .before .before .word-ahead .ensures) in
+    left-done (ors (lookOf (s .args .known) (now (s .args .list))) (readWithin (lookOf (s .args .known) (now (s .args .list))) (s .args .depth))) _ _ _ _ _ _ _ _ _ l _ (w .0) (c .before .before .group .ensures)
 
 operand-opening-requires : (t : ℕ) → operand-lts.Need-opening-requires (
   opening-reads.Asked,
@@ -425,7 +491,7 @@ operand-opening-requires : (t : ℕ) → operand-lts.Need-opening-requires (
   steps-below t,
   steps.Post,
 ) (operand-at t) operand.Post
-operand-opening-requires t c κs = ?
+operand-opening-requires t c κs = search needs
 
 operand-enum-known-opens : (t : ℕ) → operand-lts.Need-enum-known-opens (
   opening-reads.Asked,
@@ -437,7 +503,7 @@ operand-enum-known-opens : (t : ℕ) → operand-lts.Need-enum-known-opens (
   steps-below t,
   steps.Post,
 ) (operand-at t) operand.Post
-operand-enum-known-opens t c = ?
+operand-enum-known-opens t c = search needs
 
 operand-add-bracketed : (t : ℕ) → operand-lts.Need-add-bracketed (
   opening-reads.Asked,
@@ -449,7 +515,7 @@ operand-add-bracketed : (t : ℕ) → operand-lts.Need-add-bracketed (
   steps-below t,
   steps.Post,
 ) (operand-at t) operand.Post
-operand-add-bracketed t c = ?
+operand-add-bracketed t c = search needs
 
 operand-bracketed-requires : (t : ℕ) → operand-lts.Need-bracketed-requires (
   opening-reads.Asked,
@@ -461,7 +527,10 @@ operand-bracketed-requires : (t : ℕ) → operand-lts.Need-bracketed-requires (
   steps-below t,
   steps.Post,
 ) (operand-at t) operand.Post
-operand-bracketed-requires t c κs = ?
+operand-bracketed-requires t c κs =
+    let s = c .before .before .before .before .before .before .before .before in
+    let n = rw (c .before .before .opens .given .1) at (c .before .before .before .before .opening .ensures) in
+    (omega (arith, n .first .onward, n .second .onward, n .second .inside, s .pre .0), (record { short = s .pre .1 .0 .short; names = s .pre .1 .0 .names; inside = n .second .inside; shallow = s .pre .1 .0 .shallow }, (omega (arith, n .first .onward, n .second .onward, s .pre .1 .1), search needs)))
 
 operand-enum-known-inner : (t : ℕ) → operand-lts.Need-enum-known-inner (
   opening-reads.Asked,
@@ -473,7 +542,7 @@ operand-enum-known-inner : (t : ℕ) → operand-lts.Need-enum-known-inner (
   steps-below t,
   steps.Post,
 ) (operand-at t) operand.Post
-operand-enum-known-inner t c = ?
+operand-enum-known-inner t c = search needs
 
 operand-same-length : (t : ℕ) → operand-lts.Need-same-length (
   opening-reads.Asked,
@@ -485,7 +554,7 @@ operand-same-length : (t : ℕ) → operand-lts.Need-same-length (
   steps-below t,
   steps.Post,
 ) (operand-at t) operand.Post
-operand-same-length t c = ?
+operand-same-length t c = search needs
 
 operand-returns : (t : ℕ) → operand-lts.Need-returns (
   opening-reads.Asked,
@@ -497,7 +566,10 @@ operand-returns : (t : ℕ) → operand-lts.Need-returns (
   steps-below t,
   steps.Post,
 ) (operand-at t) operand.Post
-operand-returns t c = ?
+operand-returns t c =
+    let s = c .before .before .before .before .before .before .before .before .before .before .before .before in
+    let n = rw (c .before .before .before .before .before .before .opens .given .1) at (c .before .before .before .before .before .before .before .before .opening .ensures) in
+    passed-on _ _ _ _ _ _ _ _ _ _ _ _ _ _ _ _ _ _ (c .before .before .before .bracketed .result) (c .match2 .keys2) (c .before .before .before .bracketed .ensures) (λ k spot h. not-stuck (lookOf (s .args .known) (now (s .args .list))) (readWithin (lookOf (s .args .known) (now (s .args .list))) (s .args .depth)) _ (s .args .out .now) _ (s .args .place) _ _ k spot n h)
 
 operand-put-requires : (t : ℕ) → operand-lts.Need-put-requires (
   opening-reads.Asked,
@@ -509,7 +581,7 @@ operand-put-requires : (t : ℕ) → operand-lts.Need-put-requires (
   steps-below t,
   steps.Post,
 ) (operand-at t) operand.Post
-operand-put-requires t c κs = ?
+operand-put-requires t c κs = search needs
 
 operand-enum-known-opens-2 : (t : ℕ) → operand-lts.Need-enum-known-opens-2 (
   opening-reads.Asked,
@@ -521,7 +593,7 @@ operand-enum-known-opens-2 : (t : ℕ) → operand-lts.Need-enum-known-opens-2 (
   steps-below t,
   steps.Post,
 ) (operand-at t) operand.Post
-operand-enum-known-opens-2 t c = ?
+operand-enum-known-opens-2 t c = search needs
 
 operand-bracketed-requires-2 : (t : ℕ) → operand-lts.Need-bracketed-requires-2 (
   opening-reads.Asked,
@@ -533,7 +605,10 @@ operand-bracketed-requires-2 : (t : ℕ) → operand-lts.Need-bracketed-requires
   steps-below t,
   steps.Post,
 ) (operand-at t) operand.Post
-operand-bracketed-requires-2 t c κs = ?
+operand-bracketed-requires-2 t c κs =
+    let s = c .before .before .before .before .before .before .before .before in
+    let o = rw (c .before .before .opens2 .given .1) at (c .before .before .before .before .opening .ensures) in
+    (omega (arith, o .3 .onward, o .3 .inside, s .pre .0), (record { short = s .pre .1 .0 .short; names = s .pre .1 .0 .names; inside = o .3 .inside; shallow = s .pre .1 .0 .shallow }, (omega (arith, o .3 .onward, s .pre .1 .1), search needs)))
 
 operand-enum-told : (t : ℕ) → operand-lts.Need-enum-told (
   opening-reads.Asked,
@@ -545,7 +620,7 @@ operand-enum-told : (t : ℕ) → operand-lts.Need-enum-told (
   steps-below t,
   steps.Post,
 ) (operand-at t) operand.Post
-operand-enum-told t c = ?
+operand-enum-told t c = search needs
 
 operand-steps-requires : (t : ℕ) → operand-lts.Need-steps-requires (
   opening-reads.Asked,
@@ -557,7 +632,7 @@ operand-steps-requires : (t : ℕ) → operand-lts.Need-steps-requires (
   steps-below t,
   steps.Post,
 ) (operand-at t) operand.Post
-operand-steps-requires t c κs = ?
+operand-steps-requires t c κs = search needs
 
 operand-same-length-2 : (t : ℕ) → operand-lts.Need-same-length-2 (
   opening-reads.Asked,
@@ -569,7 +644,7 @@ operand-same-length-2 : (t : ℕ) → operand-lts.Need-same-length-2 (
   steps-below t,
   steps.Post,
 ) (operand-at t) operand.Post
-operand-same-length-2 t c = ?
+operand-same-length-2 t c = search needs
 
 operand-returns-2 : (t : ℕ) → operand-lts.Need-returns-2 (
   opening-reads.Asked,
@@ -581,7 +656,11 @@ operand-returns-2 : (t : ℕ) → operand-lts.Need-returns-2 (
   steps-below t,
   steps.Post,
 ) (operand-at t) operand.Post
-operand-returns-2 t c = ?
+operand-returns-2 t c =
+    let s = c .before .before .before .before .before .before .before .before .before .before .before .before .before .before .before .before .before .before in
+    let n = rw (c .before .before .before .before .before .before .before .before .before .before .before .before .opens .given .1) at (c .before .before .before .before .before .before .before .before .before .before .before .before .before .before .opening .ensures) in
+    let g = rw (c .before .before .before .before .before .inner .given .1) at (c .before .before .before .before .before .before .before .before .before .bracketed .ensures) in
+    not-done (lookOf (s .args .known) (now (s .args .list))) (readWithin (lookOf (s .args .known) (now (s .args .list))) (s .args .depth)) _ _ _ _ _ _ _ _ _ _ n g (c .before .before .put .ensures)
 
 operand-same-length-3 : (t : ℕ) → operand-lts.Need-same-length-3 (
   opening-reads.Asked,
@@ -593,7 +672,7 @@ operand-same-length-3 : (t : ℕ) → operand-lts.Need-same-length-3 (
   steps-below t,
   steps.Post,
 ) (operand-at t) operand.Post
-operand-same-length-3 t c = ?
+operand-same-length-3 t c = search needs
 
 operand-returns-3 : (t : ℕ) → operand-lts.Need-returns-3 (
   opening-reads.Asked,
@@ -605,7 +684,10 @@ operand-returns-3 : (t : ℕ) → operand-lts.Need-returns-3 (
   steps-below t,
   steps.Post,
 ) (operand-at t) operand.Post
-operand-returns-3 t c = ?
+operand-returns-3 t c =
+    let s = c .before .before .before .before .before .before .before .before .before .before .before in
+    let o = rw (c .before .before .before .before .before .opens2 .given .1) at (c .before .before .before .before .before .before .before .opening .ensures) in
+    round-done (lookOf (s .args .known) (now (s .args .list))) (readWithin (lookOf (s .args .known) (now (s .args .list))) (s .args .depth)) _ _ _ _ _ _ _ (c .before .before .bracketed2 .result) o (c .before .before .bracketed2 .ensures)
 
 operand-same-length-4 : (t : ℕ) → operand-lts.Need-same-length-4 (
   opening-reads.Asked,
@@ -617,7 +699,7 @@ operand-same-length-4 : (t : ℕ) → operand-lts.Need-same-length-4 (
   steps-below t,
   steps.Post,
 ) (operand-at t) operand.Post
-operand-same-length-4 t c = ?
+operand-same-length-4 t c = search needs
 
 operand-returns-4 : (t : ℕ) → operand-lts.Need-returns-4 (
   opening-reads.Asked,
@@ -629,15 +711,18 @@ operand-returns-4 : (t : ℕ) → operand-lts.Need-returns-4 (
   steps-below t,
   steps.Post,
 ) (operand-at t) operand.Post
-operand-returns-4 t c = ?
+operand-returns-4 t c =
+    let s = c .before .before .before .before .before .before .before .before .before .before in
+    let o = rw (c .before .before .before .before .enum-told .given .1) at (c .before .before .before .before .before .before .opening .ensures) in
+    path-done (lookOf (s .args .known) (now (s .args .list))) (readWithin (lookOf (s .args .known) (now (s .args .list))) (s .args .depth)) _ _ _ _ _ (c .before .before .steps .result) o (c .before .before .steps .ensures)
 
 abbrev predicates-Inv-loop : predicates-lts.InvT-loop
 predicates-Inv-loop text list starts count known depth out₀ place axis test here₀ filled₀ taken₀ out here filled taken =
-    ?
+    (length out ≡ length out₀) × (PredRow (lookOf known list) (readWithin (lookOf known list) depth) text out₀ out (here₀ .at) place (here .at) filled taken)
 
 abbrev predicates-μ-loop : predicates-lts.MeasureT-loop
 predicates-μ-loop text list starts count known depth out₀ place axis test here₀ filled₀ taken₀ out here filled taken =
-    ?
+    length text - here .at
 
 predicates-add-filled : (t : ℕ) → predicates-lts.Need-add-filled (
   mark-reads.Asked,
@@ -649,7 +734,7 @@ predicates-add-filled : (t : ℕ) → predicates-lts.Need-add-filled (
   put-reads.Asked,
   put-reads.Learnt,
 ) (predicates-at t) predicates.Post predicates-Inv-loop predicates-μ-loop
-predicates-add-filled t c = ?
+predicates-add-filled t c = search needs
 
 predicates-loop-holds : (t : ℕ) → predicates-lts.Need-loop-holds (
   mark-reads.Asked,
@@ -661,7 +746,8 @@ predicates-loop-holds : (t : ℕ) → predicates-lts.Need-loop-holds (
   put-reads.Asked,
   put-reads.Learnt,
 ) (predicates-at t) predicates.Post predicates-Inv-loop predicates-μ-loop
-predicates-loop-holds t c = ?
+predicates-loop-holds t c =
+    (refl, preds-start _ _ _ _ _ _ (c .before .before .before .pre .1 .0 .inside))
 
 predicates-mark-requires : (t : ℕ) → predicates-lts.Need-mark-requires (
   mark-reads.Asked,
@@ -673,7 +759,7 @@ predicates-mark-requires : (t : ℕ) → predicates-lts.Need-mark-requires (
   put-reads.Asked,
   put-reads.Learnt,
 ) (predicates-at t) predicates.Post predicates-Inv-loop predicates-μ-loop
-predicates-mark-requires t c κs = ?
+predicates-mark-requires t c κs = search needs
 
 predicates-enum-known-ahead : (t : ℕ) → predicates-lts.Need-enum-known-ahead (
   mark-reads.Asked,
@@ -685,7 +771,7 @@ predicates-enum-known-ahead : (t : ℕ) → predicates-lts.Need-enum-known-ahead
   put-reads.Asked,
   put-reads.Learnt,
 ) (predicates-at t) predicates.Post predicates-Inv-loop predicates-μ-loop
-predicates-enum-known-ahead t c = ?
+predicates-enum-known-ahead t c = search needs
 
 predicates-enum-told : (t : ℕ) → predicates-lts.Need-enum-told (
   mark-reads.Asked,
@@ -697,7 +783,7 @@ predicates-enum-told : (t : ℕ) → predicates-lts.Need-enum-told (
   put-reads.Asked,
   put-reads.Learnt,
 ) (predicates-at t) predicates.Post predicates-Inv-loop predicates-μ-loop
-predicates-enum-told t c = ?
+predicates-enum-told t c = search needs
 
 predicates-bracketed-requires : (t : ℕ) → predicates-lts.Need-bracketed-requires (
   mark-reads.Asked,
@@ -709,7 +795,11 @@ predicates-bracketed-requires : (t : ℕ) → predicates-lts.Need-bracketed-requ
   put-reads.Asked,
   put-reads.Learnt,
 ) (predicates-at t) predicates.Post predicates-Inv-loop predicates-μ-loop
-predicates-bracketed-requires t c κs = ?
+predicates-bracketed-requires t c κs =
+    let s = c .before .before .before .before .before .before .before .before .before in
+    let l = c .before .before .before .before .before .loop .inv .1 in
+    let m = rw (c .before .before .ahead .given .1) at (c .before .before .before .before .mark .ensures) in
+    (omega (arith, l .onward, m .2 .onward, m .2 .inside, s .pre .0), (record { short = s .pre .1 .0 .short; names = s .pre .1 .0 .names; inside = m .2 .inside; shallow = s .pre .1 .0 .shallow }, (omega (arith, l .grows, m .2 .onward, s .pre .1 .1 .0), search needs)))
 
 predicates-enum-known-one : (t : ℕ) → predicates-lts.Need-enum-known-one (
   mark-reads.Asked,
@@ -721,7 +811,7 @@ predicates-enum-known-one : (t : ℕ) → predicates-lts.Need-enum-known-one (
   put-reads.Asked,
   put-reads.Learnt,
 ) (predicates-at t) predicates.Post predicates-Inv-loop predicates-μ-loop
-predicates-enum-known-one t c = ?
+predicates-enum-known-one t c = search needs
 
 predicates-same-length : (t : ℕ) → predicates-lts.Need-same-length (
   mark-reads.Asked,
@@ -733,7 +823,7 @@ predicates-same-length : (t : ℕ) → predicates-lts.Need-same-length (
   put-reads.Asked,
   put-reads.Learnt,
 ) (predicates-at t) predicates.Post predicates-Inv-loop predicates-μ-loop
-predicates-same-length t c = ?
+predicates-same-length t c = search needs
 
 predicates-returns : (t : ℕ) → predicates-lts.Need-returns (
   mark-reads.Asked,
@@ -745,7 +835,12 @@ predicates-returns : (t : ℕ) → predicates-lts.Need-returns (
   put-reads.Asked,
   put-reads.Learnt,
 ) (predicates-at t) predicates.Post predicates-Inv-loop predicates-μ-loop
-predicates-returns t c = ?
+predicates-returns t c =
+    let s = c .before .before .before .before .before .before .before .before .before .before .before .before .before in
+    let l = c .before .before .before .before .before .before .before .before .before .loop .inv .1 in
+    let m = rw (c .before .before .before .before .before .before .ahead .given .1) at (c .before .before .before .before .before .before .before .before .mark .ensures) in
+    λ a t′ ea et. passed-on _ _ _ _ _ _ _ _ _ _ _ _ _ _ _ _ _ _ (c .before .before .before .bracketed .result) (c .match2 .keys2) (c .before .before .before .bracketed .ensures)
+    (preds-stuck (lookOf (s .args .known) (now (s .args .list))) (readWithin (lookOf (s .args .known) (now (s .args .list))) (s .args .depth)) _ _ _ _ _ _ _ _ l _ _ (m .0) (m .1) (m .2) a t′)
 
 predicates-add-taken : (t : ℕ) → predicates-lts.Need-add-taken (
   mark-reads.Asked,
@@ -757,7 +852,7 @@ predicates-add-taken : (t : ℕ) → predicates-lts.Need-add-taken (
   put-reads.Asked,
   put-reads.Learnt,
 ) (predicates-at t) predicates.Post predicates-Inv-loop predicates-μ-loop
-predicates-add-taken t c = ?
+predicates-add-taken t c = search needs
 
 predicates-loop-less : (t : ℕ) → predicates-lts.Need-loop-less (
   mark-reads.Asked,
@@ -769,7 +864,10 @@ predicates-loop-less : (t : ℕ) → predicates-lts.Need-loop-less (
   put-reads.Asked,
   put-reads.Learnt,
 ) (predicates-at t) predicates.Post predicates-Inv-loop predicates-μ-loop
-predicates-loop-less t c = ?
+predicates-loop-less t c =
+    let g = rw (c .before .one .given .1) at (c .before .before .before .before .before .bracketed .ensures) in
+    let m = rw (c .before .before .before .before .before .before .before .before .ahead .given .1) at (c .before .before .before .before .before .before .before .before .before .before .mark .ensures) in
+    omega (arith, m .2 .onward, g .onward, g .inside)
 
 predicates-loop-again : (t : ℕ) → predicates-lts.Need-loop-again (
   mark-reads.Asked,
@@ -781,7 +879,13 @@ predicates-loop-again : (t : ℕ) → predicates-lts.Need-loop-again (
   put-reads.Asked,
   put-reads.Learnt,
 ) (predicates-at t) predicates.Post predicates-Inv-loop predicates-μ-loop
-predicates-loop-again t c = ?
+predicates-loop-again t c =
+    (search needs,
+    let s = c .before .before .before .before .before .before .before .before .before .before .before .before .before .before .before in
+    let l = c .before .before .before .before .before .before .before .before .before .before .before .loop .inv .1 in
+    let g = rw (c .before .one .given .1) at (c .before .before .before .before .before .bracketed .ensures) in
+    let m = rw (c .before .before .before .before .before .before .before .before .ahead .given .1) at (c .before .before .before .before .before .before .before .before .before .before .mark .ensures) in
+    preds-more (lookOf (s .args .known) (now (s .args .list))) (readWithin (lookOf (s .args .known) (now (s .args .list))) (s .args .depth)) _ _ _ _ _ _ _ _ l _ _ (m .0) (m .1) (m .2) _ _ _ g)
 
 predicates-step-word-requires : (t : ℕ) → predicates-lts.Need-step-word-requires (
   mark-reads.Asked,
@@ -793,7 +897,7 @@ predicates-step-word-requires : (t : ℕ) → predicates-lts.Need-step-word-requ
   put-reads.Asked,
   put-reads.Learnt,
 ) (predicates-at t) predicates.Post predicates-Inv-loop predicates-μ-loop
-predicates-step-word-requires t c κs = ?
+predicates-step-word-requires t c κs = search needs
 
 predicates-put-requires : (t : ℕ) → predicates-lts.Need-put-requires (
   mark-reads.Asked,
@@ -805,7 +909,7 @@ predicates-put-requires : (t : ℕ) → predicates-lts.Need-put-requires (
   put-reads.Asked,
   put-reads.Learnt,
 ) (predicates-at t) predicates.Post predicates-Inv-loop predicates-μ-loop
-predicates-put-requires t c κs = ?
+predicates-put-requires t c κs = search needs
 
 predicates-same-length-2 : (t : ℕ) → predicates-lts.Need-same-length-2 (
   mark-reads.Asked,
@@ -817,7 +921,7 @@ predicates-same-length-2 : (t : ℕ) → predicates-lts.Need-same-length-2 (
   put-reads.Asked,
   put-reads.Learnt,
 ) (predicates-at t) predicates.Post predicates-Inv-loop predicates-μ-loop
-predicates-same-length-2 t c = ?
+predicates-same-length-2 t c = search needs
 
 predicates-returns-2 : (t : ℕ) → predicates-lts.Need-returns-2 (
   mark-reads.Asked,
@@ -829,7 +933,11 @@ predicates-returns-2 : (t : ℕ) → predicates-lts.Need-returns-2 (
   put-reads.Asked,
   put-reads.Learnt,
 ) (predicates-at t) predicates.Post predicates-Inv-loop predicates-μ-loop
-predicates-returns-2 t c = ?
+predicates-returns-2 t c =
+    let s = c .before .before .before .before .before .before .before .before .before .before .before .before in
+    let l = c .before .before .before .before .before .before .before .before .loop .inv .1 in
+    let m = rw (c .before .before .before .before .before .enum-told .given .1) at (c .before .before .before .before .before .before .before .mark .ensures) in
+    λ a t′ ea et. preds-done (lookOf (s .args .known) (now (s .args .list))) (readWithin (lookOf (s .args .known) (now (s .args .list))) (s .args .depth)) _ _ _ _ _ _ _ _ l _ _ _ _ a t′ ea et (m .0) (c .before .before .before .step-word .ensures) (c .before .before .put .ensures)
 
 step-step-head-requires : (t : ℕ) → step-lts.Need-step-head-requires (
   step-head-reads.Asked,
@@ -841,7 +949,7 @@ step-step-head-requires : (t : ℕ) → step-lts.Need-step-head-requires (
   predicates-below t,
   predicates.Post,
 ) (step-at t) step.Post
-step-step-head-requires t c κs = ?
+step-step-head-requires t c κs = search needs
 
 step-enum-known-head : (t : ℕ) → step-lts.Need-enum-known-head (
   step-head-reads.Asked,
@@ -853,7 +961,7 @@ step-enum-known-head : (t : ℕ) → step-lts.Need-enum-known-head (
   predicates-below t,
   predicates.Post,
 ) (step-at t) step.Post
-step-enum-known-head t c = ?
+step-enum-known-head t c = search needs
 
 step-step-word-requires : (t : ℕ) → step-lts.Need-step-word-requires (
   step-head-reads.Asked,
@@ -865,7 +973,9 @@ step-step-word-requires : (t : ℕ) → step-lts.Need-step-word-requires (
   predicates-below t,
   predicates.Post,
 ) (step-at t) step.Post
-step-step-word-requires t c κs = ?
+step-step-word-requires t c κs =
+    let h = rw (c .before .before .head .given .1) at (c .before .before .before .before .step-head .ensures) in
+    (axis-small (h .way) _ (h .number), search needs)
 
 step-put-requires : (t : ℕ) → step-lts.Need-put-requires (
   step-head-reads.Asked,
@@ -877,7 +987,7 @@ step-put-requires : (t : ℕ) → step-lts.Need-put-requires (
   predicates-below t,
   predicates.Post,
 ) (step-at t) step.Post
-step-put-requires t c κs = ?
+step-put-requires t c κs = search needs
 
 step-add-t23 : (t : ℕ) → step-lts.Need-add-t23 (
   step-head-reads.Asked,
@@ -889,7 +999,7 @@ step-add-t23 : (t : ℕ) → step-lts.Need-add-t23 (
   predicates-below t,
   predicates.Post,
 ) (step-at t) step.Post
-step-add-t23 t c = ?
+step-add-t23 t c = search needs
 
 step-enum-known-head-2 : (t : ℕ) → step-lts.Need-enum-known-head-2 (
   step-head-reads.Asked,
@@ -901,7 +1011,7 @@ step-enum-known-head-2 : (t : ℕ) → step-lts.Need-enum-known-head-2 (
   predicates-below t,
   predicates.Post,
 ) (step-at t) step.Post
-step-enum-known-head-2 t c = ?
+step-enum-known-head-2 t c = search needs
 
 step-predicates-requires : (t : ℕ) → step-lts.Need-predicates-requires (
   step-head-reads.Asked,
@@ -913,7 +1023,10 @@ step-predicates-requires : (t : ℕ) → step-lts.Need-predicates-requires (
   predicates-below t,
   predicates.Post,
 ) (step-at t) step.Post
-step-predicates-requires t c κs = ?
+step-predicates-requires t c κs =
+    let s = c .before .before .before .before .before .before .before .before in
+    let h = rw (c .before .before .head2 .given .1) at (c .before .before .before .before .step-head .ensures) in
+    (omega (arith, h .onward, h .inside, s .pre .0), (record { short = s .pre .1 .0 .short; names = s .pre .1 .0 .names; inside = h .inside; shallow = s .pre .1 .0 .shallow }, (omega (arith, h .onward, s .pre .1 .1), axis-small (h .way) _ (h .number), h .small)))
 
 step-enum-known-head-3 : (t : ℕ) → step-lts.Need-enum-known-head-3 (
   step-head-reads.Asked,
@@ -925,7 +1038,7 @@ step-enum-known-head-3 : (t : ℕ) → step-lts.Need-enum-known-head-3 (
   predicates-below t,
   predicates.Post,
 ) (step-at t) step.Post
-step-enum-known-head-3 t c = ?
+step-enum-known-head-3 t c = search needs
 
 step-enum-known-head-4 : (t : ℕ) → step-lts.Need-enum-known-head-4 (
   step-head-reads.Asked,
@@ -937,7 +1050,7 @@ step-enum-known-head-4 : (t : ℕ) → step-lts.Need-enum-known-head-4 (
   predicates-below t,
   predicates.Post,
 ) (step-at t) step.Post
-step-enum-known-head-4 t c = ?
+step-enum-known-head-4 t c = search needs
 
 step-same-length : (t : ℕ) → step-lts.Need-same-length (
   step-head-reads.Asked,
@@ -949,7 +1062,7 @@ step-same-length : (t : ℕ) → step-lts.Need-same-length (
   predicates-below t,
   predicates.Post,
 ) (step-at t) step.Post
-step-same-length t c = ?
+step-same-length t c = search needs
 
 step-returns : (t : ℕ) → step-lts.Need-returns (
   step-head-reads.Asked,
@@ -961,7 +1074,10 @@ step-returns : (t : ℕ) → step-lts.Need-returns (
   predicates-below t,
   predicates.Post,
 ) (step-at t) step.Post
-step-returns t c = ?
+step-returns t c =
+    let s = c .before .before .before .before .before .before .before .before .before .before .before .before in
+    let h = rw (c .before .before .before .before .before .before .head .given .1) at (c .before .before .before .before .before .before .before .before .step-head .ensures) in
+    plain-done (lookOf (s .args .known) (now (s .args .list))) (readWithin (lookOf (s .args .known) (now (s .args .list))) (s .args .depth)) _ _ _ _ _ _ _ _ h (c .before .before .before .step-word .ensures) (c .before .before .put .ensures)
 
 step-same-length-2 : (t : ℕ) → step-lts.Need-same-length-2 (
   step-head-reads.Asked,
@@ -973,7 +1089,7 @@ step-same-length-2 : (t : ℕ) → step-lts.Need-same-length-2 (
   predicates-below t,
   predicates.Post,
 ) (step-at t) step.Post
-step-same-length-2 t c = ?
+step-same-length-2 t c = search needs
 
 step-returns-2 : (t : ℕ) → step-lts.Need-returns-2 (
   step-head-reads.Asked,
@@ -985,7 +1101,10 @@ step-returns-2 : (t : ℕ) → step-lts.Need-returns-2 (
   predicates-below t,
   predicates.Post,
 ) (step-at t) step.Post
-step-returns-2 t c = ?
+step-returns-2 t c =
+    let s = c .before .before .before .before .before .before .before .before .before .before .before in
+    let h = rw (c .before .before .before .before .before .head2 .given .1) at (c .before .before .before .before .before .before .before .step-head .ensures) in
+    tested-done (lookOf (s .args .known) (now (s .args .list))) (readWithin (lookOf (s .args .known) (now (s .args .list))) (s .args .depth)) _ _ _ _ _ _ _ _ (c .before .before .predicates .result) h (c .before .before .predicates .ensures (h .way) (h .kind) (h .number) (h .tested))
 
 step-returns-3 : (t : ℕ) → step-lts.Need-returns-3 (
   step-head-reads.Asked,
@@ -997,7 +1116,9 @@ step-returns-3 : (t : ℕ) → step-lts.Need-returns-3 (
   predicates-below t,
   predicates.Post,
 ) (step-at t) step.Post
-step-returns-3 t c = ?
+step-returns-3 t c =
+    let s = c .before .before .before .before .before .before .before in
+    (rw (c .before .head3 .given .1) at (c .before .before .before .step-head .ensures)) (readWithin (lookOf (s .args .known) (now (s .args .list))) (s .args .depth))
 
 step-returns-4 : (t : ℕ) → step-lts.Need-returns-4 (
   step-head-reads.Asked,
@@ -1009,15 +1130,17 @@ step-returns-4 : (t : ℕ) → step-lts.Need-returns-4 (
   predicates-below t,
   predicates.Post,
 ) (step-at t) step.Post
-step-returns-4 t c = ?
+step-returns-4 t c =
+    let s = c .before .before .before .before .before .before .before in
+    (rw (c .before .head4 .given .1) at (c .before .before .before .step-head .ensures)) (readWithin (lookOf (s .args .known) (now (s .args .list))) (s .args .depth))
 
 abbrev steps-Inv-loop : steps-lts.InvT-loop
 steps-Inv-loop text list starts count known depth out₀ place deep here₀ filled₀ lead₀ taken₀ out here filled lead taken =
-    ?
+    (length out ≡ length out₀) × (StepRow (lookOf known list) (readWithin (lookOf known list) depth) text out₀ out (here₀ .at) place (then (readSteps (lookOf known list) (readWithin (lookOf known list) depth) (length (tokensAt text (here₀ .at))) (tokensAt text (here₀ .at))) (λ s. got (deepIf deep s))) (here .at) filled lead taken)
 
 abbrev steps-μ-loop : steps-lts.MeasureT-loop
 steps-μ-loop text list starts count known depth out₀ place deep here₀ filled₀ lead₀ taken₀ out here filled lead taken =
-    ?
+    length text - here .at
 
 steps-add-filled : (t : ℕ) → steps-lts.Need-add-filled (
   put-deep-reads.Asked,
@@ -1031,7 +1154,7 @@ steps-add-filled : (t : ℕ) → steps-lts.Need-add-filled (
   put-reads.Asked,
   put-reads.Learnt,
 ) (steps-at t) steps.Post steps-Inv-loop steps-μ-loop
-steps-add-filled t c = ?
+steps-add-filled t c = search needs
 
 steps-loop-holds : (t : ℕ) → steps-lts.Need-loop-holds (
   put-deep-reads.Asked,
@@ -1045,7 +1168,8 @@ steps-loop-holds : (t : ℕ) → steps-lts.Need-loop-holds (
   put-reads.Asked,
   put-reads.Learnt,
 ) (steps-at t) steps.Post steps-Inv-loop steps-μ-loop
-steps-loop-holds t c = ?
+steps-loop-holds t c =
+    (refl, steps-start _ _ _ _ _ _ _ (c .before .before .before .pre .1 .0 .inside))
 
 steps-put-deep-requires : (t : ℕ) → steps-lts.Need-put-deep-requires (
   put-deep-reads.Asked,
@@ -1059,7 +1183,7 @@ steps-put-deep-requires : (t : ℕ) → steps-lts.Need-put-deep-requires (
   put-reads.Asked,
   put-reads.Learnt,
 ) (steps-at t) steps.Post steps-Inv-loop steps-μ-loop
-steps-put-deep-requires t c κs = ?
+steps-put-deep-requires t c κs = search needs
 
 steps-step-requires : (t : ℕ) → steps-lts.Need-step-requires (
   put-deep-reads.Asked,
@@ -1073,7 +1197,10 @@ steps-step-requires : (t : ℕ) → steps-lts.Need-step-requires (
   put-reads.Asked,
   put-reads.Learnt,
 ) (steps-at t) steps.Post steps-Inv-loop steps-μ-loop
-steps-step-requires t c κs = ?
+steps-step-requires t c κs =
+    let s = c .before .before .before .before .before .before .before .before .before in
+    let l = c .before .before .before .before .before .loop .inv .1 in
+    (search needs, (record { short = s .pre .1 .0 .short; names = s .pre .1 .0 .names; inside = l .inside; shallow = s .pre .1 .0 .shallow }, omega (arith, l .grows, s .pre .1 .1, c .before .before .before .put-deep .ensures .1, deep-few (c .before .before .before .before .before .loop .lead))))
 
 steps-enum-known-one : (t : ℕ) → steps-lts.Need-enum-known-one (
   put-deep-reads.Asked,
@@ -1087,7 +1214,7 @@ steps-enum-known-one : (t : ℕ) → steps-lts.Need-enum-known-one (
   put-reads.Asked,
   put-reads.Learnt,
 ) (steps-at t) steps.Post steps-Inv-loop steps-μ-loop
-steps-enum-known-one t c = ?
+steps-enum-known-one t c = search needs
 
 steps-same-length : (t : ℕ) → steps-lts.Need-same-length (
   put-deep-reads.Asked,
@@ -1101,7 +1228,7 @@ steps-same-length : (t : ℕ) → steps-lts.Need-same-length (
   put-reads.Asked,
   put-reads.Learnt,
 ) (steps-at t) steps.Post steps-Inv-loop steps-μ-loop
-steps-same-length t c = ?
+steps-same-length t c = search needs
 
 steps-returns : (t : ℕ) → steps-lts.Need-returns (
   put-deep-reads.Asked,
@@ -1115,7 +1242,10 @@ steps-returns : (t : ℕ) → steps-lts.Need-returns (
   put-reads.Asked,
   put-reads.Learnt,
 ) (steps-at t) steps.Post steps-Inv-loop steps-μ-loop
-steps-returns t c = ?
+steps-returns t c =
+    let s = c .before .before .before .before .before .before .before .before .before .before .before .before .before in
+    let l = c .before .before .before .before .before .before .before .before .before .loop .inv .1 in
+    passed-on _ _ _ _ _ _ _ _ _ _ _ _ _ _ _ _ _ _ (c .before .before .before .step .result) (c .match .keys2) (c .before .before .before .step .ensures) (step-stuck (lookOf (s .args .known) (now (s .args .list))) (readWithin (lookOf (s .args .known) (now (s .args .list))) (s .args .depth)) _ _ _ _ _ _ _ _ _ _ l)
 
 steps-sub-taken : (t : ℕ) → steps-lts.Need-sub-taken (
   put-deep-reads.Asked,
@@ -1129,7 +1259,7 @@ steps-sub-taken : (t : ℕ) → steps-lts.Need-sub-taken (
   put-reads.Asked,
   put-reads.Learnt,
 ) (steps-at t) steps.Post steps-Inv-loop steps-μ-loop
-steps-sub-taken t c = ?
+steps-sub-taken t c = search needs
 
 steps-add-taken : (t : ℕ) → steps-lts.Need-add-taken (
   put-deep-reads.Asked,
@@ -1143,7 +1273,7 @@ steps-add-taken : (t : ℕ) → steps-lts.Need-add-taken (
   put-reads.Asked,
   put-reads.Learnt,
 ) (steps-at t) steps.Post steps-Inv-loop steps-μ-loop
-steps-add-taken t c = ?
+steps-add-taken t c = search needs
 
 steps-add-taken-2 : (t : ℕ) → steps-lts.Need-add-taken-2 (
   put-deep-reads.Asked,
@@ -1157,7 +1287,7 @@ steps-add-taken-2 : (t : ℕ) → steps-lts.Need-add-taken-2 (
   put-reads.Asked,
   put-reads.Learnt,
 ) (steps-at t) steps.Post steps-Inv-loop steps-μ-loop
-steps-add-taken-2 t c = ?
+steps-add-taken-2 t c = search needs
 
 steps-joined-requires : (t : ℕ) → steps-lts.Need-joined-requires (
   put-deep-reads.Asked,
@@ -1171,7 +1301,8 @@ steps-joined-requires : (t : ℕ) → steps-lts.Need-joined-requires (
   put-reads.Asked,
   put-reads.Learnt,
 ) (steps-at t) steps.Post steps-Inv-loop steps-μ-loop
-steps-joined-requires t c κs = ?
+steps-joined-requires t c κs =
+    (rw (c .before .one .given .1) at (c .before .before .before .before .before .step .ensures)) .inside
 
 steps-enum-known-joint : (t : ℕ) → steps-lts.Need-enum-known-joint (
   put-deep-reads.Asked,
@@ -1185,7 +1316,7 @@ steps-enum-known-joint : (t : ℕ) → steps-lts.Need-enum-known-joint (
   put-reads.Asked,
   put-reads.Learnt,
 ) (steps-at t) steps.Post steps-Inv-loop steps-μ-loop
-steps-enum-known-joint t c = ?
+steps-enum-known-joint t c = search needs
 
 steps-loop-less : (t : ℕ) → steps-lts.Need-loop-less (
   put-deep-reads.Asked,
@@ -1199,7 +1330,10 @@ steps-loop-less : (t : ℕ) → steps-lts.Need-loop-less (
   put-reads.Asked,
   put-reads.Learnt,
 ) (steps-at t) steps.Post steps-Inv-loop steps-μ-loop
-steps-loop-less t c = ?
+steps-loop-less t c =
+    let g = rw (c .before .before .before .before .before .one .given .1) at (c .before .before .before .before .before .before .before .before .before .step .ensures) in
+    let p = joined-past (c .before .before .before .before .before .before .before .before .before .before .before .before .before .before .before .before .before .before .before .args .text .now) (c .before .before .before .before .before .one .given .0 .0 .at) (c .before .joint .given .0 .0) (c .before .joint .given .0 .1 .0) (rw (c .before .joint .given .1) at (c .before .before .before .joined .ensures)) in
+    omega (arith, p .onward, p .inside, g .onward)
 
 steps-loop-again : (t : ℕ) → steps-lts.Need-loop-again (
   put-deep-reads.Asked,
@@ -1213,7 +1347,12 @@ steps-loop-again : (t : ℕ) → steps-lts.Need-loop-again (
   put-reads.Asked,
   put-reads.Learnt,
 ) (steps-at t) steps.Post steps-Inv-loop steps-μ-loop
-steps-loop-again t c = ?
+steps-loop-again t c =
+    (search needs,
+    let s = c .before .before .before .before .before .before .before .before .before .before .before .before .before .before .before .before .before .before .before in
+    let g = rw (c .before .before .before .before .before .one .given .1) at (c .before .before .before .before .before .before .before .before .before .step .ensures) in
+    let l = step-more (lookOf (s .args .known) (now (s .args .list))) (readWithin (lookOf (s .args .known) (now (s .args .list))) (s .args .depth)) _ _ _ _ _ _ _ _ _ _ (c .before .before .before .before .before .before .before .before .before .before .before .before .before .before .before .loop .inv .1) _ _ _ _ _ (c .before .before .before .before .before .before .before .before .before .before .before .before .before .put-deep .ensures .0) (c .before .before .before .before .before .before .before .before .before .before .before .before .before .put-deep .ensures .1) g in
+    steps-more (lookOf (s .args .known) (now (s .args .list))) (readWithin (lookOf (s .args .known) (now (s .args .list))) (s .args .depth)) _ _ _ _ _ _ _ _ _ l _ _ (rw (c .before .joint .given .1) at (c .before .before .before .joined .ensures)))
 
 steps-enum-told : (t : ℕ) → steps-lts.Need-enum-told (
   put-deep-reads.Asked,
@@ -1227,7 +1366,7 @@ steps-enum-told : (t : ℕ) → steps-lts.Need-enum-told (
   put-reads.Asked,
   put-reads.Learnt,
 ) (steps-at t) steps.Post steps-Inv-loop steps-μ-loop
-steps-enum-told t c = ?
+steps-enum-told t c = search needs
 
 steps-path-word-requires : (t : ℕ) → steps-lts.Need-path-word-requires (
   put-deep-reads.Asked,
@@ -1241,7 +1380,7 @@ steps-path-word-requires : (t : ℕ) → steps-lts.Need-path-word-requires (
   put-reads.Asked,
   put-reads.Learnt,
 ) (steps-at t) steps.Post steps-Inv-loop steps-μ-loop
-steps-path-word-requires t c κs = ?
+steps-path-word-requires t c κs = search needs
 
 steps-put-requires : (t : ℕ) → steps-lts.Need-put-requires (
   put-deep-reads.Asked,
@@ -1255,7 +1394,7 @@ steps-put-requires : (t : ℕ) → steps-lts.Need-put-requires (
   put-reads.Asked,
   put-reads.Learnt,
 ) (steps-at t) steps.Post steps-Inv-loop steps-μ-loop
-steps-put-requires t c κs = ?
+steps-put-requires t c κs = search needs
 
 steps-same-length-2 : (t : ℕ) → steps-lts.Need-same-length-2 (
   put-deep-reads.Asked,
@@ -1269,7 +1408,7 @@ steps-same-length-2 : (t : ℕ) → steps-lts.Need-same-length-2 (
   put-reads.Asked,
   put-reads.Learnt,
 ) (steps-at t) steps.Post steps-Inv-loop steps-μ-loop
-steps-same-length-2 t c = ?
+steps-same-length-2 t c = search needs
 
 steps-returns-2 : (t : ℕ) → steps-lts.Need-returns-2 (
   put-deep-reads.Asked,
@@ -1283,15 +1422,19 @@ steps-returns-2 : (t : ℕ) → steps-lts.Need-returns-2 (
   put-reads.Asked,
   put-reads.Learnt,
 ) (steps-at t) steps.Post steps-Inv-loop steps-μ-loop
-steps-returns-2 t c = ?
+steps-returns-2 t c =
+    let s = c .before .before .before .before .before .before .before .before .before .before .before .before .before .before .before .before .before .before .before .before .before .before .before in
+    let g = rw (c .before .before .before .before .before .before .before .before .before .one .given .1) at (c .before .before .before .before .before .before .before .before .before .before .before .before .before .step .ensures) in
+    let l = step-more (lookOf (s .args .known) (now (s .args .list))) (readWithin (lookOf (s .args .known) (now (s .args .list))) (s .args .depth)) _ _ _ _ _ _ _ _ _ _ (c .before .before .before .before .before .before .before .before .before .before .before .before .before .before .before .before .before .before .before .loop .inv .1) _ _ _ _ _ (c .before .before .before .before .before .before .before .before .before .before .before .before .before .before .before .before .before .put-deep .ensures .0) (c .before .before .before .before .before .before .before .before .before .before .before .before .before .before .before .before .before .put-deep .ensures .1) g in
+    steps-done (lookOf (s .args .known) (now (s .args .list))) (readWithin (lookOf (s .args .known) (now (s .args .list))) (s .args .depth)) _ _ _ _ _ _ _ _ _ l _ _ _ (rw (c .before .before .before .before .before .enum-told .given .1) at (c .before .before .before .before .before .before .before .joined .ensures)) (c .before .before .before .path-word .ensures) (c .before .before .put .ensures)
 
 abbrev term-Inv-loop : term-lts.InvT-loop
 term-Inv-loop text list starts count known depth out₀ place end here₀ filled₀ run₀ t21 out here filled run =
-    ?
+    (length out ≡ length out₀) × ((old : List ℕ) (from : ℕ) (all : Got Expr) → Left (ands (lookOf known list) (readWithin (lookOf known list) depth)) text old out₀ from place all (here₀ .at) filled₀ 0 → Left (ands (lookOf known list) (readWithin (lookOf known list) depth)) text old out from place all (here .at) filled run)
 
 abbrev term-μ-loop : term-lts.MeasureT-loop
 term-μ-loop text list starts count known depth out₀ place end here₀ filled₀ run₀ t21 out here filled run =
-    ?
+    length text - here .at
 
 term-operand-requires : (t : ℕ) → term-lts.Need-operand-requires (
   operand-below t,
@@ -1301,7 +1444,7 @@ term-operand-requires : (t : ℕ) → term-lts.Need-operand-requires (
   group-reads.Asked,
   group-reads.Learnt,
 ) (term-at t) term.Post term-Inv-loop term-μ-loop
-term-operand-requires t c κs = ?
+term-operand-requires t c κs = search needs
 
 term-enum-known-first : (t : ℕ) → term-lts.Need-enum-known-first (
   operand-below t,
@@ -1311,7 +1454,7 @@ term-enum-known-first : (t : ℕ) → term-lts.Need-enum-known-first (
   group-reads.Asked,
   group-reads.Learnt,
 ) (term-at t) term.Post term-Inv-loop term-μ-loop
-term-enum-known-first t c = ?
+term-enum-known-first t c = search needs
 
 term-same-length : (t : ℕ) → term-lts.Need-same-length (
   operand-below t,
@@ -1321,7 +1464,7 @@ term-same-length : (t : ℕ) → term-lts.Need-same-length (
   group-reads.Asked,
   group-reads.Learnt,
 ) (term-at t) term.Post term-Inv-loop term-μ-loop
-term-same-length t c = ?
+term-same-length t c = search needs
 
 term-returns : (t : ℕ) → term-lts.Need-returns (
   operand-below t,
@@ -1331,7 +1474,9 @@ term-returns : (t : ℕ) → term-lts.Need-returns (
   group-reads.Asked,
   group-reads.Learnt,
 ) (term-at t) term.Post term-Inv-loop term-μ-loop
-term-returns t c = ?
+term-returns t c =
+    let s = c .before .before .before .before .before .before .before .before in
+    passed-on _ _ _ _ _ _ _ _ _ _ _ _ _ _ _ _ _ _ (c .before .before .before .operand .result) (c .match .keys2) (c .before .before .before .operand .ensures) (start-stuck (ands (lookOf (s .args .known) (now (s .args .list))) (readWithin (lookOf (s .args .known) (now (s .args .list))) (s .args .depth))) _ (s .args .out .now) _ (s .args .place) _ (term-whole (lookOf (s .args .known) (now (s .args .list))) (readWithin (lookOf (s .args .known) (now (s .args .list))) (s .args .depth)) (tokensAt (now (s .args .text)) (s .args .cursor .at))))
 
 term-loop-holds : (t : ℕ) → term-lts.Need-loop-holds (
   operand-below t,
@@ -1341,7 +1486,7 @@ term-loop-holds : (t : ℕ) → term-lts.Need-loop-holds (
   group-reads.Asked,
   group-reads.Learnt,
 ) (term-at t) term.Post term-Inv-loop term-μ-loop
-term-loop-holds t c = ?
+term-loop-holds t c = search needs
 
 term-slice-aggregate-word-ahead : (t : ℕ) → term-lts.Need-slice-aggregate-word-ahead (
   operand-below t,
@@ -1351,7 +1496,7 @@ term-slice-aggregate-word-ahead : (t : ℕ) → term-lts.Need-slice-aggregate-wo
   group-reads.Asked,
   group-reads.Learnt,
 ) (term-at t) term.Post term-Inv-loop term-μ-loop
-term-slice-aggregate-word-ahead t c = ?
+term-slice-aggregate-word-ahead t c = search needs
 
 term-word-ahead-requires : (t : ℕ) → term-lts.Need-word-ahead-requires (
   operand-below t,
@@ -1361,7 +1506,10 @@ term-word-ahead-requires : (t : ℕ) → term-lts.Need-word-ahead-requires (
   group-reads.Asked,
   group-reads.Learnt,
 ) (term-at t) term.Post term-Inv-loop term-μ-loop
-term-word-ahead-requires t c κs = ?
+term-word-ahead-requires t c κs =
+    let s = c .before .before .before .before .before .before .before .before .before .before .before .before in
+    let l = c .before .loop .inv .1 _ _ _ (left-start (ands (lookOf (s .args .known) (now (s .args .list))) (readWithin (lookOf (s .args .known) (now (s .args .list))) (s .args .depth))) _ _ _ _ _ (term-whole (lookOf (s .args .known) (now (s .args .list))) (readWithin (lookOf (s .args .known) (now (s .args .list))) (s .args .depth)) (tokensAt (now (s .args .text)) (s .args .cursor .at))) _ _ _ (rw (c .before .before .before .first .given .1) at (c .before .before .before .before .before .before .before .operand .ensures))) in
+    (l .inside, search needs)
 
 term-enum-known-ahead : (t : ℕ) → term-lts.Need-enum-known-ahead (
   operand-below t,
@@ -1371,7 +1519,7 @@ term-enum-known-ahead : (t : ℕ) → term-lts.Need-enum-known-ahead (
   group-reads.Asked,
   group-reads.Learnt,
 ) (term-at t) term.Post term-Inv-loop term-μ-loop
-term-enum-known-ahead t c = ?
+term-enum-known-ahead t c = search needs
 
 term-enum-told : (t : ℕ) → term-lts.Need-enum-told (
   operand-below t,
@@ -1381,7 +1529,7 @@ term-enum-told : (t : ℕ) → term-lts.Need-enum-told (
   group-reads.Asked,
   group-reads.Learnt,
 ) (term-at t) term.Post term-Inv-loop term-μ-loop
-term-enum-told t c = ?
+term-enum-told t c = search needs
 
 term-operand-requires-2 : (t : ℕ) → term-lts.Need-operand-requires-2 (
   operand-below t,
@@ -1391,7 +1539,11 @@ term-operand-requires-2 : (t : ℕ) → term-lts.Need-operand-requires-2 (
   group-reads.Asked,
   group-reads.Learnt,
 ) (term-at t) term.Post term-Inv-loop term-μ-loop
-term-operand-requires-2 t c κs = ?
+term-operand-requires-2 t c κs =
+    let s = c .before .before .before .before .before .before .before .before .before .before .before .before .before .before .before .before .before in
+    let l = c .before .before .before .before .before .before .loop .inv .1 _ _ _ (left-start (ands (lookOf (s .args .known) (now (s .args .list))) (readWithin (lookOf (s .args .known) (now (s .args .list))) (s .args .depth))) _ _ _ _ _ (term-whole (lookOf (s .args .known) (now (s .args .list))) (readWithin (lookOf (s .args .known) (now (s .args .list))) (s .args .depth)) (tokensAt (now (s .args .text)) (s .args .cursor .at))) _ _ _ (rw (c .before .before .before .before .before .before .before .before .first .given .1) at (c .before .before .before .before .before .before .before .before .before .before .before .before .operand .ensures))) in
+    let w = rw (c .before .before .ahead .given .1) at (c .before .before .before .before .word-ahead .ensures) in
+    (omega (arith, l .onward, w .2 .onward, w .2 .inside, s .pre .0), (record { short = s .pre .1 .0 .short; names = s .pre .1 .0 .names; inside = w .2 .inside; shallow = s .pre .1 .0 .shallow }, omega (arith, l .grows, w .2 .onward, s .pre .1 .1)))
 
 term-enum-known-more : (t : ℕ) → term-lts.Need-enum-known-more (
   operand-below t,
@@ -1401,7 +1553,7 @@ term-enum-known-more : (t : ℕ) → term-lts.Need-enum-known-more (
   group-reads.Asked,
   group-reads.Learnt,
 ) (term-at t) term.Post term-Inv-loop term-μ-loop
-term-enum-known-more t c = ?
+term-enum-known-more t c = search needs
 
 term-same-length-2 : (t : ℕ) → term-lts.Need-same-length-2 (
   operand-below t,
@@ -1411,7 +1563,7 @@ term-same-length-2 : (t : ℕ) → term-lts.Need-same-length-2 (
   group-reads.Asked,
   group-reads.Learnt,
 ) (term-at t) term.Post term-Inv-loop term-μ-loop
-term-same-length-2 t c = ?
+term-same-length-2 t c = search needs
 
 term-returns-2 : (t : ℕ) → term-lts.Need-returns-2 (
   operand-below t,
@@ -1421,7 +1573,11 @@ term-returns-2 : (t : ℕ) → term-lts.Need-returns-2 (
   group-reads.Asked,
   group-reads.Learnt,
 ) (term-at t) term.Post term-Inv-loop term-μ-loop
-term-returns-2 t c = ?
+term-returns-2 t c =
+    let s = c .before .before .before .before .before .before .before .before .before .before .before .before .before .before .before .before .before .before .before .before .before in
+    let l = c .before .before .before .before .before .before .before .before .before .before .loop .inv .1 _ _ _ (left-start (ands (lookOf (s .args .known) (now (s .args .list))) (readWithin (lookOf (s .args .known) (now (s .args .list))) (s .args .depth))) _ _ _ _ _ (term-whole (lookOf (s .args .known) (now (s .args .list))) (readWithin (lookOf (s .args .known) (now (s .args .list))) (s .args .depth)) (tokensAt (now (s .args .text)) (s .args .cursor .at))) _ _ _ (rw (c .before .before .before .before .before .before .before .before .before .before .before .before .first .given .1) at (c .before .before .before .before .before .before .before .before .before .before .before .before .before .before .before .before .operand .ensures))) in
+    let w = rw (c .before .before .before .before .before .before .ahead .given .1) at (c .before .before .before .before .before .before .before .before .word-ahead .ensures) in
+    passed-on _ _ _ _ _ _ _ _ _ _ _ _ _ _ _ _ _ _ (c .before .before .before .operand2 .result) (c .match3 .keys2) (c .before .before .before .operand2 .ensures) (left-stuck (ands (lookOf (s .args .known) (now (s .args .list))) (readWithin (lookOf (s .args .known) (now (s .args .list))) (s .args .depth))) _ _ _ _ _ _ _ _ _ l _ (w .0) (w .2))
 
 term-add-run : (t : ℕ) → term-lts.Need-add-run (
   operand-below t,
@@ -1431,7 +1587,10 @@ term-add-run : (t : ℕ) → term-lts.Need-add-run (
   group-reads.Asked,
   group-reads.Learnt,
 ) (term-at t) term.Post term-Inv-loop term-μ-loop
-term-add-run t c = ?
+term-add-run t c =
+    let s = c .before .before .before .before .before .before .before .before .before .before .before .before .before .before .before .before .before .before .before .before .before .before .before in
+    let l = c .before .before .before .before .before .before .before .before .before .before .before .before .loop .inv .1 _ _ _ (left-start (ands (lookOf (s .args .known) (now (s .args .list))) (readWithin (lookOf (s .args .known) (now (s .args .list))) (s .args .depth))) _ _ _ _ _ (term-whole (lookOf (s .args .known) (now (s .args .list))) (readWithin (lookOf (s .args .known) (now (s .args .list))) (s .args .depth)) (tokensAt (now (s .args .text)) (s .args .cursor .at))) _ _ _ (rw (c .before .before .before .before .before .before .before .before .before .before .before .before .before .before .first .given .1) at (c .before .before .before .before .before .before .before .before .before .before .before .before .before .before .before .before .before .before .operand .ensures))) in
+    omega (arith, l .grows, l .inside, s .pre .1 .0 .short, s .pre .1 .1)
 
 term-loop-less : (t : ℕ) → term-lts.Need-loop-less (
   operand-below t,
@@ -1441,7 +1600,10 @@ term-loop-less : (t : ℕ) → term-lts.Need-loop-less (
   group-reads.Asked,
   group-reads.Learnt,
 ) (term-at t) term.Post term-Inv-loop term-μ-loop
-term-loop-less t c = ?
+term-loop-less t c =
+    let g = rw (c .before .more .given .1) at (c .before .before .before .before .before .operand2 .ensures) in
+    let w = rw (c .before .before .before .before .before .before .before .before .ahead .given .1) at (c .before .before .before .before .before .before .before .before .before .before .word-ahead .ensures) in
+    omega (arith, w .2 .onward, g .onward, g .inside)
 
 term-loop-again : (t : ℕ) → term-lts.Need-loop-again (
   operand-below t,
@@ -1451,7 +1613,12 @@ term-loop-again : (t : ℕ) → term-lts.Need-loop-again (
   group-reads.Asked,
   group-reads.Learnt,
 ) (term-at t) term.Post term-Inv-loop term-μ-loop
-term-loop-again t c = ?
+term-loop-again t c =
+    (search needs,
+    let s = c .before .before .before .before .before .before .before .before .before .before .before .before .before .before .before .before .before .before .before .before .before .before .before in
+    let g = rw (c .before .more .given .1) at (c .before .before .before .before .before .operand2 .ensures) in
+    let w = rw (c .before .before .before .before .before .before .before .before .ahead .given .1) at (c .before .before .before .before .before .before .before .before .before .before .word-ahead .ensures) in
+    λ old from all l. left-more (ands (lookOf (s .args .known) (now (s .args .list))) (readWithin (lookOf (s .args .known) (now (s .args .list))) (s .args .depth))) _ old from _ all _ _ _ _ (c .before .before .before .before .before .before .before .before .before .before .before .before .loop .inv .1 old from all l) _ (w .0) (w .2) _ _ _ g)
 
 term-group-requires : (t : ℕ) → term-lts.Need-group-requires (
   operand-below t,
@@ -1461,7 +1628,10 @@ term-group-requires : (t : ℕ) → term-lts.Need-group-requires (
   group-reads.Asked,
   group-reads.Learnt,
 ) (term-at t) term.Post term-Inv-loop term-μ-loop
-term-group-requires t c κs = ?
+term-group-requires t c κs =
+    let s = c .before .before .before .before .before .before .before .before .before .before .before .before .before .before .before .before in
+    let l = c .before .before .before .before .before .loop .inv .1 _ _ _ (left-start (ands (lookOf (s .args .known) (now (s .args .list))) (readWithin (lookOf (s .args .known) (now (s .args .list))) (s .args .depth))) _ _ _ _ _ (term-whole (lookOf (s .args .known) (now (s .args .list))) (readWithin (lookOf (s .args .known) (now (s .args .list))) (s .args .depth)) (tokensAt (now (s .args .text)) (s .args .cursor .at))) _ _ _ (rw (c .before .before .before .before .before .before .before .first .given .1) at (c .before .before .before .before .before .before .before .before .before .before .before .operand .ensures))) in
+    (omega (arith, l .ends), omega (arith, l .grows, l .inside, s .pre .1 .0 .short, s .pre .1 .1), omega (arith, l .grows, l .inside, s .pre .1 .0 .short, s .pre .1 .1))
 
 term-add-t31 : (t : ℕ) → term-lts.Need-add-t31 (
   operand-below t,
@@ -1471,7 +1641,10 @@ term-add-t31 : (t : ℕ) → term-lts.Need-add-t31 (
   group-reads.Asked,
   group-reads.Learnt,
 ) (term-at t) term.Post term-Inv-loop term-μ-loop
-term-add-t31 t c = ?
+term-add-t31 t c =
+    let s = c .before .before .before .before .before .before .before .before .before .before .before .before .before .before .before .before .before .before .before in
+    let l = c .before .before .before .before .before .before .before .before .loop .inv .1 _ _ _ (left-start (ands (lookOf (s .args .known) (now (s .args .list))) (readWithin (lookOf (s .args .known) (now (s .args .list))) (s .args .depth))) _ _ _ _ _ (term-whole (lookOf (s .args .known) (now (s .args .list))) (readWithin (lookOf (s .args .known) (now (s .args .list))) (s .args .depth)) (tokensAt (now (s .args .text)) (s .args .cursor .at))) _ _ _ (rw (c .before .before .before .before .before .before .before .before .before .before .first .given .1) at (c .before .before .before .before .before .before .before .before .before .before .before .before .before .before .operand .ensures))) in
+    omega (arith, l .grows, l .inside, s .pre .1 .0 .short, s .pre .1 .1)
 
 term-same-length-3 : (t : ℕ) → term-lts.Need-same-length-3 (
   operand-below t,
@@ -1481,7 +1654,7 @@ term-same-length-3 : (t : ℕ) → term-lts.Need-same-length-3 (
   group-reads.Asked,
   group-reads.Learnt,
 ) (term-at t) term.Post term-Inv-loop term-μ-loop
-term-same-length-3 t c = ?
+term-same-length-3 t c = search needs
 
 term-returns-3 : (t : ℕ) → term-lts.Need-returns-3 (
   operand-below t,
@@ -1491,7 +1664,11 @@ term-returns-3 : (t : ℕ) → term-lts.Need-returns-3 (
   group-reads.Asked,
   group-reads.Learnt,
 ) (term-at t) term.Post term-Inv-loop term-μ-loop
-term-returns-3 t c = ?
+term-returns-3 t c =
+    let s = c .before .before .before .before .before .before .before .before .before .before .before .before .before .before .before .before .before .before .before in
+    let l = c .before .before .before .before .before .before .before .before .loop .inv .1 _ _ _ (left-start (ands (lookOf (s .args .known) (now (s .args .list))) (readWithin (lookOf (s .args .known) (now (s .args .list))) (s .args .depth))) _ _ _ _ _ (term-whole (lookOf (s .args .known) (now (s .args .list))) (readWithin (lookOf (s .args .known) (now (s .args .list))) (s .args .depth)) (tokensAt (now (s .args .text)) (s .args .cursor .at))) _ _ _ (rw (c .before .before .before .before .before .before .before .before .before .before .first .given .1) at (c .before .before .before .before .before .before .before .before .before .before .before .before .before .before .operand .ensures))) in
+    let w = rw (c .before .before .before .before .enum-told .given .1) at (c .before .before .before .before .before .before .word-ahead .ensures) in
+    left-done (ands (lookOf (s .args .known) (now (s .args .list))) (readWithin (lookOf (s .args .known) (now (s .args .list))) (s .args .depth))) _ _ _ _ _ _ _ _ _ l _ (w .0) (c .before .before .group .ensures)
 
 pub +bracketed+expression+operand+predicates+step+steps+term-spec : {M : Type 1} → statement M
 +bracketed+expression+operand+predicates+step+steps+term-spec =
