@@ -2,6 +2,7 @@ pub mod Heading
 pub mod Lexed
 pub mod Naming
 pub mod Operands
+pub mod Queries
 pub mod Rows
 pub mod Runs
 pub mod Writing

@@ -27,11 +27,11 @@ use Rattle.read.proofs.Writing.{wrote-nothing, wrote-more, wrote-head}
 use Rattle.read.proofs.Runs.{some-token, some-fuel}
 
 -- What is built of what is read may be built at once.
-then-then : {A B C : Type 0} (o : Got A) (f : A → B) (g : B → C) → then (then o (λ a. got (f a))) (λ b. got (g b)) ≡ then o (λ a. got (g (f a)))
+pub then-then : {A B C : Type 0} (o : Got A) (f : A → B) (g : B → C) → then (then o (λ a. got (f a))) (λ b. got (g b)) ≡ then o (λ a. got (g (f a)))
 then-then (got a left) f g = refl
 then-then (refused n spot) f g = refl
 
-then-got : {A : Type 0} (o : Got A) → o ≡ then o (λ a. got a)
+pub then-got : {A : Type 0} (o : Got A) → o ≡ then o (λ a. got a)
 then-got (got a left) = refl
 then-got (refused n spot) = refl
 

@@ -34,7 +34,7 @@ returns-2 : tie.Need-returns-2
 returns-2 c = let l = rw (c .before .before .before .before .enum-told .given .1) at (c .before .before .before .before .before .before .mark .ensures) in let w = rw (c .enum-told2 .given .1) at (c .before .before .word-ahead .ensures) in (no-word-and _ (ascii "not") _ _ (w .0), l .0)
 
 mark-requires-2 : tie.Need-mark-requires-2
-mark-requires-2 c κs = ?
+mark-requires-2 c κs = ((rw (c .before .word .given .1) at (c .before .before .before .word-ahead .ensures)) .2 .inside, search needs)
 
 enum-known-call : tie.Need-enum-known-call
 enum-known-call c = search needs

@@ -1,6 +1,7 @@
 -- `read::path_lead` meets its contract, by what stands before the steps. Assumes nothing.
 use Rattle.read.proofs.Lexed.{lead-deep, lead-before, lead-alone}
 use mathlib.Core.Path.{sym, _∙_}
+use Rattle.read.proofs.Rows.{joined-past}
 use borrow.Author.Needs.{needs}
 use Rattle.read.proofs.path_lead.Statement.{statement}
 use Rattle.read.proofs.path_lead.Tie as tie
@@ -15,7 +16,9 @@ returns : tie.Need-returns
 returns c = lead-deep _ _ _ _ (c .if1 .taken) (rw (c .before .before .joint .given .1) at (c .before .before .before .before .joined .ensures))
 
 starts-step-requires : tie.Need-starts-step-requires
-starts-step-requires c κs = ?
+starts-step-requires c κs =
+    let s = c .before .before .before .before .before .before in
+    (joined-past (s .args .text .now) (s .args .cursor .at) (c .before .before .joint .given .0 .0) (c .before .before .joint .given .0 .1 .0) (rw (c .before .before .joint .given .1) at (c .before .before .before .before .joined .ensures))) .inside
 
 enum-known-joint-2 : tie.Need-enum-known-joint-2
 enum-known-joint-2 c = search needs
