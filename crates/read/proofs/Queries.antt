@@ -235,6 +235,10 @@ pub kept : (text list old : List ℕ) (a : Answer) → Refuses a → told a ≡ 
 unfolding readOut
 kept text list old a r h = sym (ap (λ x. atExit x (readItems text list) old) (sym h) ∙ refused-keeps a (readItems text list) old r)
 
+pub kept-refusal : (text list old : List ℕ) (number spot : ℕ) → refusal number spot ≡ readAnswer text list (length old) → old ≡ readOut text list old
+unfolding readOut
+kept-refusal text list old number spot h = ap (λ x. atExit x (readItems text list) old) h
+
 -- An accepted call finds a query that fits.
 record Fits (o : Got Query) (room : ℕ) : Type 0 where
   pub what : Query
