@@ -57,7 +57,7 @@ module _ (look : List ℕ → Option ℕ) (within : ℕ → List Placed → Got 
 
   pub path-before : (past : Cursor) (lead : Bool) (r : Part) → Leads text from (Before past lead)
       → Reads text old new (past .at) place (3 * past .at) place
-        (then (readSteps look within (length (tokensAt text (past .at))) (tokensAt text (past .at))) (λ s. got (deepIf lead s))) pathItems r
+      (then (readSteps look within (length (tokensAt text (past .at))) (tokensAt text (past .at))) (λ s. got (deepIf lead s))) pathItems r
       → Reads text old new from place (3 * from) place (readPath look within (tokensAt text from)) pathItems r
   unfolding readPath
   path-before past true r l g =
@@ -203,7 +203,6 @@ goes-later o end later m = rw (m .reads)
 module _ (o : Got Query) (room end : ℕ) (m : Sized o end) where
   pub short-room : room < end → told (Short end) ≡ lineGot o (last-line room)
   short-room l = rw (m .reads, ← m .ends, lt-ltb room end l)
-
 
   pub over-items : end ≤ room → itemLimit < end → told (Short end) ≡ lineGot o (last-line room)
   over-items f l = rw (m .reads, ← m .ends, le-ltb room end f, lt-ltb itemLimit end l)

@@ -424,12 +424,13 @@ expression-loop-again : (t : ℕ) → expression-lts.Need-loop-again (
   group-reads.Asked,
   group-reads.Learnt,
 ) (expression-at t) expression.Post expression-Inv-loop expression-μ-loop
-expression-loop-again t c =
-    (search needs,
-    let s = c .before .before .before .before .before .before .before .before .before .before .before .before .before .before .before .before .before .before .before .before .before .before .before in
-    let g = rw (c .before .more .given .1) at (c .before .before .before .before .before .term2 .ensures) in
-    let w = rw (c .before .before .before .before .before .before .before .before .ahead .given .1) at (c .before .before .before .before .before .before .before .before .before .before .word-ahead .ensures) in
-    λ old from all l. left-more (ors (lookOf (s .args .known) (now (s .args .list))) (readWithin (lookOf (s .args .known) (now (s .args .list))) (s .args .depth))) _ old from _ all _ _ _ _ (c .before .before .before .before .before .before .before .before .before .before .before .before .loop .inv .1 old from all l) _ (w .0) (w .2) _ _ _ g)
+expression-loop-again t c = (
+  search needs,
+  let s = c .before .before .before .before .before .before .before .before .before .before .before .before .before .before .before .before .before .before .before .before .before .before .before in
+      let g = rw (c .before .more .given .1) at (c .before .before .before .before .before .term2 .ensures) in
+      let w = rw (c .before .before .before .before .before .before .before .before .ahead .given .1) at (c .before .before .before .before .before .before .before .before .before .before .word-ahead .ensures) in
+      λ old from all l. left-more (ors (lookOf (s .args .known) (now (s .args .list))) (readWithin (lookOf (s .args .known) (now (s .args .list))) (s .args .depth))) _ old from _ all _ _ _ _ (c .before .before .before .before .before .before .before .before .before .before .before .before .loop .inv .1 old from all l) _ (w .0) (w .2) _ _ _ g,
+)
 
 expression-group-requires : (t : ℕ) → expression-lts.Need-group-requires (
   term-below t,
@@ -879,13 +880,14 @@ predicates-loop-again : (t : ℕ) → predicates-lts.Need-loop-again (
   put-reads.Asked,
   put-reads.Learnt,
 ) (predicates-at t) predicates.Post predicates-Inv-loop predicates-μ-loop
-predicates-loop-again t c =
-    (search needs,
-    let s = c .before .before .before .before .before .before .before .before .before .before .before .before .before .before .before in
-    let l = c .before .before .before .before .before .before .before .before .before .before .before .loop .inv .1 in
-    let g = rw (c .before .one .given .1) at (c .before .before .before .before .before .bracketed .ensures) in
-    let m = rw (c .before .before .before .before .before .before .before .before .ahead .given .1) at (c .before .before .before .before .before .before .before .before .before .before .mark .ensures) in
-    preds-more (lookOf (s .args .known) (now (s .args .list))) (readWithin (lookOf (s .args .known) (now (s .args .list))) (s .args .depth)) _ _ _ _ _ _ _ _ l _ _ (m .0) (m .1) (m .2) _ _ _ g)
+predicates-loop-again t c = (
+  search needs,
+  let s = c .before .before .before .before .before .before .before .before .before .before .before .before .before .before .before in
+      let l = c .before .before .before .before .before .before .before .before .before .before .before .loop .inv .1 in
+      let g = rw (c .before .one .given .1) at (c .before .before .before .before .before .bracketed .ensures) in
+      let m = rw (c .before .before .before .before .before .before .before .before .ahead .given .1) at (c .before .before .before .before .before .before .before .before .before .before .mark .ensures) in
+      preds-more (lookOf (s .args .known) (now (s .args .list))) (readWithin (lookOf (s .args .known) (now (s .args .list))) (s .args .depth)) _ _ _ _ _ _ _ _ l _ _ (m .0) (m .1) (m .2) _ _ _ g,
+)
 
 predicates-step-word-requires : (t : ℕ) → predicates-lts.Need-step-word-requires (
   mark-reads.Asked,
@@ -1347,12 +1349,13 @@ steps-loop-again : (t : ℕ) → steps-lts.Need-loop-again (
   put-reads.Asked,
   put-reads.Learnt,
 ) (steps-at t) steps.Post steps-Inv-loop steps-μ-loop
-steps-loop-again t c =
-    (search needs,
-    let s = c .before .before .before .before .before .before .before .before .before .before .before .before .before .before .before .before .before .before .before in
-    let g = rw (c .before .before .before .before .before .one .given .1) at (c .before .before .before .before .before .before .before .before .before .step .ensures) in
-    let l = step-more (lookOf (s .args .known) (now (s .args .list))) (readWithin (lookOf (s .args .known) (now (s .args .list))) (s .args .depth)) _ _ _ _ _ _ _ _ _ _ (c .before .before .before .before .before .before .before .before .before .before .before .before .before .before .before .loop .inv .1) _ _ _ _ _ (c .before .before .before .before .before .before .before .before .before .before .before .before .before .put-deep .ensures .0) (c .before .before .before .before .before .before .before .before .before .before .before .before .before .put-deep .ensures .1) g in
-    steps-more (lookOf (s .args .known) (now (s .args .list))) (readWithin (lookOf (s .args .known) (now (s .args .list))) (s .args .depth)) _ _ _ _ _ _ _ _ _ l _ _ (rw (c .before .joint .given .1) at (c .before .before .before .joined .ensures)))
+steps-loop-again t c = (
+  search needs,
+  let s = c .before .before .before .before .before .before .before .before .before .before .before .before .before .before .before .before .before .before .before in
+      let g = rw (c .before .before .before .before .before .one .given .1) at (c .before .before .before .before .before .before .before .before .before .step .ensures) in
+      let l = step-more (lookOf (s .args .known) (now (s .args .list))) (readWithin (lookOf (s .args .known) (now (s .args .list))) (s .args .depth)) _ _ _ _ _ _ _ _ _ _ (c .before .before .before .before .before .before .before .before .before .before .before .before .before .before .before .loop .inv .1) _ _ _ _ _ (c .before .before .before .before .before .before .before .before .before .before .before .before .before .put-deep .ensures .0) (c .before .before .before .before .before .before .before .before .before .before .before .before .before .put-deep .ensures .1) g in
+      steps-more (lookOf (s .args .known) (now (s .args .list))) (readWithin (lookOf (s .args .known) (now (s .args .list))) (s .args .depth)) _ _ _ _ _ _ _ _ _ l _ _ (rw (c .before .joint .given .1) at (c .before .before .before .joined .ensures)),
+)
 
 steps-enum-told : (t : ℕ) → steps-lts.Need-enum-told (
   put-deep-reads.Asked,
@@ -1613,12 +1616,13 @@ term-loop-again : (t : ℕ) → term-lts.Need-loop-again (
   group-reads.Asked,
   group-reads.Learnt,
 ) (term-at t) term.Post term-Inv-loop term-μ-loop
-term-loop-again t c =
-    (search needs,
-    let s = c .before .before .before .before .before .before .before .before .before .before .before .before .before .before .before .before .before .before .before .before .before .before .before in
-    let g = rw (c .before .more .given .1) at (c .before .before .before .before .before .operand2 .ensures) in
-    let w = rw (c .before .before .before .before .before .before .before .before .ahead .given .1) at (c .before .before .before .before .before .before .before .before .before .before .word-ahead .ensures) in
-    λ old from all l. left-more (ands (lookOf (s .args .known) (now (s .args .list))) (readWithin (lookOf (s .args .known) (now (s .args .list))) (s .args .depth))) _ old from _ all _ _ _ _ (c .before .before .before .before .before .before .before .before .before .before .before .before .loop .inv .1 old from all l) _ (w .0) (w .2) _ _ _ g)
+term-loop-again t c = (
+  search needs,
+  let s = c .before .before .before .before .before .before .before .before .before .before .before .before .before .before .before .before .before .before .before .before .before .before .before in
+      let g = rw (c .before .more .given .1) at (c .before .before .before .before .before .operand2 .ensures) in
+      let w = rw (c .before .before .before .before .before .before .before .before .ahead .given .1) at (c .before .before .before .before .before .before .before .before .before .before .word-ahead .ensures) in
+      λ old from all l. left-more (ands (lookOf (s .args .known) (now (s .args .list))) (readWithin (lookOf (s .args .known) (now (s .args .list))) (s .args .depth))) _ old from _ all _ _ _ _ (c .before .before .before .before .before .before .before .before .before .before .before .before .loop .inv .1 old from all l) _ (w .0) (w .2) _ _ _ g,
+)
 
 term-group-requires : (t : ℕ) → term-lts.Need-group-requires (
   operand-below t,

@@ -28,7 +28,7 @@ enum-known-lead-2 : tie.Need-enum-known-lead-2
 enum-known-lead-2 c = search needs
 
 steps-requires : tie.Need-steps-requires
-steps-requires c κs = 
+steps-requires c κs =
     let s = c .before .before .before .before .before .before .before .before in
     let p = leads-past (s .args .text .now) (s .args .cursor .at) (c .before .before .lead2 .given .0 .0) (c .before .before .lead2 .given .0 .1 .0) (rw (c .before .before .lead2 .given .1) at (c .before .before .before .before .path-lead .ensures)) in
     (record { short = s .pre .0 .short; names = s .pre .0 .names; inside = p .inside; shallow = s .pre .0 .shallow }, omega (arith, p .onward, s .pre .1))
@@ -40,7 +40,7 @@ same-length : tie.Need-same-length
 same-length c = search needs
 
 returns : tie.Need-returns
-returns c = 
+returns c =
     let s = c .before .before .before .before .before .before .before .before .before .before .before .before in
     path-alone (lookOf (s .args .known) (now (s .args .list))) (readWithin (lookOf (s .args .known) (now (s .args .list))) bracketLimit) _ _ _ _ _ _ (c .before .before .before .before .before .before .lead .given .0 .0) (rw (c .before .before .before .before .before .before .lead .given .1) at (c .before .before .before .before .before .before .before .before .path-lead .ensures)) (c .before .before .before .pack-path .ensures) (c .before .before .put .ensures)
 
@@ -48,12 +48,12 @@ same-length-2 : tie.Need-same-length-2
 same-length-2 c = search needs
 
 returns-2 : tie.Need-returns-2
-returns-2 c = 
+returns-2 c =
     let s = c .before .before .before .before .before .before .before .before .before .before .before in
     path-before (lookOf (s .args .known) (now (s .args .list))) (readWithin (lookOf (s .args .known) (now (s .args .list))) bracketLimit) _ _ _ _ _ (c .before .before .before .before .before .lead2 .given .0 .0) (c .before .before .before .before .before .lead2 .given .0 .1 .0) (c .before .before .steps .result) (rw (c .before .before .before .before .before .lead2 .given .1) at (c .before .before .before .before .before .before .before .path-lead .ensures)) (c .before .before .steps .ensures)
 
 returns-3 : tie.Need-returns-3
-returns-3 c = 
+returns-3 c =
     let s = c .before .before .before .before .before .before .before in
     path-none (lookOf (s .args .known) (now (s .args .list))) (readWithin (lookOf (s .args .known) (now (s .args .list))) bracketLimit) _ (s .args .out .now) (s .args .out .now) _ (s .args .place) _ (rw (c .before .lead3 .given .1) at (c .before .before .before .path-lead .ensures))
 

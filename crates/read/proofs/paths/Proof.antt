@@ -13,7 +13,7 @@ use Rattle.read.proofs.paths.Statement.{statement}
 use Rattle.read.proofs.paths.Tie as tie
 
 abbrev Inv-loop : tie.InvT-loop
-Inv-loop text list starts count known out₀ here₀ filled₀ out here filled = 
+Inv-loop text list starts count known out₀ here₀ filled₀ out here filled =
     (length out ≡ length out₀) × (PathRow (lookOf known list) (readWithin (lookOf known list) bracketLimit) text out₀ out (readText (lookOf known list) text) (here .at) filled)
 
 abbrev μ-loop : tie.MeasureT-loop
@@ -23,7 +23,7 @@ loop-holds : tie.Need-loop-holds Inv-loop μ-loop
 loop-holds c = (refl, paths-start _ _ _)
 
 path-requires : tie.Need-path-requires Inv-loop μ-loop
-path-requires c κs = 
+path-requires c κs =
     let s = c .before .before .before .before .before in
     let l = c .before .loop .inv .1 in
     (record { short = s .pre .short; names = s .pre .names; inside = l .inside; shallow = s .pre .shallow }, l .grows)
@@ -35,7 +35,7 @@ same-length : tie.Need-same-length Inv-loop μ-loop
 same-length c = search needs
 
 returns : tie.Need-returns Inv-loop μ-loop
-returns c = 
+returns c =
     let s = c .before .before .before .before .before .before .before .before .before in
     all-refused _ _ _ _ _ _ _ _ _ _ _ _ (c .before .before .before .path .result) (c .match .keys2) (c .before .before .before .path .ensures) (paths-stuck (lookOf (s .args .known) (now (s .args .list))) (readWithin (lookOf (s .args .known) (now (s .args .list))) bracketLimit) _ _ _ _ _ _ (c .before .before .before .before .before .loop .inv .1))
 
@@ -46,18 +46,19 @@ enum-known-bar : tie.Need-enum-known-bar Inv-loop μ-loop
 enum-known-bar c = search needs
 
 loop-less : tie.Need-loop-less Inv-loop μ-loop
-loop-less c = 
+loop-less c =
     let g = rw (c .before .before .before .before .before .one .given .1) at (c .before .before .before .before .before .before .before .before .before .path .ensures) in
     let m = rw (c .before .bar .given .1) at (c .before .before .before .mark .ensures) in
     omega (arith, g .onward, m .2 .onward, m .2 .inside)
 
 loop-again : tie.Need-loop-again Inv-loop μ-loop
-loop-again c = 
-    (search needs,
-    let s = c .before .before .before .before .before .before .before .before .before .before .before .before .before .before .before in
-    let g = rw (c .before .before .before .before .before .one .given .1) at (c .before .before .before .before .before .before .before .before .before .path .ensures) in
-    let m = rw (c .before .bar .given .1) at (c .before .before .before .mark .ensures) in
-    paths-more (lookOf (s .args .known) (now (s .args .list))) (readWithin (lookOf (s .args .known) (now (s .args .list))) bracketLimit) _ _ _ _ _ _ (c .before .before .before .before .before .before .before .before .before .before .before .loop .inv .1) _ _ _ g _ (m .0) (m .2))
+loop-again c = (
+  search needs,
+  let s = c .before .before .before .before .before .before .before .before .before .before .before .before .before .before .before in
+      let g = rw (c .before .before .before .before .before .one .given .1) at (c .before .before .before .before .before .before .before .before .before .path .ensures) in
+      let m = rw (c .before .bar .given .1) at (c .before .before .before .mark .ensures) in
+      paths-more (lookOf (s .args .known) (now (s .args .list))) (readWithin (lookOf (s .args .known) (now (s .args .list))) bracketLimit) _ _ _ _ _ _ (c .before .before .before .before .before .before .before .before .before .before .before .loop .inv .1) _ _ _ g _ (m .0) (m .2),
+)
 
 enum-told : tie.Need-enum-told Inv-loop μ-loop
 enum-told c = search needs
@@ -69,7 +70,7 @@ same-length-2 : tie.Need-same-length-2 Inv-loop μ-loop
 same-length-2 c = search needs
 
 returns-2 : tie.Need-returns-2 Inv-loop μ-loop
-returns-2 c = 
+returns-2 c =
     let s = c .before .before .before .before .before .before .before .before .before .before .before .before .before .before .before in
     let g = rw (c .before .before .before .before .before .one .given .1) at (c .before .before .before .before .before .before .before .before .before .path .ensures) in
     let m = rw (c .before .enum-told .given .1) at (c .before .before .before .mark .ensures) in

@@ -11,13 +11,13 @@ use Rattle.read.proofs.read.Statement.{statement}
 use Rattle.read.proofs.read.Tie as tie
 
 returns : tie.Need-returns
-returns c = 
+returns c =
     let a = c .before .before .before .before .args in
     let long = text-long (now (a .text)) (now (a .list)) (length (now (a .out))) (c .if1 .taken) in
     (long, kept-refusal _ _ _ _ _ long)
 
 returns-2 : tie.Need-returns-2
-returns-2 c = 
+returns-2 c =
     let a = c .before .before .before .before .before .args in
     let long = list-long (now (a .text)) (now (a .list)) (length (now (a .out))) (c .before .if1 .left) (c .if2 .taken) in
     (long, kept-refusal _ _ _ _ _ long)
@@ -41,7 +41,7 @@ paths-requires : tie.Need-paths-requires
 paths-requires c κs = record { short = c .before .before .before .before .before .before .before .before .before .before .before .before .if1 .left; names = c .before .before .before .before .before .before .before .before .before .index .ensures .good _ (c .before .before .before .before .before .before .before .listed2 .given .1); inside = omega arith; shallow = omega arith }
 
 returns-3 : tie.Need-returns-3
-returns-3 c = 
+returns-3 c =
     let a = c .before .before .before .before .before .before .before .before .before .before .args in
     let bad = bad-list (now (a .text)) (now (a .list)) (length (now (a .out))) (c .before .before .before .before .before .before .if1 .left) (c .before .before .before .before .before .if2 .left) _ (ap faultOf (sym (c .before .listed .given .1)) ∙ c .before .before .before .index .ensures .fault) in
     (bad, kept-refusal _ _ _ _ _ bad)
@@ -50,7 +50,7 @@ same-length : tie.Need-same-length
 same-length c = search needs
 
 returns-4 : tie.Need-returns-4
-returns-4 c = 
+returns-4 c =
     let a = c .before .before .before .before .before .before .before .before .before .before .before .before .before .before .before .before .before .before .before .args in
     let fine = good-list (now (a .text)) (now (a .list)) (length (now (a .out))) (c .before .before .before .before .before .before .before .before .before .before .before .before .before .before .before .if1 .left) (c .before .before .before .before .before .before .before .before .before .before .before .before .before .before .if2 .left) (ap faultOf (sym (c .before .before .before .before .before .before .before .before .before .before .listed2 .given .1)) ∙ c .before .before .before .before .before .before .before .before .before .before .before .before .index .ensures .fault) in
     let said = c .before .before .before .before .before .before .before .answer .ensures in
@@ -58,7 +58,7 @@ returns-4 c =
     (said ∙ fine, accepted (now (a .text)) (now (a .list)) (now (a .out)) _ _ (c .before .before .paths .result) (sym said ∙ ap told is) (sym (said ∙ fine) ∙ ap told is) (c .before .before .paths .ensures))
 
 returns-5 : tie.Need-returns-5
-returns-5 c = 
+returns-5 c =
     let a = c .before .before .before .before .before .before .before .before .before .before .before .before .before .args in
     let fine = good-list (now (a .text)) (now (a .list)) (length (now (a .out))) (c .before .before .before .before .before .before .before .before .before .if1 .left) (c .before .before .before .before .before .before .before .before .if2 .left) (ap faultOf (sym (c .before .before .before .before .listed2 .given .1)) ∙ c .before .before .before .before .before .before .index .ensures .fault) in
     let said = c .before .answer .ensures ∙ fine in
