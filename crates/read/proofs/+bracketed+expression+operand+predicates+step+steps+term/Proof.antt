@@ -1,0 +1,1893 @@
+-- The functions of `read` that call each other meet their contracts: path, step and expression, with falling remaining text.
+-- Each loop's invariant is that what is left to read gives the answer of the whole (`Left` of a run of operands, `PredRow` and `StepRow`).
+-- The measure of a call is the number of bytes left, then the order bracketed, expression, term, operand, steps, step. Assumes nothing.
+use Prim.Native.Nat.{_-_, _+_, _*_}
+use mathlib.Core.Path.{_≡_, refl, sym, _∙_, ap}
+use mathlib.Core.List.{List}
+use native.Mathlib.Omega.{arith}
+use borrow.Author.Needs.{needs}
+use denote.Ref.{now}
+use lib.ListN.{length}
+use Rattle.paper.specs.Query.{Expr}
+use Rattle.paper.specs.Reading.{Got, got, then, readSteps, readWithin}
+use Rattle.read.specs.Parts.{tokensAt, lookOf, deepIf, passSort}
+use Rattle.read.proofs.Heading.{axis-small}
+use Rattle.read.proofs.Runs.{ors, ands, Left, left-start, start-stuck, left-more, left-stuck, left-done, term-whole, expr-whole, passed-on}
+use Rattle.read.proofs.Rows.{PredRow, preds-start, preds-more, preds-stuck, preds-done, StepRow, Stepped, steps-start, step-more, step-stuck, steps-more, steps-done, joined-past, deep-few}
+use Rattle.read.proofs.Operands.{too-deep, opened, closed, unclosed, not-stuck, not-done, round-done, path-done, plain-done, tested-done}
+use Prim.Native.Nat.{ℕ, _<_}
+use borrow.Fn.Kinds.{In}
+use borrow.Fn.PlainCycle.{Measures, is, falls, and}
+use Rattle.read.proofs.bracketed.Reads as bracketed
+use Rattle.read.proofs.bracketed.Kinds as bracketed-kinds
+use Rattle.read.proofs.+bracketed+expression+operand+predicates+step+steps+term.Lts-bracketed as bracketed-lts
+use Rattle.read.proofs.expression.Reads as expression
+use Rattle.read.proofs.expression.Kinds as expression-kinds
+use Rattle.read.proofs.+bracketed+expression+operand+predicates+step+steps+term.Lts-expression as expression-lts
+use Rattle.read.proofs.operand.Reads as operand
+use Rattle.read.proofs.operand.Kinds as operand-kinds
+use Rattle.read.proofs.+bracketed+expression+operand+predicates+step+steps+term.Lts-operand as operand-lts
+use Rattle.read.proofs.predicates.Reads as predicates
+use Rattle.read.proofs.predicates.Kinds as predicates-kinds
+use Rattle.read.proofs.+bracketed+expression+operand+predicates+step+steps+term.Lts-predicates as predicates-lts
+use Rattle.read.proofs.step.Reads as step
+use Rattle.read.proofs.step.Kinds as step-kinds
+use Rattle.read.proofs.+bracketed+expression+operand+predicates+step+steps+term.Lts-step as step-lts
+use Rattle.read.proofs.steps.Reads as steps
+use Rattle.read.proofs.steps.Kinds as steps-kinds
+use Rattle.read.proofs.+bracketed+expression+operand+predicates+step+steps+term.Lts-steps as steps-lts
+use Rattle.read.proofs.term.Reads as term
+use Rattle.read.proofs.term.Kinds as term-kinds
+use Rattle.read.proofs.+bracketed+expression+operand+predicates+step+steps+term.Lts-term as term-lts
+use Rattle.read.proofs.group.Reads as group-reads
+use Rattle.read.proofs.joined.Reads as joined-reads
+use Rattle.read.proofs.mark.Reads as mark-reads
+use Rattle.read.proofs.opening.Reads as opening-reads
+use Rattle.read.proofs.path_word.Reads as path-word-reads
+use Rattle.read.proofs.put.Reads as put-reads
+use Rattle.read.proofs.put_deep.Reads as put-deep-reads
+use Rattle.read.proofs.step_head.Reads as step-head-reads
+use Rattle.read.proofs.step_word.Reads as step-word-reads
+use Rattle.read.proofs.word_ahead.Reads as word-ahead-reads
+use Rattle.read.proofs.+bracketed+expression+operand+predicates+step+steps+term.{statement}
+use Rattle.read.proofs.+bracketed+expression+operand+predicates+step+steps+term.Tie.{close}
+
+abbrev μ-bracketed : Measures 4 bracketed-kinds.ps ℕ
+μ-bracketed κs a = (length (now (a .0)) - a .1 .1 .1 .1 .1 .0 .at) * 8 + 5
+
+abbrev μ-expression : Measures 4 expression-kinds.ps ℕ
+μ-expression κs a = (length (now (a .0)) - a .1 .1 .1 .1 .1 .0 .at) * 8 + 4
+
+abbrev μ-operand : Measures 4 operand-kinds.ps ℕ
+μ-operand κs a = (length (now (a .0)) - a .1 .1 .1 .1 .1 .0 .at) * 8 + 2
+
+abbrev μ-predicates : Measures 4 predicates-kinds.ps ℕ
+μ-predicates κs a = (length (now (a .0)) - a .1 .1 .1 .1 .1 .0 .at) * 8 + 0
+
+abbrev μ-step : Measures 4 step-kinds.ps ℕ
+μ-step κs a = (length (now (a .0)) - a .1 .1 .1 .1 .1 .0 .at) * 8 + 0
+
+abbrev μ-steps : Measures 4 steps-kinds.ps ℕ
+μ-steps κs a = (length (now (a .0)) - a .1 .1 .1 .1 .1 .0 .at) * 8 + 1
+
+abbrev μ-term : Measures 4 term-kinds.ps ℕ
+μ-term κs a = (length (now (a .0)) - a .1 .1 .1 .1 .1 .0 .at) * 8 + 3
+
+abbrev bracketed-at : ℕ → In 4 bracketed-kinds.ps
+bracketed-at t = and 4 bracketed-kinds.ps (is 4 bracketed-kinds.ps μ-bracketed t) bracketed.Pre
+
+abbrev bracketed-below : ℕ → In 4 bracketed-kinds.ps
+bracketed-below t =
+    and 4 bracketed-kinds.ps (falls 4 bracketed-kinds.ps _<_ μ-bracketed t) bracketed.Pre
+
+abbrev expression-at : ℕ → In 4 expression-kinds.ps
+expression-at t =
+    and 4 expression-kinds.ps (is 4 expression-kinds.ps μ-expression t) expression.Pre
+
+abbrev expression-below : ℕ → In 4 expression-kinds.ps
+expression-below t =
+    and 4 expression-kinds.ps (falls 4 expression-kinds.ps _<_ μ-expression t) expression.Pre
+
+abbrev operand-at : ℕ → In 4 operand-kinds.ps
+operand-at t = and 4 operand-kinds.ps (is 4 operand-kinds.ps μ-operand t) operand.Pre
+
+abbrev operand-below : ℕ → In 4 operand-kinds.ps
+operand-below t = and 4 operand-kinds.ps (falls 4 operand-kinds.ps _<_ μ-operand t) operand.Pre
+
+abbrev predicates-at : ℕ → In 4 predicates-kinds.ps
+predicates-at t =
+    and 4 predicates-kinds.ps (is 4 predicates-kinds.ps μ-predicates t) predicates.Pre
+
+abbrev predicates-below : ℕ → In 4 predicates-kinds.ps
+predicates-below t =
+    and 4 predicates-kinds.ps (falls 4 predicates-kinds.ps _<_ μ-predicates t) predicates.Pre
+
+abbrev step-at : ℕ → In 4 step-kinds.ps
+step-at t = and 4 step-kinds.ps (is 4 step-kinds.ps μ-step t) step.Pre
+
+abbrev step-below : ℕ → In 4 step-kinds.ps
+step-below t = and 4 step-kinds.ps (falls 4 step-kinds.ps _<_ μ-step t) step.Pre
+
+abbrev steps-at : ℕ → In 4 steps-kinds.ps
+steps-at t = and 4 steps-kinds.ps (is 4 steps-kinds.ps μ-steps t) steps.Pre
+
+abbrev steps-below : ℕ → In 4 steps-kinds.ps
+steps-below t = and 4 steps-kinds.ps (falls 4 steps-kinds.ps _<_ μ-steps t) steps.Pre
+
+abbrev term-at : ℕ → In 4 term-kinds.ps
+term-at t = and 4 term-kinds.ps (is 4 term-kinds.ps μ-term t) term.Pre
+
+abbrev term-below : ℕ → In 4 term-kinds.ps
+term-below t = and 4 term-kinds.ps (falls 4 term-kinds.ps _<_ μ-term t) term.Pre
+
+bracketed-returns : (t : ℕ) → bracketed-lts.Need-returns (
+  expression-below t,
+  expression.Post,
+  mark-reads.Asked,
+  mark-reads.Learnt,
+) (bracketed-at t) bracketed.Post
+bracketed-returns t c =
+    too-deep (lookOf (c .before .before .before .before .args .known) (now (c .before .before .before .before .args .list))) (c .before .before .before .before .args .depth) (c .before .before .before .before .args .bracket) (c .before .before .before .before .args .closer) (tokensAt (now (c .before .before .before .before .args .text)) (c .before .before .before .before .args .cursor .at)) (c .if1 .taken)
+
+bracketed-sub-expression : (t : ℕ) → bracketed-lts.Need-sub-expression (
+  expression-below t,
+  expression.Post,
+  mark-reads.Asked,
+  mark-reads.Learnt,
+) (bracketed-at t) bracketed.Post
+bracketed-sub-expression t c = search needs
+
+bracketed-expression-requires : (t : ℕ) → bracketed-lts.Need-expression-requires (
+  expression-below t,
+  expression.Post,
+  mark-reads.Asked,
+  mark-reads.Learnt,
+) (bracketed-at t) bracketed.Post
+bracketed-expression-requires t c κs =
+    let s = c .before .before .before .before .before in
+    (search needs, (record { short = s .pre .1 .0 .short; names = s .pre .1 .0 .names; inside = s .pre .1 .0 .inside; shallow = omega (arith, s .pre .1 .0 .shallow) }, s .pre .1 .1 .0))
+
+bracketed-enum-known-inner : (t : ℕ) → bracketed-lts.Need-enum-known-inner (
+  expression-below t,
+  expression.Post,
+  mark-reads.Asked,
+  mark-reads.Learnt,
+) (bracketed-at t) bracketed.Post
+bracketed-enum-known-inner t c = search needs
+
+bracketed-same-length : (t : ℕ) → bracketed-lts.Need-same-length (
+  expression-below t,
+  expression.Post,
+  mark-reads.Asked,
+  mark-reads.Learnt,
+) (bracketed-at t) bracketed.Post
+bracketed-same-length t c = search needs
+
+bracketed-returns-2 : (t : ℕ) → bracketed-lts.Need-returns-2 (
+  expression-below t,
+  expression.Post,
+  mark-reads.Asked,
+  mark-reads.Learnt,
+) (bracketed-at t) bracketed.Post
+bracketed-returns-2 t c =
+    let s = c .before .before .before .before .before .before .before .before .before in
+    passed-on _ _ _ _ _ _ _ _ _ _ _ _ _ _ _ _ _ _ (c .before .before .before .expression .result) (c .match .keys2) (c .before .before .before .expression .ensures)
+    (λ n spot h. ap (λ x. then x (passSort (s .args .closer))) (opened (lookOf (s .args .known) (now (s .args .list))) (s .args .depth) (s .args .bracket) (tokensAt (now (s .args .text)) (s .args .cursor .at)) (c .before .before .before .before .before .if1 .left) ∙ h))
+
+bracketed-mark-requires : (t : ℕ) → bracketed-lts.Need-mark-requires (
+  expression-below t,
+  expression.Post,
+  mark-reads.Asked,
+  mark-reads.Learnt,
+) (bracketed-at t) bracketed.Post
+bracketed-mark-requires t c κs =
+    ((rw (c .before .inner .given .1) at (c .before .before .before .before .before .expression .ensures)) .inside, c .before .before .before .before .before .before .before .before .before .before .before .pre .1 .1 .1)
+
+bracketed-enum-known-close : (t : ℕ) → bracketed-lts.Need-enum-known-close (
+  expression-below t,
+  expression.Post,
+  mark-reads.Asked,
+  mark-reads.Learnt,
+) (bracketed-at t) bracketed.Post
+bracketed-enum-known-close t c = search needs
+
+bracketed-enum-known-close-2 : (t : ℕ) → bracketed-lts.Need-enum-known-close-2 (
+  expression-below t,
+  expression.Post,
+  mark-reads.Asked,
+  mark-reads.Learnt,
+) (bracketed-at t) bracketed.Post
+bracketed-enum-known-close-2 t c = search needs
+
+bracketed-same-length-2 : (t : ℕ) → bracketed-lts.Need-same-length-2 (
+  expression-below t,
+  expression.Post,
+  mark-reads.Asked,
+  mark-reads.Learnt,
+) (bracketed-at t) bracketed.Post
+bracketed-same-length-2 t c = search needs
+
+bracketed-returns-3 : (t : ℕ) → bracketed-lts.Need-returns-3 (
+  expression-below t,
+  expression.Post,
+  mark-reads.Asked,
+  mark-reads.Learnt,
+) (bracketed-at t) bracketed.Post
+bracketed-returns-3 t c =
+    let s = c .before .before .before .before .before .before .before .before .before .before .before .before .before .before .before in
+    let g = rw (c .before .before .before .before .before .inner .given .1) at (c .before .before .before .before .before .before .before .before .before .expression .ensures) in
+    let m = rw (c .before .close .given .1) at (c .before .before .before .mark .ensures) in
+    closed _ _ _ _ _ (s .args .closer) _ _ (opened (lookOf (s .args .known) (now (s .args .list))) (s .args .depth) (s .args .bracket) (tokensAt (now (s .args .text)) (s .args .cursor .at)) (c .before .before .before .before .before .before .before .before .before .before .before .if1 .left)) _ _ _ g (m .0) (m .2)
+
+bracketed-same-length-3 : (t : ℕ) → bracketed-lts.Need-same-length-3 (
+  expression-below t,
+  expression.Post,
+  mark-reads.Asked,
+  mark-reads.Learnt,
+) (bracketed-at t) bracketed.Post
+bracketed-same-length-3 t c = search needs
+
+bracketed-returns-4 : (t : ℕ) → bracketed-lts.Need-returns-4 (
+  expression-below t,
+  expression.Post,
+  mark-reads.Asked,
+  mark-reads.Learnt,
+) (bracketed-at t) bracketed.Post
+bracketed-returns-4 t c =
+    let s = c .before .before .before .before .before .before .before .before .before .before .before .before .before .before .before in
+    let g = rw (c .before .before .before .before .before .inner .given .1) at (c .before .before .before .before .before .before .before .before .before .expression .ensures) in
+    let m = rw (c .before .close2 .given .1) at (c .before .before .before .mark .ensures) in
+    unclosed _ _ _ _ _ (s .args .closer) _ _ (opened (lookOf (s .args .known) (now (s .args .list))) (s .args .depth) (s .args .bracket) (tokensAt (now (s .args .text)) (s .args .cursor .at)) (c .before .before .before .before .before .before .before .before .before .before .before .if1 .left)) _ _ _ g (m .0) (m .1)
+
+abbrev expression-Inv-loop : expression-lts.InvT-loop
+expression-Inv-loop text list starts count known depth out₀ place end here₀ filled₀ run₀ t21 out here filled run =
+    (length out ≡ length out₀) × ((old : List ℕ) (from : ℕ) (all : Got Expr) → Left (ors (lookOf known list) (readWithin (lookOf known list) depth)) text old out₀ from place all (here₀ .at) filled₀ 0 → Left (ors (lookOf known list) (readWithin (lookOf known list) depth)) text old out from place all (here .at) filled run)
+
+abbrev expression-μ-loop : expression-lts.MeasureT-loop
+expression-μ-loop text list starts count known depth out₀ place end here₀ filled₀ run₀ t21 out here filled run =
+    length text - here .at
+
+expression-term-requires : (t : ℕ) → expression-lts.Need-term-requires (
+  term-below t,
+  term.Post,
+  word-ahead-reads.Asked,
+  word-ahead-reads.Learnt,
+  group-reads.Asked,
+  group-reads.Learnt,
+) (expression-at t) expression.Post expression-Inv-loop expression-μ-loop
+expression-term-requires t c κs = search needs
+
+expression-enum-known-first : (t : ℕ) → expression-lts.Need-enum-known-first (
+  term-below t,
+  term.Post,
+  word-ahead-reads.Asked,
+  word-ahead-reads.Learnt,
+  group-reads.Asked,
+  group-reads.Learnt,
+) (expression-at t) expression.Post expression-Inv-loop expression-μ-loop
+expression-enum-known-first t c = search needs
+
+expression-same-length : (t : ℕ) → expression-lts.Need-same-length (
+  term-below t,
+  term.Post,
+  word-ahead-reads.Asked,
+  word-ahead-reads.Learnt,
+  group-reads.Asked,
+  group-reads.Learnt,
+) (expression-at t) expression.Post expression-Inv-loop expression-μ-loop
+expression-same-length t c = search needs
+
+expression-returns : (t : ℕ) → expression-lts.Need-returns (
+  term-below t,
+  term.Post,
+  word-ahead-reads.Asked,
+  word-ahead-reads.Learnt,
+  group-reads.Asked,
+  group-reads.Learnt,
+) (expression-at t) expression.Post expression-Inv-loop expression-μ-loop
+expression-returns t c =
+    let s = c .before .before .before .before .before .before .before .before in
+    passed-on _ _ _ _ _ _ _ _ _ _ _ _ _ _ _ _ _ _ (c .before .before .before .term .result) (c .match .keys2) (c .before .before .before .term .ensures) (start-stuck (ors (lookOf (s .args .known) (now (s .args .list))) (readWithin (lookOf (s .args .known) (now (s .args .list))) (s .args .depth))) _ (s .args .out .now) _ (s .args .place) _ (expr-whole (lookOf (s .args .known) (now (s .args .list))) (readWithin (lookOf (s .args .known) (now (s .args .list))) (s .args .depth)) (tokensAt (now (s .args .text)) (s .args .cursor .at))))
+
+expression-loop-holds : (t : ℕ) → expression-lts.Need-loop-holds (
+  term-below t,
+  term.Post,
+  word-ahead-reads.Asked,
+  word-ahead-reads.Learnt,
+  group-reads.Asked,
+  group-reads.Learnt,
+) (expression-at t) expression.Post expression-Inv-loop expression-μ-loop
+expression-loop-holds t c = search needs
+
+expression-slice-aggregate-word-ahead : (t : ℕ) → expression-lts.Need-slice-aggregate-word-ahead (
+  term-below t,
+  term.Post,
+  word-ahead-reads.Asked,
+  word-ahead-reads.Learnt,
+  group-reads.Asked,
+  group-reads.Learnt,
+) (expression-at t) expression.Post expression-Inv-loop expression-μ-loop
+expression-slice-aggregate-word-ahead t c = search needs
+
+expression-word-ahead-requires : (t : ℕ) → expression-lts.Need-word-ahead-requires (
+  term-below t,
+  term.Post,
+  word-ahead-reads.Asked,
+  word-ahead-reads.Learnt,
+  group-reads.Asked,
+  group-reads.Learnt,
+) (expression-at t) expression.Post expression-Inv-loop expression-μ-loop
+expression-word-ahead-requires t c κs =
+    let s = c .before .before .before .before .before .before .before .before .before .before .before .before in
+    let l = c .before .loop .inv .1 _ _ _ (left-start (ors (lookOf (s .args .known) (now (s .args .list))) (readWithin (lookOf (s .args .known) (now (s .args .list))) (s .args .depth))) _ _ _ _ _ (expr-whole (lookOf (s .args .known) (now (s .args .list))) (readWithin (lookOf (s .args .known) (now (s .args .list))) (s .args .depth)) (tokensAt (now (s .args .text)) (s .args .cursor .at))) _ _ _ (rw (c .before .before .before .first .given .1) at (c .before .before .before .before .before .before .before .term .ensures))) in
+    (l .inside, search needs)
+
+expression-enum-known-ahead : (t : ℕ) → expression-lts.Need-enum-known-ahead (
+  term-below t,
+  term.Post,
+  word-ahead-reads.Asked,
+  word-ahead-reads.Learnt,
+  group-reads.Asked,
+  group-reads.Learnt,
+) (expression-at t) expression.Post expression-Inv-loop expression-μ-loop
+expression-enum-known-ahead t c = search needs
+
+expression-enum-told : (t : ℕ) → expression-lts.Need-enum-told (
+  term-below t,
+  term.Post,
+  word-ahead-reads.Asked,
+  word-ahead-reads.Learnt,
+  group-reads.Asked,
+  group-reads.Learnt,
+) (expression-at t) expression.Post expression-Inv-loop expression-μ-loop
+expression-enum-told t c = search needs
+
+expression-term-requires-2 : (t : ℕ) → expression-lts.Need-term-requires-2 (
+  term-below t,
+  term.Post,
+  word-ahead-reads.Asked,
+  word-ahead-reads.Learnt,
+  group-reads.Asked,
+  group-reads.Learnt,
+) (expression-at t) expression.Post expression-Inv-loop expression-μ-loop
+expression-term-requires-2 t c κs =
+    let s = c .before .before .before .before .before .before .before .before .before .before .before .before .before .before .before .before .before in
+    let l = c .before .before .before .before .before .before .loop .inv .1 _ _ _ (left-start (ors (lookOf (s .args .known) (now (s .args .list))) (readWithin (lookOf (s .args .known) (now (s .args .list))) (s .args .depth))) _ _ _ _ _ (expr-whole (lookOf (s .args .known) (now (s .args .list))) (readWithin (lookOf (s .args .known) (now (s .args .list))) (s .args .depth)) (tokensAt (now (s .args .text)) (s .args .cursor .at))) _ _ _ (rw (c .before .before .before .before .before .before .before .before .first .given .1) at (c .before .before .before .before .before .before .before .before .before .before .before .before .term .ensures))) in
+    let w = rw (c .before .before .ahead .given .1) at (c .before .before .before .before .word-ahead .ensures) in
+    (omega (arith, l .onward, w .2 .onward, w .2 .inside, s .pre .0), (record { short = s .pre .1 .0 .short; names = s .pre .1 .0 .names; inside = w .2 .inside; shallow = s .pre .1 .0 .shallow }, omega (arith, l .grows, w .2 .onward, s .pre .1 .1)))
+
+expression-enum-known-more : (t : ℕ) → expression-lts.Need-enum-known-more (
+  term-below t,
+  term.Post,
+  word-ahead-reads.Asked,
+  word-ahead-reads.Learnt,
+  group-reads.Asked,
+  group-reads.Learnt,
+) (expression-at t) expression.Post expression-Inv-loop expression-μ-loop
+expression-enum-known-more t c = search needs
+
+expression-same-length-2 : (t : ℕ) → expression-lts.Need-same-length-2 (
+  term-below t,
+  term.Post,
+  word-ahead-reads.Asked,
+  word-ahead-reads.Learnt,
+  group-reads.Asked,
+  group-reads.Learnt,
+) (expression-at t) expression.Post expression-Inv-loop expression-μ-loop
+expression-same-length-2 t c = search needs
+
+expression-returns-2 : (t : ℕ) → expression-lts.Need-returns-2 (
+  term-below t,
+  term.Post,
+  word-ahead-reads.Asked,
+  word-ahead-reads.Learnt,
+  group-reads.Asked,
+  group-reads.Learnt,
+) (expression-at t) expression.Post expression-Inv-loop expression-μ-loop
+expression-returns-2 t c =
+    let s = c .before .before .before .before .before .before .before .before .before .before .before .before .before .before .before .before .before .before .before .before .before in
+    let l = c .before .before .before .before .before .before .before .before .before .before .loop .inv .1 _ _ _ (left-start (ors (lookOf (s .args .known) (now (s .args .list))) (readWithin (lookOf (s .args .known) (now (s .args .list))) (s .args .depth))) _ _ _ _ _ (expr-whole (lookOf (s .args .known) (now (s .args .list))) (readWithin (lookOf (s .args .known) (now (s .args .list))) (s .args .depth)) (tokensAt (now (s .args .text)) (s .args .cursor .at))) _ _ _ (rw (c .before .before .before .before .before .before .before .before .before .before .before .before .first .given .1) at (c .before .before .before .before .before .before .before .before .before .before .before .before .before .before .before .before .term .ensures))) in
+    let w = rw (c .before .before .before .before .before .before .ahead .given .1) at (c .before .before .before .before .before .before .before .before .word-ahead .ensures) in
+    passed-on _ _ _ _ _ _ _ _ _ _ _ _ _ _ _ _ _ _ (c .before .before .before .term2 .result) (c .match3 .keys2) (c .before .before .before .term2 .ensures) (left-stuck (ors (lookOf (s .args .known) (now (s .args .list))) (readWithin (lookOf (s .args .known) (now (s .args .list))) (s .args .depth))) _ _ _ _ _ _ _ _ _ l _ (w .0) (w .2))
+
+expression-add-run : (t : ℕ) → expression-lts.Need-add-run (
+  term-below t,
+  term.Post,
+  word-ahead-reads.Asked,
+  word-ahead-reads.Learnt,
+  group-reads.Asked,
+  group-reads.Learnt,
+) (expression-at t) expression.Post expression-Inv-loop expression-μ-loop
+expression-add-run t c =
+    let s = c .before .before .before .before .before .before .before .before .before .before .before .before .before .before .before .before .before .before .before .before .before .before .before in
+    let l = c .before .before .before .before .before .before .before .before .before .before .before .before .loop .inv .1 _ _ _ (left-start (ors (lookOf (s .args .known) (now (s .args .list))) (readWithin (lookOf (s .args .known) (now (s .args .list))) (s .args .depth))) _ _ _ _ _ (expr-whole (lookOf (s .args .known) (now (s .args .list))) (readWithin (lookOf (s .args .known) (now (s .args .list))) (s .args .depth)) (tokensAt (now (s .args .text)) (s .args .cursor .at))) _ _ _ (rw (c .before .before .before .before .before .before .before .before .before .before .before .before .before .before .first .given .1) at (c .before .before .before .before .before .before .before .before .before .before .before .before .before .before .before .before .before .before .term .ensures))) in
+    omega (arith, l .grows, l .inside, s .pre .1 .0 .short, s .pre .1 .1)
+
+expression-loop-less : (t : ℕ) → expression-lts.Need-loop-less (
+  term-below t,
+  term.Post,
+  word-ahead-reads.Asked,
+  word-ahead-reads.Learnt,
+  group-reads.Asked,
+  group-reads.Learnt,
+) (expression-at t) expression.Post expression-Inv-loop expression-μ-loop
+expression-loop-less t c =
+    let g = rw (c .before .more .given .1) at (c .before .before .before .before .before .term2 .ensures) in
+    let w = rw (c .before .before .before .before .before .before .before .before .ahead .given .1) at (c .before .before .before .before .before .before .before .before .before .before .word-ahead .ensures) in
+    omega (arith, w .2 .onward, g .onward, g .inside)
+
+expression-loop-again : (t : ℕ) → expression-lts.Need-loop-again (
+  term-below t,
+  term.Post,
+  word-ahead-reads.Asked,
+  word-ahead-reads.Learnt,
+  group-reads.Asked,
+  group-reads.Learnt,
+) (expression-at t) expression.Post expression-Inv-loop expression-μ-loop
+expression-loop-again t c = (
+  search needs,
+  let s = c .before .before .before .before .before .before .before .before .before .before .before .before .before .before .before .before .before .before .before .before .before .before .before in
+      let g = rw (c .before .more .given .1) at (c .before .before .before .before .before .term2 .ensures) in
+      let w = rw (c .before .before .before .before .before .before .before .before .ahead .given .1) at (c .before .before .before .before .before .before .before .before .before .before .word-ahead .ensures) in
+      λ old from all l. left-more (ors (lookOf (s .args .known) (now (s .args .list))) (readWithin (lookOf (s .args .known) (now (s .args .list))) (s .args .depth))) _ old from _ all _ _ _ _ (c .before .before .before .before .before .before .before .before .before .before .before .before .loop .inv .1 old from all l) _ (w .0) (w .2) _ _ _ g,
+)
+
+expression-group-requires : (t : ℕ) → expression-lts.Need-group-requires (
+  term-below t,
+  term.Post,
+  word-ahead-reads.Asked,
+  word-ahead-reads.Learnt,
+  group-reads.Asked,
+  group-reads.Learnt,
+) (expression-at t) expression.Post expression-Inv-loop expression-μ-loop
+expression-group-requires t c κs =
+    let s = c .before .before .before .before .before .before .before .before .before .before .before .before .before .before .before .before in
+    let l = c .before .before .before .before .before .loop .inv .1 _ _ _ (left-start (ors (lookOf (s .args .known) (now (s .args .list))) (readWithin (lookOf (s .args .known) (now (s .args .list))) (s .args .depth))) _ _ _ _ _ (expr-whole (lookOf (s .args .known) (now (s .args .list))) (readWithin (lookOf (s .args .known) (now (s .args .list))) (s .args .depth)) (tokensAt (now (s .args .text)) (s .args .cursor .at))) _ _ _ (rw (c .before .before .before .before .before .before .before .first .given .1) at (c .before .before .before .before .before .before .before .before .before .before .before .term .ensures))) in
+    (omega (arith, l .ends), omega (arith, l .grows, l .inside, s .pre .1 .0 .short, s .pre .1 .1), omega (arith, l .grows, l .inside, s .pre .1 .0 .short, s .pre .1 .1))
+
+expression-add-t31 : (t : ℕ) → expression-lts.Need-add-t31 (
+  term-below t,
+  term.Post,
+  word-ahead-reads.Asked,
+  word-ahead-reads.Learnt,
+  group-reads.Asked,
+  group-reads.Learnt,
+) (expression-at t) expression.Post expression-Inv-loop expression-μ-loop
+expression-add-t31 t c =
+    let s = c .before .before .before .before .before .before .before .before .before .before .before .before .before .before .before .before .before .before .before in
+    let l = c .before .before .before .before .before .before .before .before .loop .inv .1 _ _ _ (left-start (ors (lookOf (s .args .known) (now (s .args .list))) (readWithin (lookOf (s .args .known) (now (s .args .list))) (s .args .depth))) _ _ _ _ _ (expr-whole (lookOf (s .args .known) (now (s .args .list))) (readWithin (lookOf (s .args .known) (now (s .args .list))) (s .args .depth)) (tokensAt (now (s .args .text)) (s .args .cursor .at))) _ _ _ (rw (c .before .before .before .before .before .before .before .before .before .before .first .given .1) at (c .before .before .before .before .before .before .before .before .before .before .before .before .before .before .term .ensures))) in
+    omega (arith, l .grows, l .inside, s .pre .1 .0 .short, s .pre .1 .1)
+
+expression-same-length-3 : (t : ℕ) → expression-lts.Need-same-length-3 (
+  term-below t,
+  term.Post,
+  word-ahead-reads.Asked,
+  word-ahead-reads.Learnt,
+  group-reads.Asked,
+  group-reads.Learnt,
+) (expression-at t) expression.Post expression-Inv-loop expression-μ-loop
+expression-same-length-3 t c = search needs
+
+expression-returns-3 : (t : ℕ) → expression-lts.Need-returns-3 (
+  term-below t,
+  term.Post,
+  word-ahead-reads.Asked,
+  word-ahead-reads.Learnt,
+  group-reads.Asked,
+  group-reads.Learnt,
+) (expression-at t) expression.Post expression-Inv-loop expression-μ-loop
+expression-returns-3 t c =
+    let s = c .before .before .before .before .before .before .before .before .before .before .before .before .before .before .before .before .before .before .before in
+    let l = c .before .before .before .before .before .before .before .before .loop .inv .1 _ _ _ (left-start (ors (lookOf (s .args .known) (now (s .args .list))) (readWithin (lookOf (s .args .known) (now (s .args .list))) (s .args .depth))) _ _ _ _ _ (expr-whole (lookOf (s .args .known) (now (s .args .list))) (readWithin (lookOf (s .args .known) (now (s .args .list))) (s .args .depth)) (tokensAt (now (s .args .text)) (s .args .cursor .at))) _ _ _ (rw (c .before .before .before .before .before .before .before .before .before .before .first .given .1) at (c .before .before .before .before .before .before .before .before .before .before .before .before .before .before .term .ensures))) in
+    let w = rw (c .before .before .before .before .enum-told .given .1) at (c .before .before .before .before .before .before .word-ahead .ensures) in
+    left-done (ors (lookOf (s .args .known) (now (s .args .list))) (readWithin (lookOf (s .args .known) (now (s .args .list))) (s .args .depth))) _ _ _ _ _ _ _ _ _ l _ (w .0) (c .before .before .group .ensures)
+
+operand-opening-requires : (t : ℕ) → operand-lts.Need-opening-requires (
+  opening-reads.Asked,
+  opening-reads.Learnt,
+  bracketed-below t,
+  bracketed.Post,
+  put-reads.Asked,
+  put-reads.Learnt,
+  steps-below t,
+  steps.Post,
+) (operand-at t) operand.Post
+operand-opening-requires t c κs = search needs
+
+operand-enum-known-opens : (t : ℕ) → operand-lts.Need-enum-known-opens (
+  opening-reads.Asked,
+  opening-reads.Learnt,
+  bracketed-below t,
+  bracketed.Post,
+  put-reads.Asked,
+  put-reads.Learnt,
+  steps-below t,
+  steps.Post,
+) (operand-at t) operand.Post
+operand-enum-known-opens t c = search needs
+
+operand-add-bracketed : (t : ℕ) → operand-lts.Need-add-bracketed (
+  opening-reads.Asked,
+  opening-reads.Learnt,
+  bracketed-below t,
+  bracketed.Post,
+  put-reads.Asked,
+  put-reads.Learnt,
+  steps-below t,
+  steps.Post,
+) (operand-at t) operand.Post
+operand-add-bracketed t c = search needs
+
+operand-bracketed-requires : (t : ℕ) → operand-lts.Need-bracketed-requires (
+  opening-reads.Asked,
+  opening-reads.Learnt,
+  bracketed-below t,
+  bracketed.Post,
+  put-reads.Asked,
+  put-reads.Learnt,
+  steps-below t,
+  steps.Post,
+) (operand-at t) operand.Post
+operand-bracketed-requires t c κs =
+    let s = c .before .before .before .before .before .before .before .before in
+    let n = rw (c .before .before .opens .given .1) at (c .before .before .before .before .opening .ensures) in
+    (omega (arith, n .first .onward, n .second .onward, n .second .inside, s .pre .0), (record { short = s .pre .1 .0 .short; names = s .pre .1 .0 .names; inside = n .second .inside; shallow = s .pre .1 .0 .shallow }, (omega (arith, n .first .onward, n .second .onward, s .pre .1 .1), search needs)))
+
+operand-enum-known-inner : (t : ℕ) → operand-lts.Need-enum-known-inner (
+  opening-reads.Asked,
+  opening-reads.Learnt,
+  bracketed-below t,
+  bracketed.Post,
+  put-reads.Asked,
+  put-reads.Learnt,
+  steps-below t,
+  steps.Post,
+) (operand-at t) operand.Post
+operand-enum-known-inner t c = search needs
+
+operand-same-length : (t : ℕ) → operand-lts.Need-same-length (
+  opening-reads.Asked,
+  opening-reads.Learnt,
+  bracketed-below t,
+  bracketed.Post,
+  put-reads.Asked,
+  put-reads.Learnt,
+  steps-below t,
+  steps.Post,
+) (operand-at t) operand.Post
+operand-same-length t c = search needs
+
+operand-returns : (t : ℕ) → operand-lts.Need-returns (
+  opening-reads.Asked,
+  opening-reads.Learnt,
+  bracketed-below t,
+  bracketed.Post,
+  put-reads.Asked,
+  put-reads.Learnt,
+  steps-below t,
+  steps.Post,
+) (operand-at t) operand.Post
+operand-returns t c =
+    let s = c .before .before .before .before .before .before .before .before .before .before .before .before in
+    let n = rw (c .before .before .before .before .before .before .opens .given .1) at (c .before .before .before .before .before .before .before .before .opening .ensures) in
+    passed-on _ _ _ _ _ _ _ _ _ _ _ _ _ _ _ _ _ _ (c .before .before .before .bracketed .result) (c .match2 .keys2) (c .before .before .before .bracketed .ensures) (λ k spot h. not-stuck (lookOf (s .args .known) (now (s .args .list))) (readWithin (lookOf (s .args .known) (now (s .args .list))) (s .args .depth)) _ (s .args .out .now) _ (s .args .place) _ _ k spot n h)
+
+operand-put-requires : (t : ℕ) → operand-lts.Need-put-requires (
+  opening-reads.Asked,
+  opening-reads.Learnt,
+  bracketed-below t,
+  bracketed.Post,
+  put-reads.Asked,
+  put-reads.Learnt,
+  steps-below t,
+  steps.Post,
+) (operand-at t) operand.Post
+operand-put-requires t c κs = search needs
+
+operand-enum-known-opens-2 : (t : ℕ) → operand-lts.Need-enum-known-opens-2 (
+  opening-reads.Asked,
+  opening-reads.Learnt,
+  bracketed-below t,
+  bracketed.Post,
+  put-reads.Asked,
+  put-reads.Learnt,
+  steps-below t,
+  steps.Post,
+) (operand-at t) operand.Post
+operand-enum-known-opens-2 t c = search needs
+
+operand-bracketed-requires-2 : (t : ℕ) → operand-lts.Need-bracketed-requires-2 (
+  opening-reads.Asked,
+  opening-reads.Learnt,
+  bracketed-below t,
+  bracketed.Post,
+  put-reads.Asked,
+  put-reads.Learnt,
+  steps-below t,
+  steps.Post,
+) (operand-at t) operand.Post
+operand-bracketed-requires-2 t c κs =
+    let s = c .before .before .before .before .before .before .before .before in
+    let o = rw (c .before .before .opens2 .given .1) at (c .before .before .before .before .opening .ensures) in
+    (omega (arith, o .3 .onward, o .3 .inside, s .pre .0), (record { short = s .pre .1 .0 .short; names = s .pre .1 .0 .names; inside = o .3 .inside; shallow = s .pre .1 .0 .shallow }, (omega (arith, o .3 .onward, s .pre .1 .1), search needs)))
+
+operand-enum-told : (t : ℕ) → operand-lts.Need-enum-told (
+  opening-reads.Asked,
+  opening-reads.Learnt,
+  bracketed-below t,
+  bracketed.Post,
+  put-reads.Asked,
+  put-reads.Learnt,
+  steps-below t,
+  steps.Post,
+) (operand-at t) operand.Post
+operand-enum-told t c = search needs
+
+operand-steps-requires : (t : ℕ) → operand-lts.Need-steps-requires (
+  opening-reads.Asked,
+  opening-reads.Learnt,
+  bracketed-below t,
+  bracketed.Post,
+  put-reads.Asked,
+  put-reads.Learnt,
+  steps-below t,
+  steps.Post,
+) (operand-at t) operand.Post
+operand-steps-requires t c κs = search needs
+
+operand-same-length-2 : (t : ℕ) → operand-lts.Need-same-length-2 (
+  opening-reads.Asked,
+  opening-reads.Learnt,
+  bracketed-below t,
+  bracketed.Post,
+  put-reads.Asked,
+  put-reads.Learnt,
+  steps-below t,
+  steps.Post,
+) (operand-at t) operand.Post
+operand-same-length-2 t c = search needs
+
+operand-returns-2 : (t : ℕ) → operand-lts.Need-returns-2 (
+  opening-reads.Asked,
+  opening-reads.Learnt,
+  bracketed-below t,
+  bracketed.Post,
+  put-reads.Asked,
+  put-reads.Learnt,
+  steps-below t,
+  steps.Post,
+) (operand-at t) operand.Post
+operand-returns-2 t c =
+    let s = c .before .before .before .before .before .before .before .before .before .before .before .before .before .before .before .before .before .before in
+    let n = rw (c .before .before .before .before .before .before .before .before .before .before .before .before .opens .given .1) at (c .before .before .before .before .before .before .before .before .before .before .before .before .before .before .opening .ensures) in
+    let g = rw (c .before .before .before .before .before .inner .given .1) at (c .before .before .before .before .before .before .before .before .before .bracketed .ensures) in
+    not-done (lookOf (s .args .known) (now (s .args .list))) (readWithin (lookOf (s .args .known) (now (s .args .list))) (s .args .depth)) _ _ _ _ _ _ _ _ _ _ n g (c .before .before .put .ensures)
+
+operand-same-length-3 : (t : ℕ) → operand-lts.Need-same-length-3 (
+  opening-reads.Asked,
+  opening-reads.Learnt,
+  bracketed-below t,
+  bracketed.Post,
+  put-reads.Asked,
+  put-reads.Learnt,
+  steps-below t,
+  steps.Post,
+) (operand-at t) operand.Post
+operand-same-length-3 t c = search needs
+
+operand-returns-3 : (t : ℕ) → operand-lts.Need-returns-3 (
+  opening-reads.Asked,
+  opening-reads.Learnt,
+  bracketed-below t,
+  bracketed.Post,
+  put-reads.Asked,
+  put-reads.Learnt,
+  steps-below t,
+  steps.Post,
+) (operand-at t) operand.Post
+operand-returns-3 t c =
+    let s = c .before .before .before .before .before .before .before .before .before .before .before in
+    let o = rw (c .before .before .before .before .before .opens2 .given .1) at (c .before .before .before .before .before .before .before .opening .ensures) in
+    round-done (lookOf (s .args .known) (now (s .args .list))) (readWithin (lookOf (s .args .known) (now (s .args .list))) (s .args .depth)) _ _ _ _ _ _ _ (c .before .before .bracketed2 .result) o (c .before .before .bracketed2 .ensures)
+
+operand-same-length-4 : (t : ℕ) → operand-lts.Need-same-length-4 (
+  opening-reads.Asked,
+  opening-reads.Learnt,
+  bracketed-below t,
+  bracketed.Post,
+  put-reads.Asked,
+  put-reads.Learnt,
+  steps-below t,
+  steps.Post,
+) (operand-at t) operand.Post
+operand-same-length-4 t c = search needs
+
+operand-returns-4 : (t : ℕ) → operand-lts.Need-returns-4 (
+  opening-reads.Asked,
+  opening-reads.Learnt,
+  bracketed-below t,
+  bracketed.Post,
+  put-reads.Asked,
+  put-reads.Learnt,
+  steps-below t,
+  steps.Post,
+) (operand-at t) operand.Post
+operand-returns-4 t c =
+    let s = c .before .before .before .before .before .before .before .before .before .before in
+    let o = rw (c .before .before .before .before .enum-told .given .1) at (c .before .before .before .before .before .before .opening .ensures) in
+    path-done (lookOf (s .args .known) (now (s .args .list))) (readWithin (lookOf (s .args .known) (now (s .args .list))) (s .args .depth)) _ _ _ _ _ (c .before .before .steps .result) o (c .before .before .steps .ensures)
+
+abbrev predicates-Inv-loop : predicates-lts.InvT-loop
+predicates-Inv-loop text list starts count known depth out₀ place axis test here₀ filled₀ taken₀ out here filled taken =
+    (length out ≡ length out₀) × (PredRow (lookOf known list) (readWithin (lookOf known list) depth) text out₀ out (here₀ .at) place (here .at) filled taken)
+
+abbrev predicates-μ-loop : predicates-lts.MeasureT-loop
+predicates-μ-loop text list starts count known depth out₀ place axis test here₀ filled₀ taken₀ out here filled taken =
+    length text - here .at
+
+predicates-add-filled : (t : ℕ) → predicates-lts.Need-add-filled (
+  mark-reads.Asked,
+  mark-reads.Learnt,
+  bracketed-below t,
+  bracketed.Post,
+  step-word-reads.Asked,
+  step-word-reads.Learnt,
+  put-reads.Asked,
+  put-reads.Learnt,
+) (predicates-at t) predicates.Post predicates-Inv-loop predicates-μ-loop
+predicates-add-filled t c = search needs
+
+predicates-loop-holds : (t : ℕ) → predicates-lts.Need-loop-holds (
+  mark-reads.Asked,
+  mark-reads.Learnt,
+  bracketed-below t,
+  bracketed.Post,
+  step-word-reads.Asked,
+  step-word-reads.Learnt,
+  put-reads.Asked,
+  put-reads.Learnt,
+) (predicates-at t) predicates.Post predicates-Inv-loop predicates-μ-loop
+predicates-loop-holds t c =
+    (refl, preds-start _ _ _ _ _ _ (c .before .before .before .pre .1 .0 .inside))
+
+predicates-mark-requires : (t : ℕ) → predicates-lts.Need-mark-requires (
+  mark-reads.Asked,
+  mark-reads.Learnt,
+  bracketed-below t,
+  bracketed.Post,
+  step-word-reads.Asked,
+  step-word-reads.Learnt,
+  put-reads.Asked,
+  put-reads.Learnt,
+) (predicates-at t) predicates.Post predicates-Inv-loop predicates-μ-loop
+predicates-mark-requires t c κs = search needs
+
+predicates-enum-known-ahead : (t : ℕ) → predicates-lts.Need-enum-known-ahead (
+  mark-reads.Asked,
+  mark-reads.Learnt,
+  bracketed-below t,
+  bracketed.Post,
+  step-word-reads.Asked,
+  step-word-reads.Learnt,
+  put-reads.Asked,
+  put-reads.Learnt,
+) (predicates-at t) predicates.Post predicates-Inv-loop predicates-μ-loop
+predicates-enum-known-ahead t c = search needs
+
+predicates-enum-told : (t : ℕ) → predicates-lts.Need-enum-told (
+  mark-reads.Asked,
+  mark-reads.Learnt,
+  bracketed-below t,
+  bracketed.Post,
+  step-word-reads.Asked,
+  step-word-reads.Learnt,
+  put-reads.Asked,
+  put-reads.Learnt,
+) (predicates-at t) predicates.Post predicates-Inv-loop predicates-μ-loop
+predicates-enum-told t c = search needs
+
+predicates-bracketed-requires : (t : ℕ) → predicates-lts.Need-bracketed-requires (
+  mark-reads.Asked,
+  mark-reads.Learnt,
+  bracketed-below t,
+  bracketed.Post,
+  step-word-reads.Asked,
+  step-word-reads.Learnt,
+  put-reads.Asked,
+  put-reads.Learnt,
+) (predicates-at t) predicates.Post predicates-Inv-loop predicates-μ-loop
+predicates-bracketed-requires t c κs =
+    let s = c .before .before .before .before .before .before .before .before .before in
+    let l = c .before .before .before .before .before .loop .inv .1 in
+    let m = rw (c .before .before .ahead .given .1) at (c .before .before .before .before .mark .ensures) in
+    (omega (arith, l .onward, m .2 .onward, m .2 .inside, s .pre .0), (record { short = s .pre .1 .0 .short; names = s .pre .1 .0 .names; inside = m .2 .inside; shallow = s .pre .1 .0 .shallow }, (omega (arith, l .grows, m .2 .onward, s .pre .1 .1 .0), search needs)))
+
+predicates-enum-known-one : (t : ℕ) → predicates-lts.Need-enum-known-one (
+  mark-reads.Asked,
+  mark-reads.Learnt,
+  bracketed-below t,
+  bracketed.Post,
+  step-word-reads.Asked,
+  step-word-reads.Learnt,
+  put-reads.Asked,
+  put-reads.Learnt,
+) (predicates-at t) predicates.Post predicates-Inv-loop predicates-μ-loop
+predicates-enum-known-one t c = search needs
+
+predicates-same-length : (t : ℕ) → predicates-lts.Need-same-length (
+  mark-reads.Asked,
+  mark-reads.Learnt,
+  bracketed-below t,
+  bracketed.Post,
+  step-word-reads.Asked,
+  step-word-reads.Learnt,
+  put-reads.Asked,
+  put-reads.Learnt,
+) (predicates-at t) predicates.Post predicates-Inv-loop predicates-μ-loop
+predicates-same-length t c = search needs
+
+predicates-returns : (t : ℕ) → predicates-lts.Need-returns (
+  mark-reads.Asked,
+  mark-reads.Learnt,
+  bracketed-below t,
+  bracketed.Post,
+  step-word-reads.Asked,
+  step-word-reads.Learnt,
+  put-reads.Asked,
+  put-reads.Learnt,
+) (predicates-at t) predicates.Post predicates-Inv-loop predicates-μ-loop
+predicates-returns t c =
+    let s = c .before .before .before .before .before .before .before .before .before .before .before .before .before in
+    let l = c .before .before .before .before .before .before .before .before .before .loop .inv .1 in
+    let m = rw (c .before .before .before .before .before .before .ahead .given .1) at (c .before .before .before .before .before .before .before .before .mark .ensures) in
+    λ a t′ ea et. passed-on _ _ _ _ _ _ _ _ _ _ _ _ _ _ _ _ _ _ (c .before .before .before .bracketed .result) (c .match2 .keys2) (c .before .before .before .bracketed .ensures)
+    (preds-stuck (lookOf (s .args .known) (now (s .args .list))) (readWithin (lookOf (s .args .known) (now (s .args .list))) (s .args .depth)) _ _ _ _ _ _ _ _ l _ _ (m .0) (m .1) (m .2) a t′)
+
+predicates-add-taken : (t : ℕ) → predicates-lts.Need-add-taken (
+  mark-reads.Asked,
+  mark-reads.Learnt,
+  bracketed-below t,
+  bracketed.Post,
+  step-word-reads.Asked,
+  step-word-reads.Learnt,
+  put-reads.Asked,
+  put-reads.Learnt,
+) (predicates-at t) predicates.Post predicates-Inv-loop predicates-μ-loop
+predicates-add-taken t c = search needs
+
+predicates-loop-less : (t : ℕ) → predicates-lts.Need-loop-less (
+  mark-reads.Asked,
+  mark-reads.Learnt,
+  bracketed-below t,
+  bracketed.Post,
+  step-word-reads.Asked,
+  step-word-reads.Learnt,
+  put-reads.Asked,
+  put-reads.Learnt,
+) (predicates-at t) predicates.Post predicates-Inv-loop predicates-μ-loop
+predicates-loop-less t c =
+    let g = rw (c .before .one .given .1) at (c .before .before .before .before .before .bracketed .ensures) in
+    let m = rw (c .before .before .before .before .before .before .before .before .ahead .given .1) at (c .before .before .before .before .before .before .before .before .before .before .mark .ensures) in
+    omega (arith, m .2 .onward, g .onward, g .inside)
+
+predicates-loop-again : (t : ℕ) → predicates-lts.Need-loop-again (
+  mark-reads.Asked,
+  mark-reads.Learnt,
+  bracketed-below t,
+  bracketed.Post,
+  step-word-reads.Asked,
+  step-word-reads.Learnt,
+  put-reads.Asked,
+  put-reads.Learnt,
+) (predicates-at t) predicates.Post predicates-Inv-loop predicates-μ-loop
+predicates-loop-again t c = (
+  search needs,
+  let s = c .before .before .before .before .before .before .before .before .before .before .before .before .before .before .before in
+      let l = c .before .before .before .before .before .before .before .before .before .before .before .loop .inv .1 in
+      let g = rw (c .before .one .given .1) at (c .before .before .before .before .before .bracketed .ensures) in
+      let m = rw (c .before .before .before .before .before .before .before .before .ahead .given .1) at (c .before .before .before .before .before .before .before .before .before .before .mark .ensures) in
+      preds-more (lookOf (s .args .known) (now (s .args .list))) (readWithin (lookOf (s .args .known) (now (s .args .list))) (s .args .depth)) _ _ _ _ _ _ _ _ l _ _ (m .0) (m .1) (m .2) _ _ _ g,
+)
+
+predicates-step-word-requires : (t : ℕ) → predicates-lts.Need-step-word-requires (
+  mark-reads.Asked,
+  mark-reads.Learnt,
+  bracketed-below t,
+  bracketed.Post,
+  step-word-reads.Asked,
+  step-word-reads.Learnt,
+  put-reads.Asked,
+  put-reads.Learnt,
+) (predicates-at t) predicates.Post predicates-Inv-loop predicates-μ-loop
+predicates-step-word-requires t c κs = search needs
+
+predicates-put-requires : (t : ℕ) → predicates-lts.Need-put-requires (
+  mark-reads.Asked,
+  mark-reads.Learnt,
+  bracketed-below t,
+  bracketed.Post,
+  step-word-reads.Asked,
+  step-word-reads.Learnt,
+  put-reads.Asked,
+  put-reads.Learnt,
+) (predicates-at t) predicates.Post predicates-Inv-loop predicates-μ-loop
+predicates-put-requires t c κs = search needs
+
+predicates-same-length-2 : (t : ℕ) → predicates-lts.Need-same-length-2 (
+  mark-reads.Asked,
+  mark-reads.Learnt,
+  bracketed-below t,
+  bracketed.Post,
+  step-word-reads.Asked,
+  step-word-reads.Learnt,
+  put-reads.Asked,
+  put-reads.Learnt,
+) (predicates-at t) predicates.Post predicates-Inv-loop predicates-μ-loop
+predicates-same-length-2 t c = search needs
+
+predicates-returns-2 : (t : ℕ) → predicates-lts.Need-returns-2 (
+  mark-reads.Asked,
+  mark-reads.Learnt,
+  bracketed-below t,
+  bracketed.Post,
+  step-word-reads.Asked,
+  step-word-reads.Learnt,
+  put-reads.Asked,
+  put-reads.Learnt,
+) (predicates-at t) predicates.Post predicates-Inv-loop predicates-μ-loop
+predicates-returns-2 t c =
+    let s = c .before .before .before .before .before .before .before .before .before .before .before .before in
+    let l = c .before .before .before .before .before .before .before .before .loop .inv .1 in
+    let m = rw (c .before .before .before .before .before .enum-told .given .1) at (c .before .before .before .before .before .before .before .mark .ensures) in
+    λ a t′ ea et. preds-done (lookOf (s .args .known) (now (s .args .list))) (readWithin (lookOf (s .args .known) (now (s .args .list))) (s .args .depth)) _ _ _ _ _ _ _ _ l _ _ _ _ a t′ ea et (m .0) (c .before .before .before .step-word .ensures) (c .before .before .put .ensures)
+
+step-step-head-requires : (t : ℕ) → step-lts.Need-step-head-requires (
+  step-head-reads.Asked,
+  step-head-reads.Learnt,
+  step-word-reads.Asked,
+  step-word-reads.Learnt,
+  put-reads.Asked,
+  put-reads.Learnt,
+  predicates-below t,
+  predicates.Post,
+) (step-at t) step.Post
+step-step-head-requires t c κs = search needs
+
+step-enum-known-head : (t : ℕ) → step-lts.Need-enum-known-head (
+  step-head-reads.Asked,
+  step-head-reads.Learnt,
+  step-word-reads.Asked,
+  step-word-reads.Learnt,
+  put-reads.Asked,
+  put-reads.Learnt,
+  predicates-below t,
+  predicates.Post,
+) (step-at t) step.Post
+step-enum-known-head t c = search needs
+
+step-step-word-requires : (t : ℕ) → step-lts.Need-step-word-requires (
+  step-head-reads.Asked,
+  step-head-reads.Learnt,
+  step-word-reads.Asked,
+  step-word-reads.Learnt,
+  put-reads.Asked,
+  put-reads.Learnt,
+  predicates-below t,
+  predicates.Post,
+) (step-at t) step.Post
+step-step-word-requires t c κs =
+    let h = rw (c .before .before .head .given .1) at (c .before .before .before .before .step-head .ensures) in
+    (axis-small (h .way) _ (h .number), search needs)
+
+step-put-requires : (t : ℕ) → step-lts.Need-put-requires (
+  step-head-reads.Asked,
+  step-head-reads.Learnt,
+  step-word-reads.Asked,
+  step-word-reads.Learnt,
+  put-reads.Asked,
+  put-reads.Learnt,
+  predicates-below t,
+  predicates.Post,
+) (step-at t) step.Post
+step-put-requires t c κs = search needs
+
+step-add-t23 : (t : ℕ) → step-lts.Need-add-t23 (
+  step-head-reads.Asked,
+  step-head-reads.Learnt,
+  step-word-reads.Asked,
+  step-word-reads.Learnt,
+  put-reads.Asked,
+  put-reads.Learnt,
+  predicates-below t,
+  predicates.Post,
+) (step-at t) step.Post
+step-add-t23 t c = search needs
+
+step-enum-known-head-2 : (t : ℕ) → step-lts.Need-enum-known-head-2 (
+  step-head-reads.Asked,
+  step-head-reads.Learnt,
+  step-word-reads.Asked,
+  step-word-reads.Learnt,
+  put-reads.Asked,
+  put-reads.Learnt,
+  predicates-below t,
+  predicates.Post,
+) (step-at t) step.Post
+step-enum-known-head-2 t c = search needs
+
+step-predicates-requires : (t : ℕ) → step-lts.Need-predicates-requires (
+  step-head-reads.Asked,
+  step-head-reads.Learnt,
+  step-word-reads.Asked,
+  step-word-reads.Learnt,
+  put-reads.Asked,
+  put-reads.Learnt,
+  predicates-below t,
+  predicates.Post,
+) (step-at t) step.Post
+step-predicates-requires t c κs =
+    let s = c .before .before .before .before .before .before .before .before in
+    let h = rw (c .before .before .head2 .given .1) at (c .before .before .before .before .step-head .ensures) in
+    (omega (arith, h .onward, h .inside, s .pre .0), (record { short = s .pre .1 .0 .short; names = s .pre .1 .0 .names; inside = h .inside; shallow = s .pre .1 .0 .shallow }, (omega (arith, h .onward, s .pre .1 .1), axis-small (h .way) _ (h .number), h .small)))
+
+step-enum-known-head-3 : (t : ℕ) → step-lts.Need-enum-known-head-3 (
+  step-head-reads.Asked,
+  step-head-reads.Learnt,
+  step-word-reads.Asked,
+  step-word-reads.Learnt,
+  put-reads.Asked,
+  put-reads.Learnt,
+  predicates-below t,
+  predicates.Post,
+) (step-at t) step.Post
+step-enum-known-head-3 t c = search needs
+
+step-enum-known-head-4 : (t : ℕ) → step-lts.Need-enum-known-head-4 (
+  step-head-reads.Asked,
+  step-head-reads.Learnt,
+  step-word-reads.Asked,
+  step-word-reads.Learnt,
+  put-reads.Asked,
+  put-reads.Learnt,
+  predicates-below t,
+  predicates.Post,
+) (step-at t) step.Post
+step-enum-known-head-4 t c = search needs
+
+step-same-length : (t : ℕ) → step-lts.Need-same-length (
+  step-head-reads.Asked,
+  step-head-reads.Learnt,
+  step-word-reads.Asked,
+  step-word-reads.Learnt,
+  put-reads.Asked,
+  put-reads.Learnt,
+  predicates-below t,
+  predicates.Post,
+) (step-at t) step.Post
+step-same-length t c = search needs
+
+step-returns : (t : ℕ) → step-lts.Need-returns (
+  step-head-reads.Asked,
+  step-head-reads.Learnt,
+  step-word-reads.Asked,
+  step-word-reads.Learnt,
+  put-reads.Asked,
+  put-reads.Learnt,
+  predicates-below t,
+  predicates.Post,
+) (step-at t) step.Post
+step-returns t c =
+    let s = c .before .before .before .before .before .before .before .before .before .before .before .before in
+    let h = rw (c .before .before .before .before .before .before .head .given .1) at (c .before .before .before .before .before .before .before .before .step-head .ensures) in
+    plain-done (lookOf (s .args .known) (now (s .args .list))) (readWithin (lookOf (s .args .known) (now (s .args .list))) (s .args .depth)) _ _ _ _ _ _ _ _ h (c .before .before .before .step-word .ensures) (c .before .before .put .ensures)
+
+step-same-length-2 : (t : ℕ) → step-lts.Need-same-length-2 (
+  step-head-reads.Asked,
+  step-head-reads.Learnt,
+  step-word-reads.Asked,
+  step-word-reads.Learnt,
+  put-reads.Asked,
+  put-reads.Learnt,
+  predicates-below t,
+  predicates.Post,
+) (step-at t) step.Post
+step-same-length-2 t c = search needs
+
+step-returns-2 : (t : ℕ) → step-lts.Need-returns-2 (
+  step-head-reads.Asked,
+  step-head-reads.Learnt,
+  step-word-reads.Asked,
+  step-word-reads.Learnt,
+  put-reads.Asked,
+  put-reads.Learnt,
+  predicates-below t,
+  predicates.Post,
+) (step-at t) step.Post
+step-returns-2 t c =
+    let s = c .before .before .before .before .before .before .before .before .before .before .before in
+    let h = rw (c .before .before .before .before .before .head2 .given .1) at (c .before .before .before .before .before .before .before .step-head .ensures) in
+    tested-done (lookOf (s .args .known) (now (s .args .list))) (readWithin (lookOf (s .args .known) (now (s .args .list))) (s .args .depth)) _ _ _ _ _ _ _ _ (c .before .before .predicates .result) h (c .before .before .predicates .ensures (h .way) (h .kind) (h .number) (h .tested))
+
+step-returns-3 : (t : ℕ) → step-lts.Need-returns-3 (
+  step-head-reads.Asked,
+  step-head-reads.Learnt,
+  step-word-reads.Asked,
+  step-word-reads.Learnt,
+  put-reads.Asked,
+  put-reads.Learnt,
+  predicates-below t,
+  predicates.Post,
+) (step-at t) step.Post
+step-returns-3 t c =
+    let s = c .before .before .before .before .before .before .before in
+    (rw (c .before .head3 .given .1) at (c .before .before .before .step-head .ensures)) (readWithin (lookOf (s .args .known) (now (s .args .list))) (s .args .depth))
+
+step-returns-4 : (t : ℕ) → step-lts.Need-returns-4 (
+  step-head-reads.Asked,
+  step-head-reads.Learnt,
+  step-word-reads.Asked,
+  step-word-reads.Learnt,
+  put-reads.Asked,
+  put-reads.Learnt,
+  predicates-below t,
+  predicates.Post,
+) (step-at t) step.Post
+step-returns-4 t c =
+    let s = c .before .before .before .before .before .before .before in
+    (rw (c .before .head4 .given .1) at (c .before .before .before .step-head .ensures)) (readWithin (lookOf (s .args .known) (now (s .args .list))) (s .args .depth))
+
+abbrev steps-Inv-loop : steps-lts.InvT-loop
+steps-Inv-loop text list starts count known depth out₀ place deep here₀ filled₀ lead₀ taken₀ out here filled lead taken =
+    (length out ≡ length out₀) × (StepRow (lookOf known list) (readWithin (lookOf known list) depth) text out₀ out (here₀ .at) place (then (readSteps (lookOf known list) (readWithin (lookOf known list) depth) (length (tokensAt text (here₀ .at))) (tokensAt text (here₀ .at))) (λ s. got (deepIf deep s))) (here .at) filled lead taken)
+
+abbrev steps-μ-loop : steps-lts.MeasureT-loop
+steps-μ-loop text list starts count known depth out₀ place deep here₀ filled₀ lead₀ taken₀ out here filled lead taken =
+    length text - here .at
+
+steps-add-filled : (t : ℕ) → steps-lts.Need-add-filled (
+  put-deep-reads.Asked,
+  put-deep-reads.Learnt,
+  step-below t,
+  step.Post,
+  joined-reads.Asked,
+  joined-reads.Learnt,
+  path-word-reads.Asked,
+  path-word-reads.Learnt,
+  put-reads.Asked,
+  put-reads.Learnt,
+) (steps-at t) steps.Post steps-Inv-loop steps-μ-loop
+steps-add-filled t c = search needs
+
+steps-loop-holds : (t : ℕ) → steps-lts.Need-loop-holds (
+  put-deep-reads.Asked,
+  put-deep-reads.Learnt,
+  step-below t,
+  step.Post,
+  joined-reads.Asked,
+  joined-reads.Learnt,
+  path-word-reads.Asked,
+  path-word-reads.Learnt,
+  put-reads.Asked,
+  put-reads.Learnt,
+) (steps-at t) steps.Post steps-Inv-loop steps-μ-loop
+steps-loop-holds t c =
+    (refl, steps-start _ _ _ _ _ _ _ (c .before .before .before .pre .1 .0 .inside))
+
+steps-put-deep-requires : (t : ℕ) → steps-lts.Need-put-deep-requires (
+  put-deep-reads.Asked,
+  put-deep-reads.Learnt,
+  step-below t,
+  step.Post,
+  joined-reads.Asked,
+  joined-reads.Learnt,
+  path-word-reads.Asked,
+  path-word-reads.Learnt,
+  put-reads.Asked,
+  put-reads.Learnt,
+) (steps-at t) steps.Post steps-Inv-loop steps-μ-loop
+steps-put-deep-requires t c κs = search needs
+
+steps-step-requires : (t : ℕ) → steps-lts.Need-step-requires (
+  put-deep-reads.Asked,
+  put-deep-reads.Learnt,
+  step-below t,
+  step.Post,
+  joined-reads.Asked,
+  joined-reads.Learnt,
+  path-word-reads.Asked,
+  path-word-reads.Learnt,
+  put-reads.Asked,
+  put-reads.Learnt,
+) (steps-at t) steps.Post steps-Inv-loop steps-μ-loop
+steps-step-requires t c κs =
+    let s = c .before .before .before .before .before .before .before .before .before in
+    let l = c .before .before .before .before .before .loop .inv .1 in
+    (search needs, (record { short = s .pre .1 .0 .short; names = s .pre .1 .0 .names; inside = l .inside; shallow = s .pre .1 .0 .shallow }, omega (arith, l .grows, s .pre .1 .1, c .before .before .before .put-deep .ensures .1, deep-few (c .before .before .before .before .before .loop .lead))))
+
+steps-enum-known-one : (t : ℕ) → steps-lts.Need-enum-known-one (
+  put-deep-reads.Asked,
+  put-deep-reads.Learnt,
+  step-below t,
+  step.Post,
+  joined-reads.Asked,
+  joined-reads.Learnt,
+  path-word-reads.Asked,
+  path-word-reads.Learnt,
+  put-reads.Asked,
+  put-reads.Learnt,
+) (steps-at t) steps.Post steps-Inv-loop steps-μ-loop
+steps-enum-known-one t c = search needs
+
+steps-same-length : (t : ℕ) → steps-lts.Need-same-length (
+  put-deep-reads.Asked,
+  put-deep-reads.Learnt,
+  step-below t,
+  step.Post,
+  joined-reads.Asked,
+  joined-reads.Learnt,
+  path-word-reads.Asked,
+  path-word-reads.Learnt,
+  put-reads.Asked,
+  put-reads.Learnt,
+) (steps-at t) steps.Post steps-Inv-loop steps-μ-loop
+steps-same-length t c = search needs
+
+steps-returns : (t : ℕ) → steps-lts.Need-returns (
+  put-deep-reads.Asked,
+  put-deep-reads.Learnt,
+  step-below t,
+  step.Post,
+  joined-reads.Asked,
+  joined-reads.Learnt,
+  path-word-reads.Asked,
+  path-word-reads.Learnt,
+  put-reads.Asked,
+  put-reads.Learnt,
+) (steps-at t) steps.Post steps-Inv-loop steps-μ-loop
+steps-returns t c =
+    let s = c .before .before .before .before .before .before .before .before .before .before .before .before .before in
+    let l = c .before .before .before .before .before .before .before .before .before .loop .inv .1 in
+    passed-on _ _ _ _ _ _ _ _ _ _ _ _ _ _ _ _ _ _ (c .before .before .before .step .result) (c .match .keys2) (c .before .before .before .step .ensures) (step-stuck (lookOf (s .args .known) (now (s .args .list))) (readWithin (lookOf (s .args .known) (now (s .args .list))) (s .args .depth)) _ _ _ _ _ _ _ _ _ _ l)
+
+steps-sub-taken : (t : ℕ) → steps-lts.Need-sub-taken (
+  put-deep-reads.Asked,
+  put-deep-reads.Learnt,
+  step-below t,
+  step.Post,
+  joined-reads.Asked,
+  joined-reads.Learnt,
+  path-word-reads.Asked,
+  path-word-reads.Learnt,
+  put-reads.Asked,
+  put-reads.Learnt,
+) (steps-at t) steps.Post steps-Inv-loop steps-μ-loop
+steps-sub-taken t c = search needs
+
+steps-add-taken : (t : ℕ) → steps-lts.Need-add-taken (
+  put-deep-reads.Asked,
+  put-deep-reads.Learnt,
+  step-below t,
+  step.Post,
+  joined-reads.Asked,
+  joined-reads.Learnt,
+  path-word-reads.Asked,
+  path-word-reads.Learnt,
+  put-reads.Asked,
+  put-reads.Learnt,
+) (steps-at t) steps.Post steps-Inv-loop steps-μ-loop
+steps-add-taken t c = search needs
+
+steps-add-taken-2 : (t : ℕ) → steps-lts.Need-add-taken-2 (
+  put-deep-reads.Asked,
+  put-deep-reads.Learnt,
+  step-below t,
+  step.Post,
+  joined-reads.Asked,
+  joined-reads.Learnt,
+  path-word-reads.Asked,
+  path-word-reads.Learnt,
+  put-reads.Asked,
+  put-reads.Learnt,
+) (steps-at t) steps.Post steps-Inv-loop steps-μ-loop
+steps-add-taken-2 t c = search needs
+
+steps-joined-requires : (t : ℕ) → steps-lts.Need-joined-requires (
+  put-deep-reads.Asked,
+  put-deep-reads.Learnt,
+  step-below t,
+  step.Post,
+  joined-reads.Asked,
+  joined-reads.Learnt,
+  path-word-reads.Asked,
+  path-word-reads.Learnt,
+  put-reads.Asked,
+  put-reads.Learnt,
+) (steps-at t) steps.Post steps-Inv-loop steps-μ-loop
+steps-joined-requires t c κs =
+    (rw (c .before .one .given .1) at (c .before .before .before .before .before .step .ensures)) .inside
+
+steps-enum-known-joint : (t : ℕ) → steps-lts.Need-enum-known-joint (
+  put-deep-reads.Asked,
+  put-deep-reads.Learnt,
+  step-below t,
+  step.Post,
+  joined-reads.Asked,
+  joined-reads.Learnt,
+  path-word-reads.Asked,
+  path-word-reads.Learnt,
+  put-reads.Asked,
+  put-reads.Learnt,
+) (steps-at t) steps.Post steps-Inv-loop steps-μ-loop
+steps-enum-known-joint t c = search needs
+
+steps-loop-less : (t : ℕ) → steps-lts.Need-loop-less (
+  put-deep-reads.Asked,
+  put-deep-reads.Learnt,
+  step-below t,
+  step.Post,
+  joined-reads.Asked,
+  joined-reads.Learnt,
+  path-word-reads.Asked,
+  path-word-reads.Learnt,
+  put-reads.Asked,
+  put-reads.Learnt,
+) (steps-at t) steps.Post steps-Inv-loop steps-μ-loop
+steps-loop-less t c =
+    let g = rw (c .before .before .before .before .before .one .given .1) at (c .before .before .before .before .before .before .before .before .before .step .ensures) in
+    let p = joined-past (c .before .before .before .before .before .before .before .before .before .before .before .before .before .before .before .before .before .before .before .args .text .now) (c .before .before .before .before .before .one .given .0 .0 .at) (c .before .joint .given .0 .0) (c .before .joint .given .0 .1 .0) (rw (c .before .joint .given .1) at (c .before .before .before .joined .ensures)) in
+    omega (arith, p .onward, p .inside, g .onward)
+
+steps-loop-again : (t : ℕ) → steps-lts.Need-loop-again (
+  put-deep-reads.Asked,
+  put-deep-reads.Learnt,
+  step-below t,
+  step.Post,
+  joined-reads.Asked,
+  joined-reads.Learnt,
+  path-word-reads.Asked,
+  path-word-reads.Learnt,
+  put-reads.Asked,
+  put-reads.Learnt,
+) (steps-at t) steps.Post steps-Inv-loop steps-μ-loop
+steps-loop-again t c = (
+  search needs,
+  let s = c .before .before .before .before .before .before .before .before .before .before .before .before .before .before .before .before .before .before .before in
+      let g = rw (c .before .before .before .before .before .one .given .1) at (c .before .before .before .before .before .before .before .before .before .step .ensures) in
+      let l = step-more (lookOf (s .args .known) (now (s .args .list))) (readWithin (lookOf (s .args .known) (now (s .args .list))) (s .args .depth)) _ _ _ _ _ _ _ _ _ _ (c .before .before .before .before .before .before .before .before .before .before .before .before .before .before .before .loop .inv .1) _ _ _ _ _ (c .before .before .before .before .before .before .before .before .before .before .before .before .before .put-deep .ensures .0) (c .before .before .before .before .before .before .before .before .before .before .before .before .before .put-deep .ensures .1) g in
+      steps-more (lookOf (s .args .known) (now (s .args .list))) (readWithin (lookOf (s .args .known) (now (s .args .list))) (s .args .depth)) _ _ _ _ _ _ _ _ _ l _ _ (rw (c .before .joint .given .1) at (c .before .before .before .joined .ensures)),
+)
+
+steps-enum-told : (t : ℕ) → steps-lts.Need-enum-told (
+  put-deep-reads.Asked,
+  put-deep-reads.Learnt,
+  step-below t,
+  step.Post,
+  joined-reads.Asked,
+  joined-reads.Learnt,
+  path-word-reads.Asked,
+  path-word-reads.Learnt,
+  put-reads.Asked,
+  put-reads.Learnt,
+) (steps-at t) steps.Post steps-Inv-loop steps-μ-loop
+steps-enum-told t c = search needs
+
+steps-path-word-requires : (t : ℕ) → steps-lts.Need-path-word-requires (
+  put-deep-reads.Asked,
+  put-deep-reads.Learnt,
+  step-below t,
+  step.Post,
+  joined-reads.Asked,
+  joined-reads.Learnt,
+  path-word-reads.Asked,
+  path-word-reads.Learnt,
+  put-reads.Asked,
+  put-reads.Learnt,
+) (steps-at t) steps.Post steps-Inv-loop steps-μ-loop
+steps-path-word-requires t c κs = search needs
+
+steps-put-requires : (t : ℕ) → steps-lts.Need-put-requires (
+  put-deep-reads.Asked,
+  put-deep-reads.Learnt,
+  step-below t,
+  step.Post,
+  joined-reads.Asked,
+  joined-reads.Learnt,
+  path-word-reads.Asked,
+  path-word-reads.Learnt,
+  put-reads.Asked,
+  put-reads.Learnt,
+) (steps-at t) steps.Post steps-Inv-loop steps-μ-loop
+steps-put-requires t c κs = search needs
+
+steps-same-length-2 : (t : ℕ) → steps-lts.Need-same-length-2 (
+  put-deep-reads.Asked,
+  put-deep-reads.Learnt,
+  step-below t,
+  step.Post,
+  joined-reads.Asked,
+  joined-reads.Learnt,
+  path-word-reads.Asked,
+  path-word-reads.Learnt,
+  put-reads.Asked,
+  put-reads.Learnt,
+) (steps-at t) steps.Post steps-Inv-loop steps-μ-loop
+steps-same-length-2 t c = search needs
+
+steps-returns-2 : (t : ℕ) → steps-lts.Need-returns-2 (
+  put-deep-reads.Asked,
+  put-deep-reads.Learnt,
+  step-below t,
+  step.Post,
+  joined-reads.Asked,
+  joined-reads.Learnt,
+  path-word-reads.Asked,
+  path-word-reads.Learnt,
+  put-reads.Asked,
+  put-reads.Learnt,
+) (steps-at t) steps.Post steps-Inv-loop steps-μ-loop
+steps-returns-2 t c =
+    let s = c .before .before .before .before .before .before .before .before .before .before .before .before .before .before .before .before .before .before .before .before .before .before .before in
+    let g = rw (c .before .before .before .before .before .before .before .before .before .one .given .1) at (c .before .before .before .before .before .before .before .before .before .before .before .before .before .step .ensures) in
+    let l = step-more (lookOf (s .args .known) (now (s .args .list))) (readWithin (lookOf (s .args .known) (now (s .args .list))) (s .args .depth)) _ _ _ _ _ _ _ _ _ _ (c .before .before .before .before .before .before .before .before .before .before .before .before .before .before .before .before .before .before .before .loop .inv .1) _ _ _ _ _ (c .before .before .before .before .before .before .before .before .before .before .before .before .before .before .before .before .before .put-deep .ensures .0) (c .before .before .before .before .before .before .before .before .before .before .before .before .before .before .before .before .before .put-deep .ensures .1) g in
+    steps-done (lookOf (s .args .known) (now (s .args .list))) (readWithin (lookOf (s .args .known) (now (s .args .list))) (s .args .depth)) _ _ _ _ _ _ _ _ _ l _ _ _ (rw (c .before .before .before .before .before .enum-told .given .1) at (c .before .before .before .before .before .before .before .joined .ensures)) (c .before .before .before .path-word .ensures) (c .before .before .put .ensures)
+
+abbrev term-Inv-loop : term-lts.InvT-loop
+term-Inv-loop text list starts count known depth out₀ place end here₀ filled₀ run₀ t21 out here filled run =
+    (length out ≡ length out₀) × ((old : List ℕ) (from : ℕ) (all : Got Expr) → Left (ands (lookOf known list) (readWithin (lookOf known list) depth)) text old out₀ from place all (here₀ .at) filled₀ 0 → Left (ands (lookOf known list) (readWithin (lookOf known list) depth)) text old out from place all (here .at) filled run)
+
+abbrev term-μ-loop : term-lts.MeasureT-loop
+term-μ-loop text list starts count known depth out₀ place end here₀ filled₀ run₀ t21 out here filled run =
+    length text - here .at
+
+term-operand-requires : (t : ℕ) → term-lts.Need-operand-requires (
+  operand-below t,
+  operand.Post,
+  word-ahead-reads.Asked,
+  word-ahead-reads.Learnt,
+  group-reads.Asked,
+  group-reads.Learnt,
+) (term-at t) term.Post term-Inv-loop term-μ-loop
+term-operand-requires t c κs = search needs
+
+term-enum-known-first : (t : ℕ) → term-lts.Need-enum-known-first (
+  operand-below t,
+  operand.Post,
+  word-ahead-reads.Asked,
+  word-ahead-reads.Learnt,
+  group-reads.Asked,
+  group-reads.Learnt,
+) (term-at t) term.Post term-Inv-loop term-μ-loop
+term-enum-known-first t c = search needs
+
+term-same-length : (t : ℕ) → term-lts.Need-same-length (
+  operand-below t,
+  operand.Post,
+  word-ahead-reads.Asked,
+  word-ahead-reads.Learnt,
+  group-reads.Asked,
+  group-reads.Learnt,
+) (term-at t) term.Post term-Inv-loop term-μ-loop
+term-same-length t c = search needs
+
+term-returns : (t : ℕ) → term-lts.Need-returns (
+  operand-below t,
+  operand.Post,
+  word-ahead-reads.Asked,
+  word-ahead-reads.Learnt,
+  group-reads.Asked,
+  group-reads.Learnt,
+) (term-at t) term.Post term-Inv-loop term-μ-loop
+term-returns t c =
+    let s = c .before .before .before .before .before .before .before .before in
+    passed-on _ _ _ _ _ _ _ _ _ _ _ _ _ _ _ _ _ _ (c .before .before .before .operand .result) (c .match .keys2) (c .before .before .before .operand .ensures) (start-stuck (ands (lookOf (s .args .known) (now (s .args .list))) (readWithin (lookOf (s .args .known) (now (s .args .list))) (s .args .depth))) _ (s .args .out .now) _ (s .args .place) _ (term-whole (lookOf (s .args .known) (now (s .args .list))) (readWithin (lookOf (s .args .known) (now (s .args .list))) (s .args .depth)) (tokensAt (now (s .args .text)) (s .args .cursor .at))))
+
+term-loop-holds : (t : ℕ) → term-lts.Need-loop-holds (
+  operand-below t,
+  operand.Post,
+  word-ahead-reads.Asked,
+  word-ahead-reads.Learnt,
+  group-reads.Asked,
+  group-reads.Learnt,
+) (term-at t) term.Post term-Inv-loop term-μ-loop
+term-loop-holds t c = search needs
+
+term-slice-aggregate-word-ahead : (t : ℕ) → term-lts.Need-slice-aggregate-word-ahead (
+  operand-below t,
+  operand.Post,
+  word-ahead-reads.Asked,
+  word-ahead-reads.Learnt,
+  group-reads.Asked,
+  group-reads.Learnt,
+) (term-at t) term.Post term-Inv-loop term-μ-loop
+term-slice-aggregate-word-ahead t c = search needs
+
+term-word-ahead-requires : (t : ℕ) → term-lts.Need-word-ahead-requires (
+  operand-below t,
+  operand.Post,
+  word-ahead-reads.Asked,
+  word-ahead-reads.Learnt,
+  group-reads.Asked,
+  group-reads.Learnt,
+) (term-at t) term.Post term-Inv-loop term-μ-loop
+term-word-ahead-requires t c κs =
+    let s = c .before .before .before .before .before .before .before .before .before .before .before .before in
+    let l = c .before .loop .inv .1 _ _ _ (left-start (ands (lookOf (s .args .known) (now (s .args .list))) (readWithin (lookOf (s .args .known) (now (s .args .list))) (s .args .depth))) _ _ _ _ _ (term-whole (lookOf (s .args .known) (now (s .args .list))) (readWithin (lookOf (s .args .known) (now (s .args .list))) (s .args .depth)) (tokensAt (now (s .args .text)) (s .args .cursor .at))) _ _ _ (rw (c .before .before .before .first .given .1) at (c .before .before .before .before .before .before .before .operand .ensures))) in
+    (l .inside, search needs)
+
+term-enum-known-ahead : (t : ℕ) → term-lts.Need-enum-known-ahead (
+  operand-below t,
+  operand.Post,
+  word-ahead-reads.Asked,
+  word-ahead-reads.Learnt,
+  group-reads.Asked,
+  group-reads.Learnt,
+) (term-at t) term.Post term-Inv-loop term-μ-loop
+term-enum-known-ahead t c = search needs
+
+term-enum-told : (t : ℕ) → term-lts.Need-enum-told (
+  operand-below t,
+  operand.Post,
+  word-ahead-reads.Asked,
+  word-ahead-reads.Learnt,
+  group-reads.Asked,
+  group-reads.Learnt,
+) (term-at t) term.Post term-Inv-loop term-μ-loop
+term-enum-told t c = search needs
+
+term-operand-requires-2 : (t : ℕ) → term-lts.Need-operand-requires-2 (
+  operand-below t,
+  operand.Post,
+  word-ahead-reads.Asked,
+  word-ahead-reads.Learnt,
+  group-reads.Asked,
+  group-reads.Learnt,
+) (term-at t) term.Post term-Inv-loop term-μ-loop
+term-operand-requires-2 t c κs =
+    let s = c .before .before .before .before .before .before .before .before .before .before .before .before .before .before .before .before .before in
+    let l = c .before .before .before .before .before .before .loop .inv .1 _ _ _ (left-start (ands (lookOf (s .args .known) (now (s .args .list))) (readWithin (lookOf (s .args .known) (now (s .args .list))) (s .args .depth))) _ _ _ _ _ (term-whole (lookOf (s .args .known) (now (s .args .list))) (readWithin (lookOf (s .args .known) (now (s .args .list))) (s .args .depth)) (tokensAt (now (s .args .text)) (s .args .cursor .at))) _ _ _ (rw (c .before .before .before .before .before .before .before .before .first .given .1) at (c .before .before .before .before .before .before .before .before .before .before .before .before .operand .ensures))) in
+    let w = rw (c .before .before .ahead .given .1) at (c .before .before .before .before .word-ahead .ensures) in
+    (omega (arith, l .onward, w .2 .onward, w .2 .inside, s .pre .0), (record { short = s .pre .1 .0 .short; names = s .pre .1 .0 .names; inside = w .2 .inside; shallow = s .pre .1 .0 .shallow }, omega (arith, l .grows, w .2 .onward, s .pre .1 .1)))
+
+term-enum-known-more : (t : ℕ) → term-lts.Need-enum-known-more (
+  operand-below t,
+  operand.Post,
+  word-ahead-reads.Asked,
+  word-ahead-reads.Learnt,
+  group-reads.Asked,
+  group-reads.Learnt,
+) (term-at t) term.Post term-Inv-loop term-μ-loop
+term-enum-known-more t c = search needs
+
+term-same-length-2 : (t : ℕ) → term-lts.Need-same-length-2 (
+  operand-below t,
+  operand.Post,
+  word-ahead-reads.Asked,
+  word-ahead-reads.Learnt,
+  group-reads.Asked,
+  group-reads.Learnt,
+) (term-at t) term.Post term-Inv-loop term-μ-loop
+term-same-length-2 t c = search needs
+
+term-returns-2 : (t : ℕ) → term-lts.Need-returns-2 (
+  operand-below t,
+  operand.Post,
+  word-ahead-reads.Asked,
+  word-ahead-reads.Learnt,
+  group-reads.Asked,
+  group-reads.Learnt,
+) (term-at t) term.Post term-Inv-loop term-μ-loop
+term-returns-2 t c =
+    let s = c .before .before .before .before .before .before .before .before .before .before .before .before .before .before .before .before .before .before .before .before .before in
+    let l = c .before .before .before .before .before .before .before .before .before .before .loop .inv .1 _ _ _ (left-start (ands (lookOf (s .args .known) (now (s .args .list))) (readWithin (lookOf (s .args .known) (now (s .args .list))) (s .args .depth))) _ _ _ _ _ (term-whole (lookOf (s .args .known) (now (s .args .list))) (readWithin (lookOf (s .args .known) (now (s .args .list))) (s .args .depth)) (tokensAt (now (s .args .text)) (s .args .cursor .at))) _ _ _ (rw (c .before .before .before .before .before .before .before .before .before .before .before .before .first .given .1) at (c .before .before .before .before .before .before .before .before .before .before .before .before .before .before .before .before .operand .ensures))) in
+    let w = rw (c .before .before .before .before .before .before .ahead .given .1) at (c .before .before .before .before .before .before .before .before .word-ahead .ensures) in
+    passed-on _ _ _ _ _ _ _ _ _ _ _ _ _ _ _ _ _ _ (c .before .before .before .operand2 .result) (c .match3 .keys2) (c .before .before .before .operand2 .ensures) (left-stuck (ands (lookOf (s .args .known) (now (s .args .list))) (readWithin (lookOf (s .args .known) (now (s .args .list))) (s .args .depth))) _ _ _ _ _ _ _ _ _ l _ (w .0) (w .2))
+
+term-add-run : (t : ℕ) → term-lts.Need-add-run (
+  operand-below t,
+  operand.Post,
+  word-ahead-reads.Asked,
+  word-ahead-reads.Learnt,
+  group-reads.Asked,
+  group-reads.Learnt,
+) (term-at t) term.Post term-Inv-loop term-μ-loop
+term-add-run t c =
+    let s = c .before .before .before .before .before .before .before .before .before .before .before .before .before .before .before .before .before .before .before .before .before .before .before in
+    let l = c .before .before .before .before .before .before .before .before .before .before .before .before .loop .inv .1 _ _ _ (left-start (ands (lookOf (s .args .known) (now (s .args .list))) (readWithin (lookOf (s .args .known) (now (s .args .list))) (s .args .depth))) _ _ _ _ _ (term-whole (lookOf (s .args .known) (now (s .args .list))) (readWithin (lookOf (s .args .known) (now (s .args .list))) (s .args .depth)) (tokensAt (now (s .args .text)) (s .args .cursor .at))) _ _ _ (rw (c .before .before .before .before .before .before .before .before .before .before .before .before .before .before .first .given .1) at (c .before .before .before .before .before .before .before .before .before .before .before .before .before .before .before .before .before .before .operand .ensures))) in
+    omega (arith, l .grows, l .inside, s .pre .1 .0 .short, s .pre .1 .1)
+
+term-loop-less : (t : ℕ) → term-lts.Need-loop-less (
+  operand-below t,
+  operand.Post,
+  word-ahead-reads.Asked,
+  word-ahead-reads.Learnt,
+  group-reads.Asked,
+  group-reads.Learnt,
+) (term-at t) term.Post term-Inv-loop term-μ-loop
+term-loop-less t c =
+    let g = rw (c .before .more .given .1) at (c .before .before .before .before .before .operand2 .ensures) in
+    let w = rw (c .before .before .before .before .before .before .before .before .ahead .given .1) at (c .before .before .before .before .before .before .before .before .before .before .word-ahead .ensures) in
+    omega (arith, w .2 .onward, g .onward, g .inside)
+
+term-loop-again : (t : ℕ) → term-lts.Need-loop-again (
+  operand-below t,
+  operand.Post,
+  word-ahead-reads.Asked,
+  word-ahead-reads.Learnt,
+  group-reads.Asked,
+  group-reads.Learnt,
+) (term-at t) term.Post term-Inv-loop term-μ-loop
+term-loop-again t c = (
+  search needs,
+  let s = c .before .before .before .before .before .before .before .before .before .before .before .before .before .before .before .before .before .before .before .before .before .before .before in
+      let g = rw (c .before .more .given .1) at (c .before .before .before .before .before .operand2 .ensures) in
+      let w = rw (c .before .before .before .before .before .before .before .before .ahead .given .1) at (c .before .before .before .before .before .before .before .before .before .before .word-ahead .ensures) in
+      λ old from all l. left-more (ands (lookOf (s .args .known) (now (s .args .list))) (readWithin (lookOf (s .args .known) (now (s .args .list))) (s .args .depth))) _ old from _ all _ _ _ _ (c .before .before .before .before .before .before .before .before .before .before .before .before .loop .inv .1 old from all l) _ (w .0) (w .2) _ _ _ g,
+)
+
+term-group-requires : (t : ℕ) → term-lts.Need-group-requires (
+  operand-below t,
+  operand.Post,
+  word-ahead-reads.Asked,
+  word-ahead-reads.Learnt,
+  group-reads.Asked,
+  group-reads.Learnt,
+) (term-at t) term.Post term-Inv-loop term-μ-loop
+term-group-requires t c κs =
+    let s = c .before .before .before .before .before .before .before .before .before .before .before .before .before .before .before .before in
+    let l = c .before .before .before .before .before .loop .inv .1 _ _ _ (left-start (ands (lookOf (s .args .known) (now (s .args .list))) (readWithin (lookOf (s .args .known) (now (s .args .list))) (s .args .depth))) _ _ _ _ _ (term-whole (lookOf (s .args .known) (now (s .args .list))) (readWithin (lookOf (s .args .known) (now (s .args .list))) (s .args .depth)) (tokensAt (now (s .args .text)) (s .args .cursor .at))) _ _ _ (rw (c .before .before .before .before .before .before .before .first .given .1) at (c .before .before .before .before .before .before .before .before .before .before .before .operand .ensures))) in
+    (omega (arith, l .ends), omega (arith, l .grows, l .inside, s .pre .1 .0 .short, s .pre .1 .1), omega (arith, l .grows, l .inside, s .pre .1 .0 .short, s .pre .1 .1))
+
+term-add-t31 : (t : ℕ) → term-lts.Need-add-t31 (
+  operand-below t,
+  operand.Post,
+  word-ahead-reads.Asked,
+  word-ahead-reads.Learnt,
+  group-reads.Asked,
+  group-reads.Learnt,
+) (term-at t) term.Post term-Inv-loop term-μ-loop
+term-add-t31 t c =
+    let s = c .before .before .before .before .before .before .before .before .before .before .before .before .before .before .before .before .before .before .before in
+    let l = c .before .before .before .before .before .before .before .before .loop .inv .1 _ _ _ (left-start (ands (lookOf (s .args .known) (now (s .args .list))) (readWithin (lookOf (s .args .known) (now (s .args .list))) (s .args .depth))) _ _ _ _ _ (term-whole (lookOf (s .args .known) (now (s .args .list))) (readWithin (lookOf (s .args .known) (now (s .args .list))) (s .args .depth)) (tokensAt (now (s .args .text)) (s .args .cursor .at))) _ _ _ (rw (c .before .before .before .before .before .before .before .before .before .before .first .given .1) at (c .before .before .before .before .before .before .before .before .before .before .before .before .before .before .operand .ensures))) in
+    omega (arith, l .grows, l .inside, s .pre .1 .0 .short, s .pre .1 .1)
+
+term-same-length-3 : (t : ℕ) → term-lts.Need-same-length-3 (
+  operand-below t,
+  operand.Post,
+  word-ahead-reads.Asked,
+  word-ahead-reads.Learnt,
+  group-reads.Asked,
+  group-reads.Learnt,
+) (term-at t) term.Post term-Inv-loop term-μ-loop
+term-same-length-3 t c = search needs
+
+term-returns-3 : (t : ℕ) → term-lts.Need-returns-3 (
+  operand-below t,
+  operand.Post,
+  word-ahead-reads.Asked,
+  word-ahead-reads.Learnt,
+  group-reads.Asked,
+  group-reads.Learnt,
+) (term-at t) term.Post term-Inv-loop term-μ-loop
+term-returns-3 t c =
+    let s = c .before .before .before .before .before .before .before .before .before .before .before .before .before .before .before .before .before .before .before in
+    let l = c .before .before .before .before .before .before .before .before .loop .inv .1 _ _ _ (left-start (ands (lookOf (s .args .known) (now (s .args .list))) (readWithin (lookOf (s .args .known) (now (s .args .list))) (s .args .depth))) _ _ _ _ _ (term-whole (lookOf (s .args .known) (now (s .args .list))) (readWithin (lookOf (s .args .known) (now (s .args .list))) (s .args .depth)) (tokensAt (now (s .args .text)) (s .args .cursor .at))) _ _ _ (rw (c .before .before .before .before .before .before .before .before .before .before .first .given .1) at (c .before .before .before .before .before .before .before .before .before .before .before .before .before .before .operand .ensures))) in
+    let w = rw (c .before .before .before .before .enum-told .given .1) at (c .before .before .before .before .before .before .word-ahead .ensures) in
+    left-done (ands (lookOf (s .args .known) (now (s .args .list))) (readWithin (lookOf (s .args .known) (now (s .args .list))) (s .args .depth))) _ _ _ _ _ _ _ _ _ l _ (w .0) (c .before .before .group .ensures)
+
+pub +bracketed+expression+operand+predicates+step+steps+term-spec : {M : Type 1} → statement M
++bracketed+expression+operand+predicates+step+steps+term-spec =
+    close
+    μ-bracketed
+    μ-expression
+    μ-operand
+    μ-predicates
+    μ-step
+    μ-steps
+    μ-term
+    (λ t. bracketed-lts.spec (
+      expression-below t,
+      expression.Post,
+      mark-reads.Asked,
+      mark-reads.Learnt,
+    )
+    (bracketed-at t)
+    bracketed.Post
+    (bracketed-returns t)
+    (bracketed-sub-expression t)
+    (bracketed-expression-requires t)
+    (bracketed-enum-known-inner t)
+    (bracketed-same-length t)
+    (bracketed-returns-2 t)
+    (bracketed-mark-requires t)
+    (bracketed-enum-known-close t)
+    (bracketed-enum-known-close-2 t)
+    (bracketed-same-length-2 t)
+    (bracketed-returns-3 t)
+    (bracketed-same-length-3 t)
+    (bracketed-returns-4 t))
+    (λ t. expression-lts.spec (
+      term-below t,
+      term.Post,
+      word-ahead-reads.Asked,
+      word-ahead-reads.Learnt,
+      group-reads.Asked,
+      group-reads.Learnt,
+    )
+    (expression-at t)
+    expression.Post
+    expression-Inv-loop
+    expression-μ-loop
+    (expression-term-requires t)
+    (expression-enum-known-first t)
+    (expression-same-length t)
+    (expression-returns t)
+    (expression-loop-holds t)
+    (expression-slice-aggregate-word-ahead t)
+    (expression-word-ahead-requires t)
+    (expression-enum-known-ahead t)
+    (expression-enum-told t)
+    (expression-term-requires-2 t)
+    (expression-enum-known-more t)
+    (expression-same-length-2 t)
+    (expression-returns-2 t)
+    (expression-add-run t)
+    (expression-loop-less t)
+    (expression-loop-again t)
+    (expression-group-requires t)
+    (expression-add-t31 t)
+    (expression-same-length-3 t)
+    (expression-returns-3 t))
+    (λ t. operand-lts.spec (
+      opening-reads.Asked,
+      opening-reads.Learnt,
+      bracketed-below t,
+      bracketed.Post,
+      put-reads.Asked,
+      put-reads.Learnt,
+      steps-below t,
+      steps.Post,
+    )
+    (operand-at t)
+    operand.Post
+    (operand-opening-requires t)
+    (operand-enum-known-opens t)
+    (operand-add-bracketed t)
+    (operand-bracketed-requires t)
+    (operand-enum-known-inner t)
+    (operand-same-length t)
+    (operand-returns t)
+    (operand-put-requires t)
+    (operand-enum-known-opens-2 t)
+    (operand-bracketed-requires-2 t)
+    (operand-enum-told t)
+    (operand-steps-requires t)
+    (operand-same-length-2 t)
+    (operand-returns-2 t)
+    (operand-same-length-3 t)
+    (operand-returns-3 t)
+    (operand-same-length-4 t)
+    (operand-returns-4 t))
+    (λ t. predicates-lts.spec (
+      mark-reads.Asked,
+      mark-reads.Learnt,
+      bracketed-below t,
+      bracketed.Post,
+      step-word-reads.Asked,
+      step-word-reads.Learnt,
+      put-reads.Asked,
+      put-reads.Learnt,
+    )
+    (predicates-at t)
+    predicates.Post
+    predicates-Inv-loop
+    predicates-μ-loop
+    (predicates-add-filled t)
+    (predicates-loop-holds t)
+    (predicates-mark-requires t)
+    (predicates-enum-known-ahead t)
+    (predicates-enum-told t)
+    (predicates-bracketed-requires t)
+    (predicates-enum-known-one t)
+    (predicates-same-length t)
+    (predicates-returns t)
+    (predicates-add-taken t)
+    (predicates-loop-less t)
+    (predicates-loop-again t)
+    (predicates-step-word-requires t)
+    (predicates-put-requires t)
+    (predicates-same-length-2 t)
+    (predicates-returns-2 t))
+    (λ t. step-lts.spec (
+      step-head-reads.Asked,
+      step-head-reads.Learnt,
+      step-word-reads.Asked,
+      step-word-reads.Learnt,
+      put-reads.Asked,
+      put-reads.Learnt,
+      predicates-below t,
+      predicates.Post,
+    )
+    (step-at t)
+    step.Post
+    (step-step-head-requires t)
+    (step-enum-known-head t)
+    (step-step-word-requires t)
+    (step-put-requires t)
+    (step-add-t23 t)
+    (step-enum-known-head-2 t)
+    (step-predicates-requires t)
+    (step-enum-known-head-3 t)
+    (step-enum-known-head-4 t)
+    (step-same-length t)
+    (step-returns t)
+    (step-same-length-2 t)
+    (step-returns-2 t)
+    (step-returns-3 t)
+    (step-returns-4 t))
+    (λ t. steps-lts.spec (
+      put-deep-reads.Asked,
+      put-deep-reads.Learnt,
+      step-below t,
+      step.Post,
+      joined-reads.Asked,
+      joined-reads.Learnt,
+      path-word-reads.Asked,
+      path-word-reads.Learnt,
+      put-reads.Asked,
+      put-reads.Learnt,
+    )
+    (steps-at t)
+    steps.Post
+    steps-Inv-loop
+    steps-μ-loop
+    (steps-add-filled t)
+    (steps-loop-holds t)
+    (steps-put-deep-requires t)
+    (steps-step-requires t)
+    (steps-enum-known-one t)
+    (steps-same-length t)
+    (steps-returns t)
+    (steps-sub-taken t)
+    (steps-add-taken t)
+    (steps-add-taken-2 t)
+    (steps-joined-requires t)
+    (steps-enum-known-joint t)
+    (steps-loop-less t)
+    (steps-loop-again t)
+    (steps-enum-told t)
+    (steps-path-word-requires t)
+    (steps-put-requires t)
+    (steps-same-length-2 t)
+    (steps-returns-2 t))
+    λ t. term-lts.spec (
+      operand-below t,
+      operand.Post,
+      word-ahead-reads.Asked,
+      word-ahead-reads.Learnt,
+      group-reads.Asked,
+      group-reads.Learnt,
+    )
+    (term-at t)
+    term.Post
+    term-Inv-loop
+    term-μ-loop
+    (term-operand-requires t)
+    (term-enum-known-first t)
+    (term-same-length t)
+    (term-returns t)
+    (term-loop-holds t)
+    (term-slice-aggregate-word-ahead t)
+    (term-word-ahead-requires t)
+    (term-enum-known-ahead t)
+    (term-enum-told t)
+    (term-operand-requires-2 t)
+    (term-enum-known-more t)
+    (term-same-length-2 t)
+    (term-returns-2 t)
+    (term-add-run t)
+    (term-loop-less t)
+    (term-loop-again t)
+    (term-group-requires t)
+    (term-add-t31 t)
+    (term-same-length-3 t)
+    (term-returns-3 t)

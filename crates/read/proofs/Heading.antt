@@ -1,0 +1,307 @@
+-- The head of a step: its axis, its test, and what the paper's reader makes of them. Assumes nothing.
+use Prim.Native.Nat.{ℕ, zero, suc, _+_, _≤_, _<_}
+use native.Mathlib.Omega.{arith}
+use mathlib.Core.Path.{_≡_, refl, sym, _∙_, ap}
+use mathlib.Core.Bool.{Bool, true, false, _&&_, cond, false≢true}
+use mathlib.Core.List.{List, [], _∷_}
+use mathlib.Core.Option.{Option, none, some}
+use mathlib.Core.Logic.{_⊎_, ⊎-elim, inl, inr}
+use lib.Dec.{eqb}
+use lib.ListN.{length, take, drop}
+use lib.Seq.{drop-drop}
+use borrow.Author.Tests.{eq-eqb, ne-eqb, eqb-true}
+use Rattle.paper.specs.Tools.{ascii, same}
+use Rattle.paper.specs.Tokens as paper
+use Rattle.paper.specs.Tokens.{Placed, sort, letters}
+use Rattle.paper.specs.Query.{Axis, self, child, parent, descendantOrSelf, ancestorOrSelf, Test, anyNode, textNode, named, anyElement, Expr}
+use Rattle.paper.specs.Items.{axisNumber, testNumber}
+use Rattle.paper.specs.Reading.{Got, got, refused, then, next, at, sees, says, axisNamed, axisAhead, Step, readName, readTested, readAxis, readStep, readTail}
+use Rattle.paper.proofs.Same.{same-turned}
+use Rattle.paper.proofs.Tests.{decide}
+use Rattle.read.specs.declared.Head.{Head}
+use Rattle.read.specs.declared.Head.the-variants.{Plain, Tested, Wrong, Unknown}
+use Rattle.read.specs.declared.Call.the-variants.{NoCall}
+use Rattle.read.specs.Parts.{tokensAt, Past, AxisWritten, axisCode, callCode, Calls, Closes, PlainStep, TestedStep, Heads}
+use Rattle.read.proofs.Lexed.{other-sort}
+
+-- THE WORDS OF THE AXES.
+module _ (w : List ℕ) where
+  turned : (v : List ℕ) (b : Bool) → same v w ≡ b → same w v ≡ b
+  turned v b h = same-turned w v ∙ h
+
+  pub self-word : same (ascii "self") w ≡ true → 0 ≡ axisCode (axisNamed w)
+  self-word a = rw (turned (ascii "self") true a)
+
+  pub child-word : same (ascii "self") w ≡ false → same (ascii "child") w ≡ true → 1 ≡ axisCode (axisNamed w)
+  child-word a b = rw (turned (ascii "self") false a, turned (ascii "child") true b)
+
+  pub parent-word : same (ascii "self") w ≡ false → same (ascii "child") w ≡ false → same (ascii "parent") w ≡ true → 2 ≡ axisCode (axisNamed w)
+  parent-word a b c = rw (turned (ascii "self") false a, turned (ascii "child") false b, turned (ascii "parent") true c)
+
+  pub down-word : same (ascii "self") w ≡ false → same (ascii "child") w ≡ false → same (ascii "parent") w ≡ false → same (ascii "descendant-or-self") w ≡ true
+      → 3 ≡ axisCode (axisNamed w)
+  down-word a b c d =
+      rw (turned (ascii "self") false a, turned (ascii "child") false b, turned (ascii "parent") false c, turned (ascii "descendant-or-self") true d)
+
+  pub up-word : same (ascii "self") w ≡ false → same (ascii "child") w ≡ false → same (ascii "parent") w ≡ false → same (ascii "descendant-or-self") w ≡ false
+      → same (ascii "ancestor-or-self") w ≡ true → 4 ≡ axisCode (axisNamed w)
+  up-word a b c d e =
+      rw (turned (ascii "self") false a, turned (ascii "child") false b, turned (ascii "parent") false c, turned (ascii "descendant-or-self") false d, turned (ascii "ancestor-or-self") true e)
+
+  pub other-word : same (ascii "self") w ≡ false → same (ascii "child") w ≡ false → same (ascii "parent") w ≡ false → same (ascii "descendant-or-self") w ≡ false
+      → same (ascii "ancestor-or-self") w ≡ false → 5 ≡ axisCode (axisNamed w)
+  other-word a b c d e =
+      rw (turned (ascii "self") false a, turned (ascii "child") false b, turned (ascii "parent") false c, turned (ascii "descendant-or-self") false d, turned (ascii "ancestor-or-self") false e)
+
+  -- The words of the tests.
+  pub node-word : same (ascii "node") w ≡ true → 0 ≡ callCode w
+  node-word a = rw a
+
+  pub text-word : same (ascii "node") w ≡ false → same (ascii "text") w ≡ true → 1 ≡ callCode w
+  text-word a b = rw (a, b)
+
+  pub no-call-word : same (ascii "node") w ≡ false → same (ascii "text") w ≡ false → 2 ≡ callCode w
+  no-call-word a b = rw (a, b)
+
+  pub call-small : callCode w ≤ 2
+  call-small = go (same (ascii "node") w) (same (ascii "text") w)
+    where
+      go : (a b : Bool) → cond a 0 (cond b 1 2) ≤ 2
+      go true b = omega arith
+      go false true = omega arith
+      go false false = omega arith
+
+-- THE AXIS THAT IS WRITTEN.
+axis-below : (a : Axis) → axisNumber a < 5
+axis-below self = omega arith
+axis-below child = omega arith
+axis-below parent = omega arith
+axis-below descendantOrSelf = omega arith
+axis-below ancestorOrSelf = omega arith
+
+pub axis-small : (a : Axis) (n : ℕ) → n ≡ axisNumber a → n < 8
+axis-small a n e = omega (arith, axis-below a)
+
+no-axis : (o : Option Axis) → axisCode o ≡ 5 → o ≡ none
+no-axis none h = refl
+no-axis (some a) h = absurd (omega (arith, axis-below a))
+
+either-none : (b : Bool) → cond {A = Option Axis} b none none ≡ none
+either-none true = refl
+either-none false = refl
+
+module _ (text : List ℕ) (from : ℕ) where
+  pub unnamed : letters (next (tokensAt text from)) ≡ [] → axisAhead (tokensAt text from) ≡ none
+  unnamed h = rw h (either-none (sees paper.colons (drop 1 (tokensAt text from))))
+
+  pub no-colons : (mid : ℕ) → Past text from mid → sees paper.colons (tokensAt text mid) ≡ false → axisAhead (tokensAt text from) ≡ none
+  no-colons mid p h = rw (p .rest, h)
+
+  pub no-axis-word : (w : List ℕ) (axis : ℕ) → letters (next (tokensAt text from)) ≡ w → axis ≡ axisCode (axisNamed w) → axis ≡ 5 → axisAhead (tokensAt text from) ≡ none
+  no-axis-word w axis l e five = rw (l, no-axis (axisNamed w) (sym e ∙ five)) (either-none (sees paper.colons (drop 1 (tokensAt text from))))
+
+  pub axis-there : (mid past axis : ℕ) (w : List ℕ) → Past text from mid → letters (next (tokensAt text from)) ≡ w → sees paper.colons (tokensAt text mid) ≡ true → Past text mid past
+      → axis ≡ axisCode (axisNamed w) → (axis ≡ 5 → ⊥) → AxisWritten text from axis past
+  axis-there mid past axis w p l s q e n = go (axisNamed w) refl
+    where
+      go : (o : Option Axis) → axisNamed w ≡ o → AxisWritten text from axis past
+      go none h = absurd (n (e ∙ ap axisCode h))
+      go (some a) h =
+          record {
+            way = a;
+            number = e ∙ ap axisCode h;
+            ahead = rw (p .rest, s, l, h);
+            rest = sym (drop-drop 1 1 (tokensAt text from)) ∙ ap (drop 1) (p .rest) ∙ q .rest;
+            onward = omega (arith, p .onward, q .onward);
+            inside = q .inside;
+            fewer = omega (arith, p .fewer, q .fewer);
+          }
+
+-- THE TEST.
+abbrev Outcome : Type 0
+Outcome = (ℕ → List Placed → Got Expr) → Got Step
+
+and-false : (a : Bool) → (a && false) ≡ false
+and-false true = refl
+and-false false = refl
+
+module _ (look : List ℕ → Option ℕ) (text : List ℕ) (from axis : ℕ) (a : Axis) (number : axis ≡ axisNumber a) where
+  pub tested-star : (past : ℕ) → sees paper.star (tokensAt text from) ≡ true → Past text from past
+      → TestedStep look text from axis 258 past (λ within. readTested look within a (tokensAt text from))
+  unfolding readTested
+  tested-star past s p =
+      record {
+        way = a;
+        kind = anyElement;
+        number = number;
+        tested = refl;
+        small = omega arith;
+        reads = λ within. rw (s, p .rest);
+        onward = p .onward;
+        inside = p .inside;
+        fewer = omega (arith, p .fewer);
+      }
+
+  -- Neither `*` nor a word.
+  pub tested-wrong : (spot : ℕ) → sees paper.star (tokensAt text from) ≡ false → sees (paper.word []) (tokensAt text from) ≡ false → letters (next (tokensAt text from)) ≡ []
+      → spot ≡ at (tokensAt text from) → (within : ℕ → List Placed → Got Expr) → readTested look within a (tokensAt text from) ≡ refused 3 spot
+  unfolding readTested
+  tested-wrong spot s w l e within =
+      let call = sees paper.openRound (drop 1 (tokensAt text from)) in
+      rw (s, l, and-false call, w, ← e)
+
+  -- A word: the other tests fail first.
+  module _ (w : List ℕ) (mid : ℕ) (is : sort (next (tokensAt text from)) ≡ 13) (l : letters (next (tokensAt text from)) ≡ w) (p : Past text from mid) where
+    no-star : sees paper.star (tokensAt text from) ≡ false
+    no-star = ne-eqb 10 (sort (next (tokensAt text from))) (λ e. omega arith)
+
+    a-word : sees (paper.word []) (tokensAt text from) ≡ true
+    a-word = eq-eqb 13 (sort (next (tokensAt text from))) (sym is)
+
+    node : (b : Bool) → same (ascii "node") w ≡ b → says (ascii "node") (tokensAt text from) ≡ b
+    node b h = ap (same (ascii "node")) l ∙ h
+
+    text-too : (b : Bool) → same (ascii "text") w ≡ b → says (ascii "text") (tokensAt text from) ≡ b
+    text-too b h = ap (same (ascii "text")) l ∙ h
+
+    -- A test that is called.
+    module _ (test inner : ℕ) (code : test ≡ callCode w) (few : test < 2) (opens : sees paper.openRound (tokensAt text mid) ≡ true) (q : Past text mid inner) where
+      two : drop 2 (tokensAt text from) ≡ tokensAt text inner
+      two = sym (drop-drop 1 1 (tokensAt text from)) ∙ ap (drop 1) (p .rest) ∙ q .rest
+
+      record Called : Type 0 where
+        pub kind : Test
+        pub tested : test ≡ testNumber kind
+        pub reads : (within : ℕ → List Placed → Got Expr)
+            → readTested look within a (tokensAt text from) ≡ then (cond (sees paper.closeRound (tokensAt text inner)) (got kind (drop 1 (tokensAt text inner))) (refused 3 (at (tokensAt text inner)))) (readTail look within a)
+
+      which : Called
+      unfolding readTested
+      which =
+          ⊎-elim
+          (λ (h : same (ascii "node") w ≡ true). record { kind = anyNode; tested = code ∙ rw h; reads = λ within. rw (no-star, p .rest, opens, node true h, two) })
+          (λ (h : same (ascii "node") w ≡ false).
+          ⊎-elim
+          (λ (k : same (ascii "text") w ≡ true). record { kind = textNode; tested = code ∙ rw (h, k); reads = λ within. rw (no-star, p .rest, opens, node false h, text-too true k, two) })
+          (λ (k : same (ascii "text") w ≡ false). absurd (let e : callCode w ≡ 2 = rw (h, k) in omega arith))
+          (decide (same (ascii "text") w)))
+          (decide (same (ascii "node") w))
+
+      pub tested-call : (r : Head) → Closes text inner axis test r → Heads look text from (λ within. readTested look within a (tokensAt text from)) r
+      tested-call (Plain axis′ past) h = absurd h
+      tested-call (Tested axis′ test′ past) h =
+          record {
+            way = a;
+            kind = which .kind;
+            number = h .0 ∙ number;
+            tested = h .1 ∙ which .tested;
+            small = omega (arith, h .1);
+            reads = λ within. which .reads within ∙ rw (h .2, h .3 .rest);
+            onward = omega (arith, p .onward, q .onward, h .3 .onward);
+            inside = h .3 .inside;
+            fewer = omega (arith, p .fewer, q .fewer, h .3 .fewer);
+          }
+      tested-call (Wrong spot) h = λ within. which .reads within ∙ rw (h .0, ← h .1)
+      tested-call (Unknown spot) h = absurd h
+
+    -- A name.
+    module _ (none-called : Calls text w mid NoCall) where
+      named-next : (within : ℕ → List Placed → Got Expr) → readTested look within a (tokensAt text from) ≡ readName look within (look w) a (tokensAt text from)
+      unfolding readTested
+      named-next within =
+          ⊎-elim
+          (λ (two : callCode w ≡ 2).
+          ⊎-elim
+          (λ (h : same (ascii "node") w ≡ true). absurd (let e : callCode w ≡ 0 = rw h in omega arith))
+          (λ (h : same (ascii "node") w ≡ false).
+          ⊎-elim
+          (λ (k : same (ascii "text") w ≡ true). absurd (let e : callCode w ≡ 1 = rw (h, k) in omega arith))
+          (λ (k : same (ascii "text") w ≡ false). rw (no-star, node false h, text-too false k, and-false (sees paper.openRound (drop 1 (tokensAt text from))), a-word, l))
+          (decide (same (ascii "text") w)))
+          (decide (same (ascii "node") w)))
+          (λ (closed : sees paper.openRound (tokensAt text mid) ≡ false). rw (no-star, p .rest, closed, a-word, l)) none-called
+
+      pub tested-name : (v : ℕ) → look w ≡ some v → v < 256 → TestedStep look text from axis (v + 2) mid (λ within. readTested look within a (tokensAt text from))
+      tested-name v h small =
+          record {
+            way = a;
+            kind = named v;
+            number = number;
+            tested = omega arith;
+            small = omega arith;
+            reads = λ within. named-next within ∙ rw (h, p .rest);
+            onward = p .onward;
+            inside = p .inside;
+            fewer = omega (arith, p .fewer);
+          }
+
+      pub tested-unknown : (spot : ℕ) → look w ≡ none → spot ≡ at (tokensAt text from) → (within : ℕ → List Placed → Got Expr) → readTested look within a (tokensAt text from) ≡ refused 5 spot
+      tested-unknown spot h e within = named-next within ∙ rw (h, ← e)
+
+-- THE HEAD. What is read from a later place on is what is read from here.
+heads-from : (look : List ℕ → Option ℕ) (text : List ℕ) (from mid : ℕ) (o p : Outcome) (r : Head) → ((within : ℕ → List Placed → Got Expr) → o within ≡ p within) → from ≤ mid
+    → length (tokensAt text mid) ≤ length (tokensAt text from) → Heads look text mid p r → Heads look text from o r
+heads-from look text from mid o p (Plain axis past) e l f h =
+    record {
+      way = h .way;
+      number = h .number;
+      reads = λ within. e within ∙ h .reads within;
+      onward = omega (arith, h .onward);
+      inside = h .inside;
+      fewer = omega (arith, h .fewer);
+    }
+heads-from look text from mid o p (Tested axis test past) e l f h =
+    record {
+      way = h .way;
+      kind = h .kind;
+      number = h .number;
+      tested = h .tested;
+      small = h .small;
+      reads = λ within. e within ∙ h .reads within;
+      onward = omega (arith, h .onward);
+      inside = h .inside;
+      fewer = omega (arith, h .fewer);
+    }
+heads-from look text from mid o p (Wrong spot) e l f h = λ within. e within ∙ h within
+heads-from look text from mid o p (Unknown spot) e l f h = λ within. e within ∙ h within
+
+module _ (look : List ℕ → Option ℕ) (text : List ℕ) (from : ℕ) where
+  pub head-dot : (past : ℕ) → sees paper.dot (tokensAt text from) ≡ true → Past text from past → PlainStep look text from 0 past (λ within. readStep look within (tokensAt text from))
+  unfolding readStep
+  head-dot past s p =
+      record {
+        way = self;
+        number = refl;
+        reads = λ within. rw (s, p .rest);
+        onward = p .onward;
+        inside = p .inside;
+        fewer = omega (arith, p .fewer);
+      }
+
+  pub head-dots : (past : ℕ) → sees paper.dot (tokensAt text from) ≡ false → sees paper.dots (tokensAt text from) ≡ true → Past text from past
+      → PlainStep look text from 2 past (λ within. readStep look within (tokensAt text from))
+  unfolding readStep
+  head-dots past d s p =
+      record {
+        way = parent;
+        number = refl;
+        reads = λ within. rw (d, s, p .rest);
+        onward = p .onward;
+        inside = p .inside;
+        fewer = omega (arith, p .fewer);
+      }
+
+  module _ (no-dot : sees paper.dot (tokensAt text from) ≡ false) (no-dots : sees paper.dots (tokensAt text from) ≡ false) (r : Head) where
+    pub head-axis : (axis past : ℕ) (w : AxisWritten text from axis past) → Heads look text past (λ within. readTested look within (w .way) (tokensAt text past)) r
+        → Heads look text from (λ within. readStep look within (tokensAt text from)) r
+    unfolding readStep
+    head-axis axis past w h =
+        heads-from look text from past _ (λ within. readTested look within (w .way) (tokensAt text past)) r
+        (λ within. rw (no-dot, no-dots, w .ahead, w .rest)) (omega (arith, w .onward)) (w .fewer) h
+
+    pub head-child : axisAhead (tokensAt text from) ≡ none → Heads look text from (λ within. readTested look within child (tokensAt text from)) r
+        → Heads look text from (λ within. readStep look within (tokensAt text from)) r
+    unfolding readStep
+    head-child n h =
+        heads-from look text from from _ (λ within. readTested look within child (tokensAt text from)) r
+        (λ within. rw (no-dot, no-dots, n)) (omega arith) (omega arith) h

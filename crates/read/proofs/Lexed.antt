@@ -1,0 +1,256 @@
+-- What a token that was taken says of the paper's tokens from there on. Assumes nothing.
+use Prim.Native.Nat.{ℕ, zero, suc, _+_, _≤_, _<_}
+use native.Mathlib.Omega.{arith}
+use mathlib.Core.Path.{_≡_, refl, sym, _∙_, ap}
+use mathlib.Core.Bool.{Bool, true, false, _&&_, false≢true}
+use mathlib.Core.List.{List, [], _∷_}
+use lib.Dec.{eqb}
+use lib.ListN.{length, take, drop}
+use borrow.Author.Tests.{eq-eqb, ne-eqb, eqb-true}
+use denote.Enum.Declared.{tagOf}
+use types.Run.{OneOf, miss}
+use Rattle.paper.specs.Tools.{same}
+use Rattle.paper.specs.Tokens as paper
+use Rattle.paper.specs.Tokens.{sort, letters, tokensFrom}
+use Rattle.paper.specs.Reading.{next, at, sees, says, startsStep}
+use Rattle.token.specs.declared.Token.{Token}
+use Rattle.token.specs.declared.Token.the-variants.{Slash, Slashes, Dot, Dots, Colons, Bar, OpenSquare, CloseSquare, OpenRound, CloseRound, Star, Finish, Stray, Word}
+use Rattle.token.specs.declared.Taken.{Taken}
+use Rattle.token.specs.declared.Cursor.{Cursor}
+use Rattle.token.specs.Taking.{Takes, tokenOf, finished, following}
+use Rattle.token.proofs.Token.{the-type}
+use Rattle.read.specs.Parts.{tokensAt, sortOf, Past, Looks, Joins, Leads}
+use Rattle.read.specs.declared.Ahead.the-variants.{There, Other}
+use Rattle.read.specs.declared.Joint.the-variants.{Next}
+use Rattle.read.specs.declared.Lead.the-variants.{Alone, Before}
+
+-- The sort of a token is the paper's.
+pub sort-right : (text : List ℕ) (place : ℕ) (t : Token) → sort (tokenOf text place t) ≡ sortOf t
+sort-right text place Slash = refl
+sort-right text place Slashes = refl
+sort-right text place Dot = refl
+sort-right text place Dots = refl
+sort-right text place Colons = refl
+sort-right text place Bar = refl
+sort-right text place OpenSquare = refl
+sort-right text place CloseSquare = refl
+sort-right text place OpenRound = refl
+sort-right text place CloseRound = refl
+sort-right text place Star = refl
+sort-right text place Finish = refl
+sort-right text place Stray = refl
+sort-right text place (Word count) = refl
+
+-- The end of the text is of sort 11.
+pub goes-on : (t : Token) → (sortOf t ≡ 11 → ⊥) → finished t ≡ false
+goes-on Slash h = refl
+goes-on Slashes h = refl
+goes-on Dot h = refl
+goes-on Dots h = refl
+goes-on Colons h = refl
+goes-on Bar h = refl
+goes-on OpenSquare h = refl
+goes-on CloseSquare h = refl
+goes-on OpenRound h = refl
+goes-on CloseRound h = refl
+goes-on Star h = refl
+goes-on Finish h = absurd (h refl)
+goes-on Stray h = refl
+goes-on (Word count) h = refl
+
+-- Only a word has letters.
+abbrev pub NoWord : Token → Type 0
+NoWord t = OneOf (0 ∷ 1 ∷ 2 ∷ 3 ∷ 4 ∷ 5 ∷ 6 ∷ 7 ∷ 8 ∷ 9 ∷ 10 ∷ 11 ∷ 12 ∷ []) (tagOf the-type t)
+
+pub no-letters : (text : List ℕ) (place : ℕ) (t : Token) → NoWord t → letters (tokenOf text place t) ≡ []
+no-letters text place Slash h = refl
+no-letters text place Slashes h = refl
+no-letters text place Dot h = refl
+no-letters text place Dots h = refl
+no-letters text place Colons h = refl
+no-letters text place Bar h = refl
+no-letters text place OpenSquare h = refl
+no-letters text place CloseSquare h = refl
+no-letters text place OpenRound h = refl
+no-letters text place CloseRound h = refl
+no-letters text place Star h = refl
+no-letters text place Finish h = refl
+no-letters text place Stray h = refl
+no-letters text place (Word count) h = absurd (miss (0 ∷ 1 ∷ 2 ∷ 3 ∷ 4 ∷ 5 ∷ 6 ∷ 7 ∷ 8 ∷ 9 ∷ 10 ∷ 11 ∷ 12 ∷ []) 13 tt h)
+
+pub no-word : (t : Token) → NoWord t → sortOf t ≡ 13 → ⊥
+no-word Slash h e = omega arith
+no-word Slashes h e = omega arith
+no-word Dot h e = omega arith
+no-word Dots h e = omega arith
+no-word Colons h e = omega arith
+no-word Bar h e = omega arith
+no-word OpenSquare h e = omega arith
+no-word CloseSquare h e = omega arith
+no-word OpenRound h e = omega arith
+no-word CloseRound h e = omega arith
+no-word Star h e = omega arith
+no-word Finish h e = omega arith
+no-word Stray h e = omega arith
+no-word (Word count) h e = absurd (miss (0 ∷ 1 ∷ 2 ∷ 3 ∷ 4 ∷ 5 ∷ 6 ∷ 7 ∷ 8 ∷ 9 ∷ 10 ∷ 11 ∷ 12 ∷ []) 13 tt h)
+
+-- A word of some letters is not one of none.
+pub no-same : (w : List ℕ) → 0 < length w → same w [] ≡ false
+no-same [] l = absurd (omega arith)
+no-same (b ∷ w) l = refl
+
+-- A mark has no letters.
+pub mark-letters : (t : paper.Token) → (sort t ≡ 13 → ⊥) → letters t ≡ []
+mark-letters paper.slash h = refl
+mark-letters paper.slashes h = refl
+mark-letters paper.dot h = refl
+mark-letters paper.dots h = refl
+mark-letters paper.colons h = refl
+mark-letters paper.bar h = refl
+mark-letters paper.openSquare h = refl
+mark-letters paper.closeSquare h = refl
+mark-letters paper.openRound h = refl
+mark-letters paper.closeRound h = refl
+mark-letters paper.star h = refl
+mark-letters paper.finish h = refl
+mark-letters paper.stray h = refl
+mark-letters (paper.word w) h = absurd (h refl)
+
+module _ (text : List ℕ) (from : ℕ) (r : Taken) (t : Takes text from r) where
+  -- The token that comes next, and its place.
+  pub taken-next : next (tokensAt text from) ≡ tokenOf text (r .place) (r .token)
+  unfolding tokensAt
+  taken-next = ap next (t .first)
+
+  pub taken-sort : sort (next (tokensAt text from)) ≡ sortOf (r .token)
+  taken-sort = ap sort taken-next ∙ sort-right text (r .place) (r .token)
+
+  pub taken-at : r .place ≡ at (tokensAt text from)
+  unfolding tokensAt
+  taken-at = sym (ap at (t .first))
+
+  -- A token that is not the end is passed.
+  pub taken-past : finished (r .token) ≡ false → Past text from (r .next .at)
+  unfolding tokensAt
+  taken-past f =
+      let ts : tokensFrom 0 from (drop from text) ≡ record { place = r .place; token = tokenOf text (r .place) (r .token) } ∷ tokensFrom 0 (r .next .at) (drop (r .next .at) text) = rw f at (t .first) in
+      record {
+        onward = omega (arith, t .least, t .advances f);
+        inside = t .within;
+        rest = ap (drop 1) ts;
+        fewer = ap length ts;
+      }
+
+  -- Is it of this sort?
+  pub looks-there : (wanted : ℕ) → wanted < 11 → wanted ≡ sortOf (r .token) → Looks text from (eqb wanted (sort (next (tokensAt text from)))) (There (r .place) (r .next))
+  looks-there wanted l e = (eq-eqb wanted _ (e ∙ sym taken-sort), taken-at, taken-past (goes-on (r .token) (λ f. omega arith)))
+
+  pub looks-other : (wanted : ℕ) → (wanted ≡ sortOf (r .token) → ⊥) → Looks text from (eqb wanted (sort (next (tokensAt text from)))) (Other (r .place))
+  looks-other wanted n = (ne-eqb wanted _ (λ e. n (e ∙ taken-sort)), taken-at)
+
+  -- A word that was taken.
+  module _ (len : ℕ) (is : r .token ≡ Word len) where
+    pub word-letters : letters (next (tokensAt text from)) ≡ take len (drop (r .place) text)
+    word-letters = ap letters taken-next ∙ ap (λ k. letters (tokenOf text (r .place) k)) is
+
+    pub word-sort : sort (next (tokensAt text from)) ≡ 13
+    word-sort = taken-sort ∙ ap sortOf is
+
+    pub word-past : Past text from (r .next .at)
+    word-past = taken-past (ap finished is)
+
+    pub word-inside : r .place + len ≤ length text
+    word-inside = omega (arith, t .within, rw is at (t .past))
+
+  -- What is no word.
+  pub none-letters : NoWord (r .token) → letters (next (tokensAt text from)) ≡ []
+  none-letters h = ap letters taken-next ∙ no-letters text (r .place) (r .token) h
+
+  -- The end of the text.
+  pub ends-here : r .token ≡ Finish → sees paper.finish (tokensAt text from) ≡ true
+  ends-here is = eq-eqb 11 _ (sym (taken-sort ∙ ap sortOf is))
+
+  pub ends-not : (sortOf (r .token) ≡ 11 → ⊥) → sees paper.finish (tokensAt text from) ≡ false
+  ends-not n = ne-eqb 11 _ (λ e. n (sym taken-sort ∙ sym e))
+
+-- What is not the end.
+pub not-finish : (t : Token) → OneOf (0 ∷ 1 ∷ 2 ∷ 3 ∷ 4 ∷ 5 ∷ 6 ∷ 7 ∷ 8 ∷ 9 ∷ 10 ∷ 12 ∷ 13 ∷ []) (tagOf the-type t) → sortOf t ≡ 11 → ⊥
+not-finish Slash h e = omega arith
+not-finish Slashes h e = omega arith
+not-finish Dot h e = omega arith
+not-finish Dots h e = omega arith
+not-finish Colons h e = omega arith
+not-finish Bar h e = omega arith
+not-finish OpenSquare h e = omega arith
+not-finish CloseSquare h e = omega arith
+not-finish OpenRound h e = omega arith
+not-finish CloseRound h e = omega arith
+not-finish Star h e = omega arith
+not-finish Finish h e = absurd (miss (0 ∷ 1 ∷ 2 ∷ 3 ∷ 4 ∷ 5 ∷ 6 ∷ 7 ∷ 8 ∷ 9 ∷ 10 ∷ 12 ∷ 13 ∷ []) 11 tt h)
+not-finish Stray h e = omega arith
+not-finish (Word count) h e = omega arith
+
+-- HOW THINGS BEGIN. Of two sorts a token is one.
+pub other-sort : (m n s : ℕ) → (m ≡ n → ⊥) → eqb m s ≡ true → eqb n s ≡ false
+other-sort m n s d h = ne-eqb n s (λ e. d (eqb-true m s h ∙ sym e))
+
+module _ (text : List ℕ) (from : ℕ) (past : Cursor) (deep : Bool) where
+  pub lead-deep : deep ≡ true → Joins text from (Next past deep) → Leads text from (Before past deep)
+  lead-deep d j = rw d ((rw d at j) .1, (rw d at j) .2)
+
+  pub lead-before : deep ≡ false → Joins text from (Next past deep) → startsStep (next (tokensAt text (past .at))) ≡ true → Leads text from (Before past deep)
+  lead-before d j s =
+      let (one, two) = rw d at j in
+      rw d (other-sort 0 1 (sort (next (tokensAt text from))) (λ e. omega arith) one, one, two, s)
+
+  pub lead-alone : deep ≡ false → Joins text from (Next past deep) → startsStep (next (tokensAt text (past .at))) ≡ false → Leads text from (Alone past)
+  lead-alone d j s =
+      let (one, two) = rw d at j in
+      (other-sort 0 1 (sort (next (tokensAt text from))) (λ e. omega arith) one, one, two, s)
+
+-- What begins with `(` is no word.
+pub round-no-word : (text word : List ℕ) (from : ℕ) (b : Bool) → 0 < length word → eqb 8 (sort (next (tokensAt text from))) ≡ true → (says word (tokensAt text from) && b) ≡ false
+round-no-word text word from b l h =
+    let none : letters (next (tokensAt text from)) ≡ [] = mark-letters (next (tokensAt text from)) (λ e. omega (arith, eqb-true 8 (sort (next (tokensAt text from))) h)) in
+    rw (none, no-same word l)
+
+pub no-word-and : (text word : List ℕ) (from : ℕ) (b : Bool) → says word (tokensAt text from) ≡ false → (says word (tokensAt text from) && b) ≡ false
+no-word-and text word from b h = rw h
+
+pub no-round-and : (text word : List ℕ) (from past : ℕ) → Past text from past → sees paper.openRound (tokensAt text past) ≡ false
+    → (says word (tokensAt text from) && sees paper.openRound (drop 1 (tokensAt text from))) ≡ false
+no-round-and text word from past p h = rw (p .rest, h) (never (says word (tokensAt text from)))
+  where
+    never : (b : Bool) → (b && false) ≡ false
+    never true = refl
+    never false = refl
+
+-- `*`, and what is none.
+abbrev pub NoStar : Token → Type 0
+NoStar t = OneOf (0 ∷ 1 ∷ 2 ∷ 3 ∷ 4 ∷ 5 ∷ 6 ∷ 7 ∷ 8 ∷ 9 ∷ 11 ∷ 12 ∷ 13 ∷ []) (tagOf the-type t)
+
+no-star : (t : Token) → NoStar t → sortOf t ≡ 10 → ⊥
+no-star Slash h e = omega arith
+no-star Slashes h e = omega arith
+no-star Dot h e = omega arith
+no-star Dots h e = omega arith
+no-star Colons h e = omega arith
+no-star Bar h e = omega arith
+no-star OpenSquare h e = omega arith
+no-star CloseSquare h e = omega arith
+no-star OpenRound h e = omega arith
+no-star CloseRound h e = omega arith
+no-star Star h e = absurd (miss (0 ∷ 1 ∷ 2 ∷ 3 ∷ 4 ∷ 5 ∷ 6 ∷ 7 ∷ 8 ∷ 9 ∷ 11 ∷ 12 ∷ 13 ∷ []) 10 tt h)
+no-star Finish h e = omega arith
+no-star Stray h e = omega arith
+no-star (Word count) h e = omega arith
+
+module _ (text : List ℕ) (from : ℕ) (r : Taken) (t : Takes text from r) where
+  pub is-star : r .token ≡ Star → sees paper.star (tokensAt text from) ≡ true
+  is-star is = eq-eqb 10 _ (sym (taken-sort text from r t ∙ ap sortOf is))
+
+  pub not-star : NoStar (r .token) → sees paper.star (tokensAt text from) ≡ false
+  not-star n = ne-eqb 10 _ (λ e. no-star (r .token) n (sym (taken-sort text from r t) ∙ sym e))
+
+  pub not-word-sees : NoWord (r .token) → sees (paper.word []) (tokensAt text from) ≡ false
+  not-word-sees n = ne-eqb 13 _ (λ e. no-word (r .token) n (sym (taken-sort text from r t) ∙ sym e))

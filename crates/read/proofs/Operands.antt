@@ -1,0 +1,159 @@
+-- What brackets, operands and single steps come to, by the parts that were read. Assumes nothing.
+use Prim.Native.Nat.{ℕ, zero, suc, _+_, _-_, _*_, _≤_, _<_}
+use native.Mathlib.Omega.{arith}
+use mathlib.Core.Path.{_≡_, refl, sym, _∙_, ap, subst}
+use mathlib.Core.Bool.{Bool, true, false, _&&_, cond}
+use mathlib.Core.List.{List, [], _∷_}
+use mathlib.Core.Option.{Option}
+use lib.Dec.{eqb}
+use lib.ListN.{length, drop}
+use lib.Seq.{drop-drop}
+use Rattle.paper.specs.Tools.{ascii}
+use Rattle.paper.specs.Tokens as paper
+use Rattle.paper.specs.Tokens.{Placed, sort}
+use Rattle.paper.specs.Query.{Axis, Test, Expr, path, negated, Steps}
+use Rattle.paper.specs.Items.{notItem, encodeExpr}
+use Rattle.paper.specs.Reading.{Got, got, refused, then, next, at, sees, says, Step, readTail, readStep, readSteps, readOperand, readExpr, readWithin}
+use Rattle.read.specs.declared.Part.{Part}
+use Rattle.read.specs.declared.Part.the-variants.{Done, NoQuery, TooDeep, UnknownName}
+use Rattle.read.specs.declared.Ahead.the-variants.{There, Other}
+use Rattle.read.specs.declared.Opens.the-variants.{Not, Round, Path}
+use Rattle.token.specs.declared.Cursor.{Cursor}
+use Rattle.read.specs.Parts.{tokensAt, Past, Looks, Wrote, Gives, Reads, passSort, stepItems, pathItems, Begins, NotBegins, PlainStep, TestedStep}
+use Rattle.read.proofs.Writing.{wrote-head}
+
+-- What is read from a later place on is what is read from here.
+pub reads-from : {A : Type 0} (text old new : List ℕ) (from mid place low high low′ high′ : ℕ) (o o′ : Got A) (items : A → List ℕ) (r : Part) → o′ ≡ o → from ≤ mid
+    → length (tokensAt text mid) ≤ length (tokensAt text from) → low′ + high ≤ low + high′ → Reads text old new mid place low high o items r
+    → Reads text old new from place low′ high′ o′ items r
+reads-from text old new from mid place low high low′ high′ o o′ items (Done past end) e l f k g =
+    record {
+      what = g .what;
+      reads = e ∙ g .reads;
+      wrote = g .wrote;
+      ends = g .ends;
+      onward = omega (arith, g .onward);
+      inside = g .inside;
+      fewer = omega (arith, g .fewer);
+      grows = omega (arith, g .grows);
+    }
+reads-from text old new from mid place low high low′ high′ o o′ items (NoQuery spot) e l f k g = e ∙ g
+reads-from text old new from mid place low high low′ high′ o o′ items (TooDeep spot) e l f k g = e ∙ g
+reads-from text old new from mid place low high low′ high′ o o′ items (UnknownName spot) e l f k g = e ∙ g
+
+-- BRACKETS.
+module _ (look : List ℕ → Option ℕ) where
+  pub too-deep : (depth bracket closer : ℕ) (ts : List Placed) → depth ≡ 0 → then (readWithin look depth bracket ts) (passSort closer) ≡ refused 4 bracket
+  too-deep depth bracket closer ts z = rw z
+
+  pub opened : (depth bracket : ℕ) (ts : List Placed) → (depth ≡ 0 → ⊥) → readWithin look depth bracket ts ≡ readExpr look (readWithin look (depth - 1)) ts
+  opened zero bracket ts z = absurd (z refl)
+  opened (suc d) bracket ts z = ap (λ (k : ℕ). readExpr look (readWithin look k) ts) (let e : d ≡ suc d - 1 = omega arith in e)
+
+module _ (text old new : List ℕ) (from place closer : ℕ) (o o′ : Got Expr) (is : o ≡ o′) where
+  pub closed : (mid past end : ℕ) → Gives text old new from place (3 * from) place o′ encodeExpr mid end → eqb closer (sort (next (tokensAt text mid))) ≡ true → Past text mid past
+      → Gives text old new from place (3 * from) place (then o (passSort closer)) encodeExpr past end
+  closed mid past end g s p =
+      record {
+        what = g .what;
+        reads = ap (λ x. then x (passSort closer)) (is ∙ g .reads) ∙ rw (s, p .rest);
+        wrote = g .wrote;
+        ends = g .ends;
+        onward = omega (arith, g .onward, p .onward);
+        inside = p .inside;
+        fewer = omega (arith, g .fewer, p .fewer);
+        grows = omega (arith, g .grows, p .onward);
+      }
+
+  pub unclosed : (mid end spot : ℕ) → Gives text old new from place (3 * from) place o′ encodeExpr mid end → eqb closer (sort (next (tokensAt text mid))) ≡ false
+      → spot ≡ at (tokensAt text mid) → then o (passSort closer) ≡ refused 3 spot
+  unclosed mid end spot g s e = ap (λ x. then x (passSort closer)) (is ∙ g .reads) ∙ rw (s, ← e)
+
+-- OPERANDS.
+once : (o : Got Steps) → then o (λ s. got (path s)) ≡ then (then o (λ s. got s)) (λ s. got (path s))
+once (got s left) = refl
+once (refused n spot) = refl
+
+module _ (look : List ℕ → Option ℕ) (within : ℕ → List Placed → Got Expr) (text old : List ℕ) (from place : ℕ) where
+  abbrev inner : ℕ → ℕ → Got Expr
+  inner spot past = then (within spot (tokensAt text past)) (passSort 9)
+
+  pub not-reads : (spot past : ℕ) → NotBegins text from spot past → readOperand look within (tokensAt text from) ≡ then (inner spot past) (λ e. got (negated e))
+  unfolding readOperand
+  not-reads spot past b =
+      let two : drop 2 (tokensAt text from) ≡ tokensAt text past =
+      sym (drop-drop 1 1 (tokensAt text from)) ∙ ap (drop 1) (b .first .rest) ∙ b .second .rest in
+      rw (b .says-not, b .first .rest, b .opens, two, ← b .place)
+
+  pub not-stuck : (spot past n where′ : ℕ) → NotBegins text from spot past → inner spot past ≡ refused n where′ → readOperand look within (tokensAt text from) ≡ refused n where′
+  not-stuck spot past n where′ b h = not-reads spot past b ∙ ap (λ o. then o (λ e. got (negated e))) h
+
+  pub not-done : (spot past : ℕ) (mid new : List ℕ) (end-at end : ℕ) → NotBegins text from spot past
+      → Gives text old mid past (place + 1) (3 * past) (place + 1) (inner spot past) encodeExpr end-at end → Wrote mid new place (notItem ∷ [])
+      → Gives text old new from place (3 * from) place (readOperand look within (tokensAt text from)) encodeExpr end-at end
+  not-done spot past mid new end-at end b g v =
+      record {
+        what = negated (g .what);
+        reads = not-reads spot past b ∙ ap (λ o. then o (λ e. got (negated e))) (g .reads);
+        wrote = wrote-head old mid new place notItem notItem (encodeExpr (g .what)) (g .wrote) v (λ few. refl);
+        ends = omega (arith, g .ends);
+        onward = omega (arith, g .onward, b .first .onward, b .second .onward);
+        inside = g .inside;
+        fewer = omega (arith, g .fewer, b .first .fewer, b .second .fewer);
+        grows = omega (arith, g .grows, b .first .onward, b .second .onward);
+      }
+
+  pub round-done : (new : List ℕ) (spot : ℕ) (past : Cursor) (r : Part) → Begins text from (Round spot past)
+      → Reads text old new (past .at) place (3 * past .at) place (inner spot (past .at)) encodeExpr r
+      → Reads text old new from place (3 * from) place (readOperand look within (tokensAt text from)) encodeExpr r
+  unfolding readOperand
+  round-done new spot past r b g =
+      reads-from text old new from (past .at) place (3 * past .at) place (3 * from) place (inner spot (past .at)) (readOperand look within (tokensAt text from)) encodeExpr r
+      (rw (b .0, b .1, ← b .2, b .3 .rest)) (omega (arith, b .3 .onward)) (omega (arith, b .3 .fewer)) (omega (arith, b .3 .onward)) g
+
+  abbrev run : Got Steps
+  run = then (readSteps look within (length (tokensAt text from)) (tokensAt text from)) (λ s. got s)
+
+  as-path : Begins text from Path → readOperand look within (tokensAt text from) ≡ then run (λ s. got (path s))
+  unfolding readOperand
+  as-path b = rw (b .0, b .1) (once (readSteps look within (length (tokensAt text from)) (tokensAt text from)))
+
+  pub path-done : (new : List ℕ) (r : Part) → Begins text from Path → Reads text old new from place (3 * from) place run pathItems r
+      → Reads text old new from place (3 * from) place (readOperand look within (tokensAt text from)) encodeExpr r
+  path-done new (Done past end) b g =
+      record {
+        what = path (g .what);
+        reads = as-path b ∙ ap (λ x. then x (λ s. got (path s))) (g .reads);
+        wrote = g .wrote;
+        ends = g .ends;
+        onward = g .onward;
+        inside = g .inside;
+        fewer = g .fewer;
+        grows = g .grows;
+      }
+  path-done new (NoQuery spot) b g = as-path b ∙ ap (λ x. then x (λ s. got (path s))) g
+  path-done new (TooDeep spot) b g = as-path b ∙ ap (λ x. then x (λ s. got (path s))) g
+  path-done new (UnknownName spot) b g = as-path b ∙ ap (λ x. then x (λ s. got (path s))) g
+
+-- STEPS BY THEIR HEADS.
+module _ (look : List ℕ → Option ℕ) (within : ℕ → List Placed → Got Expr) (text old new : List ℕ) (from place : ℕ) where
+  pub plain-done : (axis word past : ℕ) → PlainStep look text from axis past (λ w. readStep look w (tokensAt text from)) → (0 < 8192 → word ≡ 1 + axis * 8 + 0 * 64 + 0 * 32768)
+      → Wrote old new place (word ∷ []) → Gives text old new from place (3 * from + 2) place (readStep look within (tokensAt text from)) stepItems past (place + 1)
+  plain-done axis word past h right v =
+      record {
+        what = record { axis = h .way; test = _; preds = _ };
+        reads = h .reads within;
+        wrote = subst (λ (w : ℕ). Wrote old new place (w ∷ [])) (right (omega arith) ∙ rw (h .number)) v;
+        ends = refl;
+        onward = omega (arith, h .onward);
+        inside = h .inside;
+        fewer = h .fewer;
+        grows = omega (arith, h .onward);
+      }
+
+  pub tested-done : (axis test : ℕ) (past : Cursor) (r : Part) (h : TestedStep look text from axis test (past .at) (λ w. readStep look w (tokensAt text from)))
+      → Reads text old new (past .at) place (3 * past .at) (place + 1) (readTail look within (h .way) (h .kind) (tokensAt text (past .at))) stepItems r
+      → Reads text old new from place (3 * from + 2) place (readStep look within (tokensAt text from)) stepItems r
+  tested-done axis test past r h g =
+      reads-from text old new from (past .at) place (3 * past .at) (place + 1) (3 * from + 2) place (readTail look within (h .way) (h .kind) (tokensAt text (past .at))) (readStep look within (tokensAt text from))
+      stepItems r (h .reads within) (omega (arith, h .onward)) (h .fewer) (omega (arith, h .onward)) g

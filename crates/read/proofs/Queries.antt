@@ -1,0 +1,283 @@
+-- Reading absolute paths to the end of the text, and the answers of the whole reader. The invariant: what is left to read gives the answer of the whole. Assumes nothing.
+use Prim.Native.Nat.{ℕ, zero, suc, _+_, _*_, _≤_, _<_}
+use native.Mathlib.Omega.{arith}
+use mathlib.Core.Path.{_≡_, refl, sym, _∙_, ap, subst}
+use mathlib.Core.Bool.{Bool, true, false, _||_, cond}
+use mathlib.Core.List.{List, [], _∷_, _++_, append-assoc, append-nil}
+use mathlib.Core.Option.{Option, none, some}
+use lib.Dec.{eqb, ltb}
+use lib.ListN.{length, take, drop, length-append, take-append-drop}
+use lib.Seq.{length-take-le}
+use borrow.Author.Tests.{lt-ltb, le-ltb, ltb-false}
+use Rattle.paper.specs.Tools.{when, written}
+use Rattle.paper.specs.Tokens as paper
+use Rattle.paper.specs.Tokens.{Placed, tokens}
+use Rattle.paper.specs.Limits.{textLimit, listLimit, itemLimit, bracketLimit}
+use Rattle.paper.specs.Names.{namesFault, namesOf, numberOf}
+use Rattle.paper.specs.Query.{Expr, path, Steps, stop, Query, paths}
+use Rattle.paper.specs.Items.{packPath, encodeExpr, encode}
+use Rattle.paper.specs.Measures.{size}
+use Rattle.paper.specs.Reading.{Got, got, refused, then, next, at, sees, startsStep, deep, readSteps, readPath, readPaths, readWithin, readText}
+use Rattle.paper.specs.Answers.{value, refusal, line, lineGot, anyName, tooLong, shortOfItems, readLast, readAnswer, itemsGot, readItems, readOut, atExit}
+use Rattle.paper.specs.Answers.{Answer as Told}
+use Rattle.paper.specs.Told.{told}
+use Rattle.paper.specs.declared.Answer.{Answer}
+use Rattle.paper.specs.declared.Answer.the-variants.{Value, TooLong, BadName, Short}
+use Rattle.paper.proofs.Tests.{or-right}
+use Rattle.paper.proofs.Sizes.{size-items}
+use Rattle.paper.proofs.Refusing.{line-value, when-none, or-none, Refuses, refused-keeps}
+use Rattle.token.specs.declared.Cursor.{Cursor}
+use Rattle.read.specs.declared.Part.{Part}
+use Rattle.read.specs.declared.Part.the-variants.{Done, NoQuery, TooDeep, UnknownName}
+use Rattle.read.specs.declared.Lead.the-variants.{Alone, Before, NoPath}
+use Rattle.read.specs.Parts.{tokensAt, Past, Wrote, Gives, Reads, deepIf, pathItems, Leads, Finishes, Whole, ReadsAll, Sized, Measures, Refusal}
+use Rattle.read.proofs.Part.{the-type}
+use types.Run.{miss}
+use Rattle.read.proofs.Writing.{wrote-nothing, wrote-more}
+use Rattle.read.proofs.Runs.{some-token, some-fuel, Refused}
+use Rattle.read.proofs.Rows.{then-then, then-got}
+use Rattle.read.proofs.Operands.{reads-from}
+
+-- AN ABSOLUTE PATH.
+module _ (look : List ℕ → Option ℕ) (within : ℕ → List Placed → Got Expr) (text old new : List ℕ) (from place : ℕ) where
+  pub path-alone : (word : ℕ) (past : Cursor) → Leads text from (Alone past) → word ≡ packPath 0 → Wrote old new place (word ∷ [])
+      → Gives text old new from place (3 * from) place (readPath look within (tokensAt text from)) pathItems (past .at) (place + 1)
+  unfolding readPath
+  path-alone word past l e v =
+      record {
+        what = stop;
+        reads = rw (l .0, l .1, l .2 .rest, l .3);
+        wrote = subst (λ (w : ℕ). Wrote old new place (w ∷ [])) e v;
+        ends = refl;
+        onward = omega (arith, l .2 .onward);
+        inside = l .2 .inside;
+        fewer = omega (arith, l .2 .fewer);
+        grows = omega (arith, l .2 .onward);
+      }
+
+  pub path-before : (past : Cursor) (lead : Bool) (r : Part) → Leads text from (Before past lead)
+      → Reads text old new (past .at) place (3 * past .at) place
+      (then (readSteps look within (length (tokensAt text (past .at))) (tokensAt text (past .at))) (λ s. got (deepIf lead s))) pathItems r
+      → Reads text old new from place (3 * from) place (readPath look within (tokensAt text from)) pathItems r
+  unfolding readPath
+  path-before past true r l g =
+      reads-from text old new from (past .at) place (3 * past .at) place (3 * from) place _ _ pathItems r (rw (l .0, l .1 .rest)) (omega (arith, l .1 .onward)) (omega (arith, l .1 .fewer))
+      (omega (arith, l .1 .onward)) g
+  path-before past false r l g =
+      reads-from text old new from (past .at) place (3 * past .at) place (3 * from) place _ _ pathItems r
+      (rw (l .0, l .1, l .2 .rest, l .3) (then-got (readSteps look within (length (tokensAt text (past .at))) (tokensAt text (past .at))))) (omega (arith, l .2 .onward))
+      (omega (arith, l .2 .fewer)) (omega (arith, l .2 .onward)) g
+
+  pub path-none : (spot : ℕ) → Leads text from (NoPath spot) → readPath look within (tokensAt text from) ≡ refused 3 spot
+  unfolding readPath
+  path-none spot l = rw (l .0, l .1, ← l .2)
+
+pub leads-past : (text : List ℕ) (from : ℕ) (past : Cursor) (lead : Bool) → Leads text from (Before past lead) → Past text from (past .at)
+leads-past text from past true l = l .1
+leads-past text from past false l = l .2
+
+-- ABSOLUTE PATHS, one after the other.
+pub record PathRow (look : List ℕ → Option ℕ) (within : ℕ → List Placed → Got Expr) (text old out : List ℕ) (all : Got Query) (here filled : ℕ) : Type 0 where
+  pub build : Query → Query
+  pub fuel : ℕ
+  pub raw : List ℕ
+  pub codes : (q : Query) → encode (build q) ≡ raw ++ encode q
+  pub goes-on : all ≡ then (readPaths look within fuel (tokensAt text here)) (λ q. got (build q))
+  pub enough : length (tokensAt text here) ≤ fuel
+  pub wrote : Wrote old out 0 raw
+  pub ends : filled ≡ length raw
+  pub inside : here ≤ length text
+  pub grows : filled ≤ 3 * here
+
+pub paths-start : (look : List ℕ → Option ℕ) (text old : List ℕ) → PathRow look (readWithin look bracketLimit) text old old (readText look text) 0 0
+unfolding readText tokens tokensAt
+paths-start look text old =
+    record {
+      build = λ q. q;
+      fuel = length (tokens text);
+      raw = [];
+      codes = λ q. refl;
+      goes-on = then-got (readPaths look (readWithin look bracketLimit) (length (tokens text)) (tokens text));
+      enough = omega arith;
+      wrote = wrote-nothing old 0;
+      ends = refl;
+      inside = omega arith;
+      grows = omega arith;
+    }
+
+first-code : (p : Steps) (q : Query) → encode (record { first = p; others = paths q }) ≡ pathItems p ++ encode q
+unfolding encode
+first-code p q = refl
+
+only-code : (p : Steps) → encode (record { first = p; others = [] }) ≡ pathItems p
+unfolding encode
+only-code p = append-nil (pathItems p)
+
+module _ (look : List ℕ → Option ℕ) (within : ℕ → List Placed → Got Expr) (text old out : List ℕ) (all : Got Query) (here filled : ℕ) (l : PathRow look within text old out all here filled) where
+  pub paths-stuck : (n spot : ℕ) → readPath look within (tokensAt text here) ≡ refused n spot → all ≡ refused n spot
+  paths-stuck n spot h =
+      some-fuel (l .fuel) (omega (arith, l .enough, some-token text here))
+      (λ f z. l .goes-on ∙ ap (λ k. then (readPaths look within k (tokensAt text here)) (λ q. got (l .build q))) z ∙ rw h)
+
+  module _ (new : List ℕ) (past end : ℕ) (g : Gives text out new here filled (3 * here) filled (readPath look within (tokensAt text here)) pathItems past end) where
+    -- What has been read of the first path.
+    after : (f : ℕ) → l .fuel ≡ suc f
+        → all
+        ≡ then
+        (cond (sees paper.bar (tokensAt text past)) (then (readPaths look within f (drop 1 (tokensAt text past))) (λ q. got (record { first = g .what; others = paths q })))
+        (cond (sees paper.finish (tokensAt text past)) (got (record { first = g .what; others = [] }) (drop 1 (tokensAt text past))) (refused 3 (at (tokensAt text past)))))
+        (λ q. got (l .build q))
+    after f z = l .goes-on ∙ ap (λ k. then (readPaths look within k (tokensAt text here)) (λ q. got (l .build q))) z ∙ rw (g .reads)
+
+    all-wrote : Wrote old new 0 (l .raw ++ pathItems (g .what))
+    all-wrote = wrote-more old out new 0 filled (l .raw) (pathItems (g .what)) (l .wrote) (omega (arith, l .ends)) (g .wrote)
+
+    pub paths-more : (mid : ℕ) → sees paper.bar (tokensAt text past) ≡ true → Past text past mid → PathRow look within text old new all mid end
+    paths-more mid s p =
+        some-fuel (l .fuel) (omega (arith, l .enough, some-token text here))
+        (λ f z.
+        record {
+          build = λ q. l .build (record { first = g .what; others = paths q });
+          fuel = f;
+          raw = l .raw ++ pathItems (g .what);
+          codes =
+              λ q.
+              l .codes (record { first = g .what; others = paths q }) ∙ ap (λ x. l .raw ++ x) (first-code (g .what) q) ∙ sym (append-assoc (l .raw) (pathItems (g .what)) (encode q));
+          goes-on =
+              after f z ∙
+              rw (s, p .rest)
+              (then-then (readPaths look within f (tokensAt text mid)) (λ (q : Query). record { first = g .what; others = paths q }) (l .build));
+          enough = omega (arith, l .enough, g .fewer, p .fewer);
+          wrote = all-wrote;
+          ends = omega (arith, g .ends, l .ends, length-append (l .raw) (pathItems (g .what)));
+          inside = p .inside;
+          grows = omega (arith, l .grows, g .grows, p .onward);
+        })
+
+    pub paths-done : (r : Part) → sees paper.bar (tokensAt text past) ≡ false → Finishes text past end r → ReadsAll old new all r
+    paths-done (Done last end′) s h =
+        some-fuel (l .fuel) (omega (arith, l .enough, some-token text here))
+        (λ f z.
+        let q = l .build (record { first = g .what; others = [] }) in
+        let code : encode q ≡ l .raw ++ pathItems (g .what) = l .codes (record { first = g .what; others = [] }) ∙ ap (λ x. l .raw ++ x) (only-code (g .what)) in
+        record {
+          what = q;
+          left = drop 1 (tokensAt text past);
+          reads = after f z ∙ rw (s, h .1);
+          wrote = rw code all-wrote;
+          ends = omega (arith, h .0, g .ends, l .ends, ap length code, length-append (l .raw) (pathItems (g .what)));
+        })
+    paths-done (NoQuery spot) s h =
+        some-fuel (l .fuel) (omega (arith, l .enough, some-token text here)) (λ f z. after f z ∙ rw (s, h .0, ← h .1))
+    paths-done (TooDeep spot) s h = absurd h
+    paths-done (UnknownName spot) s h = absurd h
+
+-- A refused path, passed upward.
+pub all-refused : {A : Type 0} (text old new old′ new′ : List ℕ) (from place low high : ℕ) (o : Got A) (items : A → List ℕ) (o′ : Got Query) (r : Part) → Refused r
+    → Reads text old new from place low high o items r → ((n spot : ℕ) → o ≡ refused n spot → o′ ≡ refused n spot) → ReadsAll old′ new′ o′ r
+all-refused text old new old′ new′ from place low high o items o′ (Done past end) n h k = absurd (miss (1 ∷ 2 ∷ 3 ∷ []) 0 tt n)
+all-refused text old new old′ new′ from place low high o items o′ (NoQuery spot) n h k = k 3 spot h
+all-refused text old new old′ new′ from place low high o items o′ (TooDeep spot) n h k = k 4 spot h
+all-refused text old new old′ new′ from place low high o items o′ (UnknownName spot) n h k = k 5 spot h
+
+-- MEASURING: size is the number of items.
+pub measured : (old new : List ℕ) (o : Got Query) (r : Part) → ReadsAll old new o r → Measures o r
+measured old new o (Done past end) w = record { what = w .what; left = w .left; reads = w .reads; ends = w .ends ∙ size-items (w .what) }
+measured old new o (NoQuery spot) w = w
+measured old new o (TooDeep spot) w = w
+measured old new o (UnknownName spot) w = w
+
+-- THE ANSWER.
+pub refused-told : (o : Got Query) (r : Part) (a : Answer) (later : Query → Told) → Refused r → Measures o r → Refusal r a → told a ≡ lineGot o later
+refused-told o (Done past end) a later n m h = absurd (miss (1 ∷ 2 ∷ 3 ∷ []) 0 tt n)
+refused-told o (NoQuery spot) a later n m h = h ∙ rw m
+refused-told o (TooDeep spot) a later n m h = h ∙ rw m
+refused-told o (UnknownName spot) a later n m h = h ∙ rw m
+
+abbrev last-line : ℕ → Query → Told
+last-line room q = line 10 (shortOfItems room (size q)) (value (size q))
+
+pub goes-later : (o : Got Query) (end : ℕ) (later : Told) → Sized o end → later ≡ lineGot o (λ q. later)
+goes-later o end later m = rw (m .reads)
+
+module _ (o : Got Query) (room end : ℕ) (m : Sized o end) where
+  pub short-room : room < end → told (Short end) ≡ lineGot o (last-line room)
+  short-room l = rw (m .reads, ← m .ends, lt-ltb room end l)
+
+  pub over-items : end ≤ room → itemLimit < end → told (Short end) ≡ lineGot o (last-line room)
+  over-items f l = rw (m .reads, ← m .ends, le-ltb room end f, lt-ltb itemLimit end l)
+
+  pub enough-room : end ≤ room → end ≤ itemLimit → told (Value end) ≡ lineGot o (last-line room)
+  enough-room f l = rw (m .reads, ← m .ends, le-ltb room end f, le-ltb itemLimit end l)
+
+-- READ: the lines in their order.
+module _ (text list : List ℕ) (room : ℕ) where
+  pub text-long : textLimit < length text → told TooLong ≡ readAnswer text list room
+  unfolding readAnswer
+  text-long l = rw (lt-ltb textLimit (length text) l)
+
+  pub list-long : length text ≤ textLimit → listLimit < length list → told TooLong ≡ readAnswer text list room
+  unfolding readAnswer
+  list-long t l = rw (le-ltb textLimit (length text) t, lt-ltb listLimit (length list) l)
+
+  module _ (t : length text ≤ textLimit) (l : length list ≤ listLimit) where
+    pub bad-list : (start : ℕ) → some start ≡ namesFault list → told (BadName start) ≡ readAnswer text list room
+    unfolding readAnswer
+    bad-list start h = rw (le-ltb textLimit (length text) t, le-ltb listLimit (length list) l, ← h)
+
+    pub good-list : none ≡ namesFault list → lineGot (readText anyName text) (λ q. readLast text list room) ≡ readAnswer text list room
+    unfolding readAnswer
+    good-list h = rw (le-ltb textLimit (length text) t, le-ltb listLimit (length list) l, ← h)
+
+-- A refused call leaves what is lent as it was.
+pub kept : (text list old : List ℕ) (a : Answer) → Refuses a → told a ≡ readAnswer text list (length old) → old ≡ readOut text list old
+unfolding readOut
+kept text list old a r h = sym (ap (λ x. atExit x (readItems text list) old) (sym h) ∙ refused-keeps a (readItems text list) old r)
+
+pub kept-refusal : (text list old : List ℕ) (number spot : ℕ) → refusal number spot ≡ readAnswer text list (length old) → old ≡ readOut text list old
+unfolding readOut
+kept-refusal text list old number spot h = ap (λ x. atExit x (readItems text list) old) h
+
+-- An accepted call finds a query that fits.
+record Fits (o : Got Query) (room : ℕ) : Type 0 where
+  pub what : Query
+  pub left : List Placed
+  pub reads : o ≡ got what left
+  pub room-enough : size what ≤ room
+  pub few : size what ≤ itemLimit
+
+fits : (o : Got Query) (room n : ℕ) → lineGot o (last-line room) ≡ value n → Fits o room
+fits (got q left) room n h =
+    let (none-short, valued) = line-value 10 n (shortOfItems room (size q)) (value (size q)) h in
+    let (a, b) = or-none (ltb room (size q)) (ltb itemLimit (size q)) (when-none (ltb room (size q) || ltb itemLimit (size q)) (size q) none-short) in
+    record { what = q; left = left; reads = refl; room-enough = ltb-false room (size q) a; few = ltb-false itemLimit (size q) b }
+fits (refused number spot) room n h = absurd (let z : _≡_ {A = ℕ} 0 1 = cc in omega arith)
+
+later-value : (o : Got Query) (later : Told) (n : ℕ) → lineGot o (λ q. later) ≡ value n → later ≡ value n
+later-value (got q left) later n h = h
+later-value (refused number spot) later n h = absurd (let z : _≡_ {A = ℕ} 0 1 = cc in omega arith)
+
+never-refused : (o : Got Query) (room : ℕ) (number spot : ℕ) → Fits o room → o ≡ refused number spot → ⊥
+never-refused o room number spot f h = let e : got (f .what) (f .left) ≡ refused number spot = sym (f .reads) ∙ h in let z : _≡_ {A = ℕ} 0 1 = cc in omega arith
+
+wrote-all : (o : Got Query) (old new : List ℕ) (r : Part) → Fits o (length old) → ReadsAll old new o r → (itemsOf : Got Query → List ℕ) → ((q : Query) (left : List Placed) → itemsOf (got q left) ≡ encode q)
+    → new ≡ written (itemsOf o) old
+wrote-all o old new (Done past end) f w itemsOf is =
+    let code = encode (w .what) in
+    let same : got (w .what) (w .left) ≡ got (f .what) (f .left) = sym (w .reads) ∙ f .reads in
+    let e : w .what ≡ f .what = cc in
+    let long : length code ≡ size (f .what) = size-items (w .what) ∙ ap size e in
+    let room : length code ≤ length old = omega (arith, f .room-enough) in
+    w .wrote .puts [] (take (length code) old) (drop (length code) old) (sym (take-append-drop (length code) old)) refl (length-take-le (length code) old room) (omega (arith, f .few)) ∙
+    ap (λ x. written x old) (sym (ap itemsOf (w .reads) ∙ is (w .what) (w .left)))
+wrote-all o old new (NoQuery spot) f w itemsOf is = absurd (never-refused o (length old) 3 spot f w)
+wrote-all o old new (TooDeep spot) f w itemsOf is = absurd (never-refused o (length old) 4 spot f w)
+wrote-all o old new (UnknownName spot) f w itemsOf is = absurd (never-refused o (length old) 5 spot f w)
+
+pub accepted : (text list old new : List ℕ) (n : ℕ) (r : Part) → lineGot (readText anyName text) (λ q. readLast text list (length old)) ≡ value n
+    → readAnswer text list (length old) ≡ value n → ReadsAll old new (readText (numberOf (namesOf list)) text) r → new ≡ readOut text list old
+unfolding readOut readItems
+accepted text list old new n r h a w =
+    let o = readText (numberOf (namesOf list)) text in
+    let f = fits o (length old) n (later-value (readText anyName text) (readLast text list (length old)) n h) in
+    wrote-all o old new r f w itemsGot (λ q left. refl) ∙ sym (ap (λ x. atExit x (itemsGot o) old) a)

@@ -1,0 +1,194 @@
+-- Reading runs of operands: what was read so far, and how one operand more changes it. What is left to read gives the answer of the whole. Assumes nothing.
+use Prim.Native.Nat.{ℕ, zero, suc, _+_, _*_, _≤_, _<_}
+use native.Mathlib.Omega.{arith}
+use native.Mathlib.Numerals.{add-one}
+use mathlib.Core.Path.{_≡_, refl, sym, _∙_, ap, ap₂, subst}
+use mathlib.Core.Bool.{Bool, true, false, cond}
+use mathlib.Core.List.{List, [], _∷_, _++_, append-assoc}
+use mathlib.Core.Option.{Option}
+use lib.ListN.{length, drop, replicate, length-append, length-replicate}
+use denote.Enum.Declared.{tagOf}
+use types.Run.{OneOf, miss}
+use Rattle.paper.specs.Tools.{ascii, same}
+use Rattle.paper.specs.Tokens.{Placed, tokensFrom, tokenAt, beyond, white, letters}
+use Rattle.paper.specs.Query.{Expr, path, both, either, negated}
+use Rattle.paper.specs.Items.{andItem, orItem, encodeExpr}
+use Rattle.paper.specs.Reading.{Got, got, refused, then, next, says, readOperand, readAnds, readTerm, readOrs, readExpr}
+use Rattle.read.specs.declared.Part.{Part}
+use Rattle.read.specs.declared.Part.the-variants.{Done, NoQuery, TooDeep, UnknownName}
+use Rattle.read.specs.Parts.{tokensAt, Past, Wrote, Grouped, Gives, Reads}
+use Rattle.read.proofs.Part.{the-type}
+use Rattle.read.proofs.Writing.{wrote-more, wrote-grouped}
+
+-- There is always a token, the end of the text at least.
+some-from : (bs : List ℕ) (taken place : ℕ) → 0 < length (tokensFrom taken place bs)
+some-from [] taken place = omega arith
+some-from (b ∷ bs) (suc taken) place = some-from bs taken (suc place)
+some-from (b ∷ bs) zero place = go (white b) (some-from bs 0 (suc place))
+  where
+    go : (w : Bool) → 0 < length (tokensFrom 0 (suc place) bs)
+        → 0 < length (cond w (tokensFrom 0 (suc place) bs) (record { place = place; token = tokenAt b bs } ∷ tokensFrom (beyond (tokenAt b bs)) (suc place) bs))
+    go true h = h
+    go false h = omega arith
+
+pub some-token : (text : List ℕ) (from : ℕ) → 0 < length (tokensAt text from)
+unfolding tokensAt
+some-token text from = some-from (drop from text) 0 from
+
+-- Whatever is left of the fuel, there is some while a token is left.
+pub some-fuel {ℓ} : {C : Type ℓ} (fuel : ℕ) → 0 < fuel → ((f : ℕ) → fuel ≡ suc f → C) → C
+some-fuel zero z k = absurd (omega arith)
+some-fuel (suc f) z k = k f refl
+
+-- A refusal, which is passed upward as it is.
+abbrev pub Refused : Part → Type 0
+Refused r = OneOf (1 ∷ 2 ∷ 3 ∷ []) (tagOf the-type r)
+
+pub passed-on : {A B : Type 0} (text old new text′ old′ new′ : List ℕ) (from place low high from′ place′ low′ high′ : ℕ) (o : Got A) (items : A → List ℕ) (o′ : Got B) (items′ : B → List ℕ) (r : Part)
+    → Refused r → Reads text old new from place low high o items r → ((n spot : ℕ) → o ≡ refused n spot → o′ ≡ refused n spot)
+    → Reads text′ old′ new′ from′ place′ low′ high′ o′ items′ r
+passed-on text old new text′ old′ new′ from place low high from′ place′ low′ high′ o items o′ items′ (Done past end) n h k = absurd (miss (1 ∷ 2 ∷ 3 ∷ []) 0 tt n)
+passed-on text old new text′ old′ new′ from place low high from′ place′ low′ high′ o items o′ items′ (NoQuery spot) n h k = k 3 spot h
+passed-on text old new text′ old′ new′ from place low high from′ place′ low′ high′ o items o′ items′ (TooDeep spot) n h k = k 4 spot h
+passed-on text old new text′ old′ new′ from place low high from′ place′ low′ high′ o items o′ items′ (UnknownName spot) n h k = k 5 spot h
+
+-- AN OPERATOR: `one` reads an operand, `more n e` reads at most n more and joins each to e.
+pub record Operator : Type 0 where
+  pub one : List Placed → Got Expr
+  pub more : ℕ → Expr → List Placed → Got Expr
+  pub join : Expr → Expr → Expr
+  pub item : ℕ
+  pub word : List ℕ
+  pub stops : (e : Expr) (ts : List Placed) → more 0 e ts ≡ got e ts
+  pub goes : (n : ℕ) (e : Expr) (ts : List Placed) → more (suc n) e ts ≡ cond (says word ts) (then (one (drop 1 ts)) (λ b. more n (join e b))) (got e ts)
+  pub codes : (a b : Expr) → encodeExpr (join a b) ≡ item ∷ (encodeExpr a ++ encodeExpr b)
+
+abbrev pub ands : (List ℕ → Option ℕ) → (ℕ → List Placed → Got Expr) → Operator
+ands look within =
+    record {
+      one = readOperand look within;
+      more = readAnds look within;
+      join = both;
+      item = andItem;
+      word = ascii "and";
+      stops = λ e ts. refl;
+      goes = λ n e ts. refl;
+      codes = λ a b. refl;
+    }
+
+abbrev pub ors : (List ℕ → Option ℕ) → (ℕ → List Placed → Got Expr) → Operator
+ors look within =
+    record {
+      one = readTerm look within;
+      more = readOrs look within;
+      join = either;
+      item = orItem;
+      word = ascii "or";
+      stops = λ e ts. refl;
+      goes = λ n e ts. refl;
+      codes = λ a b. refl;
+    }
+
+-- The whole run: an operand, and as many more as there are.
+abbrev pub whole : Operator → List Placed → Got Expr
+whole op ts = then (op .one ts) (λ a left. op .more (length left) a left)
+
+pub term-whole : (look : List ℕ → Option ℕ) (within : ℕ → List Placed → Got Expr) (ts : List Placed) → readTerm look within ts ≡ whole (ands look within) ts
+unfolding readTerm
+term-whole look within ts = refl
+
+pub expr-whole : (look : List ℕ → Option ℕ) (within : ℕ → List Placed → Got Expr) (ts : List Placed) → readExpr look within ts ≡ whole (ors look within) ts
+unfolding readExpr
+expr-whole look within ts = refl
+
+-- What has been read of the run, and its operands written one behind the other.
+pub record Left (op : Operator) (text old out : List ℕ) (from place : ℕ) (all : Got Expr) (here filled run : ℕ) : Type 0 where
+  pub so-far : Expr
+  pub fuel : ℕ
+  pub raw : List ℕ
+  pub goes-on : all ≡ op .more fuel so-far (tokensAt text here)
+  pub enough : length (tokensAt text here) ≤ fuel
+  pub coded : encodeExpr so-far ≡ replicate run (op .item) ++ raw
+  pub wrote : Wrote old out place raw
+  pub ends : filled ≡ place + length raw
+  pub onward : from ≤ here
+  pub inside : here ≤ length text
+  pub fewer : length (tokensAt text here) ≤ length (tokensAt text from)
+  pub grows : filled + run + 3 * from ≤ place + 3 * here
+
+module _ (op : Operator) (text old : List ℕ) (from place : ℕ) (all : Got Expr) (is : all ≡ whole op (tokensAt text from)) where
+  -- The first operand.
+  pub left-start : (out : List ℕ) (here filled : ℕ) → Gives text old out from place (3 * from) place (op .one (tokensAt text from)) encodeExpr here filled
+      → Left op text old out from place all here filled 0
+  left-start out here filled g =
+      record {
+        so-far = g .what;
+        fuel = length (tokensAt text here);
+        raw = encodeExpr (g .what);
+        goes-on = is ∙ ap (λ o. then o (λ a left. op .more (length left) a left)) (g .reads);
+        enough = omega arith;
+        coded = refl;
+        wrote = g .wrote;
+        ends = g .ends;
+        onward = g .onward;
+        inside = g .inside;
+        fewer = g .fewer;
+        grows = omega (arith, g .grows);
+      }
+
+  pub start-stuck : (n spot : ℕ) → op .one (tokensAt text from) ≡ refused n spot → all ≡ refused n spot
+  start-stuck n spot h = is ∙ ap (λ o. then o (λ a left. op .more (length left) a left)) h
+
+module _ (op : Operator) (text old : List ℕ) (from place : ℕ) (all : Got Expr) where
+  module _ (out : List ℕ) (here filled run : ℕ) (l : Left op text old out from place all here filled run) where
+    -- The operator's word comes next.
+    module _ (mid : ℕ) (s : says (op .word) (tokensAt text here) ≡ true) (p : Past text here mid) where
+      there : (f : ℕ) → l .fuel ≡ suc f → all ≡ then (op .one (tokensAt text mid)) (λ b. op .more f (op .join (l .so-far) b))
+      there f e =
+          l .goes-on ∙ ap (λ n. op .more n (l .so-far) (tokensAt text here)) e ∙ op .goes f (l .so-far) (tokensAt text here) ∙ rw (s, p .rest)
+
+      pub left-more : (out′ : List ℕ) (past end : ℕ) → Gives text out out′ mid filled (3 * mid) filled (op .one (tokensAt text mid)) encodeExpr past end
+          → Left op text old out′ from place all past end (run + 1)
+      left-more out′ past end g =
+          some-fuel (l .fuel) (omega (arith, l .enough, p .fewer))
+          (λ f e.
+          let code = encodeExpr (g .what) in
+          record {
+            so-far = op .join (l .so-far) (g .what);
+            fuel = f;
+            raw = l .raw ++ code;
+            goes-on = there f e ∙ ap (λ o. then o (λ b. op .more f (op .join (l .so-far) b))) (g .reads);
+            enough = omega (arith, l .enough, p .fewer, g .fewer);
+            coded =
+                op .codes (l .so-far) (g .what) ∙ ap (λ x. op .item ∷ (x ++ code)) (l .coded) ∙ ap (λ x. op .item ∷ x) (append-assoc (replicate run (op .item)) (l .raw) code) ∙
+                ap (λ n. replicate n (op .item) ++ (l .raw ++ code)) (sym (add-one run));
+            wrote = wrote-more old out out′ place filled (l .raw) code (l .wrote) (l .ends) (g .wrote);
+            ends = omega (arith, g .ends, l .ends, length-append (l .raw) code);
+            onward = omega (arith, l .onward, p .onward, g .onward);
+            inside = g .inside;
+            fewer = omega (arith, l .fewer, p .fewer, g .fewer);
+            grows = omega (arith, l .grows, g .grows, p .onward);
+          })
+
+      pub left-stuck : (n spot : ℕ) → op .one (tokensAt text mid) ≡ refused n spot → all ≡ refused n spot
+      left-stuck n spot h =
+          some-fuel (l .fuel) (omega (arith, l .enough, p .fewer)) (λ f e. there f e ∙ ap (λ o. then o (λ b. op .more f (op .join (l .so-far) b))) h)
+
+    -- It does not: the operators are put before the operands.
+    pub left-done : (new : List ℕ) → says (op .word) (tokensAt text here) ≡ false → Grouped out new place filled run (op .item)
+        → Gives text old new from place (3 * from) place all encodeExpr here (filled + run)
+    left-done new s g =
+        record {
+          what = l .so-far;
+          reads = l .goes-on ∙ over (l .fuel);
+          wrote = rw (l .coded) (wrote-grouped old out new place filled run (op .item) (l .raw) (l .wrote) (l .ends) g);
+          ends = omega (arith, l .ends, ap length (l .coded), length-append (replicate run (op .item)) (l .raw), length-replicate run (op .item));
+          onward = l .onward;
+          inside = l .inside;
+          fewer = l .fewer;
+          grows = omega (arith, l .grows);
+        }
+      where
+        over : (n : ℕ) → op .more n (l .so-far) (tokensAt text here) ≡ got (l .so-far) (tokensAt text here)
+        over zero = op .stops (l .so-far) (tokensAt text here)
+        over (suc n) = op .goes n (l .so-far) (tokensAt text here) ∙ rw s

@@ -1,0 +1,31 @@
+-- `read::group` meets its contract: the run moves up and the gap is filled. Assumes nothing.
+use Rattle.read.proofs.Writing.{grouped-none, grouped-short, grouped-done}
+use borrow.Author.Needs.{needs}
+use Rattle.read.proofs.group.Statement.{statement}
+use Rattle.read.proofs.group.Tie as tie
+
+returns : tie.Need-returns
+returns c = grouped-none _ _ _ _ _ (c .if1 .taken)
+
+add-if2 : tie.Need-add-if2
+add-if2 c = search needs
+
+returns-2 : tie.Need-returns-2
+returns-2 c = grouped-short _ _ _ _ _ (c .if2 .taken)
+
+move-up-requires : tie.Need-move-up-requires
+move-up-requires c κs = search needs
+
+fill-requires : tie.Need-fill-requires
+fill-requires c κs = search needs
+
+same-length : tie.Need-same-length
+same-length c = search needs
+
+returns-3 : tie.Need-returns-3
+returns-3 c = grouped-done _ _ _ _ _ _ _ (c .before .before .before .before .before .before .move-up .ensures) (c .before .before .fill .ensures)
+
+pub group-spec : {M : Type 1} → statement M
+group-spec =
+    tie.close
+    (tie.spec returns add-if2 returns-2 move-up-requires fill-requires same-length returns-3)

@@ -1,0 +1,292 @@
+-- What reading a part of a text promises: what the paper's reader says of the tokens from a place on, and the items written.
+use Prim.Native.Nat.{ℕ, zero, suc, _+_, _*_, _≤_, _<_}
+use mathlib.Core.Path.{_≡_}
+use mathlib.Core.Bool.{Bool, true, false, _&&_, cond}
+use mathlib.Core.List.{List, [], _∷_, _++_}
+use mathlib.Core.Option.{Option, none, some}
+use mathlib.Core.Logic.{_⊎_}
+use lib.Dec.{eqb}
+use lib.ListN.{length, take, drop, replicate}
+use Rattle.paper.specs.Tools.{ascii, same}
+use Rattle.paper.specs.Limits.{textLimit, itemLimit, bracketLimit}
+use Rattle.paper.specs.Names.{namesOf, numberOf}
+use Rattle.paper.specs.Tokens as paper
+use Rattle.paper.specs.Tokens.{Placed, tokensFrom, sort, letters}
+use Rattle.paper.specs.Query.{Axis, child, self, parent, Test, anyNode, textNode, anyElement, Expr, path, Steps, Preds, bare, Query}
+use Rattle.paper.specs.Reading.{Got, got, refused, then, next, at, sees, says, wrong, axisAhead, startsStep, Step, deep, readTail}
+use Rattle.paper.specs.Items.{axisNumber, testNumber, packStep, predCount, encodeExpr, encodePreds, encode}
+use Rattle.paper.specs.Measures.{size}
+use Rattle.paper.specs.Answers.{anyName, value, refusal}
+use Rattle.paper.specs.Told.{told}
+use Rattle.paper.specs.declared.Answer.{Answer}
+use Rattle.names.specs.Listing.{Indexed}
+use Rattle.names.specs.declared.Found.{Found}
+use Rattle.names.specs.declared.Found.the-variants.{At, Nothing as Absent}
+use Rattle.token.specs.declared.Token.{Token}
+use Rattle.token.specs.declared.Token.the-variants.{Slash, Slashes, Dot, Dots, Colons, Bar, OpenSquare, CloseSquare, OpenRound, CloseRound, Star, Finish, Stray, Word}
+use Rattle.read.specs.declared.Part.{Part}
+use Rattle.read.specs.declared.Part.the-variants.{Done, NoQuery, TooDeep, UnknownName}
+use Rattle.read.specs.declared.Ahead.{Ahead}
+use Rattle.read.specs.declared.Ahead.the-variants.{There, Other}
+use Rattle.read.specs.declared.Head.{Head}
+use Rattle.read.specs.declared.Head.the-variants.{Plain, Tested, Wrong, Unknown}
+use Rattle.read.specs.declared.Joint.{Joint}
+use Rattle.read.specs.declared.Joint.the-variants.{Next, Nothing}
+use Rattle.read.specs.declared.Opens.{Opens}
+use Rattle.read.specs.declared.Opens.the-variants.{Not, Round, Path}
+use Rattle.read.specs.declared.AxisAhead.{AxisAhead}
+use Rattle.read.specs.declared.AxisAhead.the-variants.{Named, Unnamed}
+use Rattle.read.specs.declared.Call.{Call}
+use Rattle.read.specs.declared.Call.the-variants.{Inside, NoCall}
+use Rattle.read.specs.declared.Lead.{Lead}
+use Rattle.read.specs.declared.Lead.the-variants.{Alone, Before, NoPath}
+
+-- The tokens from a place of the text on.
+unfoldable pub tokensAt : List ℕ → ℕ → List Placed
+tokensAt text place = tokensFrom 0 place (drop place text)
+
+-- Which of the paper's tokens a token is, as a number.
+abbrev pub sortOf : Token → ℕ
+sortOf Slash = 0
+sortOf Slashes = 1
+sortOf Dot = 2
+sortOf Dots = 3
+sortOf Colons = 4
+sortOf Bar = 5
+sortOf OpenSquare = 6
+sortOf CloseSquare = 7
+sortOf OpenRound = 8
+sortOf CloseRound = 9
+sortOf Star = 10
+sortOf Finish = 11
+sortOf Stray = 12
+sortOf (Word count) = 13
+
+-- One token is passed, from one place to the next.
+pub record Past (text : List ℕ) (from next : ℕ) : Type 0 where
+  pub onward : from < next
+  pub inside : next ≤ length text
+  pub rest : drop 1 (tokensAt text from) ≡ tokensAt text next
+  pub fewer : length (tokensAt text from) ≡ suc (length (tokensAt text next))
+
+-- A test of the next token, with its place, and the place past it where the test holds.
+abbrev pub Looks : List ℕ → ℕ → Bool → Ahead → Type 0
+Looks text from test (There place past) = (test ≡ true) × (place ≡ at (tokensAt text from)) × Past text from (past .at)
+Looks text from test (Other place) = (test ≡ false) × (place ≡ at (tokensAt text from))
+
+-- How names are looked up: in the list, or any name will do.
+abbrev pub lookOf : Bool → List ℕ → List ℕ → Option ℕ
+lookOf true list = numberOf (namesOf list)
+lookOf false list = anyName
+
+-- ITEMS. Where there is room for the items and they are no more than a query has, they stand from `place` on and all else is as it was.
+pub record Wrote (old new : List ℕ) (place : ℕ) (items : List ℕ) : Type 0 where
+  pub puts : (front gone back : List ℕ) → old ≡ front ++ (gone ++ back) → length front ≡ place → length gone ≡ length items → length items ≤ itemLimit
+      → new ≡ front ++ (items ++ back)
+
+-- So many of an operator's items are put before what stands from `place` to `end`, where there is room for them.
+pub record Grouped (old new : List ℕ) (place end count item : ℕ) : Type 0 where
+  pub puts : (front raw gone back : List ℕ) → old ≡ front ++ (raw ++ (gone ++ back)) → length front ≡ place → place + length raw ≡ end → length gone ≡ count
+      → new ≡ front ++ (replicate count item ++ (raw ++ back))
+
+-- The item of the step that `//` stands for, where it is written.
+abbrev pub deepItem : ℕ
+deepItem = 25
+
+abbrev pub deepItems : Bool → List ℕ
+deepItems true = deepItem ∷ []
+deepItems false = []
+
+-- The steps, with the step that `//` stands for before them where it is written.
+abbrev pub deepIf : Bool → Steps → Steps
+deepIf true rest = deep rest
+deepIf false rest = rest
+
+-- The items of a step.
+abbrev pub stepItems : Step → List ℕ
+stepItems s = packStep (s .axis) (s .test) (predCount (s .preds)) ∷ encodePreds (s .preds)
+
+-- READING. What was read from `from` on, with its items written from `place` to `end`; each token gives at most three items.
+pub record Gives {A : Type 0} (text old new : List ℕ) (from place low high : ℕ) (outcome : Got A) (items : A → List ℕ) (past end : ℕ) : Type 0 where
+  pub what : A
+  pub reads : outcome ≡ got what (tokensAt text past)
+  pub wrote : Wrote old new place (items what)
+  pub ends : end ≡ place + length (items what)
+  pub onward : from ≤ past
+  pub inside : past ≤ length text
+  pub fewer : length (tokensAt text past) ≤ length (tokensAt text from)
+  pub grows : end + low ≤ high + 3 * past
+
+abbrev pub Reads : {A : Type 0} → List ℕ → List ℕ → List ℕ → ℕ → ℕ → ℕ → ℕ → Got A → (A → List ℕ) → Part → Type 0
+Reads text old new from place low high outcome items (Done past end) = Gives text old new from place low high outcome items (past .at) end
+Reads text old new from place low high outcome items (NoQuery spot) = outcome ≡ refused 3 spot
+Reads text old new from place low high outcome items (TooDeep spot) = outcome ≡ refused 4 spot
+Reads text old new from place low high outcome items (UnknownName spot) = outcome ≡ refused 5 spot
+
+-- The next token must be of this sort, and is passed over.
+abbrev pub passSort : {A : Type 0} → ℕ → A → List Placed → Got A
+passSort wanted a ts = cond (eqb wanted (sort (next ts))) (got a (drop 1 ts)) (wrong ts)
+
+-- A STEP'S HEAD: axis and test, after which predicates may stand; or `.` and `..`, after which none may.
+pub record PlainStep (look : List ℕ → Option ℕ) (text : List ℕ) (from axis past : ℕ) (outcome : (ℕ → List Placed → Got Expr) → Got Step) : Type 0 where
+  pub way : Axis
+  pub number : axis ≡ axisNumber way
+  pub reads : (within : ℕ → List Placed → Got Expr) → outcome within ≡ got (record { axis = way; test = anyNode; preds = bare }) (tokensAt text past)
+  pub onward : from < past
+  pub inside : past ≤ length text
+  pub fewer : length (tokensAt text past) ≤ length (tokensAt text from)
+
+pub record TestedStep (look : List ℕ → Option ℕ) (text : List ℕ) (from axis test past : ℕ) (outcome : (ℕ → List Placed → Got Expr) → Got Step) : Type 0 where
+  pub way : Axis
+  pub kind : Test
+  pub number : axis ≡ axisNumber way
+  pub tested : test ≡ testNumber kind
+  pub small : test < 512
+  pub reads : (within : ℕ → List Placed → Got Expr) → outcome within ≡ readTail look within way kind (tokensAt text past)
+  pub onward : from < past
+  pub inside : past ≤ length text
+  pub fewer : length (tokensAt text past) ≤ length (tokensAt text from)
+
+abbrev pub Heads : (List ℕ → Option ℕ) → List ℕ → ℕ → ((ℕ → List Placed → Got Expr) → Got Step) → Head → Type 0
+Heads look text from outcome (Plain axis past) = PlainStep look text from axis (past .at) outcome
+Heads look text from outcome (Tested axis test past) = TestedStep look text from axis test (past .at) outcome
+Heads look text from outcome (Wrong spot) = (within : ℕ → List Placed → Got Expr) → outcome within ≡ refused 3 spot
+Heads look text from outcome (Unknown spot) = (within : ℕ → List Placed → Got Expr) → outcome within ≡ refused 5 spot
+
+-- The number of an axis; 5 where a word names none.
+abbrev pub axisCode : Option Axis → ℕ
+axisCode none = 5
+axisCode (some a) = axisNumber a
+
+-- The number of the test that a word calls; 2 where it calls none.
+abbrev pub callCode : List ℕ → ℕ
+callCode word = cond (same (ascii "node") word) 0 (cond (same (ascii "text") word) 1 2)
+
+-- TOKENS AHEAD. Does `/` or `//` come next?
+abbrev pub Joins : List ℕ → ℕ → Joint → Type 0
+Joins text from (Next past true) = (sees paper.slash (tokensAt text from) ≡ false) × (sees paper.slashes (tokensAt text from) ≡ true) × Past text from (past .at)
+Joins text from (Next past false) = (sees paper.slash (tokensAt text from) ≡ true) × Past text from (past .at)
+Joins text from (Nothing spot) =
+    (sees paper.slash (tokensAt text from) ≡ false) × (sees paper.slashes (tokensAt text from) ≡ false) × (spot ≡ at (tokensAt text from))
+
+-- How an absolute path begins.
+abbrev pub Leads : List ℕ → ℕ → Lead → Type 0
+Leads text from (Alone past) =
+    (sees paper.slashes (tokensAt text from) ≡ false) × (sees paper.slash (tokensAt text from) ≡ true) × Past text from (past .at) × (startsStep (next (tokensAt text (past .at))) ≡ false)
+Leads text from (Before past true) = (sees paper.slashes (tokensAt text from) ≡ true) × Past text from (past .at)
+Leads text from (Before past false) =
+    (sees paper.slashes (tokensAt text from) ≡ false) × (sees paper.slash (tokensAt text from) ≡ true) × Past text from (past .at) × (startsStep (next (tokensAt text (past .at))) ≡ true)
+Leads text from (NoPath spot) =
+    (sees paper.slashes (tokensAt text from) ≡ false) × (sees paper.slash (tokensAt text from) ≡ false) × (spot ≡ at (tokensAt text from))
+
+-- How an operand begins.
+pub record NotBegins (text : List ℕ) (from spot past : ℕ) : Type 0 where
+  pub word : ℕ
+  pub says-not : says (ascii "not") (tokensAt text from) ≡ true
+  pub first : Past text from word
+  pub opens : sees paper.openRound (tokensAt text word) ≡ true
+  pub place : spot ≡ at (tokensAt text word)
+  pub second : Past text word past
+
+abbrev pub Begins : List ℕ → ℕ → Opens → Type 0
+Begins text from (Not spot past) = NotBegins text from spot (past .at)
+Begins text from (Round spot past) =
+    ((says (ascii "not") (tokensAt text from) && sees paper.openRound (drop 1 (tokensAt text from))) ≡ false) × (sees paper.openRound (tokensAt text from) ≡ true) × (spot ≡ at (tokensAt text from)) × Past text from (past .at)
+Begins text from Path =
+    ((says (ascii "not") (tokensAt text from) && sees paper.openRound (drop 1 (tokensAt text from))) ≡ false) × (sees paper.openRound (tokensAt text from) ≡ false)
+
+-- The axis that is written.
+pub record AxisWritten (text : List ℕ) (from axis past : ℕ) : Type 0 where
+  pub way : Axis
+  pub number : axis ≡ axisNumber way
+  pub ahead : axisAhead (tokensAt text from) ≡ some way
+  pub rest : drop 2 (tokensAt text from) ≡ tokensAt text past
+  pub onward : from < past
+  pub inside : past ≤ length text
+  pub fewer : length (tokensAt text past) ≤ length (tokensAt text from)
+
+abbrev pub Axes : List ℕ → ℕ → AxisAhead → Type 0
+Axes text from (Named axis past) = AxisWritten text from axis (past .at)
+Axes text from Unnamed = axisAhead (tokensAt text from) ≡ none
+
+-- A test that is called by a word and the `(` that comes next.
+abbrev pub Calls : List ℕ → List ℕ → ℕ → Call → Type 0
+Calls text word from (Inside test past) = (test ≡ callCode word) × (test < 2) × (sees paper.openRound (tokensAt text from) ≡ true) × Past text from (past .at)
+Calls text word from NoCall = ((callCode word ≡ 2) ⊎ (sees paper.openRound (tokensAt text from) ≡ false))
+
+-- The `)` of such a test.
+abbrev pub Closes : List ℕ → ℕ → ℕ → ℕ → Head → Type 0
+Closes text from axis test (Plain axis′ past) = ⊥
+Closes text from axis test (Tested axis′ test′ past) = (axis′ ≡ axis) × (test′ ≡ test) × (sees paper.closeRound (tokensAt text from) ≡ true) × Past text from (past .at)
+Closes text from axis test (Wrong spot) = (sees paper.closeRound (tokensAt text from) ≡ false) × (spot ≡ at (tokensAt text from))
+Closes text from axis test (Unknown spot) = ⊥
+
+-- The number of a name, of which an item can say 256.
+abbrev pub Numbered : Option ℕ → Found → Type 0
+Numbered look (At v) = (look ≡ some v) × (v < 256)
+Numbered look Absent = look ≡ none
+
+-- MOVING. What stands from `place` to `end` stands `count` further on.
+pub record MovedTo (new front raw back : List ℕ) (count : ℕ) : Type 0 where
+  pub gap : List ℕ
+  pub is : new ≡ front ++ (gap ++ (raw ++ back))
+  pub wide : length gap ≡ count
+
+pub record Moved (old new : List ℕ) (place end count : ℕ) : Type 0 where
+  pub puts : (front raw gone back : List ℕ) → old ≡ front ++ (raw ++ (gone ++ back)) → length front ≡ place → place + length raw ≡ end → length gone ≡ count
+      → MovedTo new front raw back count
+
+pub record Filled (old new : List ℕ) (place count item : ℕ) : Type 0 where
+  pub puts : (front gone back : List ℕ) → old ≡ front ++ (gone ++ back) → length front ≡ place → length gone ≡ count → new ≡ front ++ (replicate count item ++ back)
+
+-- What every reading function asks: a text that is not too long, a list with its starts, a place in the text.
+pub record Ready (text list starts : List ℕ) (count from depth : ℕ) : Type 0 where
+  pub short : length text ≤ textLimit
+  pub names : Indexed list starts count
+  pub inside : from ≤ length text
+  pub shallow : depth ≤ bracketLimit
+
+-- The items of a path with these steps.
+abbrev pub pathItems : Steps → List ℕ
+pathItems s = encodeExpr (path s)
+
+-- THE QUERY. The end of the text must come next.
+abbrev pub Finishes : List ℕ → ℕ → ℕ → Part → Type 0
+Finishes text from end (Done past end′) = (end′ ≡ end) × (sees paper.finish (tokensAt text from) ≡ true)
+Finishes text from end (NoQuery spot) = (sees paper.finish (tokensAt text from) ≡ false) × (spot ≡ at (tokensAt text from))
+Finishes text from end (TooDeep spot) = ⊥
+Finishes text from end (UnknownName spot) = ⊥
+
+-- What was read of a whole text, with its items written from 0 on.
+pub record Whole (old new : List ℕ) (outcome : Got Query) (end : ℕ) : Type 0 where
+  pub what : Query
+  pub left : List Placed
+  pub reads : outcome ≡ got what left
+  pub wrote : Wrote old new 0 (encode what)
+  pub ends : end ≡ length (encode what)
+
+abbrev pub ReadsAll : List ℕ → List ℕ → Got Query → Part → Type 0
+ReadsAll old new outcome (Done past end) = Whole old new outcome end
+ReadsAll old new outcome (NoQuery spot) = outcome ≡ refused 3 spot
+ReadsAll old new outcome (TooDeep spot) = outcome ≡ refused 4 spot
+ReadsAll old new outcome (UnknownName spot) = outcome ≡ refused 5 spot
+
+-- What was measured of a whole text.
+pub record Sized (outcome : Got Query) (end : ℕ) : Type 0 where
+  pub what : Query
+  pub left : List Placed
+  pub reads : outcome ≡ got what left
+  pub ends : end ≡ size what
+
+abbrev pub Measures : Got Query → Part → Type 0
+Measures outcome (Done past end) = Sized outcome end
+Measures outcome (NoQuery spot) = outcome ≡ refused 3 spot
+Measures outcome (TooDeep spot) = outcome ≡ refused 4 spot
+Measures outcome (UnknownName spot) = outcome ≡ refused 5 spot
+
+-- The answer that a refusal stands for.
+abbrev pub Refusal : Part → Answer → Type 0
+Refusal (Done past end) a = told a ≡ value end
+Refusal (NoQuery spot) a = told a ≡ refusal 3 spot
+Refusal (TooDeep spot) a = told a ≡ refusal 4 spot
+Refusal (UnknownName spot) a = told a ≡ refusal 5 spot

@@ -1,0 +1,1027 @@
+// The reader: from text to query. A measuring pass writes into no room; then the same functions write.
+// Recursion opens a bracket each time, so at most 65 deep.
+use names::Found;
+use names::Listed;
+use paper::Answer;
+use token::Cursor;
+use token::Token;
+ghost use Prim.Native.Nat.{ℕ, suc, _+_, _*_, _≤_, _<_};
+ghost use mathlib.Core.Path.{_≡_};
+ghost use mathlib.Core.Bool.{Bool, true, false, cond};
+ghost use mathlib.Core.List.{List, [], _∷_, _++_};
+ghost use lib.Dec.{eqb};
+ghost use lib.ListN.{length, take, drop};
+ghost use Rattle.paper.specs.Tools.{same};
+ghost use Rattle.paper.specs.Limits.{textLimit, listLimit, bracketLimit};
+ghost use Rattle.paper.specs.Tokens.{sort, letters};
+ghost use Rattle.paper.specs.Query.{Axis, child, Test};
+ghost use Rattle.paper.specs.Items.{axisNumber, testNumber, packPath, packStep, encode, encodeExpr};
+ghost use Rattle.paper.specs.Reading.{next, at, then, got, refused, axisNamed, startsStep, readTail, readTested, readStep, readSteps, readOperand, readTerm, readExpr, readPath, readPaths, readWithin, readText};
+ghost use Rattle.paper.specs.Answers.{readAnswer, readOut, readLast, lineGot};
+ghost use Rattle.paper.specs.Told.{told};
+ghost use Rattle.names.specs.Listing.{Indexed, foundAt};
+ghost use Rattle.read.specs.Parts.{tokensAt, sortOf, Looks, lookOf, Wrote, Grouped, deepItems, deepIf, stepItems, Reads, passSort, Heads, axisCode, callCode, Joins, Leads, Begins, Axes, Calls, Closes, Numbered, Moved, Filled, Ready, pathItems, Finishes, ReadsAll, Measures, Refusal};
+
+// What reading a part of a query comes to: the cursor past it and the place past its items, or a refusal with its place.
+pub enum Part {
+    Done { next: Cursor, end: usize },
+    NoQuery(usize),
+    TooDeep(usize),
+    UnknownName(usize),
+}
+
+// Is the next token the one looked for? Its place, and the cursor past it.
+pub enum Ahead {
+    There { place: usize, next: Cursor },
+    Other(usize),
+}
+
+// An axis that is written, and the cursor past its `::`.
+pub enum AxisAhead {
+    Named { axis: u32, next: Cursor },
+    Unnamed,
+}
+
+// A test that is written as a call, and the cursor past its `(`.
+pub enum Call {
+    Inside { test: u32, next: Cursor },
+    NoCall,
+}
+
+// Axis and test of a step, after which predicates may stand; or `.` and `..`, after which none may.
+pub enum Head {
+    Plain { axis: u32, next: Cursor },
+    Tested { axis: u32, test: u32, next: Cursor },
+    Wrong(usize),
+    Unknown(usize),
+}
+
+// Does `/` or `//` come next?
+pub enum Joint {
+    Next { next: Cursor, deep: bool },
+    Nothing(usize),
+}
+
+// How an operand begins: the place of its bracket and the cursor past that, or a path.
+pub enum Opens {
+    Not { place: usize, next: Cursor },
+    Round { place: usize, next: Cursor },
+    Path,
+}
+
+// How an absolute path begins.
+pub enum Lead {
+    Alone(Cursor),
+    Before { next: Cursor, deep: bool },
+    NoPath(usize),
+}
+
+// The sorts of tokens by the paper's numbers.
+const SLASH: usize = 0;
+
+const SLASHES: usize = 1;
+
+const COLONS: usize = 4;
+
+const BAR: usize = 5;
+
+const OPEN_SQUARE: usize = 6;
+
+const CLOSE_SQUARE: usize = 7;
+
+const OPEN_ROUND: usize = 8;
+
+const CLOSE_ROUND: usize = 9;
+
+// The number of the child axis, and the numbers that no axis and no called test has.
+const CHILD: u32 = 1;
+
+const NO_AXIS: u32 = 5;
+
+const NO_CALL: u32 = 2;
+
+// The test `*`.
+const ANY_ELEMENT: u32 = 258;
+
+// The item of the step that `//` stands for.
+const DEEP: u32 = 25;
+
+// TOKENS.
+
+// Which token this is, as a number.
+fn sort_of(t: Token) -> usize
+    ensures { λ r. ⌜ r ≡ sortOf t ⌝ }
+{
+    match t {
+        Token::Slash => 0,
+        Token::Slashes => 1,
+        Token::Dot => 2,
+        Token::Dots => 3,
+        Token::Colons => 4,
+        Token::Bar => 5,
+        Token::OpenSquare => 6,
+        Token::CloseSquare => 7,
+        Token::OpenRound => 8,
+        Token::CloseRound => 9,
+        Token::Star => 10,
+        Token::Finish => 11,
+        Token::Stray => 12,
+        Token::Word(_) => 13,
+    }
+}
+
+// Is the next token of this sort?
+fn mark(text: &[u8], cursor: Cursor, wanted: usize) -> Ahead
+    requires { ⌜ (cursor .at ≤ length (now text)) × (wanted < 11) ⌝ }
+    ensures { λ r. ⌜ Looks (now (text .entry)) (cursor .at) (eqb wanted (sort (next (tokensAt (now (text .entry)) (cursor .at))))) r ⌝ }
+{
+    let taken = cursor.take(text);
+    let place = taken.place;
+    let past = taken.next;
+    let token = taken.token;
+    if wanted == sort_of(token) {
+        Ahead::There { place, next: past }
+    } else {
+        Ahead::Other(place)
+    }
+}
+
+// Is this the word that stands in the text?
+fn same_word(text: &[u8], start: usize, len: usize, word: &[u8]) -> bool
+    requires { ⌜ start + len ≤ length (now text) ⌝ }
+    ensures { λ r. ⌜ r ≡ same (now (word .entry)) (take len (drop start (now (text .entry)))) ⌝ }
+{
+    if len != word.len() {
+        return false;
+    }
+    let mut i: usize = 0;
+    while i < len {
+        if text[start + i] != word[i] {
+            return false;
+        }
+        i += 1;
+    }
+    true
+}
+
+// Is the next token this word?
+fn word_ahead(text: &[u8], cursor: Cursor, word: &[u8]) -> Ahead
+    requires { ⌜ (cursor .at ≤ length (now text)) × (0 < length (now word)) ⌝ }
+    ensures { λ r. ⌜ Looks (now (text .entry)) (cursor .at) (same (now (word .entry)) (letters (next (tokensAt (now (text .entry)) (cursor .at))))) r ⌝ }
+{
+    let taken = cursor.take(text);
+    let place = taken.place;
+    let past = taken.next;
+    let token = taken.token;
+    let Token::Word(len) = token else {
+        return Ahead::Other(place);
+    };
+    if same_word(text, place, len, word) {
+        Ahead::There { place, next: past }
+    } else {
+        Ahead::Other(place)
+    }
+}
+
+// Does a step begin here?
+fn starts_step(text: &[u8], cursor: Cursor) -> bool
+    requires { ⌜ cursor .at ≤ length (now text) ⌝ }
+    ensures { λ r. ⌜ r ≡ startsStep (next (tokensAt (now (text .entry)) (cursor .at))) ⌝ }
+{
+    let taken = cursor.take(text);
+    let token = taken.token;
+    let sort = sort_of(token);
+    (13 == sort) | (10 == sort) | (2 == sort) | (3 == sort)
+}
+
+// Does `/` or `//` come next?
+fn joined(text: &[u8], cursor: Cursor) -> Joint
+    requires { ⌜ cursor .at ≤ length (now text) ⌝ }
+    ensures { λ r. ⌜ Joins (now (text .entry)) (cursor .at) r ⌝ }
+{
+    let single = mark(text, cursor, SLASH);
+    if let Ahead::There { place: _, next } = single {
+        return Joint::Next { next, deep: false };
+    }
+    let double = mark(text, cursor, SLASHES);
+    match double {
+        Ahead::There { place: _, next } => Joint::Next { next, deep: true },
+        Ahead::Other(place) => Joint::Nothing(place),
+    }
+}
+
+// How an absolute path begins: `/` alone, or `/` or `//` and steps.
+fn path_lead(text: &[u8], cursor: Cursor) -> Lead
+    requires { ⌜ cursor .at ≤ length (now text) ⌝ }
+    ensures { λ r. ⌜ Leads (now (text .entry)) (cursor .at) r ⌝ }
+{
+    let joint = joined(text, cursor);
+    match joint {
+        Joint::Next { next, deep } => {
+            if deep {
+                return Lead::Before { next, deep };
+            }
+            if starts_step(text, next) {
+                Lead::Before { next, deep }
+            } else {
+                Lead::Alone(next)
+            }
+        }
+        Joint::Nothing(place) => Lead::NoPath(place),
+    }
+}
+
+// How an operand begins: `not(`, `(`, or a step.
+fn opening(text: &[u8], cursor: Cursor) -> Opens
+    requires { ⌜ cursor .at ≤ length (now text) ⌝ }
+    ensures { λ r. ⌜ Begins (now (text .entry)) (cursor .at) r ⌝ }
+{
+    let round = mark(text, cursor, OPEN_ROUND);
+    if let Ahead::There { place, next } = round {
+        return Opens::Round { place, next };
+    }
+    let word = word_ahead(text, cursor, b"not");
+    let Ahead::There { place: _, next } = word else {
+        return Opens::Path;
+    };
+    let call = mark(text, next, OPEN_ROUND);
+    match call {
+        Ahead::There { place, next } => Opens::Not { place, next },
+        Ahead::Other(_) => Opens::Path,
+    }
+}
+
+// THE HEAD OF A STEP.
+
+// The number of the axis that a word names.
+fn axis_of(text: &[u8], start: usize, len: usize) -> u32
+    requires { ⌜ start + len ≤ length (now text) ⌝ }
+    ensures { λ r. ⌜ r ≡ axisCode (axisNamed (take len (drop start (now (text .entry))))) ⌝ }
+{
+    if same_word(text, start, len, b"self") {
+        return 0;
+    }
+    if same_word(text, start, len, b"child") {
+        return 1;
+    }
+    if same_word(text, start, len, b"parent") {
+        return 2;
+    }
+    if same_word(text, start, len, b"descendant-or-self") {
+        return 3;
+    }
+    if same_word(text, start, len, b"ancestor-or-self") {
+        return 4;
+    }
+    NO_AXIS
+}
+
+// The axis that is written before `::`, if one is.
+fn axis_ahead(text: &[u8], cursor: Cursor) -> AxisAhead
+    requires { ⌜ cursor .at ≤ length (now text) ⌝ }
+    ensures { λ r. ⌜ Axes (now (text .entry)) (cursor .at) r ⌝ }
+{
+    let taken = cursor.take(text);
+    let place = taken.place;
+    let past = taken.next;
+    let token = taken.token;
+    let Token::Word(len) = token else {
+        return AxisAhead::Unnamed;
+    };
+    let colons = mark(text, past, COLONS);
+    let Ahead::There { place: _, next } = colons else {
+        return AxisAhead::Unnamed;
+    };
+    let axis = axis_of(text, place, len);
+    if axis == NO_AXIS {
+        AxisAhead::Unnamed
+    } else {
+        AxisAhead::Named { axis, next }
+    }
+}
+
+// The number of the test that a word calls.
+fn call_of(text: &[u8], start: usize, len: usize) -> u32
+    requires { ⌜ start + len ≤ length (now text) ⌝ }
+    ensures { λ r. ⌜ r ≡ callCode (take len (drop start (now (text .entry)))) ⌝ }
+{
+    if same_word(text, start, len, b"node") {
+        return 0;
+    }
+    if same_word(text, start, len, b"text") {
+        return 1;
+    }
+    NO_CALL
+}
+
+// The test that a word and the `(` after it call, if they do.
+fn test_call(text: &[u8], start: usize, len: usize, cursor: Cursor) -> Call
+    requires { ⌜ (start + len ≤ length (now text)) × (cursor .at ≤ length (now text)) ⌝ }
+    ensures { λ r. ⌜ Calls (now (text .entry)) (take len (drop start (now (text .entry)))) (cursor .at) r ⌝ }
+{
+    let test = call_of(text, start, len);
+    if test == NO_CALL {
+        return Call::NoCall;
+    }
+    let round = mark(text, cursor, OPEN_ROUND);
+    match round {
+        Ahead::There { place: _, next } => Call::Inside { test, next },
+        Ahead::Other(_) => Call::NoCall,
+    }
+}
+
+// The `)` of a test that is called.
+fn called(text: &[u8], cursor: Cursor, axis: u32, test: u32) -> Head
+    requires { ⌜ cursor .at ≤ length (now text) ⌝ }
+    ensures { λ r. ⌜ Closes (now (text .entry)) (cursor .at) axis test r ⌝ }
+{
+    let round = mark(text, cursor, CLOSE_ROUND);
+    match round {
+        Ahead::There { place: _, next } => Head::Tested { axis, test, next },
+        Ahead::Other(place) => Head::Wrong(place),
+    }
+}
+
+// The number of a name; any word is a name where none is looked up.
+fn number(
+    text: &[u8],
+    list: &[u8],
+    starts: &[u16; 257],
+    count: usize,
+    known: bool,
+    start: usize,
+    len: usize,
+) -> Found
+    requires { ⌜ Indexed (now list) (now starts) count ⌝ }
+    requires { ⌜ start + len ≤ length (now text) ⌝ }
+    ensures { λ r. ⌜ Numbered (lookOf known (now (list .entry)) (take len (drop start (now (text .entry))))) r ⌝ }
+{
+    if known {
+        names::find(list, starts, count, text, start, len)
+    } else {
+        Found::At(0)
+    }
+}
+
+// The test of a step, after its axis: `*`, `node()`, `text()` or a name.
+fn tested(
+    text: &[u8],
+    list: &[u8],
+    starts: &[u16; 257],
+    count: usize,
+    known: bool,
+    cursor: Cursor,
+    axis: u32,
+) -> Head
+    requires { ⌜ Indexed (now list) (now starts) count ⌝ }
+    requires { ⌜ cursor .at ≤ length (now text) ⌝ }
+    ensures { λ r. ⌜ ((a : Axis) → axis ≡ axisNumber a → Heads (lookOf known (now (list .entry))) (now (text .entry)) (cursor .at) (λ within. readTested (lookOf known (now (list .entry))) within a (tokensAt (now (text .entry)) (cursor .at))) r) ⌝ }
+{
+    let taken = cursor.take(text);
+    let place = taken.place;
+    let past = taken.next;
+    let token = taken.token;
+    if let Token::Star = token {
+        return Head::Tested {
+            axis,
+            test: ANY_ELEMENT,
+            next: past,
+        };
+    }
+    let Token::Word(len) = token else {
+        return Head::Wrong(place);
+    };
+    let call = test_call(text, place, len, past);
+    if let Call::Inside { test, next } = call {
+        return called(text, next, axis, test);
+    }
+    let found = number(text, list, starts, count, known, place, len);
+    match found {
+        Found::At(v) => Head::Tested {
+            axis,
+            test: v as u32 + 2,
+            next: past,
+        },
+        Found::Nothing => Head::Unknown(place),
+    }
+}
+
+// The head of a step: `.`, `..`, or axis and test; no axis means child.
+fn step_head(
+    text: &[u8],
+    list: &[u8],
+    starts: &[u16; 257],
+    count: usize,
+    known: bool,
+    cursor: Cursor,
+) -> Head
+    requires { ⌜ Indexed (now list) (now starts) count ⌝ }
+    requires { ⌜ cursor .at ≤ length (now text) ⌝ }
+    ensures { λ r. ⌜ Heads (lookOf known (now (list .entry))) (now (text .entry)) (cursor .at) (λ within. readStep (lookOf known (now (list .entry))) within (tokensAt (now (text .entry)) (cursor .at))) r ⌝ }
+{
+    let dot = mark(text, cursor, 2);
+    if let Ahead::There { place: _, next } = dot {
+        return Head::Plain { axis: 0, next };
+    }
+    let dots = mark(text, cursor, 3);
+    if let Ahead::There { place: _, next } = dots {
+        return Head::Plain { axis: 2, next };
+    }
+    let ahead = axis_ahead(text, cursor);
+    match ahead {
+        AxisAhead::Named { axis, next } => tested(text, list, starts, count, known, next, axis),
+        AxisAhead::Unnamed => tested(text, list, starts, count, known, cursor, CHILD),
+    }
+}
+
+// ITEMS.
+
+// Puts an item at a place, where there is room.
+fn put(out: &mut [u32], place: usize, item: u32)
+    ensures { λ _. ⌜ Wrote (now (out .entry)) (now (out .exit)) place (item ∷ []) ⌝ }
+{
+    if place < out.len() {
+        out[place] = item;
+    }
+}
+
+// Puts the step that `//` stands for, where it is written; the place past it.
+fn put_deep(out: &mut [u32], place: usize, deep: bool) -> usize
+    requires { ⌜ place < 200000 ⌝ }
+    ensures { λ r. ⌜ (Wrote (now (out .entry)) (now (out .exit)) place (deepItems deep)) × (r ≡ place + length (deepItems deep)) ⌝ }
+{
+    if deep {
+        put(out, place, DEEP);
+        return place + 1;
+    }
+    place
+}
+
+// The item of a path; 0 for more steps than an item can say.
+fn path_word(count: usize) -> u32
+    ensures { λ r. ⌜ (count < 8192 → r ≡ packPath count) ⌝ }
+{
+    if count < 8192 {
+        item::pack_path(count)
+    } else {
+        0
+    }
+}
+
+// The item of a step; 0 for more predicates than an item can say.
+fn step_word(axis: u32, test: u32, count: usize) -> u32
+    requires { ⌜ (axis < 8) × (test < 512) ⌝ }
+    ensures { λ r. ⌜ (count < 8192 → r ≡ 1 + axis * 8 + test * 64 + count * 32768) ⌝ }
+{
+    if count < 8192 {
+        item::pack_step(item::Step { axis, test, count })
+    } else {
+        0
+    }
+}
+
+// Moves what stands from `place` to `end` up by `count`, its end first.
+fn move_up(out: &mut [u32], place: usize, end: usize, count: usize)
+    requires { ⌜ (place ≤ end) × (end + count ≤ length (now out)) × (0 < count) ⌝ }
+    ensures { λ _. ⌜ Moved (now (out .entry)) (now (out .exit)) place end count ⌝ }
+{
+    let mut i = end;
+    while place < i {
+        i -= 1;
+        out[i + count] = out[i];
+    }
+}
+
+// Puts an item at each of `count` places.
+fn fill(out: &mut [u32], place: usize, count: usize, item: u32)
+    requires { ⌜ place + count ≤ length (now out) ⌝ }
+    ensures { λ _. ⌜ Filled (now (out .entry)) (now (out .exit)) place count item ⌝ }
+{
+    let mut i: usize = 0;
+    while i < count {
+        out[place + i] = item;
+        i += 1;
+    }
+}
+
+// Puts so many of an operator's items before what stands from `place` to `end`, where there is room for them.
+fn group(out: &mut [u32], place: usize, end: usize, count: usize, item: u32)
+    requires { ⌜ (place ≤ end) × (end < 200000) × (count < 200000) ⌝ }
+    ensures { λ _. ⌜ Grouped (now (out .entry)) (now (out .exit)) place end count item ⌝ }
+{
+    if count == 0 {
+        return;
+    }
+    if out.len() < end + count {
+        return;
+    }
+    move_up(out, place, end, count);
+    fill(out, place, count, item);
+}
+
+// PATH, STEP AND EXPRESSION.
+
+// An expression: terms joined by `or`.
+fn expression(
+    text: &[u8],
+    list: &[u8],
+    starts: &[u16; 257],
+    count: usize,
+    known: bool,
+    cursor: Cursor,
+    depth: usize,
+    out: &mut [u32],
+    place: usize,
+) -> Part
+    requires { ⌜ Ready (now text) (now list) (now starts) count (cursor .at) depth ⌝ }
+    requires { ⌜ place ≤ 3 * cursor .at ⌝ }
+    ensures { λ r. ⌜ Reads (now (text .entry)) (now (out .entry)) (now (out .exit)) (cursor .at) place (3 * cursor .at) place (readExpr (lookOf known (now (list .entry))) (readWithin (lookOf known (now (list .entry))) depth) (tokensAt (now (text .entry)) (cursor .at))) encodeExpr r ⌝ }
+{
+    let first = term(text, list, starts, count, known, cursor, depth, out, place);
+    let Part::Done { next, end } = first else {
+        return first;
+    };
+    let mut here = next;
+    let mut filled = end;
+    let mut run: usize = 0;
+    loop {
+        let ahead = word_ahead(text, here, b"or");
+        let Ahead::There { place: _, next } = ahead else {
+            break;
+        };
+        let more = term(text, list, starts, count, known, next, depth, out, filled);
+        let Part::Done { next, end } = more else {
+            return more;
+        };
+        here = next;
+        filled = end;
+        run += 1;
+    }
+    group(out, place, filled, run, item::OR);
+    Part::Done {
+        next: here,
+        end: filled + run,
+    }
+}
+
+// A term of `or`: operands joined by `and`.
+fn term(
+    text: &[u8],
+    list: &[u8],
+    starts: &[u16; 257],
+    count: usize,
+    known: bool,
+    cursor: Cursor,
+    depth: usize,
+    out: &mut [u32],
+    place: usize,
+) -> Part
+    requires { ⌜ Ready (now text) (now list) (now starts) count (cursor .at) depth ⌝ }
+    requires { ⌜ place ≤ 3 * cursor .at ⌝ }
+    ensures { λ r. ⌜ Reads (now (text .entry)) (now (out .entry)) (now (out .exit)) (cursor .at) place (3 * cursor .at) place (readTerm (lookOf known (now (list .entry))) (readWithin (lookOf known (now (list .entry))) depth) (tokensAt (now (text .entry)) (cursor .at))) encodeExpr r ⌝ }
+{
+    let first = operand(text, list, starts, count, known, cursor, depth, out, place);
+    let Part::Done { next, end } = first else {
+        return first;
+    };
+    let mut here = next;
+    let mut filled = end;
+    let mut run: usize = 0;
+    loop {
+        let ahead = word_ahead(text, here, b"and");
+        let Ahead::There { place: _, next } = ahead else {
+            break;
+        };
+        let more = operand(text, list, starts, count, known, next, depth, out, filled);
+        let Part::Done { next, end } = more else {
+            return more;
+        };
+        here = next;
+        filled = end;
+        run += 1;
+    }
+    group(out, place, filled, run, item::AND);
+    Part::Done {
+        next: here,
+        end: filled + run,
+    }
+}
+
+// An operand of `and`: `not(..)`, round brackets, or a path that starts with a step.
+fn operand(
+    text: &[u8],
+    list: &[u8],
+    starts: &[u16; 257],
+    count: usize,
+    known: bool,
+    cursor: Cursor,
+    depth: usize,
+    out: &mut [u32],
+    place: usize,
+) -> Part
+    requires { ⌜ Ready (now text) (now list) (now starts) count (cursor .at) depth ⌝ }
+    requires { ⌜ place ≤ 3 * cursor .at ⌝ }
+    ensures { λ r. ⌜ Reads (now (text .entry)) (now (out .entry)) (now (out .exit)) (cursor .at) place (3 * cursor .at) place (readOperand (lookOf known (now (list .entry))) (readWithin (lookOf known (now (list .entry))) depth) (tokensAt (now (text .entry)) (cursor .at))) encodeExpr r ⌝ }
+{
+    let opens = opening(text, cursor);
+    match opens {
+        Opens::Not {
+            place: bracket,
+            next,
+        } => {
+            let inner = bracketed(
+                text,
+                list,
+                starts,
+                count,
+                known,
+                next,
+                depth,
+                out,
+                place + 1,
+                bracket,
+                CLOSE_ROUND,
+            );
+            let Part::Done { next, end } = inner else {
+                return inner;
+            };
+            put(out, place, item::NOT);
+            Part::Done { next, end }
+        }
+        Opens::Round {
+            place: bracket,
+            next,
+        } => {
+            bracketed(
+                text,
+                list,
+                starts,
+                count,
+                known,
+                next,
+                depth,
+                out,
+                place,
+                bracket,
+                CLOSE_ROUND,
+            )
+        }
+        Opens::Path => steps(
+            text,
+            list,
+            starts,
+            count,
+            known,
+            cursor,
+            depth,
+            out,
+            place,
+            false,
+        ),
+    }
+}
+
+// The expression in a bracket that stands at `bracket`, and what closes it.
+fn bracketed(
+    text: &[u8],
+    list: &[u8],
+    starts: &[u16; 257],
+    count: usize,
+    known: bool,
+    cursor: Cursor,
+    depth: usize,
+    out: &mut [u32],
+    place: usize,
+    bracket: usize,
+    closer: usize,
+) -> Part
+    requires { ⌜ Ready (now text) (now list) (now starts) count (cursor .at) depth ⌝ }
+    requires { ⌜ (place ≤ 3 * cursor .at) × (closer < 11) ⌝ }
+    ensures { λ r. ⌜ Reads (now (text .entry)) (now (out .entry)) (now (out .exit)) (cursor .at) place (3 * cursor .at) place (then (readWithin (lookOf known (now (list .entry))) depth bracket (tokensAt (now (text .entry)) (cursor .at))) (passSort closer)) encodeExpr r ⌝ }
+{
+    if depth == 0 {
+        return Part::TooDeep(bracket);
+    }
+    let inner = expression(
+        text,
+        list,
+        starts,
+        count,
+        known,
+        cursor,
+        depth - 1,
+        out,
+        place,
+    );
+    let Part::Done { next, end } = inner else {
+        return inner;
+    };
+    let close = mark(text, next, closer);
+    match close {
+        Ahead::There { place: _, next } => Part::Done { next, end },
+        Ahead::Other(place) => Part::NoQuery(place),
+    }
+}
+
+// A path's item and its steps: one step, and after each `/` or `//` another; `deep` where `//` stands before the first.
+fn steps(
+    text: &[u8],
+    list: &[u8],
+    starts: &[u16; 257],
+    count: usize,
+    known: bool,
+    cursor: Cursor,
+    depth: usize,
+    out: &mut [u32],
+    place: usize,
+    deep: bool,
+) -> Part
+    requires { ⌜ Ready (now text) (now list) (now starts) count (cursor .at) depth ⌝ }
+    requires { ⌜ place ≤ 3 * cursor .at ⌝ }
+    ensures { λ r. ⌜ Reads (now (text .entry)) (now (out .entry)) (now (out .exit)) (cursor .at) place (3 * cursor .at) place (then (readSteps (lookOf known (now (list .entry))) (readWithin (lookOf known (now (list .entry))) depth) (length (tokensAt (now (text .entry)) (cursor .at))) (tokensAt (now (text .entry)) (cursor .at))) (λ s. got (deepIf deep s))) pathItems r ⌝ }
+{
+    let mut here = cursor;
+    let mut filled = place + 1;
+    let mut lead = deep;
+    let mut taken: usize = 0;
+    loop {
+        let from = put_deep(out, filled, lead);
+        let one = step(text, list, starts, count, known, here, depth, out, from);
+        let Part::Done { next, end } = one else {
+            return one;
+        };
+        taken += from - filled + 1;
+        filled = end;
+        let joint = joined(text, next);
+        match joint {
+            Joint::Next { next, deep } => {
+                here = next;
+                lead = deep;
+            }
+            Joint::Nothing(_) => {
+                put(out, place, path_word(taken));
+                return Part::Done { next, end: filled };
+            }
+        }
+    }
+}
+
+// One step: its head, and predicates where they may stand.
+fn step(
+    text: &[u8],
+    list: &[u8],
+    starts: &[u16; 257],
+    count: usize,
+    known: bool,
+    cursor: Cursor,
+    depth: usize,
+    out: &mut [u32],
+    place: usize,
+) -> Part
+    requires { ⌜ Ready (now text) (now list) (now starts) count (cursor .at) depth ⌝ }
+    requires { ⌜ place ≤ 3 * cursor .at + 2 ⌝ }
+    ensures { λ r. ⌜ Reads (now (text .entry)) (now (out .entry)) (now (out .exit)) (cursor .at) place (3 * cursor .at + 2) place (readStep (lookOf known (now (list .entry))) (readWithin (lookOf known (now (list .entry))) depth) (tokensAt (now (text .entry)) (cursor .at))) stepItems r ⌝ }
+{
+    let head = step_head(text, list, starts, count, known, cursor);
+    match head {
+        Head::Plain { axis, next } => {
+            put(out, place, step_word(axis, 0, 0));
+            Part::Done {
+                next,
+                end: place + 1,
+            }
+        }
+        Head::Tested { axis, test, next } => {
+            predicates(
+                text,
+                list,
+                starts,
+                count,
+                known,
+                next,
+                depth,
+                out,
+                place,
+                axis,
+                test,
+            )
+        }
+        Head::Wrong(spot) => Part::NoQuery(spot),
+        Head::Unknown(spot) => Part::UnknownName(spot),
+    }
+}
+
+// A step's item and its predicates, each an expression in its bracket.
+fn predicates(
+    text: &[u8],
+    list: &[u8],
+    starts: &[u16; 257],
+    count: usize,
+    known: bool,
+    cursor: Cursor,
+    depth: usize,
+    out: &mut [u32],
+    place: usize,
+    axis: u32,
+    test: u32,
+) -> Part
+    requires { ⌜ Ready (now text) (now list) (now starts) count (cursor .at) depth ⌝ }
+    requires { ⌜ (place < 3 * cursor .at) × (axis < 8) × (test < 512) ⌝ }
+    ensures { λ r. ⌜ ((a : Axis) (t : Test) → axis ≡ axisNumber a → test ≡ testNumber t → Reads (now (text .entry)) (now (out .entry)) (now (out .exit)) (cursor .at) place (3 * cursor .at) (place + 1) (readTail (lookOf known (now (list .entry))) (readWithin (lookOf known (now (list .entry))) depth) a t (tokensAt (now (text .entry)) (cursor .at))) stepItems r) ⌝ }
+{
+    let mut here = cursor;
+    let mut filled = place + 1;
+    let mut taken: usize = 0;
+    loop {
+        let ahead = mark(text, here, OPEN_SQUARE);
+        let Ahead::There {
+            place: bracket,
+            next,
+        } = ahead
+        else {
+            break;
+        };
+        let one = bracketed(
+            text,
+            list,
+            starts,
+            count,
+            known,
+            next,
+            depth,
+            out,
+            filled,
+            bracket,
+            CLOSE_SQUARE,
+        );
+        let Part::Done { next, end } = one else {
+            return one;
+        };
+        here = next;
+        filled = end;
+        taken += 1;
+    }
+    put(out, place, step_word(axis, test, taken));
+    Part::Done {
+        next: here,
+        end: filled,
+    }
+}
+
+// THE QUERY.
+
+// An absolute path.
+fn path(
+    text: &[u8],
+    list: &[u8],
+    starts: &[u16; 257],
+    count: usize,
+    known: bool,
+    cursor: Cursor,
+    out: &mut [u32],
+    place: usize,
+) -> Part
+    requires { ⌜ Ready (now text) (now list) (now starts) count (cursor .at) bracketLimit ⌝ }
+    requires { ⌜ place ≤ 3 * cursor .at ⌝ }
+    ensures { λ r. ⌜ Reads (now (text .entry)) (now (out .entry)) (now (out .exit)) (cursor .at) place (3 * cursor .at) place (readPath (lookOf known (now (list .entry))) (readWithin (lookOf known (now (list .entry))) bracketLimit) (tokensAt (now (text .entry)) (cursor .at))) pathItems r ⌝ }
+{
+    let lead = path_lead(text, cursor);
+    match lead {
+        Lead::Alone(next) => {
+            put(out, place, item::pack_path(0));
+            Part::Done {
+                next,
+                end: place + 1,
+            }
+        }
+        Lead::Before { next, deep } => {
+            steps(
+                text,
+                list,
+                starts,
+                count,
+                known,
+                next,
+                paper::BRACKET_LIMIT,
+                out,
+                place,
+                deep,
+            )
+        }
+        Lead::NoPath(spot) => Part::NoQuery(spot),
+    }
+}
+
+// The end of the text must come next.
+fn finished(text: &[u8], cursor: Cursor, end: usize) -> Part
+    requires { ⌜ cursor .at ≤ length (now text) ⌝ }
+    ensures { λ r. ⌜ Finishes (now (text .entry)) (cursor .at) end r ⌝ }
+{
+    let taken = cursor.take(text);
+    let place = taken.place;
+    let past = taken.next;
+    let token = taken.token;
+    if let Token::Finish = token {
+        Part::Done { next: past, end }
+    } else {
+        Part::NoQuery(place)
+    }
+}
+
+// Absolute paths joined by `|`, to the end of the text.
+fn paths(
+    text: &[u8],
+    list: &[u8],
+    starts: &[u16; 257],
+    count: usize,
+    known: bool,
+    out: &mut [u32],
+) -> Part
+    requires { ⌜ Ready (now text) (now list) (now starts) count 0 bracketLimit ⌝ }
+    ensures { λ r. ⌜ ReadsAll (now (out .entry)) (now (out .exit)) (readText (lookOf known (now (list .entry))) (now (text .entry))) r ⌝ }
+{
+    let mut here = Cursor { at: 0 };
+    let mut filled: usize = 0;
+    loop {
+        let one = path(text, list, starts, count, known, here, out, filled);
+        let Part::Done { next, end } = one else {
+            return one;
+        };
+        let bar = mark(text, next, BAR);
+        match bar {
+            Ahead::There { place: _, next } => {
+                here = next;
+                filled = end;
+            }
+            Ahead::Other(_) => return finished(text, next, end),
+        }
+    }
+}
+
+// What the text is, measured: nothing is kept of what is written.
+fn measure(text: &[u8], list: &[u8], starts: &[u16; 257], count: usize, known: bool) -> Part
+    requires { ⌜ Ready (now text) (now list) (now starts) count 0 bracketLimit ⌝ }
+    ensures { λ r. ⌜ Measures (readText (lookOf known (now (list .entry))) (now (text .entry))) r ⌝ }
+{
+    let mut scratch = [0u32; 1];
+    paths(text, list, starts, count, known, &mut scratch)
+}
+
+// The refusal of a part, as an answer.
+fn refusal(part: Part) -> Answer
+    ensures { λ r. ⌜ Refusal part r ⌝ }
+{
+    match part {
+        Part::Done { next: _, end } => Answer::Value(end),
+        Part::NoQuery(place) => Answer::NoQuery(place),
+        Part::TooDeep(place) => Answer::TooDeep(place),
+        Part::UnknownName(place) => Answer::UnknownName(place),
+    }
+}
+
+// What `read` answers to a text and a list that are good by themselves: 3 or 4 by place, then 5, then 10.
+fn answer(text: &[u8], list: &[u8], starts: &[u16; 257], count: usize, room: usize) -> Answer
+    requires { ⌜ Ready (now text) (now list) (now starts) count 0 bracketLimit ⌝ }
+    ensures { λ r. ⌜ told r ≡ lineGot (readText (lookOf false (now (list .entry))) (now (text .entry))) (λ q. readLast (now (text .entry)) (now (list .entry)) room) ⌝ }
+{
+    let syntax = measure(text, list, starts, count, false);
+    let Part::Done { next: _, end: _ } = syntax else {
+        return refusal(syntax);
+    };
+    let whole = measure(text, list, starts, count, true);
+    let Part::Done { next: _, end } = whole else {
+        return refusal(whole);
+    };
+    if room < end {
+        return Answer::Short(end);
+    }
+    if paper::ITEM_LIMIT < end {
+        return Answer::Short(end);
+    }
+    Answer::Value(end)
+}
+
+// Reads a query: writes its items and answers their number, or refuses and writes nothing.
+pub fn read(text: &[u8], list: &[u8], out: &mut [u32]) -> Answer
+    ensures { λ r. ⌜ told r ≡ readAnswer (now (text .entry)) (now (list .entry)) (length (now (out .entry))) ⌝ }
+    ensures { λ _. ⌜ now (out .exit) ≡ readOut (now (text .entry)) (now (list .entry)) (now (out .entry)) ⌝ }
+{
+    if paper::TEXT_LIMIT < text.len() {
+        return Answer::TooLong;
+    }
+    if paper::LIST_LIMIT < list.len() {
+        return Answer::TooLong;
+    }
+    let mut starts = [0u16; 257];
+    let listed = names::index(list, &mut starts);
+    match listed {
+        Listed::Bad(start) => Answer::BadName(start),
+        Listed::Good(count) => {
+            let said = answer(text, list, &starts, count, out.len());
+            if let Answer::Value(_) = said {
+                paths(text, list, &starts, count, true, out);
+            }
+            said
+        }
+    }
+}

@@ -1,0 +1,97 @@
+// Runs document 01's read samples, and some at the edges; writes one line of number and place for each.
+use paper::Answer;
+
+// Writes a digit.
+fn digit(n: usize) {
+    if n < 10 {
+        let line = [48 + n as u8];
+        io::write_all(libc::STDOUT_FILENO, &line);
+    }
+}
+
+// Writes a number of at most five digits.
+fn decimal(n: usize) {
+    digit(n / 10000 % 10);
+    digit(n / 1000 % 10);
+    digit(n / 100 % 10);
+    digit(n / 10 % 10);
+    digit(n % 10);
+}
+
+// Writes a refusal number, or 0, and the place or the value.
+fn line(number: usize, value: usize) {
+    decimal(number);
+    io::write_all(libc::STDOUT_FILENO, b" ");
+    decimal(value);
+    io::write_all(libc::STDOUT_FILENO, b"\n");
+}
+
+// Reads a text with the names a, b, c, d and writes what is answered.
+fn sample(text: &[u8]) {
+    let mut out = [0u32; 100];
+    match read::read(text, b"a\nb\nc\nd\n", &mut out) {
+        Answer::Value(n) => {
+            line(0, n);
+            let mut i = 0;
+            while i < n {
+                if i < 100 {
+                    decimal(out[i] as usize);
+                    io::write_all(libc::STDOUT_FILENO, b" ");
+                }
+                i += 1;
+            }
+            io::write_all(libc::STDOUT_FILENO, b"\n");
+        }
+        Answer::TooLong => line(1, 0),
+        Answer::BadName(place) => line(2, place),
+        Answer::NoQuery(place) => line(3, place),
+        Answer::TooDeep(place) => line(4, place),
+        Answer::UnknownName(place) => line(5, place),
+        Answer::BadQuery(place) => line(6, place),
+        Answer::BadTable(place) => line(7, place),
+        Answer::BadMarks(place) => line(8, place),
+        Answer::TooNested(place) => line(9, place),
+        Answer::Short(needed) => line(10, needed),
+    }
+}
+
+// `/a[`, so many `(`, `b` and its closers.
+fn nested(count: usize) {
+    let mut text = [40u8; 200];
+    text[0] = b'/';
+    text[1] = b'a';
+    text[2] = b'[';
+    if count < 90 {
+        text[3 + count] = b'b';
+        let mut i = 0;
+        while i < count {
+            text[4 + count + i] = b')';
+            i += 1;
+        }
+        text[4 + count + count] = b']';
+        let end = 5 + count + count;
+        sample(&text[..end]);
+    }
+}
+
+fn main() {
+    sample(b"");
+    sample(b"//");
+    sample(b"/.[a]");
+    sample(b"/a[/b]");
+    sample(b"/a[b|c]");
+    sample(b"/a[(b)/c]");
+    sample(b"/a/preceding::b");
+    sample(b"/e");
+    nested(63);
+    nested(64);
+    sample(b"/");
+    sample(b"/|//a");
+    sample(b"/a[b or c and d or not(a//b)]/..");
+    sample(b" / descendant-or-self :: node ( ) [ a ] [ text() ] ");
+    sample(b"/and[and and or or or and or]");
+    sample(b"/a[b][e][(]");
+    sample(b"/a[not]");
+    sample(b"/a[(a or b) and (b and c) or (c or d)]");
+    sample(b"/a[and b]");
+}
