@@ -1,8 +1,8 @@
 -- What a token that was taken says of the paper's tokens from there on. Assumes nothing.
-use Prim.Native.Nat.{ℕ, zero, suc, _+_, _≤_, _<_}
+use Prim.Native.Nat.{ℕ, _+_, _≤_, _<_}
 use native.Mathlib.Omega.{arith}
 use mathlib.Core.Path.{_≡_, refl, sym, _∙_, ap}
-use mathlib.Core.Bool.{Bool, true, false, _&&_, false≢true}
+use mathlib.Core.Bool.{Bool, true, false, _&&_}
 use mathlib.Core.List.{List, [], _∷_}
 use lib.Dec.{eqb}
 use lib.ListN.{length, take, drop}
@@ -17,7 +17,7 @@ use Rattle.token.specs.declared.Token.{Token}
 use Rattle.token.specs.declared.Token.the-variants.{Slash, Slashes, Dot, Dots, Colons, Bar, OpenSquare, CloseSquare, OpenRound, CloseRound, Star, Finish, Stray, Word}
 use Rattle.token.specs.declared.Taken.{Taken}
 use Rattle.token.specs.declared.Cursor.{Cursor}
-use Rattle.token.specs.Taking.{Takes, tokenOf, finished, following}
+use Rattle.token.specs.Taking.{Takes, tokenOf, finished}
 use Rattle.token.proofs.Token.{the-type}
 use Rattle.read.specs.Parts.{tokensAt, sortOf, Past, Looks, Joins, Leads}
 use Rattle.read.specs.declared.Ahead.the-variants.{There, Other}

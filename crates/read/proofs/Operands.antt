@@ -2,24 +2,22 @@
 use Prim.Native.Nat.{ℕ, zero, suc, _+_, _-_, _*_, _≤_, _<_}
 use native.Mathlib.Omega.{arith}
 use mathlib.Core.Path.{_≡_, refl, sym, _∙_, ap, subst}
-use mathlib.Core.Bool.{Bool, true, false, _&&_, cond}
+use mathlib.Core.Bool.{true, false}
 use mathlib.Core.List.{List, [], _∷_}
 use mathlib.Core.Option.{Option}
 use lib.Dec.{eqb}
 use lib.ListN.{length, drop}
 use lib.Seq.{drop-drop}
-use Rattle.paper.specs.Tools.{ascii}
 use Rattle.paper.specs.Tokens as paper
 use Rattle.paper.specs.Tokens.{Placed, sort}
-use Rattle.paper.specs.Query.{Axis, Test, Expr, path, negated, Steps}
+use Rattle.paper.specs.Query.{Expr, path, negated, Steps}
 use Rattle.paper.specs.Items.{notItem, encodeExpr}
-use Rattle.paper.specs.Reading.{Got, got, refused, then, next, at, sees, says, Step, readTail, readStep, readSteps, readOperand, readExpr, readWithin}
+use Rattle.paper.specs.Reading.{Got, got, refused, then, next, at, readTail, readStep, readSteps, readOperand, readExpr, readWithin}
 use Rattle.read.specs.declared.Part.{Part}
 use Rattle.read.specs.declared.Part.the-variants.{Done, NoQuery, TooDeep, UnknownName}
-use Rattle.read.specs.declared.Ahead.the-variants.{There, Other}
-use Rattle.read.specs.declared.Opens.the-variants.{Not, Round, Path}
+use Rattle.read.specs.declared.Opens.the-variants.{Round, Path}
 use Rattle.token.specs.declared.Cursor.{Cursor}
-use Rattle.read.specs.Parts.{tokensAt, Past, Looks, Wrote, Gives, Reads, passSort, stepItems, pathItems, Begins, NotBegins, PlainStep, TestedStep}
+use Rattle.read.specs.Parts.{tokensAt, Past, Wrote, Gives, Reads, passSort, stepItems, pathItems, Begins, NotBegins, PlainStep, TestedStep}
 use Rattle.read.proofs.Writing.{wrote-head}
 
 -- What is read from a later place on is what is read from here.

@@ -5,21 +5,21 @@ use names::Listed;
 use paper::Answer;
 use token::Cursor;
 use token::Token;
-ghost use Prim.Native.Nat.{ℕ, suc, _+_, _*_, _≤_, _<_};
+ghost use Prim.Native.Nat.{_+_, _*_, _≤_, _<_};
 ghost use mathlib.Core.Path.{_≡_};
-ghost use mathlib.Core.Bool.{Bool, true, false, cond};
-ghost use mathlib.Core.List.{List, [], _∷_, _++_};
+ghost use mathlib.Core.Bool.{true, false};
+ghost use mathlib.Core.List.{[], _∷_};
 ghost use lib.Dec.{eqb};
 ghost use lib.ListN.{length, take, drop};
 ghost use Rattle.paper.specs.Tools.{same};
-ghost use Rattle.paper.specs.Limits.{textLimit, listLimit, bracketLimit};
+ghost use Rattle.paper.specs.Limits.{bracketLimit};
 ghost use Rattle.paper.specs.Tokens.{sort, letters};
 ghost use Rattle.paper.specs.Query.{Axis, child, Test};
-ghost use Rattle.paper.specs.Items.{axisNumber, testNumber, packPath, packStep, encode, encodeExpr};
-ghost use Rattle.paper.specs.Reading.{next, at, then, got, refused, axisNamed, startsStep, readTail, readTested, readStep, readSteps, readOperand, readTerm, readExpr, readPath, readPaths, readWithin, readText};
+ghost use Rattle.paper.specs.Items.{axisNumber, testNumber, packPath, encodeExpr};
+ghost use Rattle.paper.specs.Reading.{next, at, then, got, axisNamed, startsStep, readTail, readTested, readStep, readSteps, readOperand, readTerm, readExpr, readPath, readWithin, readText};
 ghost use Rattle.paper.specs.Answers.{readAnswer, readOut, readLast, lineGot};
 ghost use Rattle.paper.specs.Told.{told};
-ghost use Rattle.names.specs.Listing.{Indexed, foundAt};
+ghost use Rattle.names.specs.Listing.{Indexed};
 ghost use Rattle.read.specs.Parts.{tokensAt, sortOf, Looks, lookOf, Wrote, Grouped, deepItems, deepIf, stepItems, Reads, passSort, Heads, axisCode, callCode, Joins, Leads, Begins, Axes, Calls, Closes, Numbered, Moved, Filled, Ready, pathItems, Finishes, ReadsAll, Measures, Refusal};
 
 // What reading a part of a query comes to: the cursor past it and the place past its items, or a refusal with its place.
@@ -80,6 +80,8 @@ pub enum Lead {
 const SLASH: usize = 0;
 
 const SLASHES: usize = 1;
+const DOT: usize = 2;
+const DOTS: usize = 3;
 
 const COLONS: usize = 4;
 
@@ -92,6 +94,8 @@ const CLOSE_SQUARE: usize = 7;
 const OPEN_ROUND: usize = 8;
 
 const CLOSE_ROUND: usize = 9;
+const STAR: usize = 10;
+const WORD: usize = 13;
 
 // The number of the child axis, and the numbers that no axis and no called test has.
 const CHILD: u32 = 1;
@@ -191,7 +195,7 @@ fn starts_step(text: &[u8], cursor: Cursor) -> bool
     let taken = cursor.take(text);
     let token = taken.token;
     let sort = sort_of(token);
-    (13 == sort) | (10 == sort) | (2 == sort) | (3 == sort)
+    (WORD == sort) | (STAR == sort) | (DOT == sort) | (DOTS == sort)
 }
 
 // Does `/` or `//` come next?
@@ -419,11 +423,11 @@ fn step_head(
     requires { ⌜ cursor .at ≤ length (now text) ⌝ }
     ensures { λ r. ⌜ Heads (lookOf known (now (list .entry))) (now (text .entry)) (cursor .at) (λ within. readStep (lookOf known (now (list .entry))) within (tokensAt (now (text .entry)) (cursor .at))) r ⌝ }
 {
-    let dot = mark(text, cursor, 2);
+    let dot = mark(text, cursor, DOT);
     if let Ahead::There { place: _, next } = dot {
         return Head::Plain { axis: 0, next };
     }
-    let dots = mark(text, cursor, 3);
+    let dots = mark(text, cursor, DOTS);
     if let Ahead::There { place: _, next } = dots {
         return Head::Plain { axis: 2, next };
     }

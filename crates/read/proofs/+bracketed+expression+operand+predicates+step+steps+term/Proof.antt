@@ -2,7 +2,7 @@
 -- Each loop's invariant is that what is left to read gives the answer of the whole (`Left` of a run of operands, `PredRow` and `StepRow`).
 -- The measure of a call is the number of bytes left, then the order bracketed, expression, term, operand, steps, step. Assumes nothing.
 use Prim.Native.Nat.{_-_, _+_, _*_}
-use mathlib.Core.Path.{_≡_, refl, sym, _∙_, ap}
+use mathlib.Core.Path.{_≡_, refl, _∙_, ap}
 use mathlib.Core.List.{List}
 use native.Mathlib.Omega.{arith}
 use borrow.Author.Needs.{needs}
@@ -13,7 +13,7 @@ use Rattle.paper.specs.Reading.{Got, got, then, readSteps, readTerm, readExpr, 
 use Rattle.read.specs.Parts.{tokensAt, lookOf, deepIf, passSort}
 use Rattle.read.proofs.Heading.{axis-small}
 use Rattle.read.proofs.Runs.{ors, ands, Left, left-start, start-stuck, left-more, left-stuck, left-done, term-whole, expr-whole, passed-on}
-use Rattle.read.proofs.Rows.{PredRow, preds-start, preds-more, preds-stuck, preds-done, StepRow, Stepped, steps-start, step-more, step-stuck, steps-more, steps-done, joined-past, deep-few}
+use Rattle.read.proofs.Rows.{PredRow, preds-start, preds-more, preds-stuck, preds-done, StepRow, steps-start, step-more, step-stuck, steps-more, steps-done, joined-past, deep-few}
 use Rattle.read.proofs.Operands.{too-deep, opened, closed, unclosed, not-stuck, not-done, round-done, path-done, plain-done, tested-done}
 use Prim.Native.Nat.{ℕ, _<_}
 use borrow.Fn.Kinds.{In}
@@ -451,14 +451,15 @@ expression-loop-again : (t : ℕ) → expression-lts.Need-loop-again (
   group-reads.Asked,
   group-reads.Learnt,
 ) (expression-at t) expression.Post expression-Inv-loop expression-μ-loop
-expression-loop-again t c =
-    (search needs,
-    let s = c .before .before .before .before .before .before .before .before .before .before .before .before .before .before .before .before .before .before .before .before .before .before .before in
-    let look = lookOf (s .args .known) (now (s .args .list)) in
-    let within = readWithin look (s .args .depth) in
-    let g = rw (c .before .more .given .1) at (c .before .before .before .before .before .term2 .ensures) in
-    let w = rw (c .before .before .before .before .before .before .before .before .ahead .given .1) at (c .before .before .before .before .before .before .before .before .before .before .word-ahead .ensures) in
-    λ old from all l. left-more (ors look within) _ old from _ all _ _ _ _ (c .before .before .before .before .before .before .before .before .before .before .before .before .loop .inv .1 old from all l) _ (w .0) (w .2) _ _ _ g)
+expression-loop-again t c = (
+  search needs,
+  let s = c .before .before .before .before .before .before .before .before .before .before .before .before .before .before .before .before .before .before .before .before .before .before .before in
+      let look = lookOf (s .args .known) (now (s .args .list)) in
+      let within = readWithin look (s .args .depth) in
+      let g = rw (c .before .more .given .1) at (c .before .before .before .before .before .term2 .ensures) in
+      let w = rw (c .before .before .before .before .before .before .before .before .ahead .given .1) at (c .before .before .before .before .before .before .before .before .before .before .word-ahead .ensures) in
+      λ old from all l. left-more (ors look within) _ old from _ all _ _ _ _ (c .before .before .before .before .before .before .before .before .before .before .before .before .loop .inv .1 old from all l) _ (w .0) (w .2) _ _ _ g,
+)
 
 expression-group-requires : (t : ℕ) → expression-lts.Need-group-requires (
   term-below t,
@@ -920,15 +921,16 @@ predicates-loop-again : (t : ℕ) → predicates-lts.Need-loop-again (
   put-reads.Asked,
   put-reads.Learnt,
 ) (predicates-at t) predicates.Post predicates-Inv-loop predicates-μ-loop
-predicates-loop-again t c =
-    (search needs,
-    let s = c .before .before .before .before .before .before .before .before .before .before .before .before .before .before .before in
-    let look = lookOf (s .args .known) (now (s .args .list)) in
-    let within = readWithin look (s .args .depth) in
-    let l = c .before .before .before .before .before .before .before .before .before .before .before .loop .inv .1 in
-    let g = rw (c .before .one .given .1) at (c .before .before .before .before .before .bracketed .ensures) in
-    let m = rw (c .before .before .before .before .before .before .before .before .ahead .given .1) at (c .before .before .before .before .before .before .before .before .before .before .mark .ensures) in
-    preds-more look within _ _ _ _ _ _ _ _ l _ _ (m .0) (m .1) (m .2) _ _ _ g)
+predicates-loop-again t c = (
+  search needs,
+  let s = c .before .before .before .before .before .before .before .before .before .before .before .before .before .before .before in
+      let look = lookOf (s .args .known) (now (s .args .list)) in
+      let within = readWithin look (s .args .depth) in
+      let l = c .before .before .before .before .before .before .before .before .before .before .before .loop .inv .1 in
+      let g = rw (c .before .one .given .1) at (c .before .before .before .before .before .bracketed .ensures) in
+      let m = rw (c .before .before .before .before .before .before .before .before .ahead .given .1) at (c .before .before .before .before .before .before .before .before .before .before .mark .ensures) in
+      preds-more look within _ _ _ _ _ _ _ _ l _ _ (m .0) (m .1) (m .2) _ _ _ g,
+)
 
 predicates-step-word-requires : (t : ℕ) → predicates-lts.Need-step-word-requires (
   mark-reads.Asked,
@@ -1402,14 +1404,15 @@ steps-loop-again : (t : ℕ) → steps-lts.Need-loop-again (
   put-reads.Asked,
   put-reads.Learnt,
 ) (steps-at t) steps.Post steps-Inv-loop steps-μ-loop
-steps-loop-again t c =
-    (search needs,
-    let s = c .before .before .before .before .before .before .before .before .before .before .before .before .before .before .before .before .before .before .before in
-    let look = lookOf (s .args .known) (now (s .args .list)) in
-    let within = readWithin look (s .args .depth) in
-    let g = rw (c .before .before .before .before .before .one .given .1) at (c .before .before .before .before .before .before .before .before .before .step .ensures) in
-    let l = step-more look within _ _ _ _ _ _ _ _ _ _ (c .before .before .before .before .before .before .before .before .before .before .before .before .before .before .before .loop .inv .1) _ _ _ _ _ (c .before .before .before .before .before .before .before .before .before .before .before .before .before .put-deep .ensures .0) (c .before .before .before .before .before .before .before .before .before .before .before .before .before .put-deep .ensures .1) g in
-    steps-more look within _ _ _ _ _ _ _ _ _ l _ _ (rw (c .before .joint .given .1) at (c .before .before .before .joined .ensures)))
+steps-loop-again t c = (
+  search needs,
+  let s = c .before .before .before .before .before .before .before .before .before .before .before .before .before .before .before .before .before .before .before in
+      let look = lookOf (s .args .known) (now (s .args .list)) in
+      let within = readWithin look (s .args .depth) in
+      let g = rw (c .before .before .before .before .before .one .given .1) at (c .before .before .before .before .before .before .before .before .before .step .ensures) in
+      let l = step-more look within _ _ _ _ _ _ _ _ _ _ (c .before .before .before .before .before .before .before .before .before .before .before .before .before .before .before .loop .inv .1) _ _ _ _ _ (c .before .before .before .before .before .before .before .before .before .before .before .before .before .put-deep .ensures .0) (c .before .before .before .before .before .before .before .before .before .before .before .before .before .put-deep .ensures .1) g in
+      steps-more look within _ _ _ _ _ _ _ _ _ l _ _ (rw (c .before .joint .given .1) at (c .before .before .before .joined .ensures)),
+)
 
 steps-enum-told : (t : ℕ) → steps-lts.Need-enum-told (
   put-deep-reads.Asked,
@@ -1696,14 +1699,15 @@ term-loop-again : (t : ℕ) → term-lts.Need-loop-again (
   group-reads.Asked,
   group-reads.Learnt,
 ) (term-at t) term.Post term-Inv-loop term-μ-loop
-term-loop-again t c =
-    (search needs,
-    let s = c .before .before .before .before .before .before .before .before .before .before .before .before .before .before .before .before .before .before .before .before .before .before .before in
-    let look = lookOf (s .args .known) (now (s .args .list)) in
-    let within = readWithin look (s .args .depth) in
-    let g = rw (c .before .more .given .1) at (c .before .before .before .before .before .operand2 .ensures) in
-    let w = rw (c .before .before .before .before .before .before .before .before .ahead .given .1) at (c .before .before .before .before .before .before .before .before .before .before .word-ahead .ensures) in
-    λ old from all l. left-more (ands look within) _ old from _ all _ _ _ _ (c .before .before .before .before .before .before .before .before .before .before .before .before .loop .inv .1 old from all l) _ (w .0) (w .2) _ _ _ g)
+term-loop-again t c = (
+  search needs,
+  let s = c .before .before .before .before .before .before .before .before .before .before .before .before .before .before .before .before .before .before .before .before .before .before .before in
+      let look = lookOf (s .args .known) (now (s .args .list)) in
+      let within = readWithin look (s .args .depth) in
+      let g = rw (c .before .more .given .1) at (c .before .before .before .before .before .operand2 .ensures) in
+      let w = rw (c .before .before .before .before .before .before .before .before .ahead .given .1) at (c .before .before .before .before .before .before .before .before .before .before .word-ahead .ensures) in
+      λ old from all l. left-more (ands look within) _ old from _ all _ _ _ _ (c .before .before .before .before .before .before .before .before .before .before .before .before .loop .inv .1 old from all l) _ (w .0) (w .2) _ _ _ g,
+)
 
 term-group-requires : (t : ℕ) → term-lts.Need-group-requires (
   operand-below t,
