@@ -83,13 +83,13 @@ module _ (look : List ℕ → Option ℕ) (within : ℕ → List Placed → Got 
       sym (drop-drop 1 1 (tokensAt text from)) ∙ ap (drop 1) (b .first .rest) ∙ b .second .rest in
       rw (b .says-not, b .first .rest, b .opens, two, ← b .place)
 
-  pub not-stuck : (spot past n where′ : ℕ) → NotBegins text from spot past → inner spot past ≡ refused n where′ → readOperand look within (tokensAt text from) ≡ refused n where′
-  not-stuck spot past n where′ b h = not-reads spot past b ∙ ap (λ o. then o (λ e. got (negated e))) h
+  pub not-stuck : (spot past n end-spot : ℕ) → NotBegins text from spot past → inner spot past ≡ refused n end-spot → readOperand look within (tokensAt text from) ≡ refused n end-spot
+  not-stuck spot past n end-spot b h = not-reads spot past b ∙ ap (λ o. then o (λ e. got (negated e))) h
 
-  pub not-done : (spot past : ℕ) (mid new : List ℕ) (end-at end : ℕ) → NotBegins text from spot past
-      → Gives text old mid past (place + 1) (3 * past) (place + 1) (inner spot past) encodeExpr end-at end → Wrote mid new place (notItem ∷ [])
-      → Gives text old new from place (3 * from) place (readOperand look within (tokensAt text from)) encodeExpr end-at end
-  not-done spot past mid new end-at end b g v =
+  pub not-done : (spot past : ℕ) (mid new : List ℕ) (last end : ℕ) → NotBegins text from spot past
+      → Gives text old mid past (place + 1) (3 * past) (place + 1) (inner spot past) encodeExpr last end → Wrote mid new place (notItem ∷ [])
+      → Gives text old new from place (3 * from) place (readOperand look within (tokensAt text from)) encodeExpr last end
+  not-done spot past mid new last end b g v =
       record {
         what = negated (g .what);
         reads = not-reads spot past b ∙ ap (λ o. then o (λ e. got (negated e))) (g .reads);

@@ -80,7 +80,9 @@ pub enum Lead {
 const SLASH: usize = 0;
 
 const SLASHES: usize = 1;
+
 const DOT: usize = 2;
+
 const DOTS: usize = 3;
 
 const COLONS: usize = 4;
@@ -94,7 +96,9 @@ const CLOSE_SQUARE: usize = 7;
 const OPEN_ROUND: usize = 8;
 
 const CLOSE_ROUND: usize = 9;
+
 const STAR: usize = 10;
+
 const WORD: usize = 13;
 
 // The number of the child axis, and the numbers that no axis and no called test has.
