@@ -17,6 +17,7 @@ use Rattle.read.specs.declared.Part.{Part}
 use Rattle.read.specs.declared.Part.the-variants.{Done, NoQuery, TooDeep, UnknownName}
 use Rattle.read.specs.declared.Opens.the-variants.{Round, Path}
 use Rattle.token.specs.declared.Cursor.{Cursor}
+use Rattle.item.specs.Unpacked.{packed}
 use Rattle.read.specs.Parts.{tokensAt, Past, Wrote, Gives, Reads, passSort, stepItems, pathItems, Begins, NotBegins, PlainStep, TestedStep}
 use Rattle.read.proofs.Writing.{wrote-head}
 
@@ -135,7 +136,7 @@ module _ (look : List ℕ → Option ℕ) (within : ℕ → List Placed → Got 
 
 -- STEPS BY THEIR HEADS.
 module _ (look : List ℕ → Option ℕ) (within : ℕ → List Placed → Got Expr) (text old new : List ℕ) (from place : ℕ) where
-  pub plain-done : (axis word past : ℕ) → PlainStep look text from axis past (λ w. readStep look w (tokensAt text from)) → (0 < 8192 → word ≡ 1 + axis * 8 + 0 * 64 + 0 * 32768)
+  pub plain-done : (axis word past : ℕ) → PlainStep look text from axis past (λ w. readStep look w (tokensAt text from)) → (0 < 8192 → word ≡ packed (record { axis = axis; test = 0; count = 0 }))
       → Wrote old new place (word ∷ []) → Gives text old new from place (3 * from + 2) place (readStep look within (tokensAt text from)) stepItems past (place + 1)
   plain-done axis word past h right v =
       record {

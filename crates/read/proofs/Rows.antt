@@ -13,6 +13,7 @@ use Rattle.paper.specs.Items.{axisNumber, testNumber, packPath, packStep, stepC
 use Rattle.paper.specs.Reading.{Got, got, refused, then, at, sees, Step, before, deep, readPreds, readTail, readStep, readSteps}
 use Rattle.read.specs.declared.Joint.the-variants.{Next, Nothing}
 use Rattle.token.specs.declared.Cursor.{Cursor}
+use Rattle.item.specs.Unpacked.{packed}
 use Rattle.read.specs.Parts.{tokensAt, Past, Wrote, Gives, passSort, deepItems, deepIf, stepItems, pathItems, Joins}
 use Rattle.read.proofs.Writing.{wrote-nothing, wrote-more, wrote-head}
 use Rattle.read.proofs.Runs.{some-token, some-fuel}
@@ -114,7 +115,7 @@ module _ (look : List ℕ → Option ℕ) (within : ℕ → List Placed → Got 
 
     -- None comes: the step's item is put before its predicates.
     pub preds-done : (new : List ℕ) (axis test word : ℕ) (a : Axis) (t : Test) → axis ≡ axisNumber a → test ≡ testNumber t → sees paper.openSquare (tokensAt text here) ≡ false
-        → (taken < 8192 → word ≡ 1 + axis * 8 + test * 64 + taken * 32768) → Wrote out new place (word ∷ [])
+        → (taken < 8192 → word ≡ packed (record { axis = axis; test = test; count = taken })) → Wrote out new place (word ∷ [])
         → Gives text old new from place (3 * from) (place + 1) (readTail look within a t (tokensAt text from)) stepItems here filled
     unfolding readTail
     preds-done new axis test word a t ea et s right v =

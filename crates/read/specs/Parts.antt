@@ -12,7 +12,7 @@ use Rattle.paper.specs.Limits.{textLimit, itemLimit, bracketLimit}
 use Rattle.paper.specs.Names.{namesOf, numberOf}
 use Rattle.paper.specs.Tokens as paper
 use Rattle.paper.specs.Tokens.{Placed, tokensFrom, sort}
-use Rattle.paper.specs.Query.{Axis, Test, anyNode, Expr, path, Steps, bare, Query}
+use Rattle.paper.specs.Query.{Axis, descendantOrSelf, Test, anyNode, Expr, path, Steps, bare, Query}
 use Rattle.paper.specs.Reading.{Got, got, refused, next, at, sees, says, wrong, axisAhead, startsStep, Step, deep, readTail}
 use Rattle.paper.specs.Items.{axisNumber, testNumber, packStep, predCount, encodeExpr, encodePreds, encode}
 use Rattle.paper.specs.Measures.{size}
@@ -91,7 +91,7 @@ pub record Grouped (old new : List ℕ) (place end count item : ℕ) : Type 0 wh
 
 -- The item of the step that `//` stands for, where it is written.
 abbrev pub deepItem : ℕ
-deepItem = 25
+deepItem = packStep descendantOrSelf anyNode 0
 
 abbrev pub deepItems : Bool → List ℕ
 deepItems true = deepItem ∷ []

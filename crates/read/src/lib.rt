@@ -19,6 +19,7 @@ ghost use Rattle.paper.specs.Items.{axisNumber, testNumber, packPath, encodeExp
 ghost use Rattle.paper.specs.Reading.{next, at, then, got, axisNamed, startsStep, readTail, readTested, readStep, readSteps, readOperand, readTerm, readExpr, readPath, readWithin, readText};
 ghost use Rattle.paper.specs.Answers.{readAnswer, readOut, readLast, lineGot};
 ghost use Rattle.paper.specs.Told.{told};
+ghost use Rattle.item.specs.Unpacked.{packed};
 ghost use Rattle.names.specs.Listing.{Indexed};
 ghost use Rattle.read.specs.Parts.{tokensAt, sortOf, Looks, lookOf, Wrote, Grouped, deepItems, deepIf, stepItems, Reads, passSort, Heads, axisCode, callCode, Joins, Leads, Begins, Axes, Calls, Closes, Numbered, Moved, Filled, Ready, pathItems, Finishes, ReadsAll, Measures, Refusal};
 
@@ -101,18 +102,29 @@ const STAR: usize = 10;
 
 const WORD: usize = 13;
 
-// The number of the child axis, and the numbers that no axis and no called test has.
+// Axes by the paper's numbers, and the numbers that no axis and no called test has.
+const SELF: u32 = 0;
+
 const CHILD: u32 = 1;
+
+const PARENT: u32 = 2;
+
+const DESCENDANT_OR_SELF: u32 = 3;
+
+const ANCESTOR_OR_SELF: u32 = 4;
 
 const NO_AXIS: u32 = 5;
 
 const NO_CALL: u32 = 2;
 
-// The test `*`.
+// The tests `node()`, `text()` and `*`, and that of the name 0.
+const ANY_NODE: u32 = 0;
+
+const TEXT_NODE: u32 = 1;
+
 const ANY_ELEMENT: u32 = 258;
 
-// The item of the step that `//` stands for.
-const DEEP: u32 = 25;
+const NAMED: u32 = 2;
 
 // TOKENS.
 
@@ -267,19 +279,19 @@ fn axis_of(text: &[u8], start: usize, len: usize) -> u32
     ensures { λ r. ⌜ r ≡ axisCode (axisNamed (take len (drop start (now (text .entry))))) ⌝ }
 {
     if same_word(text, start, len, b"self") {
-        return 0;
+        return SELF;
     }
     if same_word(text, start, len, b"child") {
-        return 1;
+        return CHILD;
     }
     if same_word(text, start, len, b"parent") {
-        return 2;
+        return PARENT;
     }
     if same_word(text, start, len, b"descendant-or-self") {
-        return 3;
+        return DESCENDANT_OR_SELF;
     }
     if same_word(text, start, len, b"ancestor-or-self") {
-        return 4;
+        return ANCESTOR_OR_SELF;
     }
     NO_AXIS
 }
@@ -314,10 +326,10 @@ fn call_of(text: &[u8], start: usize, len: usize) -> u32
     ensures { λ r. ⌜ r ≡ callCode (take len (drop start (now (text .entry)))) ⌝ }
 {
     if same_word(text, start, len, b"node") {
-        return 0;
+        return ANY_NODE;
     }
     if same_word(text, start, len, b"text") {
-        return 1;
+        return TEXT_NODE;
     }
     NO_CALL
 }
@@ -407,7 +419,7 @@ fn tested(
     match found {
         Found::At(v) => Head::Tested {
             axis,
-            test: v as u32 + 2,
+            test: v as u32 + NAMED,
             next: past,
         },
         Found::Nothing => Head::Unknown(place),
@@ -429,11 +441,11 @@ fn step_head(
 {
     let dot = mark(text, cursor, DOT);
     if let Ahead::There { place: _, next } = dot {
-        return Head::Plain { axis: 0, next };
+        return Head::Plain { axis: SELF, next };
     }
     let dots = mark(text, cursor, DOTS);
     if let Ahead::There { place: _, next } = dots {
-        return Head::Plain { axis: 2, next };
+        return Head::Plain { axis: PARENT, next };
     }
     let ahead = axis_ahead(text, cursor);
     match ahead {
@@ -459,7 +471,7 @@ fn put_deep(out: &mut [u32], place: usize, deep: bool) -> usize
     ensures { λ r. ⌜ (Wrote (now (out .entry)) (now (out .exit)) place (deepItems deep)) × (r ≡ place + length (deepItems deep)) ⌝ }
 {
     if deep {
-        put(out, place, DEEP);
+        put(out, place, step_word(DESCENDANT_OR_SELF, ANY_NODE, 0));
         return place + 1;
     }
     place
@@ -479,7 +491,7 @@ fn path_word(count: usize) -> u32
 // The item of a step; 0 for more predicates than an item can say.
 fn step_word(axis: u32, test: u32, count: usize) -> u32
     requires { ⌜ (axis < 8) × (test < 512) ⌝ }
-    ensures { λ r. ⌜ (count < 8192 → r ≡ 1 + axis * 8 + test * 64 + count * 32768) ⌝ }
+    ensures { λ r. ⌜ (count < 8192 → r ≡ packed (record { axis = axis; test = test; count = count })) ⌝ }
 {
     if count < 8192 {
         item::pack_step(item::Step { axis, test, count })
@@ -793,7 +805,7 @@ fn step(
     let head = step_head(text, list, starts, count, known, cursor);
     match head {
         Head::Plain { axis, next } => {
-            put(out, place, step_word(axis, 0, 0));
+            put(out, place, step_word(axis, ANY_NODE, 0));
             Part::Done {
                 next,
                 end: place + 1,
