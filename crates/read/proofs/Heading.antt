@@ -1,28 +1,26 @@
 -- The head of a step: its axis, its test, and what the paper's reader makes of them. Assumes nothing.
-use Prim.Native.Nat.{ℕ, zero, suc, _+_, _≤_, _<_}
+use Prim.Native.Nat.{ℕ, _+_, _≤_, _<_}
 use native.Mathlib.Omega.{arith}
 use mathlib.Core.Path.{_≡_, refl, sym, _∙_, ap}
-use mathlib.Core.Bool.{Bool, true, false, _&&_, cond, false≢true}
-use mathlib.Core.List.{List, [], _∷_}
+use mathlib.Core.Bool.{Bool, true, false, _&&_, cond}
+use mathlib.Core.List.{List, []}
 use mathlib.Core.Option.{Option, none, some}
-use mathlib.Core.Logic.{_⊎_, ⊎-elim, inl, inr}
-use lib.Dec.{eqb}
-use lib.ListN.{length, take, drop}
+use mathlib.Core.Logic.{_⊎_, ⊎-elim}
+use lib.ListN.{length, drop}
 use lib.Seq.{drop-drop}
-use borrow.Author.Tests.{eq-eqb, ne-eqb, eqb-true}
+use borrow.Author.Tests.{eq-eqb, ne-eqb}
 use Rattle.paper.specs.Tools.{ascii, same}
 use Rattle.paper.specs.Tokens as paper
 use Rattle.paper.specs.Tokens.{Placed, sort, letters}
 use Rattle.paper.specs.Query.{Axis, self, child, parent, descendantOrSelf, ancestorOrSelf, Test, anyNode, textNode, named, anyElement, Expr}
 use Rattle.paper.specs.Items.{axisNumber, testNumber}
-use Rattle.paper.specs.Reading.{Got, got, refused, then, next, at, sees, says, axisNamed, axisAhead, Step, readName, readTested, readAxis, readStep, readTail}
+use Rattle.paper.specs.Reading.{Got, got, refused, then, next, at, sees, says, axisNamed, axisAhead, Step, readName, readTested, readStep, readTail}
 use Rattle.paper.proofs.Same.{same-turned}
 use Rattle.paper.proofs.Tests.{decide}
 use Rattle.read.specs.declared.Head.{Head}
 use Rattle.read.specs.declared.Head.the-variants.{Plain, Tested, Wrong, Unknown}
 use Rattle.read.specs.declared.Call.the-variants.{NoCall}
 use Rattle.read.specs.Parts.{tokensAt, Past, AxisWritten, axisCode, callCode, Calls, Closes, PlainStep, TestedStep, Heads}
-use Rattle.read.proofs.Lexed.{other-sort}
 
 -- THE WORDS OF THE AXES.
 module _ (w : List ℕ) where

@@ -1,8 +1,8 @@
 -- What a token that was taken says of the paper's tokens from there on. Assumes nothing.
-use Prim.Native.Nat.{ℕ, zero, suc, _+_, _≤_, _<_}
+use Prim.Native.Nat.{ℕ, _+_, _≤_, _<_}
 use native.Mathlib.Omega.{arith}
-use mathlib.Core.Path.{_≡_, refl, sym, _∙_, ap}
-use mathlib.Core.Bool.{Bool, true, false, _&&_, false≢true}
+use mathlib.Core.Path.{_≡_, refl, sym, _∙_, ap, subst}
+use mathlib.Core.Bool.{Bool, true, false, _&&_}
 use mathlib.Core.List.{List, [], _∷_}
 use lib.Dec.{eqb}
 use lib.ListN.{length, take, drop}
@@ -17,7 +17,7 @@ use Rattle.token.specs.declared.Token.{Token}
 use Rattle.token.specs.declared.Token.the-variants.{Slash, Slashes, Dot, Dots, Colons, Bar, OpenSquare, CloseSquare, OpenRound, CloseRound, Star, Finish, Stray, Word}
 use Rattle.token.specs.declared.Taken.{Taken}
 use Rattle.token.specs.declared.Cursor.{Cursor}
-use Rattle.token.specs.Taking.{Takes, tokenOf, finished, following}
+use Rattle.token.specs.Taking.{Takes, tokenOf, finished}
 use Rattle.token.proofs.Token.{the-type}
 use Rattle.read.specs.Parts.{tokensAt, sortOf, Past, Looks, Joins, Leads}
 use Rattle.read.specs.declared.Ahead.the-variants.{There, Other}
@@ -58,41 +58,29 @@ goes-on Finish h = absurd (h refl)
 goes-on Stray h = refl
 goes-on (Word count) h = refl
 
--- Only a word has letters.
+-- A token that is none of a sort: one of the cases that a branch leaves. The number of a case is the token's sort.
 abbrev pub NoWord : Token → Type 0
 NoWord t = OneOf (0 ∷ 1 ∷ 2 ∷ 3 ∷ 4 ∷ 5 ∷ 6 ∷ 7 ∷ 8 ∷ 9 ∷ 10 ∷ 11 ∷ 12 ∷ []) (tagOf the-type t)
 
-pub no-letters : (text : List ℕ) (place : ℕ) (t : Token) → NoWord t → letters (tokenOf text place t) ≡ []
-no-letters text place Slash h = refl
-no-letters text place Slashes h = refl
-no-letters text place Dot h = refl
-no-letters text place Dots h = refl
-no-letters text place Colons h = refl
-no-letters text place Bar h = refl
-no-letters text place OpenSquare h = refl
-no-letters text place CloseSquare h = refl
-no-letters text place OpenRound h = refl
-no-letters text place CloseRound h = refl
-no-letters text place Star h = refl
-no-letters text place Finish h = refl
-no-letters text place Stray h = refl
-no-letters text place (Word count) h = absurd (miss (0 ∷ 1 ∷ 2 ∷ 3 ∷ 4 ∷ 5 ∷ 6 ∷ 7 ∷ 8 ∷ 9 ∷ 10 ∷ 11 ∷ 12 ∷ []) 13 tt h)
+tag-sort : (t : Token) → tagOf the-type t ≡ sortOf t
+tag-sort Slash = refl
+tag-sort Slashes = refl
+tag-sort Dot = refl
+tag-sort Dots = refl
+tag-sort Colons = refl
+tag-sort Bar = refl
+tag-sort OpenSquare = refl
+tag-sort CloseSquare = refl
+tag-sort OpenRound = refl
+tag-sort CloseRound = refl
+tag-sort Star = refl
+tag-sort Finish = refl
+tag-sort Stray = refl
+tag-sort (Word count) = refl
 
 pub no-word : (t : Token) → NoWord t → sortOf t ≡ 13 → ⊥
-no-word Slash h e = omega arith
-no-word Slashes h e = omega arith
-no-word Dot h e = omega arith
-no-word Dots h e = omega arith
-no-word Colons h e = omega arith
-no-word Bar h e = omega arith
-no-word OpenSquare h e = omega arith
-no-word CloseSquare h e = omega arith
-no-word OpenRound h e = omega arith
-no-word CloseRound h e = omega arith
-no-word Star h e = omega arith
-no-word Finish h e = omega arith
-no-word Stray h e = omega arith
-no-word (Word count) h e = absurd (miss (0 ∷ 1 ∷ 2 ∷ 3 ∷ 4 ∷ 5 ∷ 6 ∷ 7 ∷ 8 ∷ 9 ∷ 10 ∷ 11 ∷ 12 ∷ []) 13 tt h)
+no-word t h e =
+    miss (0 ∷ 1 ∷ 2 ∷ 3 ∷ 4 ∷ 5 ∷ 6 ∷ 7 ∷ 8 ∷ 9 ∷ 10 ∷ 11 ∷ 12 ∷ []) 13 tt (subst (OneOf (0 ∷ 1 ∷ 2 ∷ 3 ∷ 4 ∷ 5 ∷ 6 ∷ 7 ∷ 8 ∷ 9 ∷ 10 ∷ 11 ∷ 12 ∷ [])) (tag-sort t ∙ e) h)
 
 -- A word of some letters is not one of none.
 pub no-same : (w : List ℕ) → 0 < length w → same w [] ≡ false
@@ -164,7 +152,7 @@ module _ (text : List ℕ) (from : ℕ) (r : Taken) (t : Takes text from r) wher
 
   -- What is no word.
   pub none-letters : NoWord (r .token) → letters (next (tokensAt text from)) ≡ []
-  none-letters h = ap letters taken-next ∙ no-letters text (r .place) (r .token) h
+  none-letters h = mark-letters (next (tokensAt text from)) (λ e. no-word (r .token) h (sym taken-sort ∙ e))
 
   -- The end of the text.
   pub ends-here : r .token ≡ Finish → sees paper.finish (tokensAt text from) ≡ true
@@ -175,20 +163,8 @@ module _ (text : List ℕ) (from : ℕ) (r : Taken) (t : Takes text from r) wher
 
 -- What is not the end.
 pub not-finish : (t : Token) → OneOf (0 ∷ 1 ∷ 2 ∷ 3 ∷ 4 ∷ 5 ∷ 6 ∷ 7 ∷ 8 ∷ 9 ∷ 10 ∷ 12 ∷ 13 ∷ []) (tagOf the-type t) → sortOf t ≡ 11 → ⊥
-not-finish Slash h e = omega arith
-not-finish Slashes h e = omega arith
-not-finish Dot h e = omega arith
-not-finish Dots h e = omega arith
-not-finish Colons h e = omega arith
-not-finish Bar h e = omega arith
-not-finish OpenSquare h e = omega arith
-not-finish CloseSquare h e = omega arith
-not-finish OpenRound h e = omega arith
-not-finish CloseRound h e = omega arith
-not-finish Star h e = omega arith
-not-finish Finish h e = absurd (miss (0 ∷ 1 ∷ 2 ∷ 3 ∷ 4 ∷ 5 ∷ 6 ∷ 7 ∷ 8 ∷ 9 ∷ 10 ∷ 12 ∷ 13 ∷ []) 11 tt h)
-not-finish Stray h e = omega arith
-not-finish (Word count) h e = omega arith
+not-finish t h e =
+    miss (0 ∷ 1 ∷ 2 ∷ 3 ∷ 4 ∷ 5 ∷ 6 ∷ 7 ∷ 8 ∷ 9 ∷ 10 ∷ 12 ∷ 13 ∷ []) 11 tt (subst (OneOf (0 ∷ 1 ∷ 2 ∷ 3 ∷ 4 ∷ 5 ∷ 6 ∷ 7 ∷ 8 ∷ 9 ∷ 10 ∷ 12 ∷ 13 ∷ [])) (tag-sort t ∙ e) h)
 
 -- HOW THINGS BEGIN. Of two sorts a token is one.
 pub other-sort : (m n s : ℕ) → (m ≡ n → ⊥) → eqb m s ≡ true → eqb n s ≡ false
@@ -230,20 +206,8 @@ abbrev pub NoStar : Token → Type 0
 NoStar t = OneOf (0 ∷ 1 ∷ 2 ∷ 3 ∷ 4 ∷ 5 ∷ 6 ∷ 7 ∷ 8 ∷ 9 ∷ 11 ∷ 12 ∷ 13 ∷ []) (tagOf the-type t)
 
 no-star : (t : Token) → NoStar t → sortOf t ≡ 10 → ⊥
-no-star Slash h e = omega arith
-no-star Slashes h e = omega arith
-no-star Dot h e = omega arith
-no-star Dots h e = omega arith
-no-star Colons h e = omega arith
-no-star Bar h e = omega arith
-no-star OpenSquare h e = omega arith
-no-star CloseSquare h e = omega arith
-no-star OpenRound h e = omega arith
-no-star CloseRound h e = omega arith
-no-star Star h e = absurd (miss (0 ∷ 1 ∷ 2 ∷ 3 ∷ 4 ∷ 5 ∷ 6 ∷ 7 ∷ 8 ∷ 9 ∷ 11 ∷ 12 ∷ 13 ∷ []) 10 tt h)
-no-star Finish h e = omega arith
-no-star Stray h e = omega arith
-no-star (Word count) h e = omega arith
+no-star t h e =
+    miss (0 ∷ 1 ∷ 2 ∷ 3 ∷ 4 ∷ 5 ∷ 6 ∷ 7 ∷ 8 ∷ 9 ∷ 11 ∷ 12 ∷ 13 ∷ []) 10 tt (subst (OneOf (0 ∷ 1 ∷ 2 ∷ 3 ∷ 4 ∷ 5 ∷ 6 ∷ 7 ∷ 8 ∷ 9 ∷ 11 ∷ 12 ∷ 13 ∷ [])) (tag-sort t ∙ e) h)
 
 module _ (text : List ℕ) (from : ℕ) (r : Taken) (t : Takes text from r) where
   pub is-star : r .token ≡ Star → sees paper.star (tokensAt text from) ≡ true

@@ -2,24 +2,23 @@
 use Prim.Native.Nat.{ℕ, zero, suc, _+_, _-_, _*_, _≤_, _<_}
 use native.Mathlib.Omega.{arith}
 use mathlib.Core.Path.{_≡_, refl, sym, _∙_, ap, subst}
-use mathlib.Core.Bool.{Bool, true, false, _&&_, cond}
+use mathlib.Core.Bool.{true, false}
 use mathlib.Core.List.{List, [], _∷_}
 use mathlib.Core.Option.{Option}
 use lib.Dec.{eqb}
 use lib.ListN.{length, drop}
 use lib.Seq.{drop-drop}
-use Rattle.paper.specs.Tools.{ascii}
 use Rattle.paper.specs.Tokens as paper
 use Rattle.paper.specs.Tokens.{Placed, sort}
-use Rattle.paper.specs.Query.{Axis, Test, Expr, path, negated, Steps}
+use Rattle.paper.specs.Query.{Expr, path, negated, Steps}
 use Rattle.paper.specs.Items.{notItem, encodeExpr}
-use Rattle.paper.specs.Reading.{Got, got, refused, then, next, at, sees, says, Step, readTail, readStep, readSteps, readOperand, readExpr, readWithin}
+use Rattle.paper.specs.Reading.{Got, got, refused, then, next, at, readTail, readStep, readSteps, readOperand, readExpr, readWithin}
 use Rattle.read.specs.declared.Part.{Part}
 use Rattle.read.specs.declared.Part.the-variants.{Done, NoQuery, TooDeep, UnknownName}
-use Rattle.read.specs.declared.Ahead.the-variants.{There, Other}
-use Rattle.read.specs.declared.Opens.the-variants.{Not, Round, Path}
+use Rattle.read.specs.declared.Opens.the-variants.{Round, Path}
 use Rattle.token.specs.declared.Cursor.{Cursor}
-use Rattle.read.specs.Parts.{tokensAt, Past, Looks, Wrote, Gives, Reads, passSort, stepItems, pathItems, Begins, NotBegins, PlainStep, TestedStep}
+use Rattle.item.specs.Unpacked.{packed}
+use Rattle.read.specs.Parts.{tokensAt, Past, Wrote, Gives, Reads, passSort, stepItems, pathItems, Begins, NotBegins, PlainStep, TestedStep}
 use Rattle.read.proofs.Writing.{wrote-head}
 
 -- What is read from a later place on is what is read from here.
@@ -85,13 +84,13 @@ module _ (look : List ℕ → Option ℕ) (within : ℕ → List Placed → Got 
       sym (drop-drop 1 1 (tokensAt text from)) ∙ ap (drop 1) (b .first .rest) ∙ b .second .rest in
       rw (b .says-not, b .first .rest, b .opens, two, ← b .place)
 
-  pub not-stuck : (spot past n where′ : ℕ) → NotBegins text from spot past → inner spot past ≡ refused n where′ → readOperand look within (tokensAt text from) ≡ refused n where′
-  not-stuck spot past n where′ b h = not-reads spot past b ∙ ap (λ o. then o (λ e. got (negated e))) h
+  pub not-stuck : (spot past n end-spot : ℕ) → NotBegins text from spot past → inner spot past ≡ refused n end-spot → readOperand look within (tokensAt text from) ≡ refused n end-spot
+  not-stuck spot past n end-spot b h = not-reads spot past b ∙ ap (λ o. then o (λ e. got (negated e))) h
 
-  pub not-done : (spot past : ℕ) (mid new : List ℕ) (end-at end : ℕ) → NotBegins text from spot past
-      → Gives text old mid past (place + 1) (3 * past) (place + 1) (inner spot past) encodeExpr end-at end → Wrote mid new place (notItem ∷ [])
-      → Gives text old new from place (3 * from) place (readOperand look within (tokensAt text from)) encodeExpr end-at end
-  not-done spot past mid new end-at end b g v =
+  pub not-done : (spot past : ℕ) (mid new : List ℕ) (last end : ℕ) → NotBegins text from spot past
+      → Gives text old mid past (place + 1) (3 * past) (place + 1) (inner spot past) encodeExpr last end → Wrote mid new place (notItem ∷ [])
+      → Gives text old new from place (3 * from) place (readOperand look within (tokensAt text from)) encodeExpr last end
+  not-done spot past mid new last end b g v =
       record {
         what = negated (g .what);
         reads = not-reads spot past b ∙ ap (λ o. then o (λ e. got (negated e))) (g .reads);
@@ -137,7 +136,7 @@ module _ (look : List ℕ → Option ℕ) (within : ℕ → List Placed → Got 
 
 -- STEPS BY THEIR HEADS.
 module _ (look : List ℕ → Option ℕ) (within : ℕ → List Placed → Got Expr) (text old new : List ℕ) (from place : ℕ) where
-  pub plain-done : (axis word past : ℕ) → PlainStep look text from axis past (λ w. readStep look w (tokensAt text from)) → (0 < 8192 → word ≡ 1 + axis * 8 + 0 * 64 + 0 * 32768)
+  pub plain-done : (axis word past : ℕ) → PlainStep look text from axis past (λ w. readStep look w (tokensAt text from)) → (0 < 8192 → word ≡ packed (record { axis = axis; test = 0; count = 0 }))
       → Wrote old new place (word ∷ []) → Gives text old new from place (3 * from + 2) place (readStep look within (tokensAt text from)) stepItems past (place + 1)
   plain-done axis word past h right v =
       record {

@@ -1,37 +1,35 @@
 -- Reading absolute paths to the end of the text, and the answers of the whole reader. The invariant: what is left to read gives the answer of the whole. Assumes nothing.
-use Prim.Native.Nat.{ℕ, zero, suc, _+_, _*_, _≤_, _<_}
+use Prim.Native.Nat.{ℕ, suc, _+_, _*_, _≤_, _<_}
 use native.Mathlib.Omega.{arith}
 use mathlib.Core.Path.{_≡_, refl, sym, _∙_, ap, subst}
 use mathlib.Core.Bool.{Bool, true, false, _||_, cond}
 use mathlib.Core.List.{List, [], _∷_, _++_, append-assoc, append-nil}
 use mathlib.Core.Option.{Option, none, some}
-use lib.Dec.{eqb, ltb}
+use lib.Dec.{ltb}
 use lib.ListN.{length, take, drop, length-append, take-append-drop}
 use lib.Seq.{length-take-le}
 use borrow.Author.Tests.{lt-ltb, le-ltb, ltb-false}
-use Rattle.paper.specs.Tools.{when, written}
+use Rattle.paper.specs.Tools.{written}
 use Rattle.paper.specs.Tokens as paper
 use Rattle.paper.specs.Tokens.{Placed, tokens}
 use Rattle.paper.specs.Limits.{textLimit, listLimit, itemLimit, bracketLimit}
 use Rattle.paper.specs.Names.{namesFault, namesOf, numberOf}
-use Rattle.paper.specs.Query.{Expr, path, Steps, stop, Query, paths}
-use Rattle.paper.specs.Items.{packPath, encodeExpr, encode}
+use Rattle.paper.specs.Query.{Expr, Steps, stop, Query, paths}
+use Rattle.paper.specs.Items.{packPath, encode}
 use Rattle.paper.specs.Measures.{size}
-use Rattle.paper.specs.Reading.{Got, got, refused, then, next, at, sees, startsStep, deep, readSteps, readPath, readPaths, readWithin, readText}
-use Rattle.paper.specs.Answers.{value, refusal, line, lineGot, anyName, tooLong, shortOfItems, readLast, readAnswer, itemsGot, readItems, readOut, atExit}
+use Rattle.paper.specs.Reading.{Got, got, refused, then, at, sees, readSteps, readPath, readPaths, readWithin, readText}
+use Rattle.paper.specs.Answers.{value, refusal, line, lineGot, anyName, shortOfItems, readLast, readAnswer, itemsGot, readItems, readOut, atExit}
 use Rattle.paper.specs.Answers.{Answer as Told}
 use Rattle.paper.specs.Told.{told}
 use Rattle.paper.specs.declared.Answer.{Answer}
 use Rattle.paper.specs.declared.Answer.the-variants.{Value, TooLong, BadName, Short}
-use Rattle.paper.proofs.Tests.{or-right}
 use Rattle.paper.proofs.Sizes.{size-items}
 use Rattle.paper.proofs.Refusing.{line-value, when-none, or-none, Refuses, refused-keeps}
 use Rattle.token.specs.declared.Cursor.{Cursor}
 use Rattle.read.specs.declared.Part.{Part}
 use Rattle.read.specs.declared.Part.the-variants.{Done, NoQuery, TooDeep, UnknownName}
 use Rattle.read.specs.declared.Lead.the-variants.{Alone, Before, NoPath}
-use Rattle.read.specs.Parts.{tokensAt, Past, Wrote, Gives, Reads, deepIf, pathItems, Leads, Finishes, Whole, ReadsAll, Sized, Measures, Refusal}
-use Rattle.read.proofs.Part.{the-type}
+use Rattle.read.specs.Parts.{tokensAt, Past, Wrote, Gives, Reads, deepIf, pathItems, Leads, Finishes, ReadsAll, Sized, Measures, Refusal}
 use types.Run.{miss}
 use Rattle.read.proofs.Writing.{wrote-nothing, wrote-more}
 use Rattle.read.proofs.Runs.{some-token, some-fuel, Refused}

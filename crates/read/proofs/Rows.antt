@@ -1,28 +1,20 @@
 -- Reading rows of predicates and of steps, and what brackets, operands and single steps come to. Each row's invariant: what is left to read gives the answer of the whole. Assumes nothing.
 use Prim.Native.Nat.{ℕ, zero, suc, _+_, _-_, _*_, _≤_, _<_}
 use native.Mathlib.Omega.{arith}
-use native.Mathlib.Numerals.{add-one}
-use mathlib.Core.Path.{_≡_, refl, sym, _∙_, ap, ap₂, subst}
-use mathlib.Core.Bool.{Bool, true, false, _&&_, cond}
+use mathlib.Core.Path.{_≡_, refl, sym, _∙_, ap}
+use mathlib.Core.Bool.{Bool, true, false, cond}
 use mathlib.Core.List.{List, [], _∷_, _++_, append-assoc, append-nil}
 use mathlib.Core.Option.{Option}
-use lib.Dec.{eqb}
 use lib.ListN.{length, drop, length-append}
-use lib.Seq.{drop-drop}
-use Rattle.paper.specs.Tools.{ascii}
 use Rattle.paper.specs.Tokens as paper
-use Rattle.paper.specs.Tokens.{Placed, sort}
-use Rattle.paper.specs.Query.{Axis, Test, anyNode, Expr, path, both, either, negated, Steps, stop, step, Preds, bare, pred}
-use Rattle.paper.specs.Items.{axisNumber, testNumber, packPath, packStep, stepCount, predCount, notItem, encodeExpr, encodeSteps, encodePreds}
-use Rattle.paper.specs.Limits.{itemLimit}
-use Rattle.paper.specs.Reading.{Got, got, refused, then, next, at, sees, says, Step, before, deep, readPreds, readTail, readStep, readSteps, readOperand, readExpr, readWithin, readPath, startsStep}
-use Rattle.read.specs.declared.Part.{Part}
-use Rattle.read.specs.declared.Part.the-variants.{Done, NoQuery, TooDeep, UnknownName}
+use Rattle.paper.specs.Tokens.{Placed}
+use Rattle.paper.specs.Query.{Axis, Test, Expr, path, both, either, negated, Steps, stop, Preds, bare, pred}
+use Rattle.paper.specs.Items.{axisNumber, testNumber, packPath, packStep, stepCount, predCount, encodeExpr, encodeSteps, encodePreds}
+use Rattle.paper.specs.Reading.{Got, got, refused, then, at, sees, Step, before, deep, readPreds, readTail, readStep, readSteps}
 use Rattle.read.specs.declared.Joint.the-variants.{Next, Nothing}
-use Rattle.read.specs.declared.Opens.the-variants.{Not, Round, Path}
-use Rattle.read.specs.declared.Lead.the-variants.{Alone, Before, NoPath}
 use Rattle.token.specs.declared.Cursor.{Cursor}
-use Rattle.read.specs.Parts.{tokensAt, Past, Wrote, Gives, Reads, passSort, deepItems, deepIf, stepItems, pathItems, Joins, Begins, NotBegins, Leads, PlainStep, TestedStep}
+use Rattle.item.specs.Unpacked.{packed}
+use Rattle.read.specs.Parts.{tokensAt, Past, Wrote, Gives, passSort, deepItems, deepIf, stepItems, pathItems, Joins}
 use Rattle.read.proofs.Writing.{wrote-nothing, wrote-more, wrote-head}
 use Rattle.read.proofs.Runs.{some-token, some-fuel}
 
@@ -123,7 +115,7 @@ module _ (look : List ℕ → Option ℕ) (within : ℕ → List Placed → Got 
 
     -- None comes: the step's item is put before its predicates.
     pub preds-done : (new : List ℕ) (axis test word : ℕ) (a : Axis) (t : Test) → axis ≡ axisNumber a → test ≡ testNumber t → sees paper.openSquare (tokensAt text here) ≡ false
-        → (taken < 8192 → word ≡ 1 + axis * 8 + test * 64 + taken * 32768) → Wrote out new place (word ∷ [])
+        → (taken < 8192 → word ≡ packed (record { axis = axis; test = test; count = taken })) → Wrote out new place (word ∷ [])
         → Gives text old new from place (3 * from) (place + 1) (readTail look within a t (tokensAt text from)) stepItems here filled
     unfolding readTail
     preds-done new axis test word a t ea et s right v =

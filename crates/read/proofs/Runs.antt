@@ -2,18 +2,18 @@
 use Prim.Native.Nat.{ℕ, zero, suc, _+_, _*_, _≤_, _<_}
 use native.Mathlib.Omega.{arith}
 use native.Mathlib.Numerals.{add-one}
-use mathlib.Core.Path.{_≡_, refl, sym, _∙_, ap, ap₂, subst}
+use mathlib.Core.Path.{_≡_, refl, sym, _∙_, ap}
 use mathlib.Core.Bool.{Bool, true, false, cond}
 use mathlib.Core.List.{List, [], _∷_, _++_, append-assoc}
 use mathlib.Core.Option.{Option}
 use lib.ListN.{length, drop, replicate, length-append, length-replicate}
 use denote.Enum.Declared.{tagOf}
 use types.Run.{OneOf, miss}
-use Rattle.paper.specs.Tools.{ascii, same}
-use Rattle.paper.specs.Tokens.{Placed, tokensFrom, tokenAt, beyond, white, letters}
-use Rattle.paper.specs.Query.{Expr, path, both, either, negated}
+use Rattle.paper.specs.Tools.{ascii}
+use Rattle.paper.specs.Tokens.{Placed, tokensFrom, tokenAt, beyond, white}
+use Rattle.paper.specs.Query.{Expr, both, either}
 use Rattle.paper.specs.Items.{andItem, orItem, encodeExpr}
-use Rattle.paper.specs.Reading.{Got, got, refused, then, next, says, readOperand, readAnds, readTerm, readOrs, readExpr}
+use Rattle.paper.specs.Reading.{Got, got, refused, then, says, readOperand, readAnds, readTerm, readOrs, readExpr}
 use Rattle.read.specs.declared.Part.{Part}
 use Rattle.read.specs.declared.Part.the-variants.{Done, NoQuery, TooDeep, UnknownName}
 use Rattle.read.specs.Parts.{tokensAt, Past, Wrote, Grouped, Gives, Reads}

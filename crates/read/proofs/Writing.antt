@@ -1,14 +1,13 @@
 -- Items written one after the other, an item put before those written, and operators put before a run. By lists cut where the items go. Assumes nothing.
-use Prim.Native.Nat.{ℕ, zero, suc, _+_, _-_, _≤_, _<_}
+use Prim.Native.Nat.{ℕ, suc, _+_, _-_, _≤_, _<_}
 use native.Mathlib.Omega.{arith}
-use native.Mathlib.Numerals.{add-one}
-use mathlib.Core.Path.{_≡_, refl, sym, _∙_, ap, ap₂}
+use mathlib.Core.Path.{_≡_, refl, sym, _∙_, ap, ap₂, subst}
 use mathlib.Core.Bool.{Bool, true, false}
 use mathlib.Core.List.{List, [], _∷_, _++_, append-assoc, append-nil}
 use lib.ListN.{length, getD, set, take, drop, replicate, length-append, length-drop, take-append-drop, length-replicate, replicate-append-replicate}
 use lib.Seq.{length-take-le, take-suc, take-all, set-at, getD-at}
 use Rattle.paper.specs.Limits.{itemLimit}
-use Rattle.read.specs.Parts.{Wrote, Grouped, MovedTo, Moved, Filled, deepItem, deepItems}
+use Rattle.read.specs.Parts.{Wrote, Grouped, Moved, Filled, deepItem, deepItems}
 
 -- A list of so many elements, cut in two.
 record Cut (l : List ℕ) (m n : ℕ) : Type 0 where
@@ -224,9 +223,9 @@ grouped-done old mid new place end count item m f =
     }
 
 -- THE STEP THAT `//` STANDS FOR, written or not.
-pub deep-there : (old new : List ℕ) (place : ℕ) (deep : Bool) → deep ≡ true → Wrote old new place (deepItem ∷ [])
+pub deep-there : (old new : List ℕ) (place word : ℕ) (deep : Bool) → deep ≡ true → (0 < 8192 → word ≡ deepItem) → Wrote old new place (word ∷ [])
     → (Wrote old new place (deepItems deep)) × (place + 1 ≡ place + length (deepItems deep))
-deep-there old new place deep d w = rw d (w, refl)
+deep-there old new place word deep d right w = rw d (subst (λ (i : ℕ). Wrote old new place (i ∷ [])) (right (omega arith)) w, refl)
 
 pub deep-not : (old : List ℕ) (place : ℕ) (deep : Bool) → deep ≡ false → (Wrote old old place (deepItems deep)) × (place ≡ place + length (deepItems deep))
 deep-not old place deep d = rw d (wrote-nothing old place, omega arith)

@@ -1,19 +1,19 @@
 -- What reading a part of a text promises: what the paper's reader says of the tokens from a place on, and the items written.
-use Prim.Native.Nat.{ℕ, zero, suc, _+_, _*_, _≤_, _<_}
+use Prim.Native.Nat.{ℕ, suc, _+_, _*_, _≤_, _<_}
 use mathlib.Core.Path.{_≡_}
 use mathlib.Core.Bool.{Bool, true, false, _&&_, cond}
 use mathlib.Core.List.{List, [], _∷_, _++_}
 use mathlib.Core.Option.{Option, none, some}
 use mathlib.Core.Logic.{_⊎_}
 use lib.Dec.{eqb}
-use lib.ListN.{length, take, drop, replicate}
+use lib.ListN.{length, drop, replicate}
 use Rattle.paper.specs.Tools.{ascii, same}
 use Rattle.paper.specs.Limits.{textLimit, itemLimit, bracketLimit}
 use Rattle.paper.specs.Names.{namesOf, numberOf}
 use Rattle.paper.specs.Tokens as paper
-use Rattle.paper.specs.Tokens.{Placed, tokensFrom, sort, letters}
-use Rattle.paper.specs.Query.{Axis, child, self, parent, Test, anyNode, textNode, anyElement, Expr, path, Steps, Preds, bare, Query}
-use Rattle.paper.specs.Reading.{Got, got, refused, then, next, at, sees, says, wrong, axisAhead, startsStep, Step, deep, readTail}
+use Rattle.paper.specs.Tokens.{Placed, tokensFrom, sort}
+use Rattle.paper.specs.Query.{Axis, descendantOrSelf, Test, anyNode, Expr, path, Steps, bare, Query}
+use Rattle.paper.specs.Reading.{Got, got, refused, next, at, sees, says, wrong, axisAhead, startsStep, Step, deep, readTail}
 use Rattle.paper.specs.Items.{axisNumber, testNumber, packStep, predCount, encodeExpr, encodePreds, encode}
 use Rattle.paper.specs.Measures.{size}
 use Rattle.paper.specs.Answers.{anyName, value, refusal}
@@ -91,7 +91,7 @@ pub record Grouped (old new : List ℕ) (place end count item : ℕ) : Type 0 wh
 
 -- The item of the step that `//` stands for, where it is written.
 abbrev pub deepItem : ℕ
-deepItem = 25
+deepItem = packStep descendantOrSelf anyNode 0
 
 abbrev pub deepItems : Bool → List ℕ
 deepItems true = deepItem ∷ []

@@ -5,21 +5,22 @@ use names::Listed;
 use paper::Answer;
 use token::Cursor;
 use token::Token;
-ghost use Prim.Native.Nat.{ℕ, suc, _+_, _*_, _≤_, _<_};
+ghost use Prim.Native.Nat.{_+_, _*_, _≤_, _<_};
 ghost use mathlib.Core.Path.{_≡_};
-ghost use mathlib.Core.Bool.{Bool, true, false, cond};
-ghost use mathlib.Core.List.{List, [], _∷_, _++_};
+ghost use mathlib.Core.Bool.{true, false};
+ghost use mathlib.Core.List.{[], _∷_};
 ghost use lib.Dec.{eqb};
 ghost use lib.ListN.{length, take, drop};
 ghost use Rattle.paper.specs.Tools.{same};
-ghost use Rattle.paper.specs.Limits.{textLimit, listLimit, bracketLimit};
+ghost use Rattle.paper.specs.Limits.{bracketLimit};
 ghost use Rattle.paper.specs.Tokens.{sort, letters};
 ghost use Rattle.paper.specs.Query.{Axis, child, Test};
-ghost use Rattle.paper.specs.Items.{axisNumber, testNumber, packPath, packStep, encode, encodeExpr};
-ghost use Rattle.paper.specs.Reading.{next, at, then, got, refused, axisNamed, startsStep, readTail, readTested, readStep, readSteps, readOperand, readTerm, readExpr, readPath, readPaths, readWithin, readText};
+ghost use Rattle.paper.specs.Items.{axisNumber, testNumber, packPath, encodeExpr};
+ghost use Rattle.paper.specs.Reading.{next, at, then, got, axisNamed, startsStep, readTail, readTested, readStep, readSteps, readOperand, readTerm, readExpr, readPath, readWithin, readText};
 ghost use Rattle.paper.specs.Answers.{readAnswer, readOut, readLast, lineGot};
 ghost use Rattle.paper.specs.Told.{told};
-ghost use Rattle.names.specs.Listing.{Indexed, foundAt};
+ghost use Rattle.item.specs.Unpacked.{packed};
+ghost use Rattle.names.specs.Listing.{Indexed};
 ghost use Rattle.read.specs.Parts.{tokensAt, sortOf, Looks, lookOf, Wrote, Grouped, deepItems, deepIf, stepItems, Reads, passSort, Heads, axisCode, callCode, Joins, Leads, Begins, Axes, Calls, Closes, Numbered, Moved, Filled, Ready, pathItems, Finishes, ReadsAll, Measures, Refusal};
 
 // What reading a part of a query comes to: the cursor past it and the place past its items, or a refusal with its place.
@@ -81,6 +82,10 @@ const SLASH: usize = 0;
 
 const SLASHES: usize = 1;
 
+const DOT: usize = 2;
+
+const DOTS: usize = 3;
+
 const COLONS: usize = 4;
 
 const BAR: usize = 5;
@@ -93,18 +98,33 @@ const OPEN_ROUND: usize = 8;
 
 const CLOSE_ROUND: usize = 9;
 
-// The number of the child axis, and the numbers that no axis and no called test has.
+const STAR: usize = 10;
+
+const WORD: usize = 13;
+
+// Axes by the paper's numbers, and the numbers that no axis and no called test has.
+const SELF: u32 = 0;
+
 const CHILD: u32 = 1;
+
+const PARENT: u32 = 2;
+
+const DESCENDANT_OR_SELF: u32 = 3;
+
+const ANCESTOR_OR_SELF: u32 = 4;
 
 const NO_AXIS: u32 = 5;
 
 const NO_CALL: u32 = 2;
 
-// The test `*`.
+// The tests `node()`, `text()` and `*`, and that of the name 0.
+const ANY_NODE: u32 = 0;
+
+const TEXT_NODE: u32 = 1;
+
 const ANY_ELEMENT: u32 = 258;
 
-// The item of the step that `//` stands for.
-const DEEP: u32 = 25;
+const NAMED: u32 = 2;
 
 // TOKENS.
 
@@ -191,7 +211,7 @@ fn starts_step(text: &[u8], cursor: Cursor) -> bool
     let taken = cursor.take(text);
     let token = taken.token;
     let sort = sort_of(token);
-    (13 == sort) | (10 == sort) | (2 == sort) | (3 == sort)
+    (WORD == sort) | (STAR == sort) | (DOT == sort) | (DOTS == sort)
 }
 
 // Does `/` or `//` come next?
@@ -259,19 +279,19 @@ fn axis_of(text: &[u8], start: usize, len: usize) -> u32
     ensures { λ r. ⌜ r ≡ axisCode (axisNamed (take len (drop start (now (text .entry))))) ⌝ }
 {
     if same_word(text, start, len, b"self") {
-        return 0;
+        return SELF;
     }
     if same_word(text, start, len, b"child") {
-        return 1;
+        return CHILD;
     }
     if same_word(text, start, len, b"parent") {
-        return 2;
+        return PARENT;
     }
     if same_word(text, start, len, b"descendant-or-self") {
-        return 3;
+        return DESCENDANT_OR_SELF;
     }
     if same_word(text, start, len, b"ancestor-or-self") {
-        return 4;
+        return ANCESTOR_OR_SELF;
     }
     NO_AXIS
 }
@@ -306,10 +326,10 @@ fn call_of(text: &[u8], start: usize, len: usize) -> u32
     ensures { λ r. ⌜ r ≡ callCode (take len (drop start (now (text .entry)))) ⌝ }
 {
     if same_word(text, start, len, b"node") {
-        return 0;
+        return ANY_NODE;
     }
     if same_word(text, start, len, b"text") {
-        return 1;
+        return TEXT_NODE;
     }
     NO_CALL
 }
@@ -399,7 +419,7 @@ fn tested(
     match found {
         Found::At(v) => Head::Tested {
             axis,
-            test: v as u32 + 2,
+            test: v as u32 + NAMED,
             next: past,
         },
         Found::Nothing => Head::Unknown(place),
@@ -419,13 +439,13 @@ fn step_head(
     requires { ⌜ cursor .at ≤ length (now text) ⌝ }
     ensures { λ r. ⌜ Heads (lookOf known (now (list .entry))) (now (text .entry)) (cursor .at) (λ within. readStep (lookOf known (now (list .entry))) within (tokensAt (now (text .entry)) (cursor .at))) r ⌝ }
 {
-    let dot = mark(text, cursor, 2);
+    let dot = mark(text, cursor, DOT);
     if let Ahead::There { place: _, next } = dot {
-        return Head::Plain { axis: 0, next };
+        return Head::Plain { axis: SELF, next };
     }
-    let dots = mark(text, cursor, 3);
+    let dots = mark(text, cursor, DOTS);
     if let Ahead::There { place: _, next } = dots {
-        return Head::Plain { axis: 2, next };
+        return Head::Plain { axis: PARENT, next };
     }
     let ahead = axis_ahead(text, cursor);
     match ahead {
@@ -451,7 +471,7 @@ fn put_deep(out: &mut [u32], place: usize, deep: bool) -> usize
     ensures { λ r. ⌜ (Wrote (now (out .entry)) (now (out .exit)) place (deepItems deep)) × (r ≡ place + length (deepItems deep)) ⌝ }
 {
     if deep {
-        put(out, place, DEEP);
+        put(out, place, step_word(DESCENDANT_OR_SELF, ANY_NODE, 0));
         return place + 1;
     }
     place
@@ -471,7 +491,7 @@ fn path_word(count: usize) -> u32
 // The item of a step; 0 for more predicates than an item can say.
 fn step_word(axis: u32, test: u32, count: usize) -> u32
     requires { ⌜ (axis < 8) × (test < 512) ⌝ }
-    ensures { λ r. ⌜ (count < 8192 → r ≡ 1 + axis * 8 + test * 64 + count * 32768) ⌝ }
+    ensures { λ r. ⌜ (count < 8192 → r ≡ packed (record { axis = axis; test = test; count = count })) ⌝ }
 {
     if count < 8192 {
         item::pack_step(item::Step { axis, test, count })
@@ -785,7 +805,7 @@ fn step(
     let head = step_head(text, list, starts, count, known, cursor);
     match head {
         Head::Plain { axis, next } => {
-            put(out, place, step_word(axis, 0, 0));
+            put(out, place, step_word(axis, ANY_NODE, 0));
             Part::Done {
                 next,
                 end: place + 1,

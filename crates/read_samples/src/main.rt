@@ -26,6 +26,11 @@ fn line(number: usize, value: usize) {
     io::write_all(libc::STDOUT_FILENO, b"\n");
 }
 
+// An item as a number to write.
+fn wide(item: u32) -> usize {
+    item as usize
+}
+
 // Reads a text with the names a, b, c, d and writes what is answered.
 fn sample(text: &[u8]) {
     let mut out = [0u32; 100];
@@ -35,7 +40,7 @@ fn sample(text: &[u8]) {
             let mut i = 0;
             while i < n {
                 if i < 100 {
-                    decimal(out[i] as usize);
+                    decimal(wide(out[i]));
                     io::write_all(libc::STDOUT_FILENO, b" ");
                 }
                 i += 1;
@@ -55,25 +60,7 @@ fn sample(text: &[u8]) {
     }
 }
 
-// `/a[`, so many `(`, `b` and its closers.
-fn nested(count: usize) {
-    let mut text = [40u8; 200];
-    text[0] = b'/';
-    text[1] = b'a';
-    text[2] = b'[';
-    if count < 90 {
-        text[3 + count] = b'b';
-        let mut i = 0;
-        while i < count {
-            text[4 + count + i] = b')';
-            i += 1;
-        }
-        text[4 + count + count] = b']';
-        let end = 5 + count + count;
-        sample(&text[..end]);
-    }
-}
-
+// Document 01's read samples first; then words as names and as operators, white space, and groups.
 fn main() {
     sample(b"");
     sample(b"//");
@@ -83,8 +70,12 @@ fn main() {
     sample(b"/a[(b)/c]");
     sample(b"/a/preceding::b");
     sample(b"/e");
-    nested(63);
-    nested(64);
+    sample(
+        b"/a[(((((((((((((((((((((((((((((((((((((((((((((((((((((((((((((((b)))))))))))))))))))))))))))))))))))))))))))))))))))))))))))))))]",
+    );
+    sample(
+        b"/a[((((((((((((((((((((((((((((((((((((((((((((((((((((((((((((((((b))))))))))))))))))))))))))))))))))))))))))))))))))))))))))))))))]",
+    );
     sample(b"/");
     sample(b"/|//a");
     sample(b"/a[b or c and d or not(a//b)]/..");

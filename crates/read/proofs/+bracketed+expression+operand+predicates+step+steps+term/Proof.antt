@@ -2,18 +2,18 @@
 -- Each loop's invariant is that what is left to read gives the answer of the whole (`Left` of a run of operands, `PredRow` and `StepRow`).
 -- The measure of a call is the number of bytes left, then the order bracketed, expression, term, operand, steps, step. Assumes nothing.
 use Prim.Native.Nat.{_-_, _+_, _*_}
-use mathlib.Core.Path.{_≡_, refl, sym, _∙_, ap}
+use mathlib.Core.Path.{_≡_, refl, _∙_, ap}
 use mathlib.Core.List.{List}
 use native.Mathlib.Omega.{arith}
 use borrow.Author.Needs.{needs}
 use denote.Ref.{now}
 use lib.ListN.{length}
 use Rattle.paper.specs.Query.{Expr}
-use Rattle.paper.specs.Reading.{Got, got, then, readSteps, readWithin}
+use Rattle.paper.specs.Reading.{Got, got, then, readSteps, readTerm, readExpr, readWithin}
 use Rattle.read.specs.Parts.{tokensAt, lookOf, deepIf, passSort}
 use Rattle.read.proofs.Heading.{axis-small}
 use Rattle.read.proofs.Runs.{ors, ands, Left, left-start, start-stuck, left-more, left-stuck, left-done, term-whole, expr-whole, passed-on}
-use Rattle.read.proofs.Rows.{PredRow, preds-start, preds-more, preds-stuck, preds-done, StepRow, Stepped, steps-start, step-more, step-stuck, steps-more, steps-done, joined-past, deep-few}
+use Rattle.read.proofs.Rows.{PredRow, preds-start, preds-more, preds-stuck, preds-done, StepRow, steps-start, step-more, step-stuck, steps-more, steps-done, joined-past, deep-few}
 use Rattle.read.proofs.Operands.{too-deep, opened, closed, unclosed, not-stuck, not-done, round-done, path-done, plain-done, tested-done}
 use Prim.Native.Nat.{ℕ, _<_}
 use borrow.Fn.Kinds.{In}
@@ -171,8 +171,9 @@ bracketed-returns-2 : (t : ℕ) → bracketed-lts.Need-returns-2 (
 ) (bracketed-at t) bracketed.Post
 bracketed-returns-2 t c =
     let s = c .before .before .before .before .before .before .before .before .before in
+    let look = lookOf (s .args .known) (now (s .args .list)) in
     passed-on _ _ _ _ _ _ _ _ _ _ _ _ _ _ _ _ _ _ (c .before .before .before .expression .result) (c .match .keys2) (c .before .before .before .expression .ensures)
-    (λ n spot h. ap (λ x. then x (passSort (s .args .closer))) (opened (lookOf (s .args .known) (now (s .args .list))) (s .args .depth) (s .args .bracket) (tokensAt (now (s .args .text)) (s .args .cursor .at)) (c .before .before .before .before .before .if1 .left) ∙ h))
+    (λ n spot h. ap (λ x. then x (passSort (s .args .closer))) (opened look (s .args .depth) (s .args .bracket) (tokensAt (now (s .args .text)) (s .args .cursor .at)) (c .before .before .before .before .before .if1 .left) ∙ h))
 
 bracketed-mark-requires : (t : ℕ) → bracketed-lts.Need-mark-requires (
   expression-below t,
@@ -215,9 +216,10 @@ bracketed-returns-3 : (t : ℕ) → bracketed-lts.Need-returns-3 (
 ) (bracketed-at t) bracketed.Post
 bracketed-returns-3 t c =
     let s = c .before .before .before .before .before .before .before .before .before .before .before .before .before .before .before in
+    let look = lookOf (s .args .known) (now (s .args .list)) in
     let g = rw (c .before .before .before .before .before .inner .given .1) at (c .before .before .before .before .before .before .before .before .before .expression .ensures) in
     let m = rw (c .before .close .given .1) at (c .before .before .before .mark .ensures) in
-    closed _ _ _ _ _ (s .args .closer) _ _ (opened (lookOf (s .args .known) (now (s .args .list))) (s .args .depth) (s .args .bracket) (tokensAt (now (s .args .text)) (s .args .cursor .at)) (c .before .before .before .before .before .before .before .before .before .before .before .if1 .left)) _ _ _ g (m .0) (m .2)
+    closed _ _ _ _ _ (s .args .closer) _ _ (opened look (s .args .depth) (s .args .bracket) (tokensAt (now (s .args .text)) (s .args .cursor .at)) (c .before .before .before .before .before .before .before .before .before .before .before .if1 .left)) _ _ _ g (m .0) (m .2)
 
 bracketed-same-length-3 : (t : ℕ) → bracketed-lts.Need-same-length-3 (
   expression-below t,
@@ -235,9 +237,10 @@ bracketed-returns-4 : (t : ℕ) → bracketed-lts.Need-returns-4 (
 ) (bracketed-at t) bracketed.Post
 bracketed-returns-4 t c =
     let s = c .before .before .before .before .before .before .before .before .before .before .before .before .before .before .before in
+    let look = lookOf (s .args .known) (now (s .args .list)) in
     let g = rw (c .before .before .before .before .before .inner .given .1) at (c .before .before .before .before .before .before .before .before .before .expression .ensures) in
     let m = rw (c .before .close2 .given .1) at (c .before .before .before .mark .ensures) in
-    unclosed _ _ _ _ _ (s .args .closer) _ _ (opened (lookOf (s .args .known) (now (s .args .list))) (s .args .depth) (s .args .bracket) (tokensAt (now (s .args .text)) (s .args .cursor .at)) (c .before .before .before .before .before .before .before .before .before .before .before .if1 .left)) _ _ _ g (m .0) (m .1)
+    unclosed _ _ _ _ _ (s .args .closer) _ _ (opened look (s .args .depth) (s .args .bracket) (tokensAt (now (s .args .text)) (s .args .cursor .at)) (c .before .before .before .before .before .before .before .before .before .before .before .if1 .left)) _ _ _ g (m .0) (m .1)
 
 abbrev expression-Inv-loop : expression-lts.InvT-loop
 expression-Inv-loop text list starts count known depth out₀ place end here₀ filled₀ run₀ t21 out here filled run =
@@ -287,7 +290,9 @@ expression-returns : (t : ℕ) → expression-lts.Need-returns (
 ) (expression-at t) expression.Post expression-Inv-loop expression-μ-loop
 expression-returns t c =
     let s = c .before .before .before .before .before .before .before .before in
-    passed-on _ _ _ _ _ _ _ _ _ _ _ _ _ _ _ _ _ _ (c .before .before .before .term .result) (c .match .keys2) (c .before .before .before .term .ensures) (start-stuck (ors (lookOf (s .args .known) (now (s .args .list))) (readWithin (lookOf (s .args .known) (now (s .args .list))) (s .args .depth))) _ (s .args .out .now) _ (s .args .place) _ (expr-whole (lookOf (s .args .known) (now (s .args .list))) (readWithin (lookOf (s .args .known) (now (s .args .list))) (s .args .depth)) (tokensAt (now (s .args .text)) (s .args .cursor .at))))
+    let look = lookOf (s .args .known) (now (s .args .list)) in
+    let within = readWithin look (s .args .depth) in
+    passed-on _ _ _ _ _ _ _ _ _ _ _ _ _ _ _ _ _ _ (c .before .before .before .term .result) (c .match .keys2) (c .before .before .before .term .ensures) (start-stuck (ors look within) _ (s .args .out .now) _ (s .args .place) _ (expr-whole look within (tokensAt (now (s .args .text)) (s .args .cursor .at))))
 
 expression-loop-holds : (t : ℕ) → expression-lts.Need-loop-holds (
   term-below t,
@@ -309,6 +314,26 @@ expression-slice-aggregate-word-ahead : (t : ℕ) → expression-lts.Need-slice-
 ) (expression-at t) expression.Post expression-Inv-loop expression-μ-loop
 expression-slice-aggregate-word-ahead t c = search needs
 
+-- What has been read where the loop's turn begins.
+expression-left : (t : ℕ) (c : expression-lts.At-loop (
+  term-below t,
+  term.Post,
+  word-ahead-reads.Asked,
+  word-ahead-reads.Learnt,
+  group-reads.Asked,
+  group-reads.Learnt,
+) (expression-at t) expression.Post expression-Inv-loop expression-μ-loop)
+    → let s = c .before .before .before .before .before .before .before .before .before .before .before in
+    let look = lookOf (s .args .known) (now (s .args .list)) in
+    let within = readWithin look (s .args .depth) in
+    Left (ors look within) (now (s .args .text)) (now (s .args .out)) (c .loop .out) (s .args .cursor .at) (s .args .place) (readExpr look within (tokensAt (now (s .args .text)) (s .args .cursor .at))) (c .loop .here .at) (c .loop .filled) (c .loop .run)
+expression-left t c =
+    let s = c .before .before .before .before .before .before .before .before .before .before .before in
+    let look = lookOf (s .args .known) (now (s .args .list)) in
+    let within = readWithin look (s .args .depth) in
+    let ts = tokensAt (now (s .args .text)) (s .args .cursor .at) in
+    c .loop .inv .1 _ _ _ (left-start (ors look within) _ _ _ _ _ (expr-whole look within ts) _ _ _ (rw (c .before .before .first .given .1) at (c .before .before .before .before .before .before .term .ensures)))
+
 expression-word-ahead-requires : (t : ℕ) → expression-lts.Need-word-ahead-requires (
   term-below t,
   term.Post,
@@ -319,7 +344,7 @@ expression-word-ahead-requires : (t : ℕ) → expression-lts.Need-word-ahead-re
 ) (expression-at t) expression.Post expression-Inv-loop expression-μ-loop
 expression-word-ahead-requires t c κs =
     let s = c .before .before .before .before .before .before .before .before .before .before .before .before in
-    let l = c .before .loop .inv .1 _ _ _ (left-start (ors (lookOf (s .args .known) (now (s .args .list))) (readWithin (lookOf (s .args .known) (now (s .args .list))) (s .args .depth))) _ _ _ _ _ (expr-whole (lookOf (s .args .known) (now (s .args .list))) (readWithin (lookOf (s .args .known) (now (s .args .list))) (s .args .depth)) (tokensAt (now (s .args .text)) (s .args .cursor .at))) _ _ _ (rw (c .before .before .before .first .given .1) at (c .before .before .before .before .before .before .before .term .ensures))) in
+    let l = expression-left t (c .before) in
     (l .inside, search needs)
 
 expression-enum-known-ahead : (t : ℕ) → expression-lts.Need-enum-known-ahead (
@@ -352,7 +377,7 @@ expression-term-requires-2 : (t : ℕ) → expression-lts.Need-term-requires-2 (
 ) (expression-at t) expression.Post expression-Inv-loop expression-μ-loop
 expression-term-requires-2 t c κs =
     let s = c .before .before .before .before .before .before .before .before .before .before .before .before .before .before .before .before .before in
-    let l = c .before .before .before .before .before .before .loop .inv .1 _ _ _ (left-start (ors (lookOf (s .args .known) (now (s .args .list))) (readWithin (lookOf (s .args .known) (now (s .args .list))) (s .args .depth))) _ _ _ _ _ (expr-whole (lookOf (s .args .known) (now (s .args .list))) (readWithin (lookOf (s .args .known) (now (s .args .list))) (s .args .depth)) (tokensAt (now (s .args .text)) (s .args .cursor .at))) _ _ _ (rw (c .before .before .before .before .before .before .before .before .first .given .1) at (c .before .before .before .before .before .before .before .before .before .before .before .before .term .ensures))) in
+    let l = expression-left t (c .before .before .before .before .before .before) in
     let w = rw (c .before .before .ahead .given .1) at (c .before .before .before .before .word-ahead .ensures) in
     (omega (arith, l .onward, w .2 .onward, w .2 .inside, s .pre .0), (record { short = s .pre .1 .0 .short; names = s .pre .1 .0 .names; inside = w .2 .inside; shallow = s .pre .1 .0 .shallow }, omega (arith, l .grows, w .2 .onward, s .pre .1 .1)))
 
@@ -386,9 +411,11 @@ expression-returns-2 : (t : ℕ) → expression-lts.Need-returns-2 (
 ) (expression-at t) expression.Post expression-Inv-loop expression-μ-loop
 expression-returns-2 t c =
     let s = c .before .before .before .before .before .before .before .before .before .before .before .before .before .before .before .before .before .before .before .before .before in
-    let l = c .before .before .before .before .before .before .before .before .before .before .loop .inv .1 _ _ _ (left-start (ors (lookOf (s .args .known) (now (s .args .list))) (readWithin (lookOf (s .args .known) (now (s .args .list))) (s .args .depth))) _ _ _ _ _ (expr-whole (lookOf (s .args .known) (now (s .args .list))) (readWithin (lookOf (s .args .known) (now (s .args .list))) (s .args .depth)) (tokensAt (now (s .args .text)) (s .args .cursor .at))) _ _ _ (rw (c .before .before .before .before .before .before .before .before .before .before .before .before .first .given .1) at (c .before .before .before .before .before .before .before .before .before .before .before .before .before .before .before .before .term .ensures))) in
+    let look = lookOf (s .args .known) (now (s .args .list)) in
+    let within = readWithin look (s .args .depth) in
+    let l = expression-left t (c .before .before .before .before .before .before .before .before .before .before) in
     let w = rw (c .before .before .before .before .before .before .ahead .given .1) at (c .before .before .before .before .before .before .before .before .word-ahead .ensures) in
-    passed-on _ _ _ _ _ _ _ _ _ _ _ _ _ _ _ _ _ _ (c .before .before .before .term2 .result) (c .match3 .keys2) (c .before .before .before .term2 .ensures) (left-stuck (ors (lookOf (s .args .known) (now (s .args .list))) (readWithin (lookOf (s .args .known) (now (s .args .list))) (s .args .depth))) _ _ _ _ _ _ _ _ _ l _ (w .0) (w .2))
+    passed-on _ _ _ _ _ _ _ _ _ _ _ _ _ _ _ _ _ _ (c .before .before .before .term2 .result) (c .match3 .keys2) (c .before .before .before .term2 .ensures) (left-stuck (ors look within) _ _ _ _ _ _ _ _ _ l _ (w .0) (w .2))
 
 expression-add-run : (t : ℕ) → expression-lts.Need-add-run (
   term-below t,
@@ -400,7 +427,7 @@ expression-add-run : (t : ℕ) → expression-lts.Need-add-run (
 ) (expression-at t) expression.Post expression-Inv-loop expression-μ-loop
 expression-add-run t c =
     let s = c .before .before .before .before .before .before .before .before .before .before .before .before .before .before .before .before .before .before .before .before .before .before .before in
-    let l = c .before .before .before .before .before .before .before .before .before .before .before .before .loop .inv .1 _ _ _ (left-start (ors (lookOf (s .args .known) (now (s .args .list))) (readWithin (lookOf (s .args .known) (now (s .args .list))) (s .args .depth))) _ _ _ _ _ (expr-whole (lookOf (s .args .known) (now (s .args .list))) (readWithin (lookOf (s .args .known) (now (s .args .list))) (s .args .depth)) (tokensAt (now (s .args .text)) (s .args .cursor .at))) _ _ _ (rw (c .before .before .before .before .before .before .before .before .before .before .before .before .before .before .first .given .1) at (c .before .before .before .before .before .before .before .before .before .before .before .before .before .before .before .before .before .before .term .ensures))) in
+    let l = expression-left t (c .before .before .before .before .before .before .before .before .before .before .before .before) in
     omega (arith, l .grows, l .inside, s .pre .1 .0 .short, s .pre .1 .1)
 
 expression-loop-less : (t : ℕ) → expression-lts.Need-loop-less (
@@ -427,9 +454,11 @@ expression-loop-again : (t : ℕ) → expression-lts.Need-loop-again (
 expression-loop-again t c = (
   search needs,
   let s = c .before .before .before .before .before .before .before .before .before .before .before .before .before .before .before .before .before .before .before .before .before .before .before in
+      let look = lookOf (s .args .known) (now (s .args .list)) in
+      let within = readWithin look (s .args .depth) in
       let g = rw (c .before .more .given .1) at (c .before .before .before .before .before .term2 .ensures) in
       let w = rw (c .before .before .before .before .before .before .before .before .ahead .given .1) at (c .before .before .before .before .before .before .before .before .before .before .word-ahead .ensures) in
-      λ old from all l. left-more (ors (lookOf (s .args .known) (now (s .args .list))) (readWithin (lookOf (s .args .known) (now (s .args .list))) (s .args .depth))) _ old from _ all _ _ _ _ (c .before .before .before .before .before .before .before .before .before .before .before .before .loop .inv .1 old from all l) _ (w .0) (w .2) _ _ _ g,
+      λ old from all l. left-more (ors look within) _ old from _ all _ _ _ _ (c .before .before .before .before .before .before .before .before .before .before .before .before .loop .inv .1 old from all l) _ (w .0) (w .2) _ _ _ g,
 )
 
 expression-group-requires : (t : ℕ) → expression-lts.Need-group-requires (
@@ -442,7 +471,7 @@ expression-group-requires : (t : ℕ) → expression-lts.Need-group-requires (
 ) (expression-at t) expression.Post expression-Inv-loop expression-μ-loop
 expression-group-requires t c κs =
     let s = c .before .before .before .before .before .before .before .before .before .before .before .before .before .before .before .before in
-    let l = c .before .before .before .before .before .loop .inv .1 _ _ _ (left-start (ors (lookOf (s .args .known) (now (s .args .list))) (readWithin (lookOf (s .args .known) (now (s .args .list))) (s .args .depth))) _ _ _ _ _ (expr-whole (lookOf (s .args .known) (now (s .args .list))) (readWithin (lookOf (s .args .known) (now (s .args .list))) (s .args .depth)) (tokensAt (now (s .args .text)) (s .args .cursor .at))) _ _ _ (rw (c .before .before .before .before .before .before .before .first .given .1) at (c .before .before .before .before .before .before .before .before .before .before .before .term .ensures))) in
+    let l = expression-left t (c .before .before .before .before .before) in
     (omega (arith, l .ends), omega (arith, l .grows, l .inside, s .pre .1 .0 .short, s .pre .1 .1), omega (arith, l .grows, l .inside, s .pre .1 .0 .short, s .pre .1 .1))
 
 expression-add-t31 : (t : ℕ) → expression-lts.Need-add-t31 (
@@ -455,7 +484,7 @@ expression-add-t31 : (t : ℕ) → expression-lts.Need-add-t31 (
 ) (expression-at t) expression.Post expression-Inv-loop expression-μ-loop
 expression-add-t31 t c =
     let s = c .before .before .before .before .before .before .before .before .before .before .before .before .before .before .before .before .before .before .before in
-    let l = c .before .before .before .before .before .before .before .before .loop .inv .1 _ _ _ (left-start (ors (lookOf (s .args .known) (now (s .args .list))) (readWithin (lookOf (s .args .known) (now (s .args .list))) (s .args .depth))) _ _ _ _ _ (expr-whole (lookOf (s .args .known) (now (s .args .list))) (readWithin (lookOf (s .args .known) (now (s .args .list))) (s .args .depth)) (tokensAt (now (s .args .text)) (s .args .cursor .at))) _ _ _ (rw (c .before .before .before .before .before .before .before .before .before .before .first .given .1) at (c .before .before .before .before .before .before .before .before .before .before .before .before .before .before .term .ensures))) in
+    let l = expression-left t (c .before .before .before .before .before .before .before .before) in
     omega (arith, l .grows, l .inside, s .pre .1 .0 .short, s .pre .1 .1)
 
 expression-same-length-3 : (t : ℕ) → expression-lts.Need-same-length-3 (
@@ -478,9 +507,11 @@ expression-returns-3 : (t : ℕ) → expression-lts.Need-returns-3 (
 ) (expression-at t) expression.Post expression-Inv-loop expression-μ-loop
 expression-returns-3 t c =
     let s = c .before .before .before .before .before .before .before .before .before .before .before .before .before .before .before .before .before .before .before in
-    let l = c .before .before .before .before .before .before .before .before .loop .inv .1 _ _ _ (left-start (ors (lookOf (s .args .known) (now (s .args .list))) (readWithin (lookOf (s .args .known) (now (s .args .list))) (s .args .depth))) _ _ _ _ _ (expr-whole (lookOf (s .args .known) (now (s .args .list))) (readWithin (lookOf (s .args .known) (now (s .args .list))) (s .args .depth)) (tokensAt (now (s .args .text)) (s .args .cursor .at))) _ _ _ (rw (c .before .before .before .before .before .before .before .before .before .before .first .given .1) at (c .before .before .before .before .before .before .before .before .before .before .before .before .before .before .term .ensures))) in
+    let look = lookOf (s .args .known) (now (s .args .list)) in
+    let within = readWithin look (s .args .depth) in
+    let l = expression-left t (c .before .before .before .before .before .before .before .before) in
     let w = rw (c .before .before .before .before .enum-told .given .1) at (c .before .before .before .before .before .before .word-ahead .ensures) in
-    left-done (ors (lookOf (s .args .known) (now (s .args .list))) (readWithin (lookOf (s .args .known) (now (s .args .list))) (s .args .depth))) _ _ _ _ _ _ _ _ _ l _ (w .0) (c .before .before .group .ensures)
+    left-done (ors look within) _ _ _ _ _ _ _ _ _ l _ (w .0) (c .before .before .group .ensures)
 
 operand-opening-requires : (t : ℕ) → operand-lts.Need-opening-requires (
   opening-reads.Asked,
@@ -569,8 +600,10 @@ operand-returns : (t : ℕ) → operand-lts.Need-returns (
 ) (operand-at t) operand.Post
 operand-returns t c =
     let s = c .before .before .before .before .before .before .before .before .before .before .before .before in
+    let look = lookOf (s .args .known) (now (s .args .list)) in
+    let within = readWithin look (s .args .depth) in
     let n = rw (c .before .before .before .before .before .before .opens .given .1) at (c .before .before .before .before .before .before .before .before .opening .ensures) in
-    passed-on _ _ _ _ _ _ _ _ _ _ _ _ _ _ _ _ _ _ (c .before .before .before .bracketed .result) (c .match2 .keys2) (c .before .before .before .bracketed .ensures) (λ k spot h. not-stuck (lookOf (s .args .known) (now (s .args .list))) (readWithin (lookOf (s .args .known) (now (s .args .list))) (s .args .depth)) _ (s .args .out .now) _ (s .args .place) _ _ k spot n h)
+    passed-on _ _ _ _ _ _ _ _ _ _ _ _ _ _ _ _ _ _ (c .before .before .before .bracketed .result) (c .match2 .keys2) (c .before .before .before .bracketed .ensures) (λ k spot h. not-stuck look within _ (s .args .out .now) _ (s .args .place) _ _ k spot n h)
 
 operand-put-requires : (t : ℕ) → operand-lts.Need-put-requires (
   opening-reads.Asked,
@@ -659,9 +692,11 @@ operand-returns-2 : (t : ℕ) → operand-lts.Need-returns-2 (
 ) (operand-at t) operand.Post
 operand-returns-2 t c =
     let s = c .before .before .before .before .before .before .before .before .before .before .before .before .before .before .before .before .before .before in
+    let look = lookOf (s .args .known) (now (s .args .list)) in
+    let within = readWithin look (s .args .depth) in
     let n = rw (c .before .before .before .before .before .before .before .before .before .before .before .before .opens .given .1) at (c .before .before .before .before .before .before .before .before .before .before .before .before .before .before .opening .ensures) in
     let g = rw (c .before .before .before .before .before .inner .given .1) at (c .before .before .before .before .before .before .before .before .before .bracketed .ensures) in
-    not-done (lookOf (s .args .known) (now (s .args .list))) (readWithin (lookOf (s .args .known) (now (s .args .list))) (s .args .depth)) _ _ _ _ _ _ _ _ _ _ n g (c .before .before .put .ensures)
+    not-done look within _ _ _ _ _ _ _ _ _ _ n g (c .before .before .put .ensures)
 
 operand-same-length-3 : (t : ℕ) → operand-lts.Need-same-length-3 (
   opening-reads.Asked,
@@ -687,8 +722,10 @@ operand-returns-3 : (t : ℕ) → operand-lts.Need-returns-3 (
 ) (operand-at t) operand.Post
 operand-returns-3 t c =
     let s = c .before .before .before .before .before .before .before .before .before .before .before in
+    let look = lookOf (s .args .known) (now (s .args .list)) in
+    let within = readWithin look (s .args .depth) in
     let o = rw (c .before .before .before .before .before .opens2 .given .1) at (c .before .before .before .before .before .before .before .opening .ensures) in
-    round-done (lookOf (s .args .known) (now (s .args .list))) (readWithin (lookOf (s .args .known) (now (s .args .list))) (s .args .depth)) _ _ _ _ _ _ _ (c .before .before .bracketed2 .result) o (c .before .before .bracketed2 .ensures)
+    round-done look within _ _ _ _ _ _ _ (c .before .before .bracketed2 .result) o (c .before .before .bracketed2 .ensures)
 
 operand-same-length-4 : (t : ℕ) → operand-lts.Need-same-length-4 (
   opening-reads.Asked,
@@ -714,8 +751,10 @@ operand-returns-4 : (t : ℕ) → operand-lts.Need-returns-4 (
 ) (operand-at t) operand.Post
 operand-returns-4 t c =
     let s = c .before .before .before .before .before .before .before .before .before .before in
+    let look = lookOf (s .args .known) (now (s .args .list)) in
+    let within = readWithin look (s .args .depth) in
     let o = rw (c .before .before .before .before .enum-told .given .1) at (c .before .before .before .before .before .before .opening .ensures) in
-    path-done (lookOf (s .args .known) (now (s .args .list))) (readWithin (lookOf (s .args .known) (now (s .args .list))) (s .args .depth)) _ _ _ _ _ (c .before .before .steps .result) o (c .before .before .steps .ensures)
+    path-done look within _ _ _ _ _ (c .before .before .steps .result) o (c .before .before .steps .ensures)
 
 abbrev predicates-Inv-loop : predicates-lts.InvT-loop
 predicates-Inv-loop text list starts count known depth out₀ place axis test here₀ filled₀ taken₀ out here filled taken =
@@ -838,10 +877,12 @@ predicates-returns : (t : ℕ) → predicates-lts.Need-returns (
 ) (predicates-at t) predicates.Post predicates-Inv-loop predicates-μ-loop
 predicates-returns t c =
     let s = c .before .before .before .before .before .before .before .before .before .before .before .before .before in
+    let look = lookOf (s .args .known) (now (s .args .list)) in
+    let within = readWithin look (s .args .depth) in
     let l = c .before .before .before .before .before .before .before .before .before .loop .inv .1 in
     let m = rw (c .before .before .before .before .before .before .ahead .given .1) at (c .before .before .before .before .before .before .before .before .mark .ensures) in
     λ a t′ ea et. passed-on _ _ _ _ _ _ _ _ _ _ _ _ _ _ _ _ _ _ (c .before .before .before .bracketed .result) (c .match2 .keys2) (c .before .before .before .bracketed .ensures)
-    (preds-stuck (lookOf (s .args .known) (now (s .args .list))) (readWithin (lookOf (s .args .known) (now (s .args .list))) (s .args .depth)) _ _ _ _ _ _ _ _ l _ _ (m .0) (m .1) (m .2) a t′)
+    (preds-stuck look within _ _ _ _ _ _ _ _ l _ _ (m .0) (m .1) (m .2) a t′)
 
 predicates-add-taken : (t : ℕ) → predicates-lts.Need-add-taken (
   mark-reads.Asked,
@@ -883,10 +924,12 @@ predicates-loop-again : (t : ℕ) → predicates-lts.Need-loop-again (
 predicates-loop-again t c = (
   search needs,
   let s = c .before .before .before .before .before .before .before .before .before .before .before .before .before .before .before in
+      let look = lookOf (s .args .known) (now (s .args .list)) in
+      let within = readWithin look (s .args .depth) in
       let l = c .before .before .before .before .before .before .before .before .before .before .before .loop .inv .1 in
       let g = rw (c .before .one .given .1) at (c .before .before .before .before .before .bracketed .ensures) in
       let m = rw (c .before .before .before .before .before .before .before .before .ahead .given .1) at (c .before .before .before .before .before .before .before .before .before .before .mark .ensures) in
-      preds-more (lookOf (s .args .known) (now (s .args .list))) (readWithin (lookOf (s .args .known) (now (s .args .list))) (s .args .depth)) _ _ _ _ _ _ _ _ l _ _ (m .0) (m .1) (m .2) _ _ _ g,
+      preds-more look within _ _ _ _ _ _ _ _ l _ _ (m .0) (m .1) (m .2) _ _ _ g,
 )
 
 predicates-step-word-requires : (t : ℕ) → predicates-lts.Need-step-word-requires (
@@ -937,9 +980,11 @@ predicates-returns-2 : (t : ℕ) → predicates-lts.Need-returns-2 (
 ) (predicates-at t) predicates.Post predicates-Inv-loop predicates-μ-loop
 predicates-returns-2 t c =
     let s = c .before .before .before .before .before .before .before .before .before .before .before .before in
+    let look = lookOf (s .args .known) (now (s .args .list)) in
+    let within = readWithin look (s .args .depth) in
     let l = c .before .before .before .before .before .before .before .before .loop .inv .1 in
     let m = rw (c .before .before .before .before .before .enum-told .given .1) at (c .before .before .before .before .before .before .before .mark .ensures) in
-    λ a t′ ea et. preds-done (lookOf (s .args .known) (now (s .args .list))) (readWithin (lookOf (s .args .known) (now (s .args .list))) (s .args .depth)) _ _ _ _ _ _ _ _ l _ _ _ _ a t′ ea et (m .0) (c .before .before .before .step-word .ensures) (c .before .before .put .ensures)
+    λ a t′ ea et. preds-done look within _ _ _ _ _ _ _ _ l _ _ _ _ a t′ ea et (m .0) (c .before .before .before .step-word .ensures) (c .before .before .put .ensures)
 
 step-step-head-requires : (t : ℕ) → step-lts.Need-step-head-requires (
   step-head-reads.Asked,
@@ -1078,8 +1123,10 @@ step-returns : (t : ℕ) → step-lts.Need-returns (
 ) (step-at t) step.Post
 step-returns t c =
     let s = c .before .before .before .before .before .before .before .before .before .before .before .before in
+    let look = lookOf (s .args .known) (now (s .args .list)) in
+    let within = readWithin look (s .args .depth) in
     let h = rw (c .before .before .before .before .before .before .head .given .1) at (c .before .before .before .before .before .before .before .before .step-head .ensures) in
-    plain-done (lookOf (s .args .known) (now (s .args .list))) (readWithin (lookOf (s .args .known) (now (s .args .list))) (s .args .depth)) _ _ _ _ _ _ _ _ h (c .before .before .before .step-word .ensures) (c .before .before .put .ensures)
+    plain-done look within _ _ _ _ _ _ _ _ h (c .before .before .before .step-word .ensures) (c .before .before .put .ensures)
 
 step-same-length-2 : (t : ℕ) → step-lts.Need-same-length-2 (
   step-head-reads.Asked,
@@ -1105,8 +1152,10 @@ step-returns-2 : (t : ℕ) → step-lts.Need-returns-2 (
 ) (step-at t) step.Post
 step-returns-2 t c =
     let s = c .before .before .before .before .before .before .before .before .before .before .before in
+    let look = lookOf (s .args .known) (now (s .args .list)) in
+    let within = readWithin look (s .args .depth) in
     let h = rw (c .before .before .before .before .before .head2 .given .1) at (c .before .before .before .before .before .before .before .step-head .ensures) in
-    tested-done (lookOf (s .args .known) (now (s .args .list))) (readWithin (lookOf (s .args .known) (now (s .args .list))) (s .args .depth)) _ _ _ _ _ _ _ _ (c .before .before .predicates .result) h (c .before .before .predicates .ensures (h .way) (h .kind) (h .number) (h .tested))
+    tested-done look within _ _ _ _ _ _ _ _ (c .before .before .predicates .result) h (c .before .before .predicates .ensures (h .way) (h .kind) (h .number) (h .tested))
 
 step-returns-3 : (t : ℕ) → step-lts.Need-returns-3 (
   step-head-reads.Asked,
@@ -1120,7 +1169,9 @@ step-returns-3 : (t : ℕ) → step-lts.Need-returns-3 (
 ) (step-at t) step.Post
 step-returns-3 t c =
     let s = c .before .before .before .before .before .before .before in
-    (rw (c .before .head3 .given .1) at (c .before .before .before .step-head .ensures)) (readWithin (lookOf (s .args .known) (now (s .args .list))) (s .args .depth))
+    let look = lookOf (s .args .known) (now (s .args .list)) in
+    let within = readWithin look (s .args .depth) in
+    (rw (c .before .head3 .given .1) at (c .before .before .before .step-head .ensures)) within
 
 step-returns-4 : (t : ℕ) → step-lts.Need-returns-4 (
   step-head-reads.Asked,
@@ -1134,7 +1185,9 @@ step-returns-4 : (t : ℕ) → step-lts.Need-returns-4 (
 ) (step-at t) step.Post
 step-returns-4 t c =
     let s = c .before .before .before .before .before .before .before in
-    (rw (c .before .head4 .given .1) at (c .before .before .before .step-head .ensures)) (readWithin (lookOf (s .args .known) (now (s .args .list))) (s .args .depth))
+    let look = lookOf (s .args .known) (now (s .args .list)) in
+    let within = readWithin look (s .args .depth) in
+    (rw (c .before .head4 .given .1) at (c .before .before .before .step-head .ensures)) within
 
 abbrev steps-Inv-loop : steps-lts.InvT-loop
 steps-Inv-loop text list starts count known depth out₀ place deep here₀ filled₀ lead₀ taken₀ out here filled lead taken =
@@ -1246,8 +1299,10 @@ steps-returns : (t : ℕ) → steps-lts.Need-returns (
 ) (steps-at t) steps.Post steps-Inv-loop steps-μ-loop
 steps-returns t c =
     let s = c .before .before .before .before .before .before .before .before .before .before .before .before .before in
+    let look = lookOf (s .args .known) (now (s .args .list)) in
+    let within = readWithin look (s .args .depth) in
     let l = c .before .before .before .before .before .before .before .before .before .loop .inv .1 in
-    passed-on _ _ _ _ _ _ _ _ _ _ _ _ _ _ _ _ _ _ (c .before .before .before .step .result) (c .match .keys2) (c .before .before .before .step .ensures) (step-stuck (lookOf (s .args .known) (now (s .args .list))) (readWithin (lookOf (s .args .known) (now (s .args .list))) (s .args .depth)) _ _ _ _ _ _ _ _ _ _ l)
+    passed-on _ _ _ _ _ _ _ _ _ _ _ _ _ _ _ _ _ _ (c .before .before .before .step .result) (c .match .keys2) (c .before .before .before .step .ensures) (step-stuck look within _ _ _ _ _ _ _ _ _ _ l)
 
 steps-sub-taken : (t : ℕ) → steps-lts.Need-sub-taken (
   put-deep-reads.Asked,
@@ -1352,9 +1407,11 @@ steps-loop-again : (t : ℕ) → steps-lts.Need-loop-again (
 steps-loop-again t c = (
   search needs,
   let s = c .before .before .before .before .before .before .before .before .before .before .before .before .before .before .before .before .before .before .before in
+      let look = lookOf (s .args .known) (now (s .args .list)) in
+      let within = readWithin look (s .args .depth) in
       let g = rw (c .before .before .before .before .before .one .given .1) at (c .before .before .before .before .before .before .before .before .before .step .ensures) in
-      let l = step-more (lookOf (s .args .known) (now (s .args .list))) (readWithin (lookOf (s .args .known) (now (s .args .list))) (s .args .depth)) _ _ _ _ _ _ _ _ _ _ (c .before .before .before .before .before .before .before .before .before .before .before .before .before .before .before .loop .inv .1) _ _ _ _ _ (c .before .before .before .before .before .before .before .before .before .before .before .before .before .put-deep .ensures .0) (c .before .before .before .before .before .before .before .before .before .before .before .before .before .put-deep .ensures .1) g in
-      steps-more (lookOf (s .args .known) (now (s .args .list))) (readWithin (lookOf (s .args .known) (now (s .args .list))) (s .args .depth)) _ _ _ _ _ _ _ _ _ l _ _ (rw (c .before .joint .given .1) at (c .before .before .before .joined .ensures)),
+      let l = step-more look within _ _ _ _ _ _ _ _ _ _ (c .before .before .before .before .before .before .before .before .before .before .before .before .before .before .before .loop .inv .1) _ _ _ _ _ (c .before .before .before .before .before .before .before .before .before .before .before .before .before .put-deep .ensures .0) (c .before .before .before .before .before .before .before .before .before .before .before .before .before .put-deep .ensures .1) g in
+      steps-more look within _ _ _ _ _ _ _ _ _ l _ _ (rw (c .before .joint .given .1) at (c .before .before .before .joined .ensures)),
 )
 
 steps-enum-told : (t : ℕ) → steps-lts.Need-enum-told (
@@ -1427,9 +1484,11 @@ steps-returns-2 : (t : ℕ) → steps-lts.Need-returns-2 (
 ) (steps-at t) steps.Post steps-Inv-loop steps-μ-loop
 steps-returns-2 t c =
     let s = c .before .before .before .before .before .before .before .before .before .before .before .before .before .before .before .before .before .before .before .before .before .before .before in
+    let look = lookOf (s .args .known) (now (s .args .list)) in
+    let within = readWithin look (s .args .depth) in
     let g = rw (c .before .before .before .before .before .before .before .before .before .one .given .1) at (c .before .before .before .before .before .before .before .before .before .before .before .before .before .step .ensures) in
-    let l = step-more (lookOf (s .args .known) (now (s .args .list))) (readWithin (lookOf (s .args .known) (now (s .args .list))) (s .args .depth)) _ _ _ _ _ _ _ _ _ _ (c .before .before .before .before .before .before .before .before .before .before .before .before .before .before .before .before .before .before .before .loop .inv .1) _ _ _ _ _ (c .before .before .before .before .before .before .before .before .before .before .before .before .before .before .before .before .before .put-deep .ensures .0) (c .before .before .before .before .before .before .before .before .before .before .before .before .before .before .before .before .before .put-deep .ensures .1) g in
-    steps-done (lookOf (s .args .known) (now (s .args .list))) (readWithin (lookOf (s .args .known) (now (s .args .list))) (s .args .depth)) _ _ _ _ _ _ _ _ _ l _ _ _ (rw (c .before .before .before .before .before .enum-told .given .1) at (c .before .before .before .before .before .before .before .joined .ensures)) (c .before .before .before .path-word .ensures) (c .before .before .put .ensures)
+    let l = step-more look within _ _ _ _ _ _ _ _ _ _ (c .before .before .before .before .before .before .before .before .before .before .before .before .before .before .before .before .before .before .before .loop .inv .1) _ _ _ _ _ (c .before .before .before .before .before .before .before .before .before .before .before .before .before .before .before .before .before .put-deep .ensures .0) (c .before .before .before .before .before .before .before .before .before .before .before .before .before .before .before .before .before .put-deep .ensures .1) g in
+    steps-done look within _ _ _ _ _ _ _ _ _ l _ _ _ (rw (c .before .before .before .before .before .enum-told .given .1) at (c .before .before .before .before .before .before .before .joined .ensures)) (c .before .before .before .path-word .ensures) (c .before .before .put .ensures)
 
 abbrev term-Inv-loop : term-lts.InvT-loop
 term-Inv-loop text list starts count known depth out₀ place end here₀ filled₀ run₀ t21 out here filled run =
@@ -1479,7 +1538,9 @@ term-returns : (t : ℕ) → term-lts.Need-returns (
 ) (term-at t) term.Post term-Inv-loop term-μ-loop
 term-returns t c =
     let s = c .before .before .before .before .before .before .before .before in
-    passed-on _ _ _ _ _ _ _ _ _ _ _ _ _ _ _ _ _ _ (c .before .before .before .operand .result) (c .match .keys2) (c .before .before .before .operand .ensures) (start-stuck (ands (lookOf (s .args .known) (now (s .args .list))) (readWithin (lookOf (s .args .known) (now (s .args .list))) (s .args .depth))) _ (s .args .out .now) _ (s .args .place) _ (term-whole (lookOf (s .args .known) (now (s .args .list))) (readWithin (lookOf (s .args .known) (now (s .args .list))) (s .args .depth)) (tokensAt (now (s .args .text)) (s .args .cursor .at))))
+    let look = lookOf (s .args .known) (now (s .args .list)) in
+    let within = readWithin look (s .args .depth) in
+    passed-on _ _ _ _ _ _ _ _ _ _ _ _ _ _ _ _ _ _ (c .before .before .before .operand .result) (c .match .keys2) (c .before .before .before .operand .ensures) (start-stuck (ands look within) _ (s .args .out .now) _ (s .args .place) _ (term-whole look within (tokensAt (now (s .args .text)) (s .args .cursor .at))))
 
 term-loop-holds : (t : ℕ) → term-lts.Need-loop-holds (
   operand-below t,
@@ -1501,6 +1562,26 @@ term-slice-aggregate-word-ahead : (t : ℕ) → term-lts.Need-slice-aggregate-wo
 ) (term-at t) term.Post term-Inv-loop term-μ-loop
 term-slice-aggregate-word-ahead t c = search needs
 
+-- What has been read where the loop's turn begins.
+term-left : (t : ℕ) (c : term-lts.At-loop (
+  operand-below t,
+  operand.Post,
+  word-ahead-reads.Asked,
+  word-ahead-reads.Learnt,
+  group-reads.Asked,
+  group-reads.Learnt,
+) (term-at t) term.Post term-Inv-loop term-μ-loop)
+    → let s = c .before .before .before .before .before .before .before .before .before .before .before in
+    let look = lookOf (s .args .known) (now (s .args .list)) in
+    let within = readWithin look (s .args .depth) in
+    Left (ands look within) (now (s .args .text)) (now (s .args .out)) (c .loop .out) (s .args .cursor .at) (s .args .place) (readTerm look within (tokensAt (now (s .args .text)) (s .args .cursor .at))) (c .loop .here .at) (c .loop .filled) (c .loop .run)
+term-left t c =
+    let s = c .before .before .before .before .before .before .before .before .before .before .before in
+    let look = lookOf (s .args .known) (now (s .args .list)) in
+    let within = readWithin look (s .args .depth) in
+    let ts = tokensAt (now (s .args .text)) (s .args .cursor .at) in
+    c .loop .inv .1 _ _ _ (left-start (ands look within) _ _ _ _ _ (term-whole look within ts) _ _ _ (rw (c .before .before .first .given .1) at (c .before .before .before .before .before .before .operand .ensures)))
+
 term-word-ahead-requires : (t : ℕ) → term-lts.Need-word-ahead-requires (
   operand-below t,
   operand.Post,
@@ -1511,7 +1592,7 @@ term-word-ahead-requires : (t : ℕ) → term-lts.Need-word-ahead-requires (
 ) (term-at t) term.Post term-Inv-loop term-μ-loop
 term-word-ahead-requires t c κs =
     let s = c .before .before .before .before .before .before .before .before .before .before .before .before in
-    let l = c .before .loop .inv .1 _ _ _ (left-start (ands (lookOf (s .args .known) (now (s .args .list))) (readWithin (lookOf (s .args .known) (now (s .args .list))) (s .args .depth))) _ _ _ _ _ (term-whole (lookOf (s .args .known) (now (s .args .list))) (readWithin (lookOf (s .args .known) (now (s .args .list))) (s .args .depth)) (tokensAt (now (s .args .text)) (s .args .cursor .at))) _ _ _ (rw (c .before .before .before .first .given .1) at (c .before .before .before .before .before .before .before .operand .ensures))) in
+    let l = term-left t (c .before) in
     (l .inside, search needs)
 
 term-enum-known-ahead : (t : ℕ) → term-lts.Need-enum-known-ahead (
@@ -1544,7 +1625,7 @@ term-operand-requires-2 : (t : ℕ) → term-lts.Need-operand-requires-2 (
 ) (term-at t) term.Post term-Inv-loop term-μ-loop
 term-operand-requires-2 t c κs =
     let s = c .before .before .before .before .before .before .before .before .before .before .before .before .before .before .before .before .before in
-    let l = c .before .before .before .before .before .before .loop .inv .1 _ _ _ (left-start (ands (lookOf (s .args .known) (now (s .args .list))) (readWithin (lookOf (s .args .known) (now (s .args .list))) (s .args .depth))) _ _ _ _ _ (term-whole (lookOf (s .args .known) (now (s .args .list))) (readWithin (lookOf (s .args .known) (now (s .args .list))) (s .args .depth)) (tokensAt (now (s .args .text)) (s .args .cursor .at))) _ _ _ (rw (c .before .before .before .before .before .before .before .before .first .given .1) at (c .before .before .before .before .before .before .before .before .before .before .before .before .operand .ensures))) in
+    let l = term-left t (c .before .before .before .before .before .before) in
     let w = rw (c .before .before .ahead .given .1) at (c .before .before .before .before .word-ahead .ensures) in
     (omega (arith, l .onward, w .2 .onward, w .2 .inside, s .pre .0), (record { short = s .pre .1 .0 .short; names = s .pre .1 .0 .names; inside = w .2 .inside; shallow = s .pre .1 .0 .shallow }, omega (arith, l .grows, w .2 .onward, s .pre .1 .1)))
 
@@ -1578,9 +1659,11 @@ term-returns-2 : (t : ℕ) → term-lts.Need-returns-2 (
 ) (term-at t) term.Post term-Inv-loop term-μ-loop
 term-returns-2 t c =
     let s = c .before .before .before .before .before .before .before .before .before .before .before .before .before .before .before .before .before .before .before .before .before in
-    let l = c .before .before .before .before .before .before .before .before .before .before .loop .inv .1 _ _ _ (left-start (ands (lookOf (s .args .known) (now (s .args .list))) (readWithin (lookOf (s .args .known) (now (s .args .list))) (s .args .depth))) _ _ _ _ _ (term-whole (lookOf (s .args .known) (now (s .args .list))) (readWithin (lookOf (s .args .known) (now (s .args .list))) (s .args .depth)) (tokensAt (now (s .args .text)) (s .args .cursor .at))) _ _ _ (rw (c .before .before .before .before .before .before .before .before .before .before .before .before .first .given .1) at (c .before .before .before .before .before .before .before .before .before .before .before .before .before .before .before .before .operand .ensures))) in
+    let look = lookOf (s .args .known) (now (s .args .list)) in
+    let within = readWithin look (s .args .depth) in
+    let l = term-left t (c .before .before .before .before .before .before .before .before .before .before) in
     let w = rw (c .before .before .before .before .before .before .ahead .given .1) at (c .before .before .before .before .before .before .before .before .word-ahead .ensures) in
-    passed-on _ _ _ _ _ _ _ _ _ _ _ _ _ _ _ _ _ _ (c .before .before .before .operand2 .result) (c .match3 .keys2) (c .before .before .before .operand2 .ensures) (left-stuck (ands (lookOf (s .args .known) (now (s .args .list))) (readWithin (lookOf (s .args .known) (now (s .args .list))) (s .args .depth))) _ _ _ _ _ _ _ _ _ l _ (w .0) (w .2))
+    passed-on _ _ _ _ _ _ _ _ _ _ _ _ _ _ _ _ _ _ (c .before .before .before .operand2 .result) (c .match3 .keys2) (c .before .before .before .operand2 .ensures) (left-stuck (ands look within) _ _ _ _ _ _ _ _ _ l _ (w .0) (w .2))
 
 term-add-run : (t : ℕ) → term-lts.Need-add-run (
   operand-below t,
@@ -1592,7 +1675,7 @@ term-add-run : (t : ℕ) → term-lts.Need-add-run (
 ) (term-at t) term.Post term-Inv-loop term-μ-loop
 term-add-run t c =
     let s = c .before .before .before .before .before .before .before .before .before .before .before .before .before .before .before .before .before .before .before .before .before .before .before in
-    let l = c .before .before .before .before .before .before .before .before .before .before .before .before .loop .inv .1 _ _ _ (left-start (ands (lookOf (s .args .known) (now (s .args .list))) (readWithin (lookOf (s .args .known) (now (s .args .list))) (s .args .depth))) _ _ _ _ _ (term-whole (lookOf (s .args .known) (now (s .args .list))) (readWithin (lookOf (s .args .known) (now (s .args .list))) (s .args .depth)) (tokensAt (now (s .args .text)) (s .args .cursor .at))) _ _ _ (rw (c .before .before .before .before .before .before .before .before .before .before .before .before .before .before .first .given .1) at (c .before .before .before .before .before .before .before .before .before .before .before .before .before .before .before .before .before .before .operand .ensures))) in
+    let l = term-left t (c .before .before .before .before .before .before .before .before .before .before .before .before) in
     omega (arith, l .grows, l .inside, s .pre .1 .0 .short, s .pre .1 .1)
 
 term-loop-less : (t : ℕ) → term-lts.Need-loop-less (
@@ -1619,9 +1702,11 @@ term-loop-again : (t : ℕ) → term-lts.Need-loop-again (
 term-loop-again t c = (
   search needs,
   let s = c .before .before .before .before .before .before .before .before .before .before .before .before .before .before .before .before .before .before .before .before .before .before .before in
+      let look = lookOf (s .args .known) (now (s .args .list)) in
+      let within = readWithin look (s .args .depth) in
       let g = rw (c .before .more .given .1) at (c .before .before .before .before .before .operand2 .ensures) in
       let w = rw (c .before .before .before .before .before .before .before .before .ahead .given .1) at (c .before .before .before .before .before .before .before .before .before .before .word-ahead .ensures) in
-      λ old from all l. left-more (ands (lookOf (s .args .known) (now (s .args .list))) (readWithin (lookOf (s .args .known) (now (s .args .list))) (s .args .depth))) _ old from _ all _ _ _ _ (c .before .before .before .before .before .before .before .before .before .before .before .before .loop .inv .1 old from all l) _ (w .0) (w .2) _ _ _ g,
+      λ old from all l. left-more (ands look within) _ old from _ all _ _ _ _ (c .before .before .before .before .before .before .before .before .before .before .before .before .loop .inv .1 old from all l) _ (w .0) (w .2) _ _ _ g,
 )
 
 term-group-requires : (t : ℕ) → term-lts.Need-group-requires (
@@ -1634,7 +1719,7 @@ term-group-requires : (t : ℕ) → term-lts.Need-group-requires (
 ) (term-at t) term.Post term-Inv-loop term-μ-loop
 term-group-requires t c κs =
     let s = c .before .before .before .before .before .before .before .before .before .before .before .before .before .before .before .before in
-    let l = c .before .before .before .before .before .loop .inv .1 _ _ _ (left-start (ands (lookOf (s .args .known) (now (s .args .list))) (readWithin (lookOf (s .args .known) (now (s .args .list))) (s .args .depth))) _ _ _ _ _ (term-whole (lookOf (s .args .known) (now (s .args .list))) (readWithin (lookOf (s .args .known) (now (s .args .list))) (s .args .depth)) (tokensAt (now (s .args .text)) (s .args .cursor .at))) _ _ _ (rw (c .before .before .before .before .before .before .before .first .given .1) at (c .before .before .before .before .before .before .before .before .before .before .before .operand .ensures))) in
+    let l = term-left t (c .before .before .before .before .before) in
     (omega (arith, l .ends), omega (arith, l .grows, l .inside, s .pre .1 .0 .short, s .pre .1 .1), omega (arith, l .grows, l .inside, s .pre .1 .0 .short, s .pre .1 .1))
 
 term-add-t31 : (t : ℕ) → term-lts.Need-add-t31 (
@@ -1647,7 +1732,7 @@ term-add-t31 : (t : ℕ) → term-lts.Need-add-t31 (
 ) (term-at t) term.Post term-Inv-loop term-μ-loop
 term-add-t31 t c =
     let s = c .before .before .before .before .before .before .before .before .before .before .before .before .before .before .before .before .before .before .before in
-    let l = c .before .before .before .before .before .before .before .before .loop .inv .1 _ _ _ (left-start (ands (lookOf (s .args .known) (now (s .args .list))) (readWithin (lookOf (s .args .known) (now (s .args .list))) (s .args .depth))) _ _ _ _ _ (term-whole (lookOf (s .args .known) (now (s .args .list))) (readWithin (lookOf (s .args .known) (now (s .args .list))) (s .args .depth)) (tokensAt (now (s .args .text)) (s .args .cursor .at))) _ _ _ (rw (c .before .before .before .before .before .before .before .before .before .before .first .given .1) at (c .before .before .before .before .before .before .before .before .before .before .before .before .before .before .operand .ensures))) in
+    let l = term-left t (c .before .before .before .before .before .before .before .before) in
     omega (arith, l .grows, l .inside, s .pre .1 .0 .short, s .pre .1 .1)
 
 term-same-length-3 : (t : ℕ) → term-lts.Need-same-length-3 (
@@ -1670,9 +1755,11 @@ term-returns-3 : (t : ℕ) → term-lts.Need-returns-3 (
 ) (term-at t) term.Post term-Inv-loop term-μ-loop
 term-returns-3 t c =
     let s = c .before .before .before .before .before .before .before .before .before .before .before .before .before .before .before .before .before .before .before in
-    let l = c .before .before .before .before .before .before .before .before .loop .inv .1 _ _ _ (left-start (ands (lookOf (s .args .known) (now (s .args .list))) (readWithin (lookOf (s .args .known) (now (s .args .list))) (s .args .depth))) _ _ _ _ _ (term-whole (lookOf (s .args .known) (now (s .args .list))) (readWithin (lookOf (s .args .known) (now (s .args .list))) (s .args .depth)) (tokensAt (now (s .args .text)) (s .args .cursor .at))) _ _ _ (rw (c .before .before .before .before .before .before .before .before .before .before .first .given .1) at (c .before .before .before .before .before .before .before .before .before .before .before .before .before .before .operand .ensures))) in
+    let look = lookOf (s .args .known) (now (s .args .list)) in
+    let within = readWithin look (s .args .depth) in
+    let l = term-left t (c .before .before .before .before .before .before .before .before) in
     let w = rw (c .before .before .before .before .enum-told .given .1) at (c .before .before .before .before .before .before .word-ahead .ensures) in
-    left-done (ands (lookOf (s .args .known) (now (s .args .list))) (readWithin (lookOf (s .args .known) (now (s .args .list))) (s .args .depth))) _ _ _ _ _ _ _ _ _ l _ (w .0) (c .before .before .group .ensures)
+    left-done (ands look within) _ _ _ _ _ _ _ _ _ l _ (w .0) (c .before .before .group .ensures)
 
 pub +bracketed+expression+operand+predicates+step+steps+term-spec : {M : Type 1} → statement M
 +bracketed+expression+operand+predicates+step+steps+term-spec =

@@ -14,10 +14,14 @@ enum-known-round-2 : tie.Need-enum-known-round-2
 enum-known-round-2 c = search needs
 
 returns : tie.Need-returns
-returns c = let l = rw (c .before .round .given .1) at (c .before .before .before .mark .ensures) in (refl, refl, l .0, l .2)
+returns c =
+    let l = rw (c .before .round .given .1) at (c .before .before .before .mark .ensures) in
+    (refl, refl, l .0, l .2)
 
 returns-2 : tie.Need-returns-2
-returns-2 c = let l = rw (c .before .round2 .given .1) at (c .before .before .before .mark .ensures) in (l .0, l .1)
+returns-2 c =
+    let l = rw (c .before .round2 .given .1) at (c .before .before .before .mark .ensures) in
+    (l .0, l .1)
 
 pub called-spec : {M : Type 1} → statement M
 called-spec =

@@ -1,9 +1,9 @@
 -- `read::fill` meets its contract. The loop's invariant: the places before `i` are filled; the measure is what is left of them. Assumes nothing.
 use Rattle.read.proofs.Writing.{filled-none, filled-more}
-use Prim.Native.Nat.{ℕ, _+_, _-_, _≤_}
+use Prim.Native.Nat.{ℕ, _-_, _≤_}
 use native.Mathlib.Omega.{arith}
 use borrow.Author.Needs.{needs}
-use mathlib.Core.Path.{_≡_, refl, _∙_, subst}
+use mathlib.Core.Path.{_≡_, refl, subst}
 use lib.ListN.{length, length-set}
 use Rattle.read.specs.Parts.{Filled}
 use Rattle.read.proofs.fill.Statement.{statement}

@@ -10,7 +10,9 @@ enum-known-single : tie.Need-enum-known-single
 enum-known-single c = search needs
 
 returns : tie.Need-returns
-returns c = let l = rw (c .before .single .given .1) at (c .before .before .before .mark .ensures) in (l .0, l .2)
+returns c =
+    let l = rw (c .before .single .given .1) at (c .before .before .before .mark .ensures) in
+    (l .0, l .2)
 
 enum-told : tie.Need-enum-told
 enum-told c = search needs
@@ -25,10 +27,16 @@ enum-known-double-2 : tie.Need-enum-known-double-2
 enum-known-double-2 c = search needs
 
 returns-2 : tie.Need-returns-2
-returns-2 c = let l = rw (c .before .before .before .before .enum-told .given .1) at (c .before .before .before .before .before .before .mark .ensures) in let m = rw (c .before .double .given .1) at (c .before .before .before .mark2 .ensures) in (l .0, m .0, m .2)
+returns-2 c =
+    let l = rw (c .before .before .before .before .enum-told .given .1) at (c .before .before .before .before .before .before .mark .ensures) in
+    let m = rw (c .before .double .given .1) at (c .before .before .before .mark2 .ensures) in
+    (l .0, m .0, m .2)
 
 returns-3 : tie.Need-returns-3
-returns-3 c = let l = rw (c .before .before .before .before .enum-told .given .1) at (c .before .before .before .before .before .before .mark .ensures) in let m = rw (c .before .double2 .given .1) at (c .before .before .before .mark2 .ensures) in (l .0, m .0, m .1)
+returns-3 c =
+    let l = rw (c .before .before .before .before .enum-told .given .1) at (c .before .before .before .before .before .before .mark .ensures) in
+    let m = rw (c .before .double2 .given .1) at (c .before .before .before .mark2 .ensures) in
+    (l .0, m .0, m .1)
 
 pub joined-spec : {M : Type 1} → statement M
 joined-spec =

@@ -1,9 +1,9 @@
 -- `read::move_up` meets its contract. The loop's invariant: what stands from `i` on has moved; the measure is what is left to move. Assumes nothing.
 use Rattle.read.proofs.Writing.{Moving, moving-starts, moving-more, moving-ends}
-use Prim.Native.Nat.{_+_, _-_, _≤_}
+use Prim.Native.Nat.{_-_, _≤_}
 use native.Mathlib.Omega.{arith}
 use borrow.Author.Needs.{needs}
-use mathlib.Core.Path.{_≡_, refl, _∙_}
+use mathlib.Core.Path.{_≡_, refl}
 use lib.ListN.{length, length-set}
 use Rattle.read.proofs.move_up.Statement.{statement}
 use Rattle.read.proofs.move_up.Tie as tie

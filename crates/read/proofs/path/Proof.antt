@@ -3,7 +3,7 @@ use Rattle.read.proofs.Queries.{path-alone, path-before, path-none, lea
 use native.Mathlib.Omega.{arith}
 use denote.Ref.{now}
 use Rattle.paper.specs.Limits.{bracketLimit}
-use Rattle.paper.specs.Reading.{readWithin, readText}
+use Rattle.paper.specs.Reading.{readWithin}
 use Rattle.read.specs.Parts.{lookOf}
 use borrow.Author.Needs.{needs}
 use Rattle.read.proofs.path.Statement.{statement}

@@ -30,7 +30,9 @@ returns-3 : tie.Need-returns-3
 returns-3 c = lead-alone _ _ _ _ (c .before .before .if1 .left) (rw (c .before .before .before .before .joint .given .1) at (c .before .before .before .before .before .before .joined .ensures)) (sym (c .before .starts-step .ensures) ∙ c .if2 .left)
 
 returns-4 : tie.Need-returns-4
-returns-4 c = let j = rw (c .before .joint2 .given .1) at (c .before .before .before .joined .ensures) in (j .1, j .0, j .2)
+returns-4 c =
+    let j = rw (c .before .joint2 .given .1) at (c .before .before .before .joined .ensures) in
+    (j .1, j .0, j .2)
 
 pub path-lead-spec : {M : Type 1} → statement M
 path-lead-spec =

@@ -4,7 +4,7 @@ use native.Mathlib.Omega.{arith}
 use borrow.Author.Needs.{needs}
 use borrow.Author.Count.{below-more}
 use mathlib.Core.Path.{_≡_, sym, _∙_}
-use lib.ListN.{length, getD, take, drop}
+use lib.ListN.{getD, take, drop}
 use Rattle.paper.proofs.Same.{same-turned, part-same, part-length-differs, part-differs}
 use Rattle.read.proofs.same_word.Statement.{statement}
 use Rattle.read.proofs.same_word.Tie as tie
@@ -16,7 +16,9 @@ abbrev μ-loop : tie.MeasureT-loop
 μ-loop text start len word i₀ i = len - i
 
 returns : tie.Need-returns Inv-loop μ-loop
-returns c = let a = c .before .args in sym (same-turned (a .word .now) (take (a .len) (drop (a .start) (a .text .now))) ∙ part-length-differs (a .text .now) (a .word .now) (a .start) (a .len) (search needs) (c .if1 .taken))
+returns c =
+    let a = c .before .args in
+    sym (same-turned (a .word .now) (take (a .len) (drop (a .start) (a .text .now))) ∙ part-length-differs (a .text .now) (a .word .now) (a .start) (a .len) (search needs) (c .if1 .taken))
 
 loop-holds : tie.Need-loop-holds Inv-loop μ-loop
 loop-holds c = (omega arith, λ k l. absurd (omega arith))
@@ -31,7 +33,9 @@ shared-slice-read-if2-2 : tie.Need-shared-slice-read-if2-2 Inv-loop μ-loop
 shared-slice-read-if2-2 c = search needs
 
 returns-2 : tie.Need-returns-2 Inv-loop μ-loop
-returns-2 c = let a = c .before .before .before .before .before .before .args in sym (same-turned (a .word .now) (take (a .len) (drop (a .start) (a .text .now))) ∙ part-differs (a .text .now) (a .word .now) (a .start) (a .len) (search needs) (c .before .before .before .before .loop .i) (search needs) (c .if2 .taken))
+returns-2 c =
+    let a = c .before .before .before .before .before .before .args in
+    sym (same-turned (a .word .now) (take (a .len) (drop (a .start) (a .text .now))) ∙ part-differs (a .text .now) (a .word .now) (a .start) (a .len) (search needs) (c .before .before .before .before .loop .i) (search needs) (c .if2 .taken))
 
 add-i : tie.Need-add-i Inv-loop μ-loop
 add-i c = search needs
@@ -43,7 +47,9 @@ loop-again : tie.Need-loop-again Inv-loop μ-loop
 loop-again c = (search needs, below-more _ _ (c .before .before .before .before .loop .inv .1) (c .if2 .left))
 
 returns-3 : tie.Need-returns-3 Inv-loop μ-loop
-returns-3 c = let a = c .before .before .before .args in sym (same-turned (a .word .now) (take (a .len) (drop (a .start) (a .text .now))) ∙ part-same (a .text .now) (a .word .now) (a .start) (a .len) (search needs) (c .before .before .if1 .left) (λ k l. c .before .loop .inv .1 k (omega arith)))
+returns-3 c =
+    let a = c .before .before .before .args in
+    sym (same-turned (a .word .now) (take (a .len) (drop (a .start) (a .text .now))) ∙ part-same (a .text .now) (a .word .now) (a .start) (a .len) (search needs) (c .before .before .if1 .left) (λ k l. c .before .loop .inv .1 k (omega arith)))
 
 pub same-word-spec : {M : Type 1} → statement M
 same-word-spec =

@@ -13,7 +13,9 @@ enum-known-dot : tie.Need-enum-known-dot
 enum-known-dot c = search needs
 
 returns : tie.Need-returns
-returns c = let m = rw (c .before .dot .given .1) at (c .before .before .before .mark .ensures) in head-dot _ _ _ _ (m .0) (m .2)
+returns c =
+    let m = rw (c .before .dot .given .1) at (c .before .before .before .mark .ensures) in
+    head-dot _ _ _ _ (m .0) (m .2)
 
 enum-told : tie.Need-enum-told
 enum-told c = search needs
@@ -25,7 +27,10 @@ enum-known-dots : tie.Need-enum-known-dots
 enum-known-dots c = search needs
 
 returns-2 : tie.Need-returns-2
-returns-2 c = let d = rw (c .before .before .before .before .enum-told .given .1) at (c .before .before .before .before .before .before .mark .ensures) in let m = rw (c .before .dots .given .1) at (c .before .before .before .mark2 .ensures) in head-dots _ _ _ _ (d .0) (m .0) (m .2)
+returns-2 c =
+    let d = rw (c .before .before .before .before .enum-told .given .1) at (c .before .before .before .before .before .before .mark .ensures) in
+    let m = rw (c .before .dots .given .1) at (c .before .before .before .mark2 .ensures) in
+    head-dots _ _ _ _ (d .0) (m .0) (m .2)
 
 enum-told-2 : tie.Need-enum-told-2
 enum-told-2 c = search needs
@@ -46,10 +51,17 @@ tested-requires-2 : tie.Need-tested-requires-2
 tested-requires-2 c κs = search needs
 
 returns-3 : tie.Need-returns-3
-returns-3 c = let d = rw (c .before .before .before .before .before .before .before .before .enum-told .given .1) at (c .before .before .before .before .before .before .before .before .before .before .mark .ensures) in let s = rw (c .before .before .before .before .before .enum-told2 .given .1) at (c .before .before .before .before .before .before .before .mark2 .ensures) in let w = rw (c .before .before .ahead .given .1) at (c .before .before .before .before .axis-ahead .ensures) in head-axis _ _ _ (d .0) (s .0) (c .tested .result) _ _ w (c .tested .ensures (w .way) (w .number))
+returns-3 c =
+    let d = rw (c .before .before .before .before .before .before .before .before .enum-told .given .1) at (c .before .before .before .before .before .before .before .before .before .before .mark .ensures) in
+    let s = rw (c .before .before .before .before .before .enum-told2 .given .1) at (c .before .before .before .before .before .before .before .mark2 .ensures) in
+    let w = rw (c .before .before .ahead .given .1) at (c .before .before .before .before .axis-ahead .ensures) in
+    head-axis _ _ _ (d .0) (s .0) (c .tested .result) _ _ w (c .tested .ensures (w .way) (w .number))
 
 returns-4 : tie.Need-returns-4
-returns-4 c = let d = rw (c .before .before .before .before .before .before .before .enum-told .given .1) at (c .before .before .before .before .before .before .before .before .before .mark .ensures) in let s = rw (c .before .before .before .before .enum-told2 .given .1) at (c .before .before .before .before .before .before .mark2 .ensures) in head-child _ _ _ (d .0) (s .0) (c .tested2 .result) (rw (c .before .enum-told3 .given .1) at (c .before .before .before .axis-ahead .ensures)) (c .tested2 .ensures child refl)
+returns-4 c =
+    let d = rw (c .before .before .before .before .before .before .before .enum-told .given .1) at (c .before .before .before .before .before .before .before .before .before .mark .ensures) in
+    let s = rw (c .before .before .before .before .enum-told2 .given .1) at (c .before .before .before .before .before .before .mark2 .ensures) in
+    head-child _ _ _ (d .0) (s .0) (c .tested2 .result) (rw (c .before .enum-told3 .given .1) at (c .before .before .before .axis-ahead .ensures)) (c .tested2 .ensures child refl)
 
 pub step-head-spec : {M : Type 1} → statement M
 step-head-spec =

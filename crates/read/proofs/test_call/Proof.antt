@@ -24,10 +24,14 @@ enum-told : tie.Need-enum-told
 enum-told c = search needs
 
 returns-2 : tie.Need-returns-2
-returns-2 c = let m = rw (c .before .round .given .1) at (c .before .before .before .mark .ensures) in (c .before .before .before .before .before .call-of .ensures, omega (arith, c .before .before .before .before .before .call-of .ensures, c .before .before .before .before .if1 .left, call-small (take (c .before .before .before .before .before .before .before .args .len) (drop (c .before .before .before .before .before .before .before .args .start) (c .before .before .before .before .before .before .before .args .text .now)))), m .0, m .2)
+returns-2 c =
+    let m = rw (c .before .round .given .1) at (c .before .before .before .mark .ensures) in
+    (c .before .before .before .before .before .call-of .ensures, omega (arith, c .before .before .before .before .before .call-of .ensures, c .before .before .before .before .if1 .left, call-small (take (c .before .before .before .before .before .before .before .args .len) (drop (c .before .before .before .before .before .before .before .args .start) (c .before .before .before .before .before .before .before .args .text .now)))), m .0, m .2)
 
 returns-3 : tie.Need-returns-3
-returns-3 c = let m = rw (c .enum-told .given .1) at (c .before .before .mark .ensures) in inr (m .0)
+returns-3 c =
+    let m = rw (c .enum-told .given .1) at (c .before .before .mark .ensures) in
+    inr (m .0)
 
 pub test-call-spec : {M : Type 1} → statement M
 test-call-spec =

@@ -18,10 +18,16 @@ same-word-requires : tie.Need-same-word-requires
 same-word-requires c κs = word-inside _ _ _ (c .before .before .before .before .take .ensures) _ (c .before .token .given .1)
 
 returns-2 : tie.Need-returns-2
-returns-2 c = let t = c .before .before .before .before .before .before .take .ensures in let is = c .before .before .before .token .given .1 in (rw (word-letters _ _ _ t _ is) (sym (c .before .same-word .ensures) ∙ c .if1 .taken), taken-at _ _ _ t, word-past _ _ _ t _ is)
+returns-2 c =
+    let t = c .before .before .before .before .before .before .take .ensures in
+    let is = c .before .before .before .token .given .1 in
+    (rw (word-letters _ _ _ t _ is) (sym (c .before .same-word .ensures) ∙ c .if1 .taken), taken-at _ _ _ t, word-past _ _ _ t _ is)
 
 returns-3 : tie.Need-returns-3
-returns-3 c = let t = c .before .before .before .before .before .before .take .ensures in let is = c .before .before .before .token .given .1 in (rw (word-letters _ _ _ t _ is) (sym (c .before .same-word .ensures) ∙ c .if1 .left), taken-at _ _ _ t)
+returns-3 c =
+    let t = c .before .before .before .before .before .before .take .ensures in
+    let is = c .before .before .before .token .given .1 in
+    (rw (word-letters _ _ _ t _ is) (sym (c .before .same-word .ensures) ∙ c .if1 .left), taken-at _ _ _ t)
 
 pub word-ahead-spec : {M : Type 1} → statement M
 word-ahead-spec =
