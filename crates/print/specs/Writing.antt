@@ -4,7 +4,6 @@ use mathlib.Core.Path.{_≡_}
 use mathlib.Core.Bool.{Bool, true, false, _||_, cond}
 use mathlib.Core.List.{List, [], _∷_, _++_}
 use mathlib.Core.Option.{Option, none, some}
-use mathlib.Core.Logic.{_⊎_}
 use lib.Dec.{ltb}
 use lib.ListN.{length, getD, drop}
 use lib.Seq.{sets}
@@ -40,7 +39,7 @@ headPieces a t = axisWord a ∷ colonsSign ∷ testWord t ∷ []
 
 -- A test by its number, of which the list has a name where it is one.
 abbrev pub Known : ℕ → ℕ → Type 0
-Known count test = (test ≤ 258) × (test < 258 → test < count + 2 ⊎ test < 2)
+Known count test = (test ≤ 258) × (2 ≤ test → test < 258 → test < count + 2)
 
 -- The list is indexed and no longer than it may be, and has a name for each that the items have.
 pub record Names (list starts : List ℕ) (count : ℕ) (items : List ℕ) : Type 0 where
