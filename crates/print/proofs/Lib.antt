@@ -1,3 +1,6 @@
 pub mod Putting
 pub mod Unknowns
 pub mod Words
+pub mod Chains
+pub mod Rows
+pub mod Operands

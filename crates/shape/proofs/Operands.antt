@@ -96,7 +96,7 @@ operand-rest within w Not ws s k l = absurd (miss (0 ∷ 1 ∷ 5 ∷ []) 4 tt l)
 operand-rest within w Bad ws s k l = operand-other within w ws (s .0) (s .2) (s .3) (s .4)
 
 -- What stands at a place of the items.
-at-place : (items : List ℕ) (at : ℕ) → at < length items → drop at items ≡ getD items at 0 ∷ drop (at + 1) items
+pub at-place : (items : List ℕ) (at : ℕ) → at < length items → drop at items ≡ getD items at 0 ∷ drop (at + 1) items
 at-place items at l = drop-cons items at 0 l ∙ ap (λ (k : ℕ). getD items at 0 ∷ drop k items) (sym (add-one at))
 
 -- The walks of an operand, from those of what it holds.
@@ -135,12 +135,12 @@ module _ (items : List ℕ) (at depth : ℕ) (l : at < length items) where
   walk-not e Malformed w = rw (at-place items at l, e, operand-not depth (drop (at + 1) items), w)
 
   -- A bracket of `and` holds an `and`, a bracket of `or` an `or`.
-  and-there : (e : Expr) (next : ℕ) → getD items at 0 ≡ andItem → takeOperand (takeWithin (suc depth)) (drop at items) ≡ some (e, drop next items) → isAnd e ≡ true
+  pub and-there : (e : Expr) (next : ℕ) → getD items at 0 ≡ andItem → takeOperand (takeWithin (suc depth)) (drop at items) ≡ some (e, drop next items) → isAnd e ≡ true
   and-there e next i h =
       let f = from-operand (suc depth) (takeWithin (suc depth)) (from-within (suc depth)) (drop at items) (e, drop next items) h in
       sym (begins-and e (drop next items)) ∙ ap (begins andItem) (sym (f .items) ∙ at-place items at l) ∙ rw i
 
-  or-there : (e : Expr) (next : ℕ) → getD items at 0 ≡ orItem → takeOperand (takeWithin (suc depth)) (drop at items) ≡ some (e, drop next items) → isOr e ≡ true
+  pub or-there : (e : Expr) (next : ℕ) → getD items at 0 ≡ orItem → takeOperand (takeWithin (suc depth)) (drop at items) ≡ some (e, drop next items) → isOr e ≡ true
   or-there e next i h =
       let f = from-operand (suc depth) (takeWithin (suc depth)) (from-within (suc depth)) (drop at items) (e, drop next items) h in
       sym (begins-or e (drop next items)) ∙ ap (begins orItem) (sym (f .items) ∙ at-place items at l) ∙ rw i
