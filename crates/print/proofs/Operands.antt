@@ -36,7 +36,7 @@ operand-there depth items at s = ⊎-elim (λ l. l) (λ l. none-some (sym (opera
 some-found : {A B : Type 0} (o : Taken A) (next : A × List ℕ → Taken B) → Some (found o next) → Some o
 some-found o next s = found-some o next (s .tree) (s .taken-whole) (λ a p q. record { tree = a; taken-whole = p })
 
-some-same : {A : Type 0} {o u : Taken A} → o ≡ u → Some o → Some u
+pub some-same : {A : Type 0} {o u : Taken A} → o ≡ u → Some o → Some u
 some-same e s = record { tree = s .tree; taken-whole = sym e ∙ s .taken-whole }
 
 -- What holds where one bracket more may be opened holds at a depth that is not 0.

@@ -3,7 +3,7 @@ use Prim.Native.Nat.{ℕ, zero, suc, _+_, _-_, _*_, _≤_, _<_}
 use native.Mathlib.Omega.{arith}
 use native.Mathlib.Numerals.{add-one}
 use mathlib.Core.Path.{_≡_, refl, sym, _∙_, ap, ap₂, subst}
-use mathlib.Core.Bool.{Bool, true, false}
+use mathlib.Core.Bool.{Bool, true, false, cond}
 use mathlib.Core.Logic.{_⊎_, inl, inr, ⊎-elim}
 use borrow.Author.Tests.{ltb-true, ltb-false, lt-ltb}
 use mathlib.Core.List.{List, [], _∷_, _++_, append-assoc, append-nil}
@@ -117,8 +117,7 @@ module _ (depth : ℕ) (items : List ℕ) (place : ℕ) where
       found-some (takePreds (takeWithin depth) n (r .1)) (λ s. some (pred (r .0) (s .0), s .1)) t q
       (λ s u v.
       let k : suc n - 1 ≡ n = omega arith in
-      let f : _≡_ {A = Preds × List ℕ} (pred (r .0) (s .0), s .1) t = some-inj v in
-      (
+      let f : _≡_ {A = Preds × List ℕ} (pred (r .0) (s .0), s .1) t = some-inj v in (
         s .0,
         rw k (ap (λ x. takePreds (takeWithin depth) n (x .1)) (sym same) ∙ u ∙ ap (λ x. some (s .0, x .1)) f),
         ap (λ x. x .0) (sym f) ∙ ap (λ x. pred (x .0) (s .0)) same,
@@ -175,6 +174,14 @@ later-text names depth n ws t h = go (t .0) n (from-steps depth (takeWithin dept
     go stop (suc m) e = absurd (omega arith)
     go (step a u ps s) zero e = absurd (omega arith)
     go (step a u ps s) (suc m) e = rw (lt-ltb 0 (suc m) (omega arith))
+
+-- A sign that may stand between is one byte at most.
+pub between-brief : (sign n : ℕ) → length (between sign n) ≤ 1
+between-brief sign n = go (ltb 0 n)
+  where
+    go : (b : Bool) → length (cond b (sign ∷ []) []) ≤ 1
+    go true = omega arith
+    go false = omega arith
 
 -- The text of a step, its predicates and what follows.
 pub step-text : (names : List (List ℕ)) (a : Axis) (t : Test) (ps : Preds) (s : Steps) (bytes : List ℕ) → bytes ++ textOf names (relativePieces s) ≡ textOf names (laterPieces s)

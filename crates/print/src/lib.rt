@@ -105,7 +105,14 @@ fn put_axis(out: &mut [u8], pen: usize, axis: u32) -> usize
 }
 
 // Puts name v as its line of the list spells it.
-fn put_name(list: &[u8], starts: &[u16; 257], count: usize, out: &mut [u8], pen: usize, v: usize) -> usize
+fn put_name(
+    list: &[u8],
+    starts: &[u16; 257],
+    count: usize,
+    out: &mut [u8],
+    pen: usize,
+    v: usize,
+) -> usize
     requires { ⌜ Indexed (now list) (now starts) count ⌝ }
     requires { ⌜ (v < count) × (length (now list) ≤ listLimit) × (pen < 2 ^ 39) ⌝ }
     ensures { λ r. ⌜ Puts (testText (namesOf (now (list .entry))) (Test.named v)) pen (now (out .entry)) (now (out .exit)) r ⌝ }
@@ -118,7 +125,14 @@ fn put_name(list: &[u8], starts: &[u16; 257], count: usize, out: &mut [u8], pen:
 }
 
 // Puts a test: `node()`, `text()`, `*` or a name.
-fn put_test(list: &[u8], starts: &[u16; 257], count: usize, out: &mut [u8], pen: usize, test: u32) -> usize
+fn put_test(
+    list: &[u8],
+    starts: &[u16; 257],
+    count: usize,
+    out: &mut [u8],
+    pen: usize,
+    test: u32,
+) -> usize
     requires { ⌜ Indexed (now list) (now starts) count ⌝ }
     requires { ⌜ Known count test × (length (now list) ≤ listLimit) × (pen < 2 ^ 39) ⌝ }
     ensures { λ r. ⌜ ((t : Test) → test ≡ testNumber t → goodTest t ≡ true → Puts (testText (namesOf (now (list .entry))) t) pen (now (out .entry)) (now (out .exit)) r) ⌝ }
@@ -133,7 +147,15 @@ fn put_test(list: &[u8], starts: &[u16; 257], count: usize, out: &mut [u8], pen:
 }
 
 // Puts axis, `::` and test of a step.
-fn put_head(list: &[u8], starts: &[u16; 257], count: usize, out: &mut [u8], pen: usize, axis: u32, test: u32) -> usize
+fn put_head(
+    list: &[u8],
+    starts: &[u16; 257],
+    count: usize,
+    out: &mut [u8],
+    pen: usize,
+    axis: u32,
+    test: u32,
+) -> usize
     requires { ⌜ Indexed (now list) (now starts) count ⌝ }
     requires { ⌜ Known count test × (length (now list) ≤ listLimit) × (pen < 2 ^ 38) ⌝ }
     ensures { λ r. ⌜ ((a : Axis) (t : Test) → axis ≡ axisNumber a → test ≡ testNumber t → goodTest t ≡ true → Puts (textOf (namesOf (now (list .entry))) (headPieces a t)) pen (now (out .entry)) (now (out .exit)) r) ⌝ }
@@ -231,15 +253,45 @@ fn operand(
     }
     if let Item::Not = item {
         let opened = put_not(out, pen);
-        let denied = expression(items, list, starts, count, out, at + 1, opened, 0, depth - 1);
+        let denied = expression(
+            items,
+            list,
+            starts,
+            count,
+            out,
+            at + 1,
+            opened,
+            0,
+            depth - 1,
+        );
         return closed(out, denied, b')');
     }
     let opened = put_byte(out, pen, b'(');
     if let Item::Or = item {
-        let inner = expression(items, list, starts, count, out, at + 1, opened, 1, depth - 1);
+        let inner = expression(
+            items,
+            list,
+            starts,
+            count,
+            out,
+            at + 1,
+            opened,
+            1,
+            depth - 1,
+        );
         return closed(out, inner, b')');
     }
-    let inner = term(items, list, starts, count, out, at + 1, opened, 1, depth - 1);
+    let inner = term(
+        items,
+        list,
+        starts,
+        count,
+        out,
+        at + 1,
+        opened,
+        1,
+        depth - 1,
+    );
     closed(out, inner, b')')
 }
 
@@ -282,7 +334,17 @@ fn steps(
             return Reached { item: place, byte };
         };
         let headed = put_head(list, starts, count, out, byte, step.axis, step.test);
-        let more = predicates(items, list, starts, count, out, place + 1, headed, step.count, depth);
+        let more = predicates(
+            items,
+            list,
+            starts,
+            count,
+            out,
+            place + 1,
+            headed,
+            step.count,
+            depth,
+        );
         place = more.item;
         owed -= 1;
         byte = put_between(out, more.byte, b'/', owed);
@@ -303,7 +365,7 @@ fn predicates(
     depth: usize,
 ) -> Reached
     requires { ⌜ Names (now list) (now starts) count (now items) ⌝ }
-    requires { ⌜ (at ≤ length (now items)) × (pen + 16384 * length (now items) ≤ 2 ^ 38 + 16384 * at) ⌝ }
+    requires { ⌜ (at ≤ length (now items)) × (pen + 16384 * length (now items) + 64 ≤ 2 ^ 38 + 16384 * at) ⌝ }
     requires { ⌜ Some (takePreds (takeWithin depth) number (drop at (now items))) ⌝ }
     ensures { λ r. ⌜ Prints (namesOf (now (list .entry))) (now (items .entry)) at pen 0 (takePreds (takeWithin depth) number (drop at (now (items .entry)))) predsPieces (now (out .entry)) (now (out .exit)) r ⌝ }
 {
@@ -334,7 +396,17 @@ fn paths(items: &[u32], list: &[u8], starts: &[u16; 257], count: usize, out: &mu
             return byte;
         };
         let opened = put_byte(out, byte, b'/');
-        let more = steps(items, list, starts, count, out, place + 1, opened, number, paper::BRACKET_LIMIT);
+        let more = steps(
+            items,
+            list,
+            starts,
+            count,
+            out,
+            place + 1,
+            opened,
+            number,
+            paper::BRACKET_LIMIT,
+        );
         place = more.item;
         byte = put_between(out, more.byte, b'|', items.len() - place);
     }

@@ -33,7 +33,7 @@ unknown-requires : tie.Need-unknown-requires Inv-loop μ-loop
 unknown-requires c κs = search needs
 
 returns : tie.Need-returns Inv-loop μ-loop
-returns c = 
+returns c =
     let a = c .before .before .before .before .before .before .args in
     let l = c .before .before .before .before .loop in
     let items = now (a .items) in
@@ -47,14 +47,14 @@ loop-less : tie.Need-loop-less Inv-loop μ-loop
 loop-less c = search needs
 
 loop-again : tie.Need-loop-again Inv-loop μ-loop
-loop-again c = 
+loop-again c =
     let a = c .before .before .before .before .before .before .args in
     let l = c .before .before .before .before .loop in
     let items = now (a .items) in
     (omega arith, rw (add-one (l .at)) (l .inv .1 ∙ unknown-later (a .count) items (l .at) (omega arith) (sym (c .before .unknown .ensures) ∙ c .if1 .left)))
 
 returns-2 : tie.Need-returns-2 Inv-loop μ-loop
-returns-2 c = 
+returns-2 c =
     let a = c .before .before .before .args in
     let l = c .before .loop in
     let items = now (a .items) in

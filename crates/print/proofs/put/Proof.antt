@@ -29,7 +29,7 @@ shared-slice-read-put-byte : tie.Need-shared-slice-read-put-byte Inv-loop μ-loo
 shared-slice-read-put-byte c = omega arith
 
 put-byte-requires : tie.Need-put-byte-requires Inv-loop μ-loop
-put-byte-requires c κs = 
+put-byte-requires c κs =
     let l = c .before .before .before .loop in
     let bytes = now (c .before .before .before .before .before .before .args .bytes) in
     omega (arith, l .inv .1 .moved, length-take-le (l .i) bytes (l .inv .0))
@@ -41,7 +41,7 @@ loop-less : tie.Need-loop-less Inv-loop μ-loop
 loop-less c = search needs
 
 loop-again : tie.Need-loop-again Inv-loop μ-loop
-loop-again c = 
+loop-again c =
     let l = c .before .before .before .before .before .before .loop in
     let bytes = now (c .before .before .before .before .before .before .before .before .before .args .bytes) in
     let more : take (l .i) bytes ++ (getD bytes (l .i) 0 ∷ []) ≡ take (l .i + 1) bytes = rw (add-one (l .i)) (sym (take-suc bytes (l .i) 0 (omega arith))) in
@@ -51,7 +51,7 @@ same-length : tie.Need-same-length Inv-loop μ-loop
 same-length c = puts-long (c .before .loop .inv .1)
 
 returns : tie.Need-returns Inv-loop μ-loop
-returns c = 
+returns c =
     let l = c .before .loop in
     puts-as (take-all (l .i) (now (c .before .before .before .before .args .bytes)) (c .loop-test .left)) (l .inv .1)
 

@@ -65,11 +65,10 @@ same-length-5 : tie.Need-same-length-5
 same-length-5 c = search needs
 
 returns-5 : tie.Need-returns-5
-returns-5 c = 
-    let n = c .before .before .before .before .before .match .rest in
-    (
+returns-5 c =
+    let n = c .before .before .before .before .before .match .rest in (
       λ a e.
-      puts-as (axis-4 a (λ z. n .0 .0 .0 .1 (e ∙ z)) (λ z. n .0 .0 .1 (e ∙ z)) (λ z. n .0 .1 (e ∙ z)) (λ z. n .1 (e ∙ z))) (c .before .before .put5 .ensures),
+          puts-as (axis-4 a (λ z. n .0 .0 .0 .1 (e ∙ z)) (λ z. n .0 .0 .1 (e ∙ z)) (λ z. n .0 .1 (e ∙ z)) (λ z. n .1 (e ∙ z))) (c .before .before .put5 .ensures),
       omega (arith, c .before .before .put5 .ensures .moved),
     )
 

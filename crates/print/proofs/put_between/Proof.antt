@@ -13,12 +13,12 @@ same-length : tie.Need-same-length
 same-length c = search needs
 
 returns : tie.Need-returns
-returns c = 
+returns c =
     let a = c .before .before .before .before .before .before .args in
     rw (lt-ltb 0 (a .left) (c .before .before .before .before .if1 .taken)) (c .before .before .put-byte .ensures)
 
 returns-2 : tie.Need-returns-2
-returns-2 c = 
+returns-2 c =
     let a = c .before .before .args in
     rw (le-ltb 0 (a .left) (c .if1 .left)) (puts-none (a .pen) (now (a .out)))
 

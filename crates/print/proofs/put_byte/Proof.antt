@@ -18,7 +18,7 @@ same-length : tie.Need-same-length
 same-length c = ⊎-elim (λ w. ap length (w .1) ∙ simp length-set) (λ w. ap length (w .1)) (c .if1 .came)
 
 returns : tie.Need-returns
-returns c = 
+returns c =
     let a = c .before .args in
     ⊎-elim (λ w. puts-byte (a .b) (a .pen) (now (a .out)) (c .if1 .out) (w .1)) (λ w. puts-past (a .b) (a .pen) (now (a .out)) (c .if1 .out) (w .0 .left) (w .1)) (c .if1 .came)
 

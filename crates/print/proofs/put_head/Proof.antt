@@ -16,7 +16,7 @@ put-byte-requires-2 : tie.Need-put-byte-requires-2
 put-byte-requires-2 c κs = search needs
 
 put-test-requires : tie.Need-put-test-requires
-put-test-requires c κs = 
+put-test-requires c κs =
     let p = c .before .before .before .before .before .before .before .before .before .before .before .before .before .before .before .pre in
     (p .0, (p .1 .0, p .1 .1, omega (arith, p .1 .2, c .before .before .before .before .before .before .before .before .before .before .before .put-axis .ensures .1, c .before .before .before .before .before .before .before .put-byte .ensures .moved, c .before .before .before .put-byte2 .ensures .moved)))
 
@@ -24,13 +24,12 @@ same-length : tie.Need-same-length
 same-length c = search needs
 
 returns : tie.Need-returns
-returns c = 
-    (
-      λ a t e f g.
+returns c = (
+  λ a t e f g.
       puts-as (head-text _ a t)
       (puts-both (puts-both (puts-both (c .before .before .before .before .before .before .before .before .before .before .before .before .before .before .put-axis .ensures .0 a e) (c .before .before .before .before .before .before .before .before .before .before .put-byte .ensures)) (c .before .before .before .before .before .before .put-byte2 .ensures)) (c .before .before .put-test .ensures .0 t f g)),
-      omega (arith, c .before .before .before .before .before .before .before .before .before .before .before .before .before .before .put-axis .ensures .1, c .before .before .before .before .before .before .before .before .before .before .put-byte .ensures .moved, c .before .before .before .before .before .before .put-byte2 .ensures .moved, c .before .before .put-test .ensures .1),
-    )
+  omega (arith, c .before .before .before .before .before .before .before .before .before .before .before .before .before .before .put-axis .ensures .1, c .before .before .before .before .before .before .before .before .before .before .put-byte .ensures .moved, c .before .before .before .before .before .before .put-byte2 .ensures .moved, c .before .before .put-test .ensures .1),
+)
 
 pub put-head-spec : {M : Type 1} → statement M
 put-head-spec =

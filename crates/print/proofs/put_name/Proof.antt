@@ -27,7 +27,7 @@ part-put-end : tie.Need-part-put-end
 part-put-end c = omega (arith, c .before .before .spell .ensures .within)
 
 put-requires : tie.Need-put-requires
-put-requires c κs = 
+put-requires c κs =
     let s = c .before .before .before .spell in
     let list = now (c .before .before .before .before .before .before .args .list) in
     omega (arith, s .ensures .within, part-length list [] (s .result .start) (s .result .len) (s .ensures .within), c .before .before .before .before .before .before .pre .1)
@@ -36,7 +36,7 @@ same-length : tie.Need-same-length
 same-length c = search needs
 
 returns : tie.Need-returns
-returns c = 
+returns c =
     let s = c .before .before .before .before .before .before .spell in
     let list = now (c .before .before .before .before .before .before .before .before .before .args .list) in
     let e : s .result .start + s .result .len - s .result .start ≡ s .result .len = omega arith in

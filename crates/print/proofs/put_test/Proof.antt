@@ -35,18 +35,17 @@ cast-put-name : tie.Need-cast-put-name
 cast-put-name c = search needs
 
 put-name-requires : tie.Need-put-name-requires
-put-name-requires c κs = 
+put-name-requires c κs =
     let a = c .before .before .before .before .args in
-    let n = c .before .match .rest in
-    (
+    let n = c .before .match .rest in (
       c .before .before .before .before .pre .0,
       (
-        let l = c .before .before .before .before .pre .1 .0 .1 in
-        let few : a .test ≤ 258 = c .before .before .before .before .pre .1 .0 .0 in
-        let some : 2 ≤ a .test = above (a .test) (n .0 .0 .1) (n .0 .1) in
-        let less : a .test < 258 = below (a .test) 258 few (n .1) in
-        (omega (arith, l some less), c .before .before .before .before .pre .1 .1, c .before .before .before .before .pre .1 .2)
-      ),
+          let l = c .before .before .before .before .pre .1 .0 .1 in
+          let few : a .test ≤ 258 = c .before .before .before .before .pre .1 .0 .0 in
+          let some : 2 ≤ a .test = above (a .test) (n .0 .0 .1) (n .0 .1) in
+          let less : a .test < 258 = below (a .test) 258 few (n .1) in
+          (omega (arith, l some less), c .before .before .before .before .pre .1 .1, c .before .before .before .before .pre .1 .2)
+          ),
     )
 
 same-length : tie.Need-same-length
@@ -71,7 +70,7 @@ same-length-4 : tie.Need-same-length-4
 same-length-4 c = search needs
 
 returns-4 : tie.Need-returns-4
-returns-4 c = 
+returns-4 c =
     let n = c .before .before .before .before .match .rest in
     let a = c .before .before .before .before .before .before .before .args in
     (λ t e g. puts-as (test-named (namesOf (now (a .list))) t (a .test) e (n .0 .0 .1) (n .0 .1) (n .1)) (c .before .before .put-name .ensures .0), c .before .before .put-name .ensures .1)

@@ -17,7 +17,7 @@ enum-known-item : tie.Need-enum-known-item
 enum-known-item c = search needs
 
 returns : tie.Need-returns
-returns c = 
+returns c =
     let a = c .before .before .args in
     let u = c .before .unpack in
     let e : stepAt (a .w) ≡ none = not-step (a .w) (u .result) (said (a .w) (u .result) (u .ensures)) (c .match .keys2) in
@@ -30,7 +30,7 @@ add-result : tie.Need-add-result
 add-result c = search needs
 
 returns-2 : tie.Need-returns-2
-returns-2 c = 
+returns-2 c =
     let a = c .before .before .before .before .before .args in
     let u = c .before .before .before .before .unpack in
     let s = rw (c .before .before .item .given .1) at (said (a .w) (u .result) (u .ensures)) in
