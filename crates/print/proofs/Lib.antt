@@ -4,3 +4,4 @@ pub mod Words
 pub mod Chains
 pub mod Rows
 pub mod Operands
+pub mod Queries
