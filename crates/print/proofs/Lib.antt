@@ -5,3 +5,4 @@ pub mod Chains
 pub mod Rows
 pub mod Operands
 pub mod Queries
+pub mod Answering

@@ -37,7 +37,7 @@ same-length : tie.Need-same-length Inv-loop μ-loop
 same-length c = puts-long (c .before .before .before .before .loop .inv .puts)
 
 returns : tie.Need-returns Inv-loop μ-loop
-returns c = 
+returns c =
     let a = c .before .before .before .before .before .before .before .before .args in
     let l = c .before .before .before .before .loop in
     let u = c .before .unpack in
@@ -51,14 +51,13 @@ add-steps : tie.Need-add-steps Inv-loop μ-loop
 add-steps c = search needs
 
 steps-requires : tie.Need-steps-requires Inv-loop μ-loop
-steps-requires c κs = 
+steps-requires c κs =
     let a = c .before .before .before .before .before .before .before .before .before .before .before .before .before .before .before .args in
     let l = c .before .before .before .before .before .before .before .before .before .before .before .loop in
     let u = c .before .before .before .before .before .before .before .before .unpack in
     let w = getD (now (a .items)) (l .place) 0 in
     let s = rw (c .before .before .before .before .before .before .item .given .1) at (said w (u .result) (u .ensures)) in
-    let p = c .before .before .before .before .before .before .before .before .before .before .before .before .before .before .before .pre in
-    (
+    let p = c .before .before .before .before .before .before .before .before .before .before .before .before .before .before .before .pre in (
       p .0,
       (
         (omega (arith, c .before .before .before .before .before .before .before .before .before .before .loop-test .taken), omega (arith, l .inv .low, l .inv .inside, c .before .before .before .put-byte .ensures .moved, p .1 .few-items)),
@@ -70,7 +69,7 @@ sub-put-between : tie.Need-sub-put-between Inv-loop μ-loop
 sub-put-between c = omega (arith, c .before .before .before .steps .ensures .inside)
 
 put-between-requires : tie.Need-put-between-requires Inv-loop μ-loop
-put-between-requires c κs = 
+put-between-requires c κs =
     let v = c .before .before .before .steps .ensures in
     omega (arith, v .low, v .inside, c .before .before .before .before .before .before .before .before .before .before .before .before .before .before .before .loop .inv .low, c .before .before .before .before .before .before .before .before .before .before .before .before .before .before .before .loop .inv .inside, c .before .before .before .before .before .before .before .put-byte .ensures .moved, c .before .before .before .before .before .before .before .before .before .before .before .before .before .before .before .before .before .before .before .pre .1 .few-items)
 
@@ -78,7 +77,7 @@ loop-less : tie.Need-loop-less Inv-loop μ-loop
 loop-less c = omega (arith, c .before .before .before .before .before .before .steps .ensures .onward, c .before .before .before .before .before .before .before .before .before .before .before .before .before .before .before .before .before .loop-test .taken)
 
 loop-again : tie.Need-loop-again Inv-loop μ-loop
-loop-again c = 
+loop-again c =
     let a = c .before .before .before .before .before .before .before .before .before .before .before .before .before .before .before .before .before .before .before .before .before .before .args in
     let l = c .before .before .before .before .before .before .before .before .before .before .before .before .before .before .before .before .before .before .loop in
     let u = c .before .before .before .before .before .before .before .before .before .before .before .before .before .before .before .unpack in
