@@ -10,7 +10,7 @@ use lib.Dec.{leb, ltb}
 use lib.ListN.{length, getD, drop, drop-of-length-le}
 use lib.Seq.{drop-cons}
 use borrow.Author.Tests.{lt-ltb, le-ltb}
-use Rattle.paper.specs.Tools.{found}
+use Rattle.paper.specs.Tools.{found, ascii}
 use Rattle.paper.specs.Limits.{bracketLimit}
 use Rattle.paper.specs.Query.{Steps}
 use Rattle.paper.specs.Query.{Query as Queried}
@@ -92,7 +92,7 @@ module _ (names : List (List ℕ)) (items old out : List ℕ) (place byte : ℕ)
   -- One path more.
   pub paths-more : (mid new last : List ℕ) (opened number byte′ : ℕ) (r : Reached) → pathAt (getD items place 0) ≡ some number → Puts (47 ∷ []) byte out mid opened
       → Prints names items (place + 1) opened 0 (takeSteps (takeWithin bracketLimit) number (drop (place + 1) items)) relativePieces mid new r
-      → Puts (between 124 (length items - r .item)) (r .byte) new last byte′ → PathsRest names items old last (r .item) byte′
+      → Puts (between (ascii "|") (length items - r .item)) (r .byte) new last byte′ → PathsRest names items old last (r .item) byte′
   paths-more mid new last opened number byte′ r e p v q =
       let same : here .0 ≡ number = some-inj (sym (here .3) ∙ e) in
       let g = rw (same, v .reads) at (here .4) in
@@ -101,28 +101,28 @@ module _ (names : List (List ℕ)) (items old out : List ℕ) (place byte : ℕ)
       record {
         rest = ps;
         fuel = here .1;
-        done = k .done ++ (47 ∷ textOf names (relativePieces (v .what)) ++ between 124 (length items - r .item));
+        done = k .done ++ (47 ∷ textOf names (relativePieces (v .what)) ++ between (ascii "|") (length items - r .item));
         takes = t;
         text =
-            append-assoc (k .done) (47 ∷ textOf names (relativePieces (v .what)) ++ between 124 (length items - r .item)) (textOf names (joined ps)) ∙
+            append-assoc (k .done) (47 ∷ textOf names (relativePieces (v .what)) ++ between (ascii "|") (length items - r .item)) (textOf names (joined ps)) ∙
             ap (λ (x : List ℕ). k .done ++ x)
             (ap (λ (x : List ℕ). 47 ∷ x)
-            (append-assoc (textOf names (relativePieces (v .what))) (between 124 (length items - r .item)) (textOf names (joined ps)) ∙
+            (append-assoc (textOf names (relativePieces (v .what))) (between (ascii "|") (length items - r .item)) (textOf names (joined ps)) ∙
             ap (λ (x : List ℕ). textOf names (relativePieces (v .what)) ++ x) (bar-text (here .1) (r .item) ps t) ∙
             sym (text-append names (relativePieces (v .what)) (pathsPieces ps))) ∙
             ap (λ (x : List Steps). textOf names (joined x)) (some-inj f)) ∙
             k .text;
         puts = puts-both (k .puts) (puts-both (puts-both p (v .puts)) q);
         inside = v .inside;
-        low = omega (arith, k .low, v .low, p .moved, q .moved, between-brief 124 (length items - r .item));
+        low = omega (arith, k .low, v .low, p .moved, q .moved, between-brief (ascii "|") (length items - r .item));
       })
     where
       bar-text : (n next : ℕ) (ps : List Steps) → takePaths n (drop next items) ≡ some ps
-          → between 124 (length items - next) ++ textOf names (joined ps) ≡ textOf names (pathsPieces ps)
+          → between (ascii "|") (length items - next) ++ textOf names (joined ps) ≡ textOf names (pathsPieces ps)
       bar-text n next [] t =
           ⊎-elim (λ m. never n (rw (at-place items next m) at t)) (λ m. rw (le-ltb 0 (length items - next) (omega arith))) (within next (length items))
         where
-          never : (f : ℕ) → takePaths f (getD items next 0 ∷ drop (next + 1) items) ≡ some [] → between 124 (length items - next) ++ [] ≡ []
+          never : (f : ℕ) → takePaths f (getD items next 0 ∷ drop (next + 1) items) ≡ some [] → between (ascii "|") (length items - next) ++ [] ≡ []
           never f h =
               let o = one-path f (getD items next 0) (drop (next + 1) items) [] h in
               found-some (takeSteps (takeWithin bracketLimit) (o .0) (drop (next + 1) items)) (λ r. found (takePaths (o .1) (r .1)) (λ qs. some (r .0 ∷ qs))) [] (o .4)
@@ -130,7 +130,7 @@ module _ (names : List (List ℕ)) (items old out : List ℕ) (place byte : ℕ)
       bar-text n next (s ∷ ps) t =
           ⊎-elim (λ m. rw (lt-ltb 0 (length items - next) (omega arith))) (λ m. let d : drop next items ≡ [] = drop-of-length-le items m in never n (rw d at t)) (within next (length items))
         where
-          never : (f : ℕ) → takePaths f [] ≡ some (s ∷ ps) → between 124 (length items - next) ++ textOf names (joined (s ∷ ps)) ≡ textOf names (pathsPieces (s ∷ ps))
+          never : (f : ℕ) → takePaths f [] ≡ some (s ∷ ps) → between (ascii "|") (length items - next) ++ textOf names (joined (s ∷ ps)) ≡ textOf names (pathsPieces (s ∷ ps))
           never zero h = absurd (let d : _≡_ {A = ℕ} 0 (suc (length ps)) = ap length (some-inj h) in omega arith)
           never (suc f) h = absurd (let d : _≡_ {A = ℕ} 0 (suc (length ps)) = ap length (some-inj h) in omega arith)
 

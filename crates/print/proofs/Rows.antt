@@ -11,7 +11,7 @@ use mathlib.Core.Option.{Option, none, some}
 use lib.Dec.{leb, ltb}
 use lib.ListN.{length, getD, drop, drop-of-length-le}
 use lib.Seq.{drop-cons}
-use Rattle.paper.specs.Tools.{found}
+use Rattle.paper.specs.Tools.{found, ascii}
 use Rattle.paper.specs.Query.{Axis, Test, Expr, Steps, stop, step, Preds, bare, pred}
 use Rattle.paper.specs.Items.{Head, stepAt, Taken, takePreds, takeSteps, takeWithin, stepCount}
 use Rattle.paper.specs.Printing.{Piece, exprPieces, relativePieces, laterPieces, predsPieces, textOf, pieceText, openPred, closePred, testWord, axisWord}
@@ -57,7 +57,7 @@ module _ {A : Type 0} (rows : ℕ → List ℕ → Taken A) (piecesOf : A → Li
       }
 
   -- One more.
-  pub rest-more : (out new bytes : List ℕ) (place byte owed next byte′ owed′ : ℕ) (rest′ : A) (l : Rest out place byte owed) → rows owed′ (drop next items) ≡ some (rest′, l .left)
+  rest-more : (out new bytes : List ℕ) (place byte owed next byte′ owed′ : ℕ) (rest′ : A) (l : Rest out place byte owed) → rows owed′ (drop next items) ≡ some (rest′, l .left)
       → bytes ++ textOf names (piecesOf rest′) ≡ textOf names (piecesOf (l .rest)) → Puts bytes byte out new byte′ → place ≤ next → next ≤ length items
       → byte′ + 16384 * place ≤ byte + 16384 * next → Rest new next byte′ owed′
   rest-more out new bytes place byte owed next byte′ owed′ rest′ l t e p o i low′ =
@@ -106,7 +106,7 @@ module _ (depth : ℕ) (items : List ℕ) (place : ℕ) where
           let e : suc d - 1 ≡ d = omega arith in
           (omega arith, record { tree = r; taken-whole = rw e (sym (whole (takeWithin d) (drop place items)) ∙ p) })
 
-  pub pred-more : (owed : ℕ) (t : Preds × List ℕ) (e : Expr) (next : ℕ) → 0 < owed → takePreds (takeWithin depth) owed (drop place items) ≡ some t
+  pred-more : (owed : ℕ) (t : Preds × List ℕ) (e : Expr) (next : ℕ) → 0 < owed → takePreds (takeWithin depth) owed (drop place items) ≡ some t
       → orsFrom (takeWithin (depth - 1)) 0 (drop place items) ≡ some (e, drop next items)
       → (ps : Preds) × (takePreds (takeWithin depth) (owed - 1) (drop next items) ≡ some (ps, t .1)) × (t .0 ≡ pred e ps)
   pred-more zero t e next z h w = absurd (omega arith)
@@ -152,7 +152,7 @@ module _ (depth : ℕ) (items : List ℕ) (place : ℕ) where
       found-some (stepAt (getD items place 0)) _ t g
       (λ a p q. found-some (takePreds (takeWithin depth) (a .count) (drop (place + 1) items)) _ t q (λ r u v. (a, p, record { tree = r; taken-whole = u })))
 
-  pub step-more : (owed : ℕ) (t : Steps × List ℕ) (a : Head) (ps : Preds) (next : ℕ) → 0 < owed → takeSteps (takeWithin depth) owed (drop place items) ≡ some t
+  step-more : (owed : ℕ) (t : Steps × List ℕ) (a : Head) (ps : Preds) (next : ℕ) → 0 < owed → takeSteps (takeWithin depth) owed (drop place items) ≡ some t
       → stepAt (getD items place 0) ≡ some a → takePreds (takeWithin depth) (a .count) (drop (place + 1) items) ≡ some (ps, drop next items)
       → (s : Steps) × (takeSteps (takeWithin depth) (owed - 1) (drop next items) ≡ some (s, t .1)) × (t .0 ≡ step (a .axis) (a .test) ps s)
   step-more zero t a ps next z h e w = absurd (omega arith)
@@ -165,26 +165,26 @@ module _ (depth : ℕ) (items : List ℕ) (place : ℕ) where
       (s .0, rw k (u ∙ ap (λ x. some (s .0, x .1)) f), ap (λ x. x .0) (sym f)))
 
 -- Later steps are those of a relative path after a `/`, where there are any.
-pub later-text : (names : List (List ℕ)) (depth n : ℕ) (ws : List ℕ) (t : Steps × List ℕ) → takeSteps (takeWithin depth) n ws ≡ some t
-    → between 47 n ++ textOf names (relativePieces (t .0)) ≡ textOf names (laterPieces (t .0))
+later-text : (names : List (List ℕ)) (depth n : ℕ) (ws : List ℕ) (t : Steps × List ℕ) → takeSteps (takeWithin depth) n ws ≡ some t
+    → between (ascii "/") n ++ textOf names (relativePieces (t .0)) ≡ textOf names (laterPieces (t .0))
 later-text names depth n ws t h = go (t .0) n (from-steps depth (takeWithin depth) (from-within depth) n ws t h .count)
   where
-    go : (s : Steps) (m : ℕ) → stepCount s ≡ m → between 47 m ++ textOf names (relativePieces s) ≡ textOf names (laterPieces s)
+    go : (s : Steps) (m : ℕ) → stepCount s ≡ m → between (ascii "/") m ++ textOf names (relativePieces s) ≡ textOf names (laterPieces s)
     go stop zero e = refl
     go stop (suc m) e = absurd (omega arith)
     go (step a u ps s) zero e = absurd (omega arith)
     go (step a u ps s) (suc m) e = rw (lt-ltb 0 (suc m) (omega arith))
 
--- A sign that may stand between is one byte at most.
-pub between-brief : (sign n : ℕ) → length (between sign n) ≤ 1
+-- What may stand between is no longer than its sign.
+pub between-brief : (sign : List ℕ) (n : ℕ) → length (between sign n) ≤ length sign
 between-brief sign n = go (ltb 0 n)
   where
-    go : (b : Bool) → length (cond b (sign ∷ []) []) ≤ 1
+    go : (b : Bool) → length (cond b sign []) ≤ length sign
     go true = omega arith
     go false = omega arith
 
 -- The text of a step, its predicates and what follows.
-pub step-text : (names : List (List ℕ)) (a : Axis) (t : Test) (ps : Preds) (s : Steps) (bytes : List ℕ) → bytes ++ textOf names (relativePieces s) ≡ textOf names (laterPieces s)
+step-text : (names : List (List ℕ)) (a : Axis) (t : Test) (ps : Preds) (s : Steps) (bytes : List ℕ) → bytes ++ textOf names (relativePieces s) ≡ textOf names (laterPieces s)
     → textOf names (headPieces a t) ++ textOf names (predsPieces ps) ++ bytes ++ textOf names (relativePieces s) ≡ textOf names (relativePieces (step a t ps s))
 step-text names a t ps s bytes e =
     append-assoc (textOf names (headPieces a t) ++ textOf names (predsPieces ps)) bytes (textOf names (relativePieces s)) ∙
@@ -194,6 +194,34 @@ step-text names a t ps s bytes e =
     sym (text-append names (headPieces a t) (predsPieces ps ++ laterPieces s))
 
 -- The text of a predicate and of those after it.
-pub pred-text : (names : List (List ℕ)) (e : Expr) (ps : Preds) → (91 ∷ []) ++ textOf names (exprPieces e) ++ (93 ∷ []) ++ textOf names (predsPieces ps) ≡ textOf names (predsPieces (pred e ps))
+pred-text : (names : List (List ℕ)) (e : Expr) (ps : Preds) → (91 ∷ []) ++ textOf names (exprPieces e) ++ (93 ∷ []) ++ textOf names (predsPieces ps) ≡ textOf names (predsPieces (pred e ps))
 pred-text names e ps =
     ap (λ (x : List ℕ). 91 ∷ x) (append-assoc (textOf names (exprPieces e)) (93 ∷ []) (textOf names (predsPieces ps)) ∙ sym (text-append names (exprPieces e) (closePred ∷ predsPieces ps)))
+
+-- A predicate more, in its bracket.
+pub pred-turn : (names : List (List ℕ)) (depth : ℕ) (items old : List ℕ) (at pen : ℕ) (taken : Taken Preds) (out mid new last : List ℕ) (place byte owed opened byte′ : ℕ) (r : Reached)
+    → 0 < owed → Rest (takePreds (takeWithin depth)) predsPieces names items at pen taken old out place byte owed → Puts (91 ∷ []) byte out mid opened
+    → Prints names items place opened 64 (orsFrom (takeWithin (depth - 1)) 0 (drop place items)) exprPieces mid new r → Puts (93 ∷ []) (r .byte) new last byte′
+    → Rest (takePreds (takeWithin depth)) predsPieces names items at pen taken old last (r .item) byte′ (owed - 1)
+pred-turn names depth items old at pen taken out mid new last place byte owed opened byte′ r z i p w q =
+    let m = pred-more depth items place owed (i .rest, i .left) (w .what) (r .item) z (i .takes) (w .reads) in
+    rest-more (takePreds (takeWithin depth)) predsPieces names items at pen taken old out last ((91 ∷ []) ++ textOf names (exprPieces (w .what)) ++ (93 ∷ [])) place byte owed (r .item) byte′ (owed - 1)
+    (m .0) i (m .1) (pred-text names (w .what) (m .0) ∙ ap (λ x. textOf names (predsPieces x)) (sym (m .2))) (puts-both (puts-both p (w .puts)) q) (w .onward) (w .inside)
+    (omega (arith, w .low, p .moved, q .moved))
+
+-- A step more, and a `/` where another follows.
+pub step-turn : (names : List (List ℕ)) (depth : ℕ) (items old : List ℕ) (at pen : ℕ) (taken : Taken Steps) (out mid new last : List ℕ) (place byte owed headed byte′ : ℕ) (h : Head) (r : Reached)
+    → 0 < owed → Rest (takeSteps (takeWithin depth)) relativePieces names items at pen taken old out place byte owed → stepAt (getD items place 0) ≡ some h
+    → Puts (textOf names (headPieces (h .axis) (h .test))) byte out mid headed → headed ≤ byte + 8212
+    → Prints names items (place + 1) headed 0 (takePreds (takeWithin depth) (h .count) (drop (place + 1) items)) predsPieces mid new r
+    → Puts (between (ascii "/") (owed - 1)) (r .byte) new last byte′
+    → Rest (takeSteps (takeWithin depth)) relativePieces names items at pen taken old last (r .item) byte′ (owed - 1)
+step-turn names depth items old at pen taken out mid new last place byte owed headed byte′ h r z i e p b v q =
+    let m = step-more depth items place owed (i .rest, i .left) h (v .what) (r .item) z (i .takes) e (v .reads) in
+    let slash = between (ascii "/") (owed - 1) in
+    let later = later-text names depth (owed - 1) (drop (r .item) items) (m .0, i .left) (m .1) in
+    rest-more (takeSteps (takeWithin depth)) relativePieces names items at pen taken old out last
+    (textOf names (headPieces (h .axis) (h .test)) ++ textOf names (predsPieces (v .what)) ++ slash) place byte owed (r .item) byte′ (owed - 1)
+    (m .0) i (m .1) (step-text names (h .axis) (h .test) (v .what) (m .0) slash later ∙ ap (λ x. textOf names (relativePieces x)) (sym (m .2)))
+    (puts-both (puts-both p (v .puts)) q) (omega (arith, v .onward)) (v .inside)
+    (omega (arith, v .low, q .moved, between-brief (ascii "/") (owed - 1)))

@@ -23,8 +23,8 @@ pub record Puts (text : List ℕ) (pen : ℕ) (old new : List ℕ) (next : ℕ) 
   pub wrote : new ≡ sets old pen text
 
 -- A sign, where something is left to print after it.
-abbrev pub between : ℕ → ℕ → List ℕ
-between sign left = cond (ltb 0 left) (sign ∷ []) []
+abbrev pub between : List ℕ → ℕ → List ℕ
+between sign left = cond (ltb 0 left) sign []
 
 -- An expression as a term of `or` and as an operand of `and`: with the bracket that it gets there.
 abbrev pub termPieces : Expr → List Piece

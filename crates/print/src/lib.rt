@@ -54,14 +54,47 @@ fn put(out: &mut [u8], pen: usize, bytes: &[u8]) -> usize
 }
 
 // Puts a sign if something is left to print after it.
-fn put_between(out: &mut [u8], pen: usize, sign: u8, left: usize) -> usize
-    requires { ⌜ pen < 2 ^ 40 ⌝ }
-    ensures { λ r. ⌜ Puts (between sign left) pen (now (out .entry)) (now (out .exit)) r ⌝ }
+fn put_between(out: &mut [u8], pen: usize, sign: &[u8], left: usize) -> usize
+    requires { ⌜ pen + length (now sign) < 2 ^ 40 ⌝ }
+    ensures { λ r. ⌜ Puts (between (now (sign .entry)) left) pen (now (out .entry)) (now (out .exit)) r ⌝ }
 {
-    if 0 < left {
-        put_byte(out, pen, sign)
-    } else {
-        pen
+    if 0 < left { put(out, pen, sign) } else { pen }
+}
+
+// Puts `/` if so many steps are left after it.
+fn put_slash(out: &mut [u8], pen: usize, left: usize) -> usize
+    requires { ⌜ pen < 2 ^ 39 ⌝ }
+    ensures { λ r. ⌜ Puts (between (ascii "/") left) pen (now (out .entry)) (now (out .exit)) r ⌝ }
+{
+    put_between(out, pen, b"/", left)
+}
+
+// Puts `|` if so many items are left after it.
+fn put_bar(out: &mut [u8], pen: usize, left: usize) -> usize
+    requires { ⌜ pen < 2 ^ 39 ⌝ }
+    ensures { λ r. ⌜ Puts (between (ascii "|") left) pen (now (out .entry)) (now (out .exit)) r ⌝ }
+{
+    put_between(out, pen, b"|", left)
+}
+
+// Puts `(`.
+fn put_open(out: &mut [u8], pen: usize) -> usize
+    requires { ⌜ pen < 2 ^ 39 ⌝ }
+    ensures { λ r. ⌜ Puts (ascii "(") pen (now (out .entry)) (now (out .exit)) r ⌝ }
+{
+    put(out, pen, b"(")
+}
+
+// Puts `)` after what has been printed.
+fn closed(out: &mut [u8], reached: Reached) -> Reached
+    requires { ⌜ reached .byte < 2 ^ 39 ⌝ }
+    ensures { λ r. ⌜ Puts (ascii ")") (reached .byte) (now (out .entry)) (now (out .exit)) (r .byte) ⌝ }
+    ensures { λ r. ⌜ r .item ≡ reached .item ⌝ }
+{
+    let byte = put(out, reached.byte, b")");
+    Reached {
+        item: reached.item,
+        byte,
     }
 }
 
@@ -264,9 +297,9 @@ fn operand(
             0,
             depth - 1,
         );
-        return closed(out, denied, b')');
+        return closed(out, denied);
     }
-    let opened = put_byte(out, pen, b'(');
+    let opened = put_open(out, pen);
     if let Item::Or = item {
         let inner = expression(
             items,
@@ -279,7 +312,7 @@ fn operand(
             1,
             depth - 1,
         );
-        return closed(out, inner, b')');
+        return closed(out, inner);
     }
     let inner = term(
         items,
@@ -292,20 +325,7 @@ fn operand(
         1,
         depth - 1,
     );
-    closed(out, inner, b')')
-}
-
-// Closes a bracket.
-fn closed(out: &mut [u8], reached: Reached, sign: u8) -> Reached
-    requires { ⌜ reached .byte < 2 ^ 40 ⌝ }
-    ensures { λ r. ⌜ Puts (sign ∷ []) (reached .byte) (now (out .entry)) (now (out .exit)) (r .byte) ⌝ }
-    ensures { λ r. ⌜ r .item ≡ reached .item ⌝ }
-{
-    let byte = put_byte(out, reached.byte, sign);
-    Reached {
-        item: reached.item,
-        byte,
-    }
+    closed(out, inner)
 }
 
 // Prints so many steps of a path, with `/` between them.
@@ -347,7 +367,7 @@ fn steps(
         );
         place = more.item;
         owed -= 1;
-        byte = put_between(out, more.byte, b'/', owed);
+        byte = put_slash(out, more.byte, owed);
     }
     Reached { item: place, byte }
 }
@@ -408,7 +428,7 @@ fn paths(items: &[u32], list: &[u8], starts: &[u16; 257], count: usize, out: &mu
             paper::BRACKET_LIMIT,
         );
         place = more.item;
-        byte = put_between(out, more.byte, b'|', items.len() - place);
+        byte = put_bar(out, more.byte, items.len() - place);
     }
     byte
 }

@@ -5,7 +5,6 @@ use Prim.Native.Nat.{_+_, _-_, _*_}
 use mathlib.Core.Path.{_≡_, refl, sym, _∙_, ap}
 use mathlib.Core.Bool.{false}
 use mathlib.Core.List.{List}
-use mathlib.Core.Option.{some}
 use native.Mathlib.Omega.{arith}
 use borrow.Author.Needs.{needs}
 use denote.Ref.{now}
@@ -13,18 +12,17 @@ use lib.ListN.{length, getD, drop}
 use Rattle.paper.specs.Names.{namesOf}
 use Rattle.paper.specs.Query.{stop, bare}
 use Rattle.paper.specs.Items.{andItem, orItem, notItem, takePreds, takeSteps, takeOperand, takeWithin}
-use Rattle.paper.specs.Printing.{relativePieces, predsPieces, textOf}
+use Rattle.paper.specs.Printing.{relativePieces, predsPieces}
 use Rattle.paper.specs.Answers.{unknownTest}
 use Rattle.paper.proofs.Tests.{none-some, some-inj}
 use Rattle.paper.proofs.Decoding.{orsFrom, andsFrom}
 use Rattle.paper.proofs.Fields.{step-found}
 use Rattle.item.proofs.Saying.{said}
 use Rattle.shape.proofs.Operands.{not-step, at-place}
-use Rattle.print.specs.Writing.{between}
-use Rattle.print.proofs.Putting.{puts-both, puts-long}
+use Rattle.print.proofs.Putting.{puts-long}
 use Rattle.print.proofs.Words.{known-test}
 use Rattle.print.proofs.Chains.{Left, ands, ors, left-some, left-more, left-done, ands-first, ors-first, ands-start, ors-start}
-use Rattle.print.proofs.Rows.{Rest, rest-start, rest-more, rest-done, pred-opens, pred-more, pred-text, step-there, step-head, step-more, later-text, step-text, between-brief}
+use Rattle.print.proofs.Rows.{Rest, rest-start, rest-done, pred-opens, pred-turn, step-there, step-head, step-turn}
 use Rattle.print.proofs.Operands.{some-same, operand-there, path-opens, path-prints, deep-enough, shut-not, shut-or, shut-and, is-and, not-opens, or-opens, and-opens, not-prints, or-prints, and-prints}
 use Prim.Native.Nat.{ℕ, _<_}
 use borrow.Fn.Kinds.{In}
@@ -47,10 +45,11 @@ use Rattle.print.proofs.+expression+operand+predicates+steps+term.Lts-t
 use Rattle.item.proofs.unpack.Reads as unpack-reads
 use Rattle.print.proofs.closed.Reads as closed-reads
 use Rattle.print.proofs.put_and.Reads as put-and-reads
-use Rattle.print.proofs.put_between.Reads as put-between-reads
+use Rattle.print.proofs.put_slash.Reads as put-slash-reads
 use Rattle.print.proofs.put_byte.Reads as put-byte-reads
 use Rattle.print.proofs.put_head.Reads as put-head-reads
 use Rattle.print.proofs.put_not.Reads as put-not-reads
+use Rattle.print.proofs.put_open.Reads as put-open-reads
 use Rattle.print.proofs.put_or.Reads as put-or-reads
 use Rattle.shape.proofs.run_of.Reads as run-of-reads
 use Rattle.print.proofs.+expression+operand+predicates+steps+term.{statement}
@@ -284,8 +283,8 @@ operand-mul-unpack : (t : ℕ) → operand-lts.Need-mul-unpack (
   expression.Post,
   closed-reads.Asked,
   closed-reads.Learnt,
-  put-byte-reads.Asked,
-  put-byte-reads.Learnt,
+  put-open-reads.Asked,
+  put-open-reads.Learnt,
   term-below t,
   term.Post,
 ) (operand-at t) operand.Post
@@ -305,8 +304,8 @@ operand-shared-slice-read-unpack : (t : ℕ) → operand-lts.Need-shared-slice-r
   expression.Post,
   closed-reads.Asked,
   closed-reads.Learnt,
-  put-byte-reads.Asked,
-  put-byte-reads.Learnt,
+  put-open-reads.Asked,
+  put-open-reads.Learnt,
   term-below t,
   term.Post,
 ) (operand-at t) operand.Post
@@ -326,8 +325,8 @@ operand-unpack-requires : (t : ℕ) → operand-lts.Need-unpack-requires (
   expression.Post,
   closed-reads.Asked,
   closed-reads.Learnt,
-  put-byte-reads.Asked,
-  put-byte-reads.Learnt,
+  put-open-reads.Asked,
+  put-open-reads.Learnt,
   term-below t,
   term.Post,
 ) (operand-at t) operand.Post
@@ -344,8 +343,8 @@ operand-enum-known-item : (t : ℕ) → operand-lts.Need-enum-known-item (
   expression.Post,
   closed-reads.Asked,
   closed-reads.Learnt,
-  put-byte-reads.Asked,
-  put-byte-reads.Learnt,
+  put-open-reads.Asked,
+  put-open-reads.Learnt,
   term-below t,
   term.Post,
 ) (operand-at t) operand.Post
@@ -362,8 +361,8 @@ operand-add-steps : (t : ℕ) → operand-lts.Need-add-steps (
   expression.Post,
   closed-reads.Asked,
   closed-reads.Learnt,
-  put-byte-reads.Asked,
-  put-byte-reads.Learnt,
+  put-open-reads.Asked,
+  put-open-reads.Learnt,
   term-below t,
   term.Post,
 ) (operand-at t) operand.Post
@@ -384,8 +383,8 @@ operand-steps-requires : (t : ℕ) → operand-lts.Need-steps-requires (
   expression.Post,
   closed-reads.Asked,
   closed-reads.Learnt,
-  put-byte-reads.Asked,
-  put-byte-reads.Learnt,
+  put-open-reads.Asked,
+  put-open-reads.Learnt,
   term-below t,
   term.Post,
 ) (operand-at t) operand.Post
@@ -411,8 +410,8 @@ operand-same-length : (t : ℕ) → operand-lts.Need-same-length (
   expression.Post,
   closed-reads.Asked,
   closed-reads.Learnt,
-  put-byte-reads.Asked,
-  put-byte-reads.Learnt,
+  put-open-reads.Asked,
+  put-open-reads.Learnt,
   term-below t,
   term.Post,
 ) (operand-at t) operand.Post
@@ -429,8 +428,8 @@ operand-returns : (t : ℕ) → operand-lts.Need-returns (
   expression.Post,
   closed-reads.Asked,
   closed-reads.Learnt,
-  put-byte-reads.Asked,
-  put-byte-reads.Learnt,
+  put-open-reads.Asked,
+  put-open-reads.Learnt,
   term-below t,
   term.Post,
 ) (operand-at t) operand.Post
@@ -454,8 +453,8 @@ operand-enum-told : (t : ℕ) → operand-lts.Need-enum-told (
   expression.Post,
   closed-reads.Asked,
   closed-reads.Learnt,
-  put-byte-reads.Asked,
-  put-byte-reads.Learnt,
+  put-open-reads.Asked,
+  put-open-reads.Learnt,
   term-below t,
   term.Post,
 ) (operand-at t) operand.Post
@@ -472,8 +471,8 @@ operand-put-not-requires : (t : ℕ) → operand-lts.Need-put-not-requires (
   expression.Post,
   closed-reads.Asked,
   closed-reads.Learnt,
-  put-byte-reads.Asked,
-  put-byte-reads.Learnt,
+  put-open-reads.Asked,
+  put-open-reads.Learnt,
   term-below t,
   term.Post,
 ) (operand-at t) operand.Post
@@ -490,8 +489,8 @@ operand-add-expression : (t : ℕ) → operand-lts.Need-add-expression (
   expression.Post,
   closed-reads.Asked,
   closed-reads.Learnt,
-  put-byte-reads.Asked,
-  put-byte-reads.Learnt,
+  put-open-reads.Asked,
+  put-open-reads.Learnt,
   term-below t,
   term.Post,
 ) (operand-at t) operand.Post
@@ -512,8 +511,8 @@ operand-sub-expression : (t : ℕ) → operand-lts.Need-sub-expression (
   expression.Post,
   closed-reads.Asked,
   closed-reads.Learnt,
-  put-byte-reads.Asked,
-  put-byte-reads.Learnt,
+  put-open-reads.Asked,
+  put-open-reads.Learnt,
   term-below t,
   term.Post,
 ) (operand-at t) operand.Post
@@ -538,8 +537,8 @@ operand-expression-requires : (t : ℕ) → operand-lts.Need-expression-requires
   expression.Post,
   closed-reads.Asked,
   closed-reads.Learnt,
-  put-byte-reads.Asked,
-  put-byte-reads.Learnt,
+  put-open-reads.Asked,
+  put-open-reads.Learnt,
   term-below t,
   term.Post,
 ) (operand-at t) operand.Post
@@ -572,8 +571,8 @@ operand-closed-requires : (t : ℕ) → operand-lts.Need-closed-requires (
   expression.Post,
   closed-reads.Asked,
   closed-reads.Learnt,
-  put-byte-reads.Asked,
-  put-byte-reads.Learnt,
+  put-open-reads.Asked,
+  put-open-reads.Learnt,
   term-below t,
   term.Post,
 ) (operand-at t) operand.Post
@@ -593,8 +592,8 @@ operand-same-length-2 : (t : ℕ) → operand-lts.Need-same-length-2 (
   expression.Post,
   closed-reads.Asked,
   closed-reads.Learnt,
-  put-byte-reads.Asked,
-  put-byte-reads.Learnt,
+  put-open-reads.Asked,
+  put-open-reads.Learnt,
   term-below t,
   term.Post,
 ) (operand-at t) operand.Post
@@ -611,8 +610,8 @@ operand-returns-2 : (t : ℕ) → operand-lts.Need-returns-2 (
   expression.Post,
   closed-reads.Asked,
   closed-reads.Learnt,
-  put-byte-reads.Asked,
-  put-byte-reads.Learnt,
+  put-open-reads.Asked,
+  put-open-reads.Learnt,
   term-below t,
   term.Post,
 ) (operand-at t) operand.Post
@@ -626,7 +625,7 @@ operand-returns-2 t c =
     let deep = deep-enough (a .depth) (now (a .items)) (a .at) there w refl (rw is (shut-not (drop (a .at + 1) (now (a .items))))) (p .1 .1) in
     not-prints (now (a .items)) (a .at) there _ _ _ _ _ _ _ _ _ (a .depth) deep is (c .before .before .before .before .before .before .before .before .before .before .put-not .ensures) (c .before .before .before .before .before .before .expression .ensures) (c .before .before .closed .ensures .0) (c .before .before .closed .ensures .1)
 
-operand-put-byte-requires : (t : ℕ) → operand-lts.Need-put-byte-requires (
+operand-put-open-requires : (t : ℕ) → operand-lts.Need-put-open-requires (
   unpack-reads.Asked,
   unpack-reads.Learnt,
   steps-below t,
@@ -637,12 +636,12 @@ operand-put-byte-requires : (t : ℕ) → operand-lts.Need-put-byte-requires (
   expression.Post,
   closed-reads.Asked,
   closed-reads.Learnt,
-  put-byte-reads.Asked,
-  put-byte-reads.Learnt,
+  put-open-reads.Asked,
+  put-open-reads.Learnt,
   term-below t,
   term.Post,
 ) (operand-at t) operand.Post
-operand-put-byte-requires t c κs = omega (arith, c .before .before .before .before .before .before .before .before .pre .1 .1 .0 .0, c .before .before .before .before .before .before .before .before .pre .1 .1 .0 .1)
+operand-put-open-requires t c κs = omega (arith, c .before .before .before .before .before .before .before .before .pre .1 .1 .0 .0, c .before .before .before .before .before .before .before .before .pre .1 .1 .0 .1)
 
 operand-enum-told-2 : (t : ℕ) → operand-lts.Need-enum-told-2 (
   unpack-reads.Asked,
@@ -655,8 +654,8 @@ operand-enum-told-2 : (t : ℕ) → operand-lts.Need-enum-told-2 (
   expression.Post,
   closed-reads.Asked,
   closed-reads.Learnt,
-  put-byte-reads.Asked,
-  put-byte-reads.Learnt,
+  put-open-reads.Asked,
+  put-open-reads.Learnt,
   term-below t,
   term.Post,
 ) (operand-at t) operand.Post
@@ -673,8 +672,8 @@ operand-add-expression-2 : (t : ℕ) → operand-lts.Need-add-expression-2 (
   expression.Post,
   closed-reads.Asked,
   closed-reads.Learnt,
-  put-byte-reads.Asked,
-  put-byte-reads.Learnt,
+  put-open-reads.Asked,
+  put-open-reads.Learnt,
   term-below t,
   term.Post,
 ) (operand-at t) operand.Post
@@ -695,8 +694,8 @@ operand-sub-expression-2 : (t : ℕ) → operand-lts.Need-sub-expression-2 (
   expression.Post,
   closed-reads.Asked,
   closed-reads.Learnt,
-  put-byte-reads.Asked,
-  put-byte-reads.Learnt,
+  put-open-reads.Asked,
+  put-open-reads.Learnt,
   term-below t,
   term.Post,
 ) (operand-at t) operand.Post
@@ -721,8 +720,8 @@ operand-expression-requires-2 : (t : ℕ) → operand-lts.Need-expression-requir
   expression.Post,
   closed-reads.Asked,
   closed-reads.Learnt,
-  put-byte-reads.Asked,
-  put-byte-reads.Learnt,
+  put-open-reads.Asked,
+  put-open-reads.Learnt,
   term-below t,
   term.Post,
 ) (operand-at t) operand.Post
@@ -738,7 +737,7 @@ operand-expression-requires-2 t c κs =
       (
         p .0,
         (
-          (omega (arith, there), omega arith, omega (arith, p .1 .0 .1, c .before .before .before .before .before .put-byte .ensures .moved)),
+          (omega (arith, there), omega arith, omega (arith, p .1 .0 .1, c .before .before .before .before .before .put-open .ensures .moved)),
           or-opens (now (a .items)) (a .at) there (a .depth) deep is (p .1 .1),
         ),
       ),
@@ -755,15 +754,15 @@ operand-closed-requires-2 : (t : ℕ) → operand-lts.Need-closed-requires-2 (
   expression.Post,
   closed-reads.Asked,
   closed-reads.Learnt,
-  put-byte-reads.Asked,
-  put-byte-reads.Learnt,
+  put-open-reads.Asked,
+  put-open-reads.Learnt,
   term-below t,
   term.Post,
 ) (operand-at t) operand.Post
 operand-closed-requires-2 t c κs =
     let p = c .before .before .before .before .before .before .before .before .before .before .before .before .before .before .before .before .before .before .pre .1 in
     let v = c .before .before .before .expression2 .ensures in
-    omega (arith, v .low, v .inside, p .1 .0 .1, c .before .before .before .before .before .before .before .before .before .put-byte .ensures .moved)
+    omega (arith, v .low, v .inside, p .1 .0 .1, c .before .before .before .before .before .before .before .before .before .put-open .ensures .moved)
 
 operand-same-length-3 : (t : ℕ) → operand-lts.Need-same-length-3 (
   unpack-reads.Asked,
@@ -776,12 +775,12 @@ operand-same-length-3 : (t : ℕ) → operand-lts.Need-same-length-3 (
   expression.Post,
   closed-reads.Asked,
   closed-reads.Learnt,
-  put-byte-reads.Asked,
-  put-byte-reads.Learnt,
+  put-open-reads.Asked,
+  put-open-reads.Learnt,
   term-below t,
   term.Post,
 ) (operand-at t) operand.Post
-operand-same-length-3 t c = puts-long (c .before .before .closed2 .ensures .0) ∙ puts-long (c .before .before .before .before .before .before .expression2 .ensures .puts) ∙ puts-long (c .before .before .before .before .before .before .before .before .before .before .before .before .put-byte .ensures)
+operand-same-length-3 t c = puts-long (c .before .before .closed2 .ensures .0) ∙ puts-long (c .before .before .before .before .before .before .expression2 .ensures .puts) ∙ puts-long (c .before .before .before .before .before .before .before .before .before .before .before .before .put-open .ensures)
 
 operand-returns-3 : (t : ℕ) → operand-lts.Need-returns-3 (
   unpack-reads.Asked,
@@ -794,8 +793,8 @@ operand-returns-3 : (t : ℕ) → operand-lts.Need-returns-3 (
   expression.Post,
   closed-reads.Asked,
   closed-reads.Learnt,
-  put-byte-reads.Asked,
-  put-byte-reads.Learnt,
+  put-open-reads.Asked,
+  put-open-reads.Learnt,
   term-below t,
   term.Post,
 ) (operand-at t) operand.Post
@@ -807,7 +806,7 @@ operand-returns-3 t c =
     let w = getD (now (a .items)) (a .at) 0 in
     let is : w ≡ orItem = rw (c .before .before .before .before .before .before .before .before .enum-told2 .given .1) at (said w (u .result) (u .ensures)) in
     let deep = deep-enough (a .depth) (now (a .items)) (a .at) there w refl (rw is (shut-or (drop (a .at + 1) (now (a .items))))) (p .1 .1) in
-    or-prints (now (a .items)) (a .at) there _ _ _ _ _ _ _ _ _ (a .depth) deep is (c .before .before .before .before .before .before .before .before .before .before .before .before .put-byte .ensures) (c .before .before .before .before .before .before .expression2 .ensures) (c .before .before .closed2 .ensures .0) (c .before .before .closed2 .ensures .1)
+    or-prints (now (a .items)) (a .at) there _ _ _ _ _ _ _ _ _ (a .depth) deep is (c .before .before .before .before .before .before .before .before .before .before .before .before .put-open .ensures) (c .before .before .before .before .before .before .expression2 .ensures) (c .before .before .closed2 .ensures .0) (c .before .before .closed2 .ensures .1)
 
 operand-add-term : (t : ℕ) → operand-lts.Need-add-term (
   unpack-reads.Asked,
@@ -820,8 +819,8 @@ operand-add-term : (t : ℕ) → operand-lts.Need-add-term (
   expression.Post,
   closed-reads.Asked,
   closed-reads.Learnt,
-  put-byte-reads.Asked,
-  put-byte-reads.Learnt,
+  put-open-reads.Asked,
+  put-open-reads.Learnt,
   term-below t,
   term.Post,
 ) (operand-at t) operand.Post
@@ -842,8 +841,8 @@ operand-sub-term : (t : ℕ) → operand-lts.Need-sub-term (
   expression.Post,
   closed-reads.Asked,
   closed-reads.Learnt,
-  put-byte-reads.Asked,
-  put-byte-reads.Learnt,
+  put-open-reads.Asked,
+  put-open-reads.Learnt,
   term-below t,
   term.Post,
 ) (operand-at t) operand.Post
@@ -869,8 +868,8 @@ operand-term-requires : (t : ℕ) → operand-lts.Need-term-requires (
   expression.Post,
   closed-reads.Asked,
   closed-reads.Learnt,
-  put-byte-reads.Asked,
-  put-byte-reads.Learnt,
+  put-open-reads.Asked,
+  put-open-reads.Learnt,
   term-below t,
   term.Post,
 ) (operand-at t) operand.Post
@@ -887,7 +886,7 @@ operand-term-requires t c κs =
       (
         p .0,
         (
-          (omega (arith, there), omega arith, omega (arith, p .1 .0 .1, c .before .before .before .before .put-byte .ensures .moved)),
+          (omega (arith, there), omega arith, omega (arith, p .1 .0 .1, c .before .before .before .before .put-open .ensures .moved)),
           and-opens (now (a .items)) (a .at) there (a .depth) deep is (p .1 .1),
         ),
       ),
@@ -904,15 +903,15 @@ operand-closed-requires-3 : (t : ℕ) → operand-lts.Need-closed-requires-3 (
   expression.Post,
   closed-reads.Asked,
   closed-reads.Learnt,
-  put-byte-reads.Asked,
-  put-byte-reads.Learnt,
+  put-open-reads.Asked,
+  put-open-reads.Learnt,
   term-below t,
   term.Post,
 ) (operand-at t) operand.Post
 operand-closed-requires-3 t c κs =
     let p = c .before .before .before .before .before .before .before .before .before .before .before .before .before .before .before .before .before .pre .1 in
     let v = c .before .before .before .term .ensures in
-    omega (arith, v .low, v .inside, p .1 .0 .1, c .before .before .before .before .before .before .before .before .put-byte .ensures .moved)
+    omega (arith, v .low, v .inside, p .1 .0 .1, c .before .before .before .before .before .before .before .before .put-open .ensures .moved)
 
 operand-same-length-4 : (t : ℕ) → operand-lts.Need-same-length-4 (
   unpack-reads.Asked,
@@ -925,12 +924,12 @@ operand-same-length-4 : (t : ℕ) → operand-lts.Need-same-length-4 (
   expression.Post,
   closed-reads.Asked,
   closed-reads.Learnt,
-  put-byte-reads.Asked,
-  put-byte-reads.Learnt,
+  put-open-reads.Asked,
+  put-open-reads.Learnt,
   term-below t,
   term.Post,
 ) (operand-at t) operand.Post
-operand-same-length-4 t c = puts-long (c .before .before .closed3 .ensures .0) ∙ puts-long (c .before .before .before .before .before .before .term .ensures .puts) ∙ puts-long (c .before .before .before .before .before .before .before .before .before .before .before .put-byte .ensures)
+operand-same-length-4 t c = puts-long (c .before .before .closed3 .ensures .0) ∙ puts-long (c .before .before .before .before .before .before .term .ensures .puts) ∙ puts-long (c .before .before .before .before .before .before .before .before .before .before .before .put-open .ensures)
 
 operand-returns-4 : (t : ℕ) → operand-lts.Need-returns-4 (
   unpack-reads.Asked,
@@ -943,8 +942,8 @@ operand-returns-4 : (t : ℕ) → operand-lts.Need-returns-4 (
   expression.Post,
   closed-reads.Asked,
   closed-reads.Learnt,
-  put-byte-reads.Asked,
-  put-byte-reads.Learnt,
+  put-open-reads.Asked,
+  put-open-reads.Learnt,
   term-below t,
   term.Post,
 ) (operand-at t) operand.Post
@@ -957,7 +956,7 @@ operand-returns-4 t c =
     let is : w ≡ andItem = is-and (a .depth) w (u .result) (drop (a .at + 1) (now (a .items))) (said w (u .result) (u .ensures)) (c .before .before .before .before .before .before .before .before .before .before .before .before .before .before .match .keys2) (c .before .before .before .before .before .before .before .before .before .before .before .before .before .match2 .keys2) (c .before .before .before .before .before .before .before .before .match3 .keys2)
     (some-same (ap (takeOperand (takeWithin (a .depth))) (at-place (now (a .items)) (a .at) there)) (p .1 .1)) in
     let deep = deep-enough (a .depth) (now (a .items)) (a .at) there w refl (rw is (shut-and (drop (a .at + 1) (now (a .items))))) (p .1 .1) in
-    and-prints (now (a .items)) (a .at) there _ _ _ _ _ _ _ _ _ (a .depth) deep is (c .before .before .before .before .before .before .before .before .before .before .before .put-byte .ensures) (c .before .before .before .before .before .before .term .ensures) (c .before .before .closed3 .ensures .0) (c .before .before .closed3 .ensures .1)
+    and-prints (now (a .items)) (a .at) there _ _ _ _ _ _ _ _ _ (a .depth) deep is (c .before .before .before .before .before .before .before .before .before .before .before .put-open .ensures) (c .before .before .before .before .before .before .term .ensures) (c .before .before .closed3 .ensures .0) (c .before .before .closed3 .ensures .1)
 
 abbrev predicates-Inv-loop : predicates-lts.InvT-loop
 predicates-Inv-loop items list starts count out₀ at pen number depth place₀ byte₀ owed₀ out place byte owed =
@@ -1042,14 +1041,7 @@ predicates-loop-again : (t : ℕ) → predicates-lts.Need-loop-again (
   expression.Post,
 ) (predicates-at t) predicates.Post predicates-Inv-loop predicates-μ-loop
 predicates-loop-again t c =
-    let a = c .before .before .before .before .before .before .before .before .before .before .before .before .before .before .before .before .before .args in
-    let l = c .before .before .before .before .before .before .before .before .before .before .before .before .before .loop in
-    let i = l .inv in
-    let w = c .before .before .before .before .before .before .expression .ensures in
-    let m = pred-more (a .depth) (now (a .items)) (l .place) (l .owed) (i .rest, i .left) (w .what) (c .before .before .before .before .before .before .expression .result .item) (c .before .before .before .before .before .before .before .before .before .before .before .before .loop-test .taken) (i .takes) (w .reads) in
-    rest-more _ _ _ _ _ _ _ _ _ _ _ _ _ _ _ _ _ (m .0) i (m .1) (pred-text _ (w .what) (m .0) ∙ ap (λ x. textOf (namesOf (now (a .list))) (predsPieces x)) (sym (m .2)))
-    (puts-both (puts-both (c .before .before .before .before .before .before .before .before .before .before .put-byte .ensures) (w .puts)) (c .before .before .put-byte2 .ensures)) (w .onward) (w .inside)
-    (omega (arith, w .low, c .before .before .before .before .before .before .before .before .before .before .put-byte .ensures .moved, c .before .before .put-byte2 .ensures .moved))
+    pred-turn _ (c .before .before .before .before .before .before .before .before .before .before .before .before .before .before .before .before .before .args .depth) _ _ _ _ _ _ _ _ _ _ _ _ _ _ _ (c .before .before .before .before .before .before .before .before .before .before .before .before .loop-test .taken) (c .before .before .before .before .before .before .before .before .before .before .before .before .before .loop .inv) (c .before .before .before .before .before .before .before .before .before .before .put-byte .ensures) (c .before .before .before .before .before .before .expression .ensures) (c .before .before .put-byte2 .ensures)
 
 predicates-same-length : (t : ℕ) → predicates-lts.Need-same-length (
   put-byte-reads.Asked,
@@ -1081,8 +1073,8 @@ steps-loop-holds : (t : ℕ) → steps-lts.Need-loop-holds (
   put-head-reads.Learnt,
   predicates-below t,
   predicates.Post,
-  put-between-reads.Asked,
-  put-between-reads.Learnt,
+  put-slash-reads.Asked,
+  put-slash-reads.Learnt,
 ) (steps-at t) steps.Post steps-Inv-loop steps-μ-loop
 steps-loop-holds t c =
     let p = c .before .before .before .pre .1 in
@@ -1095,8 +1087,8 @@ steps-mul-unpack : (t : ℕ) → steps-lts.Need-mul-unpack (
   put-head-reads.Learnt,
   predicates-below t,
   predicates.Post,
-  put-between-reads.Asked,
-  put-between-reads.Learnt,
+  put-slash-reads.Asked,
+  put-slash-reads.Learnt,
 ) (steps-at t) steps.Post steps-Inv-loop steps-μ-loop
 steps-mul-unpack t c =
     let a = c .before .before .before .before .before .args in
@@ -1110,8 +1102,8 @@ steps-shared-slice-read-unpack : (t : ℕ) → steps-lts.Need-shared-slice-read-
   put-head-reads.Learnt,
   predicates-below t,
   predicates.Post,
-  put-between-reads.Asked,
-  put-between-reads.Learnt,
+  put-slash-reads.Asked,
+  put-slash-reads.Learnt,
 ) (steps-at t) steps.Post steps-Inv-loop steps-μ-loop
 steps-shared-slice-read-unpack t c =
     let a = c .before .before .before .before .before .before .args in
@@ -1125,8 +1117,8 @@ steps-unpack-requires : (t : ℕ) → steps-lts.Need-unpack-requires (
   put-head-reads.Learnt,
   predicates-below t,
   predicates.Post,
-  put-between-reads.Asked,
-  put-between-reads.Learnt,
+  put-slash-reads.Asked,
+  put-slash-reads.Learnt,
 ) (steps-at t) steps.Post steps-Inv-loop steps-μ-loop
 steps-unpack-requires t c κs = search needs
 
@@ -1137,8 +1129,8 @@ steps-enum-known-item : (t : ℕ) → steps-lts.Need-enum-known-item (
   put-head-reads.Learnt,
   predicates-below t,
   predicates.Post,
-  put-between-reads.Asked,
-  put-between-reads.Learnt,
+  put-slash-reads.Asked,
+  put-slash-reads.Learnt,
 ) (steps-at t) steps.Post steps-Inv-loop steps-μ-loop
 steps-enum-known-item t c = search needs
 
@@ -1149,8 +1141,8 @@ steps-same-length : (t : ℕ) → steps-lts.Need-same-length (
   put-head-reads.Learnt,
   predicates-below t,
   predicates.Post,
-  put-between-reads.Asked,
-  put-between-reads.Learnt,
+  put-slash-reads.Asked,
+  put-slash-reads.Learnt,
 ) (steps-at t) steps.Post steps-Inv-loop steps-μ-loop
 steps-same-length t c = puts-long (c .before .before .before .before .loop .inv .puts)
 
@@ -1161,8 +1153,8 @@ steps-returns : (t : ℕ) → steps-lts.Need-returns (
   put-head-reads.Learnt,
   predicates-below t,
   predicates.Post,
-  put-between-reads.Asked,
-  put-between-reads.Learnt,
+  put-slash-reads.Asked,
+  put-slash-reads.Learnt,
 ) (steps-at t) steps.Post steps-Inv-loop steps-μ-loop
 steps-returns t c =
     let a = c .before .before .before .before .before .before .before .before .args in
@@ -1178,8 +1170,8 @@ steps-put-head-requires : (t : ℕ) → steps-lts.Need-put-head-requires (
   put-head-reads.Learnt,
   predicates-below t,
   predicates.Post,
-  put-between-reads.Asked,
-  put-between-reads.Learnt,
+  put-slash-reads.Asked,
+  put-slash-reads.Learnt,
 ) (steps-at t) steps.Post steps-Inv-loop steps-μ-loop
 steps-put-head-requires t c κs =
     let a = c .before .before .before .before .before .before .before .before .before .before .before .args in
@@ -1204,8 +1196,8 @@ steps-add-predicates : (t : ℕ) → steps-lts.Need-add-predicates (
   put-head-reads.Learnt,
   predicates-below t,
   predicates.Post,
-  put-between-reads.Asked,
-  put-between-reads.Learnt,
+  put-slash-reads.Asked,
+  put-slash-reads.Learnt,
 ) (steps-at t) steps.Post steps-Inv-loop steps-μ-loop
 steps-add-predicates t c =
     let a = c .before .before .before .before .before .before .before .before .before .before .before .before .before .before .before .args in
@@ -1219,8 +1211,8 @@ steps-predicates-requires : (t : ℕ) → steps-lts.Need-predicates-requires (
   put-head-reads.Learnt,
   predicates-below t,
   predicates.Post,
-  put-between-reads.Asked,
-  put-between-reads.Learnt,
+  put-slash-reads.Asked,
+  put-slash-reads.Learnt,
 ) (steps-at t) steps.Post steps-Inv-loop steps-μ-loop
 steps-predicates-requires t c κs =
     let a = c .before .before .before .before .before .before .before .before .before .before .before .before .before .before .before .args in
@@ -1249,22 +1241,22 @@ steps-sub-owed : (t : ℕ) → steps-lts.Need-sub-owed (
   put-head-reads.Learnt,
   predicates-below t,
   predicates.Post,
-  put-between-reads.Asked,
-  put-between-reads.Learnt,
+  put-slash-reads.Asked,
+  put-slash-reads.Learnt,
 ) (steps-at t) steps.Post steps-Inv-loop steps-μ-loop
 steps-sub-owed t c = omega (arith, c .before .before .before .before .before .before .before .before .before .before .before .before .before .loop-test .taken)
 
-steps-put-between-requires : (t : ℕ) → steps-lts.Need-put-between-requires (
+steps-put-slash-requires : (t : ℕ) → steps-lts.Need-put-slash-requires (
   unpack-reads.Asked,
   unpack-reads.Learnt,
   put-head-reads.Asked,
   put-head-reads.Learnt,
   predicates-below t,
   predicates.Post,
-  put-between-reads.Asked,
-  put-between-reads.Learnt,
+  put-slash-reads.Asked,
+  put-slash-reads.Learnt,
 ) (steps-at t) steps.Post steps-Inv-loop steps-μ-loop
-steps-put-between-requires t c κs =
+steps-put-slash-requires t c κs =
     let w = c .before .before .before .predicates .ensures in
     omega (arith, w .low, w .inside, c .before .before .before .before .before .before .before .before .before .before .before .before .before .before .before .loop .inv .low, c .before .before .before .before .before .before .before .put-head .ensures .1, c .before .before .before .before .before .before .before .before .before .before .before .before .before .before .before .before .before .before .before .pre .1 .1 .0 .1)
 
@@ -1275,8 +1267,8 @@ steps-loop-less : (t : ℕ) → steps-lts.Need-loop-less (
   put-head-reads.Learnt,
   predicates-below t,
   predicates.Post,
-  put-between-reads.Asked,
-  put-between-reads.Learnt,
+  put-slash-reads.Asked,
+  put-slash-reads.Learnt,
 ) (steps-at t) steps.Post steps-Inv-loop steps-μ-loop
 steps-loop-less t c = omega (arith, c .before .before .before .before .before .before .before .before .before .before .before .before .before .before .before .before .before .loop-test .taken)
 
@@ -1287,8 +1279,8 @@ steps-loop-again : (t : ℕ) → steps-lts.Need-loop-again (
   put-head-reads.Learnt,
   predicates-below t,
   predicates.Post,
-  put-between-reads.Asked,
-  put-between-reads.Learnt,
+  put-slash-reads.Asked,
+  put-slash-reads.Learnt,
 ) (steps-at t) steps.Post steps-Inv-loop steps-μ-loop
 steps-loop-again t c =
     let a = c .before .before .before .before .before .before .before .before .before .before .before .before .before .before .before .before .before .before .before .before .before .before .args in
@@ -1296,21 +1288,10 @@ steps-loop-again t c =
     let u = c .before .before .before .before .before .before .before .before .before .before .before .before .before .before .before .unpack in
     let w = getD (now (a .items)) (l .place) 0 in
     let s = rw (c .before .before .before .before .before .before .before .before .before .before .before .before .before .item .given .1) at (said w (u .result) (u .ensures)) in
-    let i = l .inv in
     let h = s .0 in
-    let v = c .before .before .before .before .before .before .predicates .ensures in
-    let names = namesOf (now (a .list)) in
-    let reads : takePreds (takeWithin (a .depth)) (h .count) (drop (l .place + 1) (now (a .items))) ≡ some (v .what, drop (c .before .before .before .before .before .before .predicates .result .item) (now (a .items))) =
-    rw (ap (λ x. x .count) (s .2)) at (v .reads) in
-    let m = step-more (a .depth) (now (a .items)) (l .place) (l .owed) (i .rest, i .left) h (v .what) (c .before .before .before .before .before .before .predicates .result .item) (c .before .before .before .before .before .before .before .before .before .before .before .before .before .before .before .before .before .loop-test .taken) (i .takes) (s .1) reads in
-    let later = later-text names (a .depth) (l .owed - 1) (drop (c .before .before .before .before .before .before .predicates .result .item) (now (a .items))) (m .0, i .left) (m .1) in
-    rest-more _ _ _ _ _ _ _ _ _ _ _ _ _ _ _ _ _ (m .0) i (m .1)
-    (step-text names (h .axis) (h .test) (v .what) (m .0) (between 47 (l .owed - 1)) later ∙ ap (λ x. textOf names (relativePieces x)) (sym (m .2)))
-    (puts-both
-    (puts-both (c .before .before .before .before .before .before .before .before .before .before .put-head .ensures .0 (h .axis) (h .test) (ap (λ x. x .axis) (s .2)) (ap (λ x. x .test) (s .2)) (step-found w h (s .1) .1)) (v .puts))
-    (c .before .before .put-between .ensures))
-    (omega (arith, v .onward)) (v .inside)
-    (omega (arith, v .low, c .before .before .before .before .before .before .before .before .before .before .put-head .ensures .1, c .before .before .put-between .ensures .moved, between-brief 47 (l .owed - 1)))
+    step-turn _ (a .depth) _ _ _ _ _ _ _ _ _ _ _ _ _ _ h _ (c .before .before .before .before .before .before .before .before .before .before .before .before .before .before .before .before .before .loop-test .taken) (l .inv) (s .1)
+    (c .before .before .before .before .before .before .before .before .before .before .put-head .ensures .0 (h .axis) (h .test) (ap (λ x. x .axis) (s .2)) (ap (λ x. x .test) (s .2)) (step-found w h (s .1) .1)) (c .before .before .before .before .before .before .before .before .before .before .put-head .ensures .1)
+    (rw (ap (λ x. x .count) (s .2)) at (c .before .before .before .before .before .before .predicates .ensures)) (c .before .before .put-slash .ensures)
 
 steps-same-length-2 : (t : ℕ) → steps-lts.Need-same-length-2 (
   unpack-reads.Asked,
@@ -1319,8 +1300,8 @@ steps-same-length-2 : (t : ℕ) → steps-lts.Need-same-length-2 (
   put-head-reads.Learnt,
   predicates-below t,
   predicates.Post,
-  put-between-reads.Asked,
-  put-between-reads.Learnt,
+  put-slash-reads.Asked,
+  put-slash-reads.Learnt,
 ) (steps-at t) steps.Post steps-Inv-loop steps-μ-loop
 steps-same-length-2 t c = puts-long (c .before .loop .inv .puts)
 
@@ -1331,8 +1312,8 @@ steps-returns-2 : (t : ℕ) → steps-lts.Need-returns-2 (
   put-head-reads.Learnt,
   predicates-below t,
   predicates.Post,
-  put-between-reads.Asked,
-  put-between-reads.Learnt,
+  put-slash-reads.Asked,
+  put-slash-reads.Learnt,
 ) (steps-at t) steps.Post steps-Inv-loop steps-μ-loop
 steps-returns-2 t c = rest-done _ _ _ _ _ _ _ _ _ _ _ _ stop (λ ws. refl) refl (c .loop-test .left) (c .before .loop .inv)
 
@@ -1538,8 +1519,8 @@ pub +expression+operand+predicates+steps+term-spec : {M : Type 1} → statement 
       expression.Post,
       closed-reads.Asked,
       closed-reads.Learnt,
-      put-byte-reads.Asked,
-      put-byte-reads.Learnt,
+      put-open-reads.Asked,
+      put-open-reads.Learnt,
       term-below t,
       term.Post,
     )
@@ -1561,7 +1542,7 @@ pub +expression+operand+predicates+steps+term-spec : {M : Type 1} → statement 
     (operand-closed-requires t)
     (operand-same-length-2 t)
     (operand-returns-2 t)
-    (operand-put-byte-requires t)
+    (operand-put-open-requires t)
     (operand-enum-told-2 t)
     (operand-add-expression-2 t)
     (operand-sub-expression-2 t)
@@ -1602,8 +1583,8 @@ pub +expression+operand+predicates+steps+term-spec : {M : Type 1} → statement 
       put-head-reads.Learnt,
       predicates-below t,
       predicates.Post,
-      put-between-reads.Asked,
-      put-between-reads.Learnt,
+      put-slash-reads.Asked,
+      put-slash-reads.Learnt,
     )
     (steps-at t)
     steps.Post
@@ -1620,7 +1601,7 @@ pub +expression+operand+predicates+steps+term-spec : {M : Type 1} → statement 
     (steps-add-predicates t)
     (steps-predicates-requires t)
     (steps-sub-owed t)
-    (steps-put-between-requires t)
+    (steps-put-slash-requires t)
     (steps-loop-less t)
     (steps-loop-again t)
     (steps-same-length-2 t)

@@ -65,11 +65,11 @@ steps-requires c κs =
       ),
     )
 
-sub-put-between : tie.Need-sub-put-between Inv-loop μ-loop
-sub-put-between c = omega (arith, c .before .before .before .steps .ensures .inside)
+sub-put-bar : tie.Need-sub-put-bar Inv-loop μ-loop
+sub-put-bar c = omega (arith, c .before .before .before .steps .ensures .inside)
 
-put-between-requires : tie.Need-put-between-requires Inv-loop μ-loop
-put-between-requires c κs =
+put-bar-requires : tie.Need-put-bar-requires Inv-loop μ-loop
+put-bar-requires c κs =
     let v = c .before .before .before .steps .ensures in
     omega (arith, v .low, v .inside, c .before .before .before .before .before .before .before .before .before .before .before .before .before .before .before .loop .inv .low, c .before .before .before .before .before .before .before .before .before .before .before .before .before .before .before .loop .inv .inside, c .before .before .before .before .before .before .before .put-byte .ensures .moved, c .before .before .before .before .before .before .before .before .before .before .before .before .before .before .before .before .before .before .before .pre .1 .few-items)
 
@@ -83,7 +83,7 @@ loop-again c =
     let u = c .before .before .before .before .before .before .before .before .before .before .before .before .before .before .before .unpack in
     let w = getD (now (a .items)) (l .place) 0 in
     let s = rw (c .before .before .before .before .before .before .before .before .before .before .before .before .before .item .given .1) at (said w (u .result) (u .ensures)) in
-    paths-more _ _ _ _ _ _ (c .before .before .before .before .before .before .before .before .before .before .before .before .before .before .before .before .before .loop-test .taken) (l .inv) _ _ _ _ _ _ _ s (c .before .before .before .before .before .before .before .before .before .before .put-byte .ensures) (c .before .before .before .before .before .before .steps .ensures) (c .before .before .put-between .ensures)
+    paths-more _ _ _ _ _ _ (c .before .before .before .before .before .before .before .before .before .before .before .before .before .before .before .before .before .loop-test .taken) (l .inv) _ _ _ _ _ _ _ s (c .before .before .before .before .before .before .before .before .before .before .put-byte .ensures) (c .before .before .before .before .before .before .steps .ensures) (c .before .before .put-bar .ensures)
 
 same-length-2 : tie.Need-same-length-2 Inv-loop μ-loop
 same-length-2 c = puts-long (c .before .loop .inv .puts)
@@ -107,8 +107,8 @@ paths-spec =
     put-byte-requires
     add-steps
     steps-requires
-    sub-put-between
-    put-between-requires
+    sub-put-bar
+    put-bar-requires
     loop-less
     loop-again
     same-length-2
