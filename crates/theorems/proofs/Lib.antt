@@ -11,3 +11,4 @@ pub mod Sizes
 pub mod Nesting
 pub mod Height
 pub mod Forms
+pub mod Spelling

@@ -1,0 +1,165 @@
+-- The tokens of a printed text are those of its pieces, one after the other. A name is never followed by a byte that goes on with it, and a `/` never by another.
+-- By induction over the pieces. Assumes nothing.
+use Prim.Native.Nat.{ℕ, zero, suc, _+_, _≤_, _<_}
+use native.Mathlib.Omega.{arith}
+use mathlib.Core.Path.{_≡_, refl, sym, _∙_, ap, subst}
+use mathlib.Core.Bool.{Bool, true, false, not, _&&_, _||_, cond, false≢true}
+use mathlib.Core.List.{List, [], _∷_, _++_, append-assoc}
+use mathlib.Core.Logic.{⊎-elim}
+use lib.Dec.{eqb, leb}
+use lib.ListN.{length, getD, take, drop, length-append}
+use lib.Seq.{take-append-seam, drop-append-seam}
+use borrow.Author.Tests.{eqb-true, leb-true, ne-eqb}
+use Rattle.paper.specs.Tools.{ascii, begins}
+use Rattle.paper.specs.Names.{letter, nameStart, namePart, nameParts, isName}
+use Rattle.paper.specs.Tokens.{Token, slash, slashes, dot, dots, colons, bar, openSquare, closeSquare, openRound, closeRound, star, finish, stray, word}
+use Rattle.paper.specs.Tokens.{white, run, tokenAt, beyond, Placed, tokensFrom}
+use Rattle.paper.specs.Query.{Axis, self, child, parent, descendantOrSelf, ancestorOrSelf}
+use Rattle.paper.specs.Query.{Test, anyNode, textNode, named, anyElement}
+use Rattle.paper.specs.Printing.{Piece, slashSign, colonsSign, barSign, openPred, closePred, openGroup, openNot, andWord, orWord, axisWord, testWord}
+use Rattle.paper.specs.Printing.{closeRound as closeSign}
+use Rattle.paper.specs.Printing.{axisText, testText, pieceText, textOf}
+use Rattle.paper.proofs.Tests.{and-true, or-true, or-left, or-right}
+use Rattle.paper.proofs.Lexing.{passed}
+
+-- The tokens of a test and of a piece.
+abbrev pub testTokens : List (List ℕ) → Test → List Token
+testTokens names anyNode = word (ascii "node") ∷ openRound ∷ closeRound ∷ []
+testTokens names textNode = word (ascii "text") ∷ openRound ∷ closeRound ∷ []
+testTokens names (named v) = word (getD names v []) ∷ []
+testTokens names anyElement = star ∷ []
+
+abbrev pub pieceTokens : List (List ℕ) → Piece → List Token
+pieceTokens names slashSign = slash ∷ []
+pieceTokens names colonsSign = colons ∷ []
+pieceTokens names barSign = bar ∷ []
+pieceTokens names openPred = openSquare ∷ []
+pieceTokens names closePred = closeSquare ∷ []
+pieceTokens names openGroup = openRound ∷ []
+pieceTokens names openNot = word (ascii "not") ∷ openRound ∷ []
+pieceTokens names closeSign = closeRound ∷ []
+pieceTokens names andWord = word (ascii "and") ∷ []
+pieceTokens names orWord = word (ascii "or") ∷ []
+pieceTokens names (axisWord a) = word (axisText a) ∷ []
+pieceTokens names (testWord t) = testTokens names t
+
+abbrev pub tokensOf : List (List ℕ) → List Piece → List Token
+tokensOf names [] = []
+tokensOf names (p ∷ ps) = pieceTokens names p ++ tokensOf names ps
+
+-- Tokens at these places, and others after them.
+abbrev pub firstPlace : List ℕ → ℕ
+firstPlace [] = 0
+firstPlace (x ∷ xs) = x
+
+abbrev pub laid : List ℕ → List Token → List Placed → List Placed
+laid places [] rest = rest
+laid places (t ∷ ts) rest = record { place = firstPlace places; token = t } ∷ laid (drop 1 places) ts rest
+
+-- Does a piece begin with a byte of a name; is it a `/`?
+abbrev pub wordy : Piece → Bool
+wordy slashSign = false
+wordy colonsSign = false
+wordy barSign = false
+wordy openPred = false
+wordy closePred = false
+wordy openGroup = false
+wordy openNot = true
+wordy closeSign = false
+wordy andWord = false
+wordy orWord = false
+wordy (axisWord a) = true
+wordy (testWord t) = true
+
+abbrev pub slashy : Piece → Bool
+slashy slashSign = true
+slashy colonsSign = false
+slashy barSign = false
+slashy openPred = false
+slashy closePred = false
+slashy openGroup = false
+slashy openNot = false
+slashy closeSign = false
+slashy andWord = false
+slashy orWord = false
+slashy (axisWord a) = false
+slashy (testWord t) = false
+
+abbrev pub Soft : List Piece → Type 0
+Soft [] = Unit {0}
+Soft (p ∷ ps) = wordy p ≡ false
+
+abbrev pub NoSlash : List Piece → Type 0
+NoSlash [] = Unit {0}
+NoSlash (p ∷ ps) = slashy p ≡ false
+
+-- A test whose name is one of the list.
+abbrev pub Spelt : (ℕ → Type 0) → Test → Type 0
+Spelt P anyNode = Unit {0}
+Spelt P textNode = Unit {0}
+Spelt P (named v) = P v
+Spelt P anyElement = Unit {0}
+
+-- May this piece stand before those?
+abbrev pub Fits : (ℕ → Type 0) → Piece → List Piece → Type 0
+Fits P slashSign ps = NoSlash ps
+Fits P colonsSign ps = Unit {0}
+Fits P barSign ps = Unit {0}
+Fits P openPred ps = Unit {0}
+Fits P closePred ps = Unit {0}
+Fits P openGroup ps = Unit {0}
+Fits P openNot ps = Unit {0}
+Fits P closeSign ps = Unit {0}
+Fits P andWord ps = Unit {0}
+Fits P orWord ps = Unit {0}
+Fits P (axisWord a) ps = Soft ps
+Fits P (testWord t) ps = Soft ps × Spelt P t
+
+abbrev pub Fine : (ℕ → Type 0) → List Piece → Type 0
+Fine P [] = Unit {0}
+Fine P (p ∷ ps) = Fits P p ps × Fine P ps
+
+-- Does a name stop here?
+abbrev Halts : List ℕ → Type 0
+Halts [] = Unit {0}
+Halts (b ∷ bs) = namePart b ≡ false
+
+run-name : (bs tail : List ℕ) → nameParts bs ≡ true → Halts tail → run (bs ++ tail) ≡ length bs
+run-name [] [] h s = refl
+run-name [] (b ∷ tail) h s = rw s
+run-name (b ∷ bs) tail h s =
+    let (p, q) = and-true (namePart b) (nameParts bs) h in
+    rw (p, run-name bs tail q s)
+
+-- A byte that a name starts with is no white space.
+not-white : (b : ℕ) → nameStart b ≡ true → white b ≡ false
+not-white b h =
+    let big : 65 ≤ b =
+    ⊎-elim
+    (λ l.
+    ⊎-elim (λ u. leb-true 65 b (and-true (leb 65 b) (leb b 90) u .0)) (λ u. let k : 97 ≤ b = leb-true 97 b (and-true (leb 97 b) (leb b 122) u .0) in omega arith)
+    (or-true (leb 65 b && leb b 90) (leb 97 b && leb b 122) l))
+    (λ u. let k : b ≡ 95 = eqb-true b 95 u in omega arith)
+    (or-true (letter b) (eqb b 95) h) in
+    rw (ne-eqb b 32 (λ e. omega arith), ne-eqb b 9 (λ e. omega arith), ne-eqb b 10 (λ e. omega arith))
+
+-- A name is one token.
+name-token : (w tail : List ℕ) (at : ℕ) → isName w ≡ true → Halts tail
+    → tokensFrom 0 at (w ++ tail) ≡ record { place = at; token = word w } ∷ tokensFrom 0 (at + length w) tail
+unfolding tokenAt
+name-token [] tail at h s = absurd (false≢true h)
+name-token (b ∷ bs) tail at h s =
+    let (p, q) = and-true (nameStart b) (nameParts bs) h in
+    let long : length bs ≤ length (bs ++ tail) = omega (arith, length-append bs tail) in
+    let e : suc at + length bs ≡ at + suc (length bs) = omega arith in
+    let later : tokensFrom (length bs) (suc at) (bs ++ tail) ≡ tokensFrom 0 (at + suc (length bs)) tail =
+    passed (length bs) (suc at) (bs ++ tail) long ∙ ap (λ (x : List ℕ). tokensFrom 0 (suc at + length bs) x) (drop-append-seam bs tail) ∙ ap (λ (k : ℕ). tokensFrom 0 k tail) e in
+    rw (not-white b p, p, run-name bs tail q s, take-append-seam bs tail) (ap (λ (x : List Placed). record { place = at; token = word (b ∷ bs) } ∷ x) later)
+
+-- The names of axes are names.
+axis-name : (a : Axis) → isName (axisText a) ≡ true
+axis-name self = refl
+axis-name child = refl
+axis-name parent = refl
+axis-name descendantOrSelf = refl
+axis-name ancestorOrSelf = refl
