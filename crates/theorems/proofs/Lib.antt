@@ -12,3 +12,4 @@ pub mod Nesting
 pub mod Height
 pub mod Forms
 pub mod Spelling
+pub mod Rereading

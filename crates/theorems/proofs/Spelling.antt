@@ -163,3 +163,89 @@ axis-name child = refl
 axis-name parent = refl
 axis-name descendantOrSelf = refl
 axis-name ancestorOrSelf = refl
+
+-- After a word comes a byte that no name goes on with; after a `/` comes no `/`.
+soft-halts : (names : List (List ℕ)) (ps : List Piece) → Soft ps → Halts (textOf names ps)
+soft-halts names [] s = tt
+soft-halts names (slashSign ∷ ps) s = refl
+soft-halts names (colonsSign ∷ ps) s = refl
+soft-halts names (barSign ∷ ps) s = refl
+soft-halts names (openPred ∷ ps) s = refl
+soft-halts names (closePred ∷ ps) s = refl
+soft-halts names (openGroup ∷ ps) s = refl
+soft-halts names (openNot ∷ ps) s = absurd (false≢true (sym s))
+soft-halts names (closeSign ∷ ps) s = refl
+soft-halts names (andWord ∷ ps) s = refl
+soft-halts names (orWord ∷ ps) s = refl
+soft-halts names (axisWord a ∷ ps) s = absurd (false≢true (sym s))
+soft-halts names (testWord t ∷ ps) s = absurd (false≢true (sym s))
+
+axis-apart : (a : Axis) (tail : List ℕ) → begins 47 (axisText a ++ tail) ≡ false
+axis-apart self tail = refl
+axis-apart child tail = refl
+axis-apart parent tail = refl
+axis-apart descendantOrSelf tail = refl
+axis-apart ancestorOrSelf tail = refl
+
+-- The first byte of a name is no `/`.
+name-apart : (w tail : List ℕ) → isName w ≡ true → begins 47 (w ++ tail) ≡ false
+name-apart [] tail h = absurd (false≢true h)
+name-apart (b ∷ bs) tail h =
+    let p = and-true (nameStart b) (nameParts bs) h .0 in
+    ne-eqb 47 b (λ e. absurd (false≢true (subst (λ (x : ℕ). nameStart x ≡ true) (sym e) p)))
+
+-- These are the tokens of a text, at some places, and then its end.
+pub record Lexed (ts : List Token) (found : List Placed) : Type 0 where
+  pub places : List ℕ
+  pub end : ℕ
+  pub are : found ≡ laid places ts (record { place = end; token = finish } ∷ [])
+
+one : {t : Token} {ts : List Token} {found more : List Placed} (at : ℕ) → found ≡ record { place = at; token = t } ∷ more → Lexed ts more → Lexed (t ∷ ts) found
+one {t} {ts} {found} {more} at e l =
+    record { places = at ∷ l .places; end = l .end; are = e ∙ ap (λ (x : List Placed). record { place = at; token = t } ∷ x) (l .are) }
+
+module _ (P : ℕ → Type 0) (names : List (List ℕ)) (spells : (v : ℕ) → P v → isName (getD names v []) ≡ true) where
+  test-apart : (t : Test) (tail : List ℕ) → Spelt P t → begins 47 (testText names t ++ tail) ≡ false
+  test-apart anyNode tail k = refl
+  test-apart textNode tail k = refl
+  test-apart (named v) tail k = name-apart (getD names v []) tail (spells v k)
+  test-apart anyElement tail k = refl
+
+  no-slash : (ps : List Piece) → Fine P ps → NoSlash ps → begins 47 (textOf names ps) ≡ false
+  no-slash [] f s = refl
+  no-slash (slashSign ∷ ps) f s = absurd (false≢true (sym s))
+  no-slash (colonsSign ∷ ps) f s = refl
+  no-slash (barSign ∷ ps) f s = refl
+  no-slash (openPred ∷ ps) f s = refl
+  no-slash (closePred ∷ ps) f s = refl
+  no-slash (openGroup ∷ ps) f s = refl
+  no-slash (openNot ∷ ps) f s = refl
+  no-slash (closeSign ∷ ps) f s = refl
+  no-slash (andWord ∷ ps) f s = refl
+  no-slash (orWord ∷ ps) f s = refl
+  no-slash (axisWord a ∷ ps) f s = axis-apart a (textOf names ps)
+  no-slash (testWord t ∷ ps) f s = test-apart t (textOf names ps) (f .0 .1)
+
+  -- THE TOKENS OF A PRINTED TEXT are those of its pieces.
+  pub lexed : (ps : List Piece) → Fine P ps → (at : ℕ) → Lexed (tokensOf names ps) (tokensFrom 0 at (textOf names ps))
+  unfolding tokenAt
+  lexed [] f at = record { places = []; end = at; are = refl }
+  lexed (slashSign ∷ ps) f at = one at (rw (no-slash ps (f .1) (f .0))) (lexed ps (f .1) (suc at))
+  lexed (colonsSign ∷ ps) f at = one at refl (lexed ps (f .1) (suc (suc at)))
+  lexed (barSign ∷ ps) f at = one at refl (lexed ps (f .1) (suc at))
+  lexed (openPred ∷ ps) f at = one at refl (lexed ps (f .1) (suc at))
+  lexed (closePred ∷ ps) f at = one at refl (lexed ps (f .1) (suc at))
+  lexed (openGroup ∷ ps) f at = one at refl (lexed ps (f .1) (suc at))
+  lexed (openNot ∷ ps) f at =
+      one at (name-token (ascii "not") (40 ∷ textOf names ps) at refl refl) (one (at + 3) refl (lexed ps (f .1) (suc (at + 3))))
+  lexed (closeSign ∷ ps) f at = one at refl (lexed ps (f .1) (suc at))
+  lexed (andWord ∷ ps) f at = one (suc at) (name-token (ascii "and") (32 ∷ textOf names ps) (suc at) refl refl) (lexed ps (f .1) (suc (suc at + 3)))
+  lexed (orWord ∷ ps) f at = one (suc at) (name-token (ascii "or") (32 ∷ textOf names ps) (suc at) refl refl) (lexed ps (f .1) (suc (suc at + 2)))
+  lexed (axisWord a ∷ ps) f at = one at (name-token (axisText a) (textOf names ps) at (axis-name a) (soft-halts names ps (f .0))) (lexed ps (f .1) (at + length (axisText a)))
+  lexed (testWord anyNode ∷ ps) f at =
+      one at (name-token (ascii "node") (40 ∷ 41 ∷ textOf names ps) at refl refl) (one (at + 4) refl (one (suc (at + 4)) refl (lexed ps (f .1) (suc (suc (at + 4))))))
+  lexed (testWord textNode ∷ ps) f at =
+      one at (name-token (ascii "text") (40 ∷ 41 ∷ textOf names ps) at refl refl) (one (at + 4) refl (one (suc (at + 4)) refl (lexed ps (f .1) (suc (suc (at + 4))))))
+  lexed (testWord (named v) ∷ ps) f at =
+      one at (name-token (getD names v []) (textOf names ps) at (spells v (f .0 .1)) (soft-halts names ps (f .0 .0))) (lexed ps (f .1) (at + length (getD names v [])))
+  lexed (testWord anyElement ∷ ps) f at = one at refl (lexed ps (f .1) (suc at))
