@@ -13,3 +13,4 @@ pub mod Height
 pub mod Forms
 pub mod Spelling
 pub mod Rereading
+pub mod RoundTrip

@@ -3,9 +3,9 @@
 -- of `and`. On each level a left-grouped run is read from its first operand on. Assumes nothing.
 use Prim.Native.Nat.{ℕ, zero, suc, _+_, _-_, _≤_, _<_, max}
 use native.Mathlib.Omega.{arith}
-use mathlib.Core.Path.{_≡_, refl, sym, _∙_, ap, subst}
+use mathlib.Core.Path.{_≡_, refl, sym, _∙_, ap, ap₂}
 use mathlib.Core.Bool.{Bool, true, false, not, _&&_, _||_, cond, false≢true}
-use mathlib.Core.List.{List, [], _∷_, _++_, append-assoc}
+use mathlib.Core.List.{List, [], _∷_, _++_, append-assoc, map}
 use mathlib.Core.Option.{Option, none, some}
 use lib.Dec.{eqb}
 use lib.ListN.{length, getD, drop, length-append}
@@ -19,6 +19,7 @@ use Rattle.paper.specs.Query.{Axis, self, child, parent, descendantOrSelf, ance
 use Rattle.paper.specs.Query.{Test, anyNode, textNode, named, anyElement}
 use Rattle.paper.specs.Query.{Expr, path, both, either, negated, Steps, stop, step, Preds, bare, pred, Query, paths}
 use Rattle.paper.specs.Items.{stepCount, predCount}
+use Rattle.paper.specs.Limits.{bracketLimit}
 use Rattle.paper.specs.Measures.{isAnd, isOr, inBrackets, nestExpr, nestSteps, nestPreds, nestPaths}
 use Rattle.paper.specs.Printing.{Piece, slashSign, openPred, closePred, openGroup, openNot, andWord, orWord, axisWord, testWord, colonsSign, barSign}
 use Rattle.paper.specs.Printing.{closeRound as closeSign}
@@ -62,6 +63,10 @@ abbrev mutual
   pub PredsOf : (ℕ → Type 0) → Preds → Type 0
   PredsOf P bare = Unit {0}
   PredsOf P (pred e ps) = OfList P e × PredsOf P ps
+
+abbrev pub AllOf : (ℕ → Type 0) → List Steps → Type 0
+AllOf P [] = Unit {0}
+AllOf P (p ∷ ps) = StepsOf P p × AllOf P ps
 
 -- Tokens laid one after the other: the places left after some of them.
 abbrev pub after : List ℕ → List Token → List ℕ
@@ -227,8 +232,10 @@ module _ (P : ℕ → Type 0) (names : List (List ℕ)) (look : List ℕ → Opt
   group e r (suc d) places rest h =
       let inner = after (drop 1 places) (tokensOf names (exprPieces e)) in
       let tail = laid inner (closeRound ∷ []) rest in
-      rw (shown names (drop 1 places) (exprPieces e) (closeSign ∷ []) rest,
-      whole-read d e (laid (drop 1 places) (tokensOf names (exprPieces e)) tail) tail (r d (drop 1 places) tail (omega arith) (closes inner rest) refl) refl)
+      rw (
+        shown names (drop 1 places) (exprPieces e) (closeSign ∷ []) rest,
+        whole-read d e (laid (drop 1 places) (tokensOf names (exprPieces e)) tail) tail (r d (drop 1 places) tail (omega arith) (closes inner rest) refl) refl,
+      )
 
   -- `not`.
   read-negated : (a : Expr) → Reads a → Reads (negated a)
@@ -238,8 +245,10 @@ module _ (P : ℕ → Type 0) (names : List (List ℕ)) (look : List ℕ → Opt
       (λ d places rest h c.
       let inner = after (drop 1 (drop 1 places)) (tokensOf names (exprPieces a)) in
       let tail = laid inner (closeRound ∷ []) rest in
-      rw (shown names (drop 1 (drop 1 places)) (exprPieces a) (closeSign ∷ []) rest,
-      in-bracket a r d (firstPlace (drop 1 places)) (drop 1 (drop 1 places)) tail (omega arith) (closes inner rest) refl refl))
+      rw (
+        shown names (drop 1 (drop 1 places)) (exprPieces a) (closeSign ∷ []) rest,
+        in-bracket a r d (firstPlace (drop 1 places)) (drop 1 (drop 1 places)) tail (omega arith) (closes inner rest) refl refl,
+      ))
 
   -- `or`.
   read-either : (a b : Expr) → Reads a → Reads b → Reads (either a b)
@@ -318,9 +327,11 @@ module _ (P : ℕ → Type 0) (names : List (List ℕ)) (look : List ℕ → Opt
   read-pred e ps re rp d (suc n) places rest h l c =
       let inner = after (drop 1 places) (tokensOf names (exprPieces e)) in
       let tail = laid inner (tokensOf names (closePred ∷ predsPieces ps)) rest in
-      rw (shown names (drop 1 places) (exprPieces e) (closePred ∷ predsPieces ps) rest,
-      in-bracket e re d (firstPlace places) (drop 1 places) tail (omega arith) (record { no-square = refl; no-slash = refl; no-slashes = refl; no-round = refl }) refl refl,
-      rp d n (drop 1 inner) rest (omega arith) (omega arith) c)
+      rw (
+        shown names (drop 1 places) (exprPieces e) (closePred ∷ predsPieces ps) rest,
+        in-bracket e re d (firstPlace places) (drop 1 places) tail (omega arith) (record { no-square = refl; no-slash = refl; no-slashes = refl; no-round = refl }) refl refl,
+        rp d n (drop 1 inner) rest (omega arith) (omega arith) c,
+      )
 
   -- A test, where no round bracket follows.
   test-read : (a : Axis) (t : Test) (within : ℕ → List Placed → Got Expr) (places : List ℕ) (left : List Placed) → Spelt P t → sees openRound left ≡ false
@@ -367,9 +378,6 @@ module _ (P : ℕ → Type 0) (names : List (List ℕ)) (look : List ℕ → Opt
 
   -- A step, and what follows it.
   module _ (a : Axis) (t : Test) (ps : Preds) (s : Steps) (places : List ℕ) (rest : List Placed) where
-    places₂ : List ℕ
-    places₂ = after (drop 1 (drop 1 places)) (testTokens names t)
-
     abbrev follows : List Placed
     follows = laid (after (after (drop 1 (drop 1 places)) (testTokens names t)) (tokensOf names (predsPieces ps))) (tokensOf names (laterPieces s)) rest
 
@@ -386,20 +394,25 @@ module _ (P : ℕ → Type 0) (names : List (List ℕ)) (look : List ℕ → Opt
         ≡ got (record { axis = a; test = newTest f t; preds = newPreds f ps }) follows
     unfolding readStep readTail
     step-read d k rp h c =
-        rw (named-axis a, split,
-        test-read a t (readWithin look d) (drop 1 (drop 1 places)) predicates k
-        (preds-round (after (drop 1 (drop 1 places)) (testTokens names t)) ps follows (later-round (after (after (drop 1 (drop 1 places)) (testTokens names t)) (tokensOf names (predsPieces ps))) s rest c)),
-        rp d (length predicates) (after (drop 1 (drop 1 places)) (testTokens names t)) follows h
-        (omega (arith, pred-tokens ps, laid-long (after (drop 1 (drop 1 places)) (testTokens names t)) (tokensOf names (predsPieces ps)) follows))
-        (later-square (after (after (drop 1 (drop 1 places)) (testTokens names t)) (tokensOf names (predsPieces ps))) s rest c))
+        rw (
+          named-axis a,
+          split,
+          test-read a t (readWithin look d) (drop 1 (drop 1 places)) predicates k
+              (preds-round (after (drop 1 (drop 1 places)) (testTokens names t)) ps follows (later-round (after (after (drop 1 (drop 1 places)) (testTokens names t)) (tokensOf names (predsPieces ps))) s rest c)),
+          rp d (length predicates) (after (drop 1 (drop 1 places)) (testTokens names t)) follows h
+              (omega (arith, pred-tokens ps, laid-long (after (drop 1 (drop 1 places)) (testTokens names t)) (tokensOf names (predsPieces ps)) follows))
+              (later-square (after (after (drop 1 (drop 1 places)) (testTokens names t)) (tokensOf names (predsPieces ps))) s rest c),
+        )
 
   -- One step more.
   read-step : (a : Axis) (t : Test) (ps : Preds) (s : Steps) → Spelt P t → ReadsPreds ps → ReadsSteps s → ReadsSteps (step a t ps s)
   read-step a t ps s k rp rs d zero places rest h o l c = absurd (omega arith)
   read-step a t ps stop k rp rs d (suc n) places rest h o l c = rw (step-read a t ps stop places rest d k rp (omega arith) c, c .no-slash, c .no-slashes)
   read-step a t ps (step b u qs s) k rp rs d (suc n) places rest h o l c =
-      rw (step-read a t ps (step b u qs s) places rest d k rp (omega arith) c,
-      rs d n (drop 1 (after (after (drop 1 (drop 1 places)) (testTokens names t)) (tokensOf names (predsPieces ps)))) rest (omega arith) (omega arith) (omega arith) c)
+      rw (
+        step-read a t ps (step b u qs s) places rest d k rp (omega arith) c,
+        rs d n (drop 1 (after (after (drop 1 (drop 1 places)) (testTokens names t)) (tokensOf names (predsPieces ps)))) rest (omega arith) (omega arith) (omega arith) c,
+      )
 
   -- A path in a predicate.
   read-path : (s : Steps) → 1 ≤ stepCount s → ReadsSteps s → Reads (path s)
@@ -409,8 +422,10 @@ module _ (P : ℕ → Type 0) (names : List (List ℕ)) (look : List ℕ → Opt
       plain (path (step a t ps s)) refl refl refl refl
       (λ d places rest h c.
       let ts = laid places (tokensOf names (relativePieces (step a t ps s))) rest in
-      rw (and-no (same (ascii "not") (axisText a)),
-      rs d (length ts) places rest h o (omega (arith, step-tokens (step a t ps s), laid-long places (tokensOf names (relativePieces (step a t ps s))) rest)) c))
+      rw (
+        and-no (same (ascii "not") (axisText a)),
+        rs d (length ts) places rest h o (omega (arith, step-tokens (step a t ps s), laid-long places (tokensOf names (relativePieces (step a t ps s))) rest)) c,
+      ))
 
   mutual
     reads : (e : Expr) → OfList P e → Reads e
@@ -426,3 +441,73 @@ module _ (P : ℕ → Type 0) (names : List (List ℕ)) (look : List ℕ → Opt
     reads-preds : (ps : Preds) → PredsOf P ps → ReadsPreds ps
     reads-preds bare k = read-bare
     reads-preds (pred e ps) k = read-pred e ps (reads e (k .0)) (reads-preds ps (k .1))
+
+  -- A top-level path, where another or the end follows.
+  read-top : (s : Steps) → StepsOf P s → (d : ℕ) (places : List ℕ) (rest : List Placed) → nestSteps s ≤ d → Calm rest → startsStep (next rest) ≡ false
+      → readPath look (readWithin look d) (laid places (tokensOf names (pathPieces s)) rest) ≡ got (newSteps f s) rest
+  unfolding readPath
+  read-top stop k d places rest h c n = rw n
+  read-top (step a t ps s) k d places rest h c n =
+      let ts = laid (drop 1 places) (tokensOf names (relativePieces (step a t ps s))) rest in
+      reads-steps (step a t ps s) k d (length ts) (drop 1 places) rest h (omega arith)
+      (omega (arith, step-tokens (step a t ps s), laid-long (drop 1 places) (tokensOf names (relativePieces (step a t ps s))) rest)) c
+
+  -- The paths of a query, to the end of the text.
+  pub reads-paths : (ps : List Steps) (p : Steps) → StepsOf P p → AllOf P ps → (d n : ℕ) (places : List ℕ) (end : ℕ) → nestPaths (p ∷ ps) ≤ d → length ps < n
+      → readPaths look (readWithin look d) n (laid places (tokensOf names (pathPieces p ++ pathsPieces ps)) (record { place = end; token = finish } ∷ []))
+      ≡ got (record { first = newSteps f p; others = map (newSteps f) ps }) []
+  reads-paths [] p k ks d zero places end h l = absurd (omega arith)
+  reads-paths [] p k ks d (suc n) places end h l =
+      rw (
+        shown names places (pathPieces p) [] (record { place = end; token = finish } ∷ []),
+        read-top p k d places (record { place = end; token = finish } ∷ []) (omega arith) (record { no-square = refl; no-slash = refl; no-slashes = refl; no-round = refl }) refl,
+      )
+  reads-paths (q ∷ ps) p k ks d zero places end h l = absurd (omega arith)
+  reads-paths (q ∷ ps) p k ks d (suc n) places end h l =
+      let last : List Placed = record { place = end; token = finish } ∷ [] in
+      let there = after places (tokensOf names (pathPieces p)) in
+      let tail = laid there (tokensOf names (barSign ∷ pathPieces q ++ pathsPieces ps)) last in
+      rw (
+        shown names places (pathPieces p) (barSign ∷ pathPieces q ++ pathsPieces ps) last,
+        read-top p k d places tail (omega arith) (record { no-square = refl; no-slash = refl; no-slashes = refl; no-round = refl }) refl,
+        reads-paths ps q (ks .0) (ks .1) d n (drop 1 there) end (omega arith) (omega arith),
+      )
+
+  paths-tokens : (ps : List Steps) → length ps ≤ length (tokensOf names (pathsPieces ps))
+  paths-tokens [] = omega arith
+  paths-tokens (p ∷ ps) =
+      rw (tokens-append names (relativePieces p) (pathsPieces ps)) (omega (arith, paths-tokens ps, length-append (tokensOf names (relativePieces p)) (tokensOf names (pathsPieces ps))))
+
+  -- There is room for each path in the tokens.
+  pub enough-tokens : (p : Steps) (ps : List Steps) (places : List ℕ) (rest : List Placed) → length ps < length (laid places (tokensOf names (pathPieces p ++ pathsPieces ps)) rest)
+  enough-tokens p ps places rest =
+      let ts = tokensOf names (pathPieces p ++ pathsPieces ps) in
+      let e : length ts ≡ length (tokensOf names (pathPieces p)) + length (tokensOf names (pathsPieces ps)) =
+      ap length (tokens-append names (pathPieces p) (pathsPieces ps)) ∙ length-append (tokensOf names (pathPieces p)) (tokensOf names (pathsPieces ps)) in
+      omega (arith, paths-tokens ps, laid-long places ts rest)
+
+-- With the same numbers the query is the same.
+same-test : (t : Test) → newTest (λ v. v) t ≡ t
+same-test anyNode = refl
+same-test textNode = refl
+same-test (named v) = refl
+same-test anyElement = refl
+
+mutual
+  same-expr : (e : Expr) → newExpr (λ v. v) e ≡ e
+  same-expr (path s) = ap path (same-steps s)
+  same-expr (both a b) = ap₂ both (same-expr a) (same-expr b)
+  same-expr (either a b) = ap₂ either (same-expr a) (same-expr b)
+  same-expr (negated a) = ap negated (same-expr a)
+
+  pub same-steps : (s : Steps) → newSteps (λ v. v) s ≡ s
+  same-steps stop = refl
+  same-steps (step a t ps rest) = rw (same-test t) (ap₂ (step a t) (same-preds ps) (same-steps rest))
+
+  same-preds : (ps : Preds) → newPreds (λ v. v) ps ≡ ps
+  same-preds bare = refl
+  same-preds (pred e ps) = ap₂ pred (same-expr e) (same-preds ps)
+
+pub same-paths : (ps : List Steps) → map (newSteps (λ v. v)) ps ≡ ps
+same-paths [] = refl
+same-paths (p ∷ ps) = ap₂ _∷_ (same-steps p) (same-paths ps)
