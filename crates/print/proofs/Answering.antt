@@ -2,26 +2,26 @@
 use Prim.Native.Nat.{ℕ, zero, suc, _+_, _≤_, _<_}
 use native.Mathlib.Omega.{arith}
 use mathlib.Core.Path.{_≡_, refl, sym, _∙_, ap}
-use mathlib.Core.Bool.{Bool, true, false, _||_}
-use mathlib.Core.List.{List, [], _∷_}
+use mathlib.Core.List.{List}
 use mathlib.Core.Option.{Option, none, some}
 use lib.ListN.{length}
 use borrow.Author.Tests.{lt-ltb, le-ltb}
-use Rattle.paper.specs.Tools.{when, written, columnFrom, column}
+use Rattle.paper.specs.Tools.{written, columnFrom}
 use Rattle.paper.specs.Limits.{itemLimit, listLimit}
 use Rattle.paper.specs.Query.{Query}
 use Rattle.paper.specs.Names.{namesFault, namesOf}
 use Rattle.paper.specs.Items.{decode}
 use Rattle.paper.specs.Printing.{printed}
-use Rattle.paper.specs.Answers.{value, refusal, atExit, unknownFrom, printAnswer, textGot, printOut}
-use Rattle.paper.specs.Answers.{Answer as Told}
-use Rattle.paper.proofs.Tests.{or-right}
+use Rattle.paper.specs.Answers.{value, refusal, unknownFrom, printAnswer, textGot, printOut}
 use Rattle.names.specs.Listing.{Indexed, said}
 use Rattle.shape.specs.Walks.{shapeOf}
 use Rattle.shape.specs.declared.Shape.the-variants.{Query as IsQuery, Malformed as NoQuery}
+use Rattle.print.specs.Writing.{Names}
+use Rattle.print.specs.Writing.{Query as IsPrintable}
+use Rattle.print.proofs.Unknowns.{all-known}
 
 -- The index counts the names.
-pub count-names : (list starts : List ℕ) (count : ℕ) → Indexed list starts count → length (namesOf list) ≡ count
+count-names : (list starts : List ℕ) (count : ℕ) → Indexed list starts count → length (namesOf list) ≡ count
 count-names list starts count i = ap length (i .names) ∙ go count 0
   where
     go : (n at : ℕ) → length (columnFrom n at (said list starts)) ≡ n
@@ -36,6 +36,15 @@ shape-none (some q) h = absurd (let z : _≡_ {A = ℕ} 0 1 = cc in omega arith)
 pub shape-some : (o : Option Query) (nest high : ℕ) → IsQuery nest high ≡ shapeOf o → (q : Query) × (o ≡ some q)
 shape-some none nest high h = absurd (let z : _≡_ {A = ℕ} 0 1 = cc in omega arith)
 shape-some (some q) nest high h = (q, refl)
+
+-- What has been found of a query and a list before the names are looked at.
+pub record Ready (query list starts : List ℕ) (count : ℕ) : Type 0 where
+  pub few-items : length query ≤ itemLimit
+  pub few-bytes : length list ≤ listLimit
+  pub no-fault : namesFault list ≡ none
+  pub is : Query
+  pub decoded : decode query ≡ some is
+  pub indexed : Indexed list starts count
 
 module _ (query list old : List ℕ) where
   -- A refused call leaves everything as it was, an accepted one writes the text.
@@ -57,33 +66,46 @@ module _ (query list old : List ℕ) where
   unfolding printAnswer
   long-list k l = rw (le-ltb itemLimit (length query) k, lt-ltb listLimit (length list) l)
 
-  module _ (k : length query ≤ itemLimit) (l : length list ≤ listLimit) where
-    -- Line 2.
-    pub bad-list : (place : ℕ) → namesFault list ≡ some place → printAnswer query list (length old) ≡ refusal 2 place
+  -- Line 2.
+  pub bad-list : length query ≤ itemLimit → length list ≤ listLimit → (place : ℕ) → namesFault list ≡ some place → printAnswer query list (length old) ≡ refusal 2 place
+  unfolding printAnswer
+  bad-list k l place e = rw (le-ltb itemLimit (length query) k, le-ltb listLimit (length list) l, e)
+
+  -- Line 6.
+  pub bad-query : length query ≤ itemLimit → length list ≤ listLimit → namesFault list ≡ none → decode query ≡ none → printAnswer query list (length old) ≡ refusal 6 0
+  unfolding printAnswer
+  bad-query k l n d = rw (le-ltb itemLimit (length query) k, le-ltb listLimit (length list) l, n, d)
+
+  module _ (starts : List ℕ) (count : ℕ) (r : Ready query list starts count) where
+    names : length (namesOf list) ≡ count
+    names = count-names list starts count (r .indexed)
+
+    -- Line 5.
+    pub unknown-name : (place : ℕ) → unknownFrom count 0 query ≡ some place → printAnswer query list (length old) ≡ refusal 5 place
     unfolding printAnswer
-    bad-list place e = rw (le-ltb itemLimit (length query) k, le-ltb listLimit (length list) l, e)
+    unknown-name place u = rw (le-ltb itemLimit (length query) (r .few-items), le-ltb listLimit (length list) (r .few-bytes), r .no-fault, r .decoded, names, u)
 
-    module _ (n : namesFault list ≡ none) where
-      -- Line 6.
-      pub bad-query : decode query ≡ none → printAnswer query list (length old) ≡ refusal 6 0
-      unfolding printAnswer
-      bad-query d = rw (le-ltb itemLimit (length query) k, le-ltb listLimit (length list) l, n, d)
+    module _ (u : unknownFrom count 0 query ≡ none) where
+      -- What printing asks.
+      pub can-print : Names list starts count query × IsPrintable query
+      can-print = (
+        record { indexed = r .indexed; few = r .few-bytes; known = all-known count query u },
+        record { query = r .is; decoded = r .decoded; few-items = r .few-items },
+      )
 
-      module _ (q : Query) (d : decode query ≡ some q) where
-        -- Line 5.
-        pub unknown-name : (place : ℕ) → unknownFrom (length (namesOf list)) 0 query ≡ some place → printAnswer query list (length old) ≡ refusal 5 place
+      module _ (needed : ℕ) (e : needed ≡ 0 + length (textGot (namesOf list) (decode query))) where
+        counted : length (printed (namesOf list) (r .is)) ≡ needed
+        counted =
+            let same : length (textGot (namesOf list) (decode query)) ≡ length (printed (namesOf list) (r .is)) = ap (λ (o : Option Query). length (textGot (namesOf list) o)) (r .decoded) in
+            omega arith
+
+        -- Line 10.
+        pub short-room : length old < needed → printAnswer query list (length old) ≡ refusal 10 needed
         unfolding printAnswer
-        unknown-name place u = rw (le-ltb itemLimit (length query) k, le-ltb listLimit (length list) l, n, d, u)
+        short-room s =
+            rw (le-ltb itemLimit (length query) (r .few-items), le-ltb listLimit (length list) (r .few-bytes), r .no-fault, r .decoded, names, u, counted, lt-ltb (length old) needed s)
 
-        module _ (u : unknownFrom (length (namesOf list)) 0 query ≡ none) (needed : ℕ) (e : needed ≡ length (textGot (namesOf list) (decode query))) where
-          counted : length (printed (namesOf list) q) ≡ needed
-          counted = sym (e ∙ ap (λ (o : Option Query). length (textGot (namesOf list) o)) d)
-
-          -- Line 10.
-          pub short-room : length old < needed → printAnswer query list (length old) ≡ refusal 10 needed
-          unfolding printAnswer
-          short-room s = rw (le-ltb itemLimit (length query) k, le-ltb listLimit (length list) l, n, d, u, counted, lt-ltb (length old) needed s)
-
-          pub value-told : needed ≤ length old → printAnswer query list (length old) ≡ value needed
-          unfolding printAnswer
-          value-told s = rw (le-ltb itemLimit (length query) k, le-ltb listLimit (length list) l, n, d, u, counted, le-ltb (length old) needed s)
+        pub value-told : needed ≤ length old → printAnswer query list (length old) ≡ value needed
+        unfolding printAnswer
+        value-told s =
+            rw (le-ltb itemLimit (length query) (r .few-items), le-ltb listLimit (length list) (r .few-bytes), r .no-fault, r .decoded, names, u, counted, le-ltb (length old) needed s)

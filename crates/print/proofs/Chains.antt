@@ -1,16 +1,16 @@
 -- Printing a left-grouped run of operators: what is read so far is printed, and what is left to read gives the answer of the whole. Assumes nothing.
 use Prim.Native.Nat.{ℕ, zero, suc, _+_, _-_, _*_, _≤_, _<_}
 use native.Mathlib.Omega.{arith}
-use mathlib.Core.Path.{_≡_, refl, sym, _∙_, ap, ap₂}
+use mathlib.Core.Path.{_≡_, refl, sym, _∙_, ap}
 use mathlib.Core.Bool.{Bool, true, false, _||_}
 use mathlib.Core.List.{List, [], _∷_, _++_, append-assoc}
-use mathlib.Core.Option.{Option, none, some}
+use mathlib.Core.Option.{some}
 use lib.ListN.{length, drop}
 use lib.Seq.{drop-drop}
 use Rattle.paper.specs.Tools.{found}
 use Rattle.paper.specs.Query.{Expr, both, either}
 use Rattle.paper.specs.Items.{andItem, orItem, leading, Taken, takeOperand, takeAnds, takeTerm, takeOrs, takeWithin}
-use Rattle.paper.specs.Measures.{isAnd, isOr}
+use Rattle.paper.specs.Measures.{isOr}
 use Rattle.paper.specs.Printing.{Piece, andWord, orWord, pieceText, grouped, exprPieces, textOf}
 use Rattle.paper.proofs.Tests.{found-some}
 use Rattle.paper.proofs.Decoding.{orsFrom, andsFrom, term}

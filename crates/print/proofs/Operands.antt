@@ -1,19 +1,19 @@
 -- Printing an operand of `and`, by its first item: a path, or what stands in a bracket. Assumes nothing.
-use Prim.Native.Nat.{ℕ, zero, suc, _+_, _-_, _*_, _≤_, _<_}
+use Prim.Native.Nat.{ℕ, zero, suc, _+_, _-_, _≤_, _<_}
 use native.Mathlib.Omega.{arith}
 use mathlib.Core.Path.{_≡_, refl, sym, _∙_, ap, subst}
-use mathlib.Core.Bool.{Bool, true, false, _||_, false≢true}
+use mathlib.Core.Bool.{true, false≢true}
 use mathlib.Core.List.{List, [], _∷_, _++_, append-assoc}
 use mathlib.Core.Logic.{⊎-elim}
-use mathlib.Core.Option.{Option, none, some}
+use mathlib.Core.Option.{none, some}
 use lib.ListN.{length, getD, drop}
 use denote.Enum.Declared.{tagOf}
 use types.Run.{OneOf, miss}
 use Rattle.paper.specs.Tools.{found, ascii}
-use Rattle.paper.specs.Query.{Expr, path, both, either, negated, Steps}
+use Rattle.paper.specs.Query.{Expr, path, both, either, negated}
 use Rattle.paper.specs.Items.{andItem, orItem, notItem, pathAt, Taken, takeSteps, takeOperand, takeWithin}
 use Rattle.paper.specs.Measures.{isAnd, isOr}
-use Rattle.paper.specs.Printing.{Piece, openGroup, openNot, closeRound, grouped, exprPieces, relativePieces, textOf}
+use Rattle.paper.specs.Printing.{Piece, openGroup, closeRound, exprPieces, relativePieces, textOf}
 use Rattle.paper.proofs.Tests.{found-some, none-some}
 use Rattle.paper.proofs.Decoding.{orsFrom, andsFrom}
 use Rattle.item.specs.declared.Item.{Item}

@@ -1,12 +1,11 @@
 -- Texts put one after the other, and what stands in a slice once a text is put. By induction over the first text. Assumes nothing.
-use Prim.Native.Nat.{ℕ, zero, suc, _+_, _≤_, _<_}
+use Prim.Native.Nat.{ℕ, suc, _+_, _≤_}
 use native.Mathlib.Omega.{arith}
 use native.Mathlib.Nat.{add-zero}
 use mathlib.Core.Path.{_≡_, refl, sym, _∙_, ap}
-use mathlib.Core.Bool.{true, false}
 use mathlib.Core.List.{List, [], _∷_, _++_}
-use lib.ListN.{length, getD, take, drop, set, length-append, take-append-drop}
-use lib.Seq.{sets, sets-eq, length-sets, set-out, drop-cons, take-all}
+use lib.ListN.{length, take, drop, set, length-append}
+use lib.Seq.{sets, sets-eq, length-sets, set-out}
 use Rattle.paper.specs.Tools.{written}
 use Rattle.print.specs.Writing.{Puts}
 

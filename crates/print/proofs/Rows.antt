@@ -2,19 +2,19 @@
 use Prim.Native.Nat.{ℕ, zero, suc, _+_, _-_, _*_, _≤_, _<_}
 use native.Mathlib.Omega.{arith}
 use native.Mathlib.Numerals.{add-one}
-use mathlib.Core.Path.{_≡_, refl, sym, _∙_, ap, ap₂, subst}
+use mathlib.Core.Path.{_≡_, refl, sym, _∙_, ap}
 use mathlib.Core.Bool.{Bool, true, false, cond}
 use mathlib.Core.Logic.{_⊎_, inl, inr, ⊎-elim}
-use borrow.Author.Tests.{ltb-true, ltb-false, lt-ltb}
 use mathlib.Core.List.{List, [], _∷_, _++_, append-assoc, append-nil}
-use mathlib.Core.Option.{Option, none, some}
-use lib.Dec.{leb, ltb}
+use mathlib.Core.Option.{some}
+use lib.Dec.{ltb}
 use lib.ListN.{length, getD, drop, drop-of-length-le}
 use lib.Seq.{drop-cons}
-use Rattle.paper.specs.Tools.{found, ascii}
-use Rattle.paper.specs.Query.{Axis, Test, Expr, Steps, stop, step, Preds, bare, pred}
+use borrow.Author.Tests.{ltb-true, ltb-false, lt-ltb}
+use Rattle.paper.specs.Tools.{ascii}
+use Rattle.paper.specs.Query.{Axis, Test, Expr, Steps, stop, step, Preds, pred}
 use Rattle.paper.specs.Items.{Head, stepAt, Taken, takePreds, takeSteps, takeWithin, stepCount}
-use Rattle.paper.specs.Printing.{Piece, exprPieces, relativePieces, laterPieces, predsPieces, textOf, pieceText, openPred, closePred, testWord, axisWord}
+use Rattle.paper.specs.Printing.{Piece, exprPieces, relativePieces, laterPieces, predsPieces, textOf, closePred}
 use Rattle.paper.proofs.Tests.{found-some, some-inj, none-some, decide}
 use Rattle.paper.proofs.Decoding.{orsFrom, whole}
 use Rattle.paper.proofs.Encoding.{from-steps, from-within}

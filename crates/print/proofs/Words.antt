@@ -1,17 +1,16 @@
 -- The words of axes and tests by their numbers. Assumes nothing.
-use Prim.Native.Nat.{ℕ, zero, suc, _+_, _-_, _≤_, _<_}
+use Prim.Native.Nat.{ℕ, zero, suc, _-_, _≤_, _<_}
 use native.Mathlib.Omega.{arith}
-use mathlib.Core.Path.{_≡_, refl, sym, _∙_, ap}
-use mathlib.Core.Bool.{Bool, true, false, _&&_, cond}
+use mathlib.Core.Path.{_≡_, refl, sym, ap}
+use mathlib.Core.Bool.{true, false}
 use mathlib.Core.List.{List, [], _∷_, _++_, append-nil}
-use lib.Dec.{leb, ltb}
-use lib.ListN.{length, getD}
-use borrow.Author.Tests.{leb-false, ltb-true, ltb-false}
 use mathlib.Core.Logic.{_⊎_, inl, inr, ⊎-elim}
+use lib.Dec.{ltb}
+use lib.ListN.{getD}
+use borrow.Author.Tests.{leb-false, ltb-true, ltb-false}
 use Rattle.paper.proofs.Tests.{decide}
 use Rattle.paper.specs.Tools.{ascii}
-use Rattle.paper.specs.Query.{Axis, self, child, parent, descendantOrSelf, ancestorOrSelf}
-use Rattle.paper.specs.Query.{Test, anyNode, textNode, named, anyElement}
+use Rattle.paper.specs.Query.{Axis, self, child, parent, descendantOrSelf, ancestorOrSelf, Test, anyNode, textNode, named, anyElement}
 use Rattle.paper.specs.Items.{axisNumber, testNumber, goodTest}
 use Rattle.paper.specs.Printing.{axisText, testText, textOf}
 use Rattle.paper.specs.Answers.{unknownTest}

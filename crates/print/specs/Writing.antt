@@ -1,19 +1,19 @@
 -- What writing promises: bytes are put from a place on as far as the room goes, and the place moves on by all of them.
 use Prim.Native.Nat.{ℕ, _+_, _*_, _≤_, _<_}
 use mathlib.Core.Path.{_≡_}
-use mathlib.Core.Bool.{Bool, true, false, _||_, cond}
-use mathlib.Core.List.{List, [], _∷_, _++_}
-use mathlib.Core.Option.{Option, none, some}
+use mathlib.Core.Bool.{false, _||_, cond}
+use mathlib.Core.List.{List, [], _∷_}
+use mathlib.Core.Option.{some}
 use lib.Dec.{ltb}
 use lib.ListN.{length, getD, drop}
 use lib.Seq.{sets}
 use Rattle.paper.specs.Limits.{listLimit, itemLimit}
 use Rattle.paper.specs.Query.{Axis, Test, Expr}
 use Rattle.paper.specs.Query.{Query as Queried}
-use Rattle.paper.specs.Items.{axisNumber, testNumber, stepAt, Taken, decode}
+use Rattle.paper.specs.Items.{stepAt, Taken, decode}
 use Rattle.paper.specs.Measures.{isOr, isAnd}
-use Rattle.paper.specs.Printing.{Piece, axisText, testText, colonsSign, axisWord, testWord, grouped, exprPieces, textOf}
-use Rattle.paper.specs.Answers.{unknownTest, unknownItem}
+use Rattle.paper.specs.Printing.{Piece, colonsSign, axisWord, testWord, grouped, exprPieces, textOf}
+use Rattle.paper.specs.Answers.{unknownItem}
 use Rattle.names.specs.Listing.{Indexed}
 use Rattle.print.specs.declared.Reached.{Reached}
 

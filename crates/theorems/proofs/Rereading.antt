@@ -1,29 +1,24 @@
 -- Reading the tokens of a printed query gives the query back, each name by the number that is looked up.
 -- By induction over the query. An expression is read on three levels, as the printed text has them: as a whole (`or`), as a term of `or` (`and`), and as an operand
 -- of `and`. On each level a left-grouped run is read from its first operand on. Assumes nothing.
-use Prim.Native.Nat.{ℕ, zero, suc, _+_, _-_, _≤_, _<_, max}
+use Prim.Native.Nat.{ℕ, zero, suc, _+_, _-_, _≤_, _<_}
 use native.Mathlib.Omega.{arith}
 use mathlib.Core.Path.{_≡_, refl, sym, _∙_, ap, ap₂}
-use mathlib.Core.Bool.{Bool, true, false, not, _&&_, _||_, cond, false≢true}
+use mathlib.Core.Bool.{Bool, true, false, _&&_, _||_}
 use mathlib.Core.List.{List, [], _∷_, _++_, append-assoc, map}
-use mathlib.Core.Option.{Option, none, some}
-use lib.Dec.{eqb}
+use mathlib.Core.Option.{Option, some}
 use lib.ListN.{length, getD, drop, length-append}
 use Rattle.paper.specs.Tools.{ascii, same}
-use Rattle.paper.specs.Tokens.{Token, slash, slashes, dot, dots, colons, bar, openSquare, closeSquare, openRound, closeRound, star, finish, stray, word}
-use Rattle.paper.specs.Tokens.{is, letters, Placed}
-use Rattle.paper.specs.Reading.{Got, got, refused, then, next, at, sees, says, pass, axisNamed, axisAhead, before, startsStep}
-use Rattle.paper.specs.Reading.{readPreds, readTail, readName, readTested, readAxis, readStep, readSteps, readOperand, readAnds, readTerm, readOrs, readExpr, readPath, readPaths, readWithin}
-use Rattle.paper.specs.Reading.{Step as OneStep}
-use Rattle.paper.specs.Query.{Axis, self, child, parent, descendantOrSelf, ancestorOrSelf}
-use Rattle.paper.specs.Query.{Test, anyNode, textNode, named, anyElement}
-use Rattle.paper.specs.Query.{Expr, path, both, either, negated, Steps, stop, step, Preds, bare, pred, Query, paths}
+use Rattle.paper.specs.Tokens.{Token, slash, slashes, openSquare, closeSquare, openRound, closeRound, finish, Placed}
+use Rattle.paper.specs.Reading.{Got, got, next, at, sees, says, axisNamed, startsStep}
+use Rattle.paper.specs.Reading.{readPreds, readTail, readTested, readStep, readSteps, readOperand, readAnds, readTerm, readOrs, readExpr, readPath, readPaths, readWithin}
+use Rattle.paper.specs.Query.{Axis, self, child, parent, descendantOrSelf, ancestorOrSelf, Test, anyNode, textNode, named, anyElement}
+use Rattle.paper.specs.Query.{Expr, path, both, either, negated, Steps, stop, step, Preds, bare, pred}
 use Rattle.paper.specs.Items.{stepCount, predCount}
-use Rattle.paper.specs.Limits.{bracketLimit}
 use Rattle.paper.specs.Measures.{isAnd, isOr, inBrackets, nestExpr, nestSteps, nestPreds, nestPaths}
-use Rattle.paper.specs.Printing.{Piece, slashSign, openPred, closePred, openGroup, openNot, andWord, orWord, axisWord, testWord, colonsSign, barSign}
+use Rattle.paper.specs.Printing.{Piece, closePred, openGroup, andWord, orWord, barSign}
 use Rattle.paper.specs.Printing.{closeRound as closeSign}
-use Rattle.paper.specs.Printing.{axisText, grouped, stepPieces, exprPieces, relativePieces, laterPieces, predsPieces, pathPieces, pathsPieces}
+use Rattle.paper.specs.Printing.{axisText, grouped, exprPieces, relativePieces, laterPieces, predsPieces, pathPieces, pathsPieces}
 use Rattle.theorems.proofs.Spelling.{testTokens, pieceTokens, tokensOf, firstPlace, laid, Spelt}
 
 -- The query with other numbers for its names.

@@ -1,37 +1,37 @@
 -- Reading what was printed gives the very same items. The items of an accepted print are a query whose names are all of the list; its pieces stand so that each is a
 -- token of its own (`Spelling`), and reading them gives the query back (`Rereading`), once with any names and once with those of the list. Assumes nothing.
-use Prim.Native.Nat.{ℕ, zero, suc, _+_, _≤_, _<_, max}
+use Prim.Native.Nat.{ℕ, zero, suc, _+_, _≤_, _<_}
 use native.Mathlib.Omega.{arith}
 use mathlib.Core.Path.{_≡_, refl, sym, _∙_, ap, ap₂, subst}
 use mathlib.Core.Bool.{Bool, true, false, not, _&&_, _||_, cond, false≢true}
 use mathlib.Core.List.{List, [], _∷_, _++_, append-assoc, map}
 use mathlib.Core.Option.{Option, none, some}
-use lib.Dec.{eqb, leb, ltb}
+use lib.Dec.{leb, ltb}
 use lib.ListN.{length, getD, take, drop}
 use lib.Seq.{take-append-seam}
-use borrow.Author.Tests.{leb-false, leb-true, ltb-true, ltb-false, le-ltb, not-false}
-use Rattle.paper.specs.Tools.{same, someOf, found, when, written}
+use borrow.Author.Tests.{leb-false, leb-true, ltb-true, ltb-false, le-ltb}
+use Rattle.paper.specs.Tools.{same, someOf, when}
 use Rattle.paper.specs.Limits.{textLimit, listLimit, itemLimit, bracketLimit, nameLimit, namesLimit}
 use Rattle.paper.specs.Names.{Line, linesFrom, isName, badLine, firstBad, namesFault, namesOf, numberFrom, numberOf}
 use Rattle.paper.specs.Tokens.{Placed, finish, tokens}
 use Rattle.paper.specs.Reading.{got, readPaths, readWithin, readText}
-use Rattle.paper.specs.Query.{Axis, Test, anyNode, textNode, named, anyElement}
+use Rattle.paper.specs.Query.{Test, anyNode, textNode, named, anyElement}
 use Rattle.paper.specs.Query.{Expr, path, both, either, negated, Steps, stop, step, Preds, bare, pred, Query, paths}
-use Rattle.paper.specs.Items.{packPath, packStep, stepAt, stepCount, predCount, encodeExpr, encodeSteps, encodePreds, encodePaths, encode, decode, goodTest, goodExpr, goodSteps, goodPreds, goodPaths, good}
-use Rattle.paper.specs.Measures.{isAnd, isOr, nestPaths, nesting, size}
-use Rattle.paper.specs.Printing.{Piece, slashSign, colonsSign, barSign, openPred, closePred, openGroup, openNot, andWord, orWord, axisWord, testWord}
+use Rattle.paper.specs.Items.{stepAt, stepCount, predCount, encodeExpr, encodeSteps, encodePreds, encodePaths, encode, decode, goodTest, goodExpr, goodSteps, goodPreds, goodPaths, good}
+use Rattle.paper.specs.Measures.{isAnd, isOr, nestPaths, nesting}
+use Rattle.paper.specs.Printing.{Piece, closePred, andWord, orWord}
 use Rattle.paper.specs.Printing.{closeRound as closeSign}
-use Rattle.paper.specs.Printing.{grouped, exprPieces, relativePieces, laterPieces, predsPieces, pathPieces, pathsPieces, pieces, textOf, printed}
-use Rattle.paper.specs.Answers.{value, refusal, line, lineQuery, tooLong, short, unknownTest, unknownItem, unknownFrom, printAnswer, printOut, textGot, anyName, readLast, readAnswer, readItems}
+use Rattle.paper.specs.Printing.{grouped, exprPieces, relativePieces, laterPieces, predsPieces, pathPieces, pathsPieces, pieces, printed}
+use Rattle.paper.specs.Answers.{value, line, lineQuery, tooLong, short, unknownTest, unknownItem, unknownFrom, printAnswer, printOut, anyName, readAnswer, readItems}
 use Rattle.paper.specs.Answers.{Answer as Told}
-use Rattle.paper.proofs.Tests.{and-true, none-some, or-true}
+use Rattle.paper.proofs.Tests.{and-true, none-some}
 use Rattle.paper.proofs.Fields.{step-at}
 use Rattle.paper.proofs.Encoding.{encode-decode}
 use Rattle.paper.proofs.Sizes.{size-decoded}
 use Rattle.paper.proofs.Same.{same-refl, same-turned}
 use Rattle.paper.proofs.Refusing.{line-value, when-none, or-none}
 use Rattle.theorems.specs.RoundTrip.{RoundTrip}
-use Rattle.theorems.proofs.Spelling.{Soft, NoSlash, Spelt, Fine, tokensOf, laid, Lexed, lexed}
+use Rattle.theorems.proofs.Spelling.{Soft, NoSlash, Spelt, Fine, tokensOf, laid, lexed}
 use Rattle.theorems.proofs.Rereading.{OfList, StepsOf, PredsOf, AllOf, reads-paths, enough-tokens, newSteps, same-steps, same-paths}
 
 -- ITEMS: every item of a print that is accepted is known, so each name of the query is one of the list.

@@ -1,25 +1,24 @@
 -- The tokens of a printed text are those of its pieces, one after the other. A name is never followed by a byte that goes on with it, and a `/` never by another.
 -- By induction over the pieces. Assumes nothing.
-use Prim.Native.Nat.{ℕ, zero, suc, _+_, _≤_, _<_}
+use Prim.Native.Nat.{ℕ, suc, _+_, _≤_}
 use native.Mathlib.Omega.{arith}
 use mathlib.Core.Path.{_≡_, refl, sym, _∙_, ap, subst}
-use mathlib.Core.Bool.{Bool, true, false, not, _&&_, _||_, cond, false≢true}
-use mathlib.Core.List.{List, [], _∷_, _++_, append-assoc}
+use mathlib.Core.Bool.{Bool, true, false, _&&_, false≢true}
+use mathlib.Core.List.{List, [], _∷_, _++_}
 use mathlib.Core.Logic.{⊎-elim}
 use lib.Dec.{eqb, leb}
-use lib.ListN.{length, getD, take, drop, length-append}
+use lib.ListN.{length, getD, drop, length-append}
 use lib.Seq.{take-append-seam, drop-append-seam}
 use borrow.Author.Tests.{eqb-true, leb-true, ne-eqb}
 use Rattle.paper.specs.Tools.{ascii, begins}
 use Rattle.paper.specs.Names.{letter, nameStart, namePart, nameParts, isName}
-use Rattle.paper.specs.Tokens.{Token, slash, slashes, dot, dots, colons, bar, openSquare, closeSquare, openRound, closeRound, star, finish, stray, word}
-use Rattle.paper.specs.Tokens.{white, run, tokenAt, beyond, Placed, tokensFrom}
-use Rattle.paper.specs.Query.{Axis, self, child, parent, descendantOrSelf, ancestorOrSelf}
-use Rattle.paper.specs.Query.{Test, anyNode, textNode, named, anyElement}
+use Rattle.paper.specs.Tokens.{Token, slash, colons, bar, openSquare, closeSquare, openRound, closeRound, star, finish, word}
+use Rattle.paper.specs.Tokens.{white, run, tokenAt, Placed, tokensFrom}
+use Rattle.paper.specs.Query.{Axis, self, child, parent, descendantOrSelf, ancestorOrSelf, Test, anyNode, textNode, named, anyElement}
 use Rattle.paper.specs.Printing.{Piece, slashSign, colonsSign, barSign, openPred, closePred, openGroup, openNot, andWord, orWord, axisWord, testWord}
 use Rattle.paper.specs.Printing.{closeRound as closeSign}
-use Rattle.paper.specs.Printing.{axisText, testText, pieceText, textOf}
-use Rattle.paper.proofs.Tests.{and-true, or-true, or-left, or-right}
+use Rattle.paper.specs.Printing.{axisText, testText, textOf}
+use Rattle.paper.proofs.Tests.{and-true, or-true}
 use Rattle.paper.proofs.Lexing.{passed}
 
 -- The tokens of a test and of a piece.

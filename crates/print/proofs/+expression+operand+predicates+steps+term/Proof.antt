@@ -1,14 +1,16 @@
 -- The functions of `print` that call each other meet their contracts: path, step and expression, with falling remaining items.
 -- Each loop's invariant is that what is left to print gives the text of the whole (`Left` of a run of operators, `Rest` of steps and of predicates).
 -- The measure of a call is the number of items left, then the order predicates, expression, term, operand, steps. Assumes nothing.
-use Prim.Native.Nat.{_+_, _-_, _*_}
+use Prim.Native.Nat.{_+_, _-_, _*_, ℕ, _<_}
+use native.Mathlib.Omega.{arith}
 use mathlib.Core.Path.{_≡_, refl, sym, _∙_, ap}
 use mathlib.Core.Bool.{false}
 use mathlib.Core.List.{List}
-use native.Mathlib.Omega.{arith}
-use borrow.Author.Needs.{needs}
-use denote.Ref.{now}
 use lib.ListN.{length, getD, drop}
+use borrow.Author.Needs.{needs}
+use borrow.Fn.Kinds.{In}
+use borrow.Fn.PlainCycle.{Measures, is, falls, and}
+use denote.Ref.{now}
 use Rattle.paper.specs.Names.{namesOf}
 use Rattle.paper.specs.Query.{stop, bare}
 use Rattle.paper.specs.Items.{andItem, orItem, notItem, takePreds, takeSteps, takeOperand, takeWithin}
@@ -18,15 +20,14 @@ use Rattle.paper.proofs.Tests.{none-some, some-inj}
 use Rattle.paper.proofs.Decoding.{orsFrom, andsFrom}
 use Rattle.paper.proofs.Fields.{step-found}
 use Rattle.item.proofs.Saying.{said}
+use Rattle.item.proofs.unpack.Reads as unpack-reads
 use Rattle.shape.proofs.Operands.{not-step, at-place}
+use Rattle.shape.proofs.run_of.Reads as run-of-reads
 use Rattle.print.proofs.Putting.{puts-long}
 use Rattle.print.proofs.Words.{known-test}
 use Rattle.print.proofs.Chains.{Left, ands, ors, left-some, left-more, left-done, ands-first, ors-first, ands-start, ors-start}
 use Rattle.print.proofs.Rows.{Rest, rest-start, rest-done, pred-opens, pred-turn, step-there, step-head, step-turn}
 use Rattle.print.proofs.Operands.{some-same, operand-there, path-opens, path-prints, deep-enough, shut-not, shut-or, shut-and, is-and, not-opens, or-opens, and-opens, not-prints, or-prints, and-prints}
-use Prim.Native.Nat.{ℕ, _<_}
-use borrow.Fn.Kinds.{In}
-use borrow.Fn.PlainCycle.{Measures, is, falls, and}
 use Rattle.print.proofs.expression.Reads as expression
 use Rattle.print.proofs.expression.Kinds as expression-kinds
 use Rattle.print.proofs.+expression+operand+predicates+steps+term.Lts-expression as expression-lts
@@ -42,7 +43,6 @@ use Rattle.print.proofs.+expression+operand+predicates+steps+term.Lts-s
 use Rattle.print.proofs.term.Reads as term
 use Rattle.print.proofs.term.Kinds as term-kinds
 use Rattle.print.proofs.+expression+operand+predicates+steps+term.Lts-term as term-lts
-use Rattle.item.proofs.unpack.Reads as unpack-reads
 use Rattle.print.proofs.closed.Reads as closed-reads
 use Rattle.print.proofs.put_and.Reads as put-and-reads
 use Rattle.print.proofs.put_slash.Reads as put-slash-reads
@@ -51,7 +51,6 @@ use Rattle.print.proofs.put_head.Reads as put-head-reads
 use Rattle.print.proofs.put_not.Reads as put-not-reads
 use Rattle.print.proofs.put_open.Reads as put-open-reads
 use Rattle.print.proofs.put_or.Reads as put-or-reads
-use Rattle.shape.proofs.run_of.Reads as run-of-reads
 use Rattle.print.proofs.+expression+operand+predicates+steps+term.{statement}
 use Rattle.print.proofs.+expression+operand+predicates+steps+term.Tie.{close}
 

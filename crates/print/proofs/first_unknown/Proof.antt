@@ -1,16 +1,14 @@
 -- `print::first_unknown` meets its contract. The invariant: the first unknown item of all is that of the items left. The measure is the number of items left. Assumes nothing.
-use mathlib.Core.Path.{refl, sym, _∙_}
+use Prim.Native.Nat.{_<_, _-_, _≤_}
 use native.Mathlib.Numerals.{add-one}
-use borrow.Author.Tests.{lt-ltb, le-ltb}
-use Prim.Native.Nat.{_<_}
-use denote.Ref.{now}
-use Rattle.print.proofs.Unknowns.{unknown-here, unknown-later, unknown-past}
-use Prim.Native.Nat.{_-_, _≤_}
-use mathlib.Core.Path.{_≡_}
 use native.Mathlib.Omega.{arith}
-use borrow.Author.Needs.{needs}
+use mathlib.Core.Path.{refl, sym, _∙_, _≡_}
 use lib.ListN.{length, drop}
+use borrow.Author.Tests.{lt-ltb, le-ltb}
+use borrow.Author.Needs.{needs}
+use denote.Ref.{now}
 use Rattle.paper.specs.Answers.{unknownFrom}
+use Rattle.print.proofs.Unknowns.{unknown-here, unknown-later, unknown-past}
 use Rattle.print.proofs.first_unknown.Statement.{statement}
 use Rattle.print.proofs.first_unknown.Tie as tie
 

@@ -1,9 +1,9 @@
 -- `print::paths` meets its contract. The invariant: what is printed, with the text of the paths left, is the text of the query. The measure is what is left of the items. Assumes nothing.
-use Prim.Native.Nat.{_-_, _*_}
+use Prim.Native.Nat.{_-_}
 use native.Mathlib.Omega.{arith}
+use lib.ListN.{length, getD}
 use borrow.Author.Needs.{needs}
 use denote.Ref.{now}
-use lib.ListN.{length, getD}
 use Rattle.paper.specs.Names.{namesOf}
 use Rattle.item.proofs.Saying.{said}
 use Rattle.shape.proofs.Operands.{not-path}

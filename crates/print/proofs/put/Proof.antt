@@ -1,18 +1,15 @@
 -- `print::put` meets its contract. The invariant: the bytes passed are put. The measure is the number of bytes left. Assumes nothing.
+use Prim.Native.Nat.{_+_, _-_, _≤_}
+use native.Mathlib.Numerals.{add-one}
+use native.Mathlib.Omega.{arith}
 use mathlib.Core.Path.{_≡_, sym}
 use mathlib.Core.List.{[], _∷_, _++_}
-use native.Mathlib.Numerals.{add-one}
-use denote.Ref.{now}
 use lib.Seq.{length-take-le, take-suc, take-all}
-use Prim.Native.Nat.{_+_}
-use lib.ListN.{getD}
-use Rattle.print.proofs.Putting.{puts-as}
-use Prim.Native.Nat.{_-_, _≤_}
-use native.Mathlib.Omega.{arith}
+use lib.ListN.{getD, length, take}
 use borrow.Author.Needs.{needs}
-use lib.ListN.{length, take}
+use denote.Ref.{now}
 use Rattle.print.specs.Writing.{Puts}
-use Rattle.print.proofs.Putting.{puts-none, puts-both, puts-long}
+use Rattle.print.proofs.Putting.{puts-as, puts-none, puts-both, puts-long}
 use Rattle.print.proofs.put.Statement.{statement}
 use Rattle.print.proofs.put.Tie as tie
 

@@ -1,8 +1,8 @@
 -- `print::put_between` meets its contract. Assumes nothing.
 use borrow.Author.Tests.{lt-ltb, le-ltb}
+use borrow.Author.Needs.{needs}
 use denote.Ref.{now}
 use Rattle.print.proofs.Putting.{puts-none}
-use borrow.Author.Needs.{needs}
 use Rattle.print.proofs.put_between.Statement.{statement}
 use Rattle.print.proofs.put_between.Tie as tie
 

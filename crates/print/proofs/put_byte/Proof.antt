@@ -1,10 +1,10 @@
 -- `print::put_byte` meets its contract: a byte past the room is only counted. Assumes nothing.
 use mathlib.Core.Path.{_∙_, ap}
 use mathlib.Core.Logic.{⊎-elim}
-use denote.Ref.{now}
 use lib.ListN.{length, length-set}
-use Rattle.print.proofs.Putting.{puts-byte, puts-past}
 use borrow.Author.Needs.{needs}
+use denote.Ref.{now}
+use Rattle.print.proofs.Putting.{puts-byte, puts-past}
 use Rattle.print.proofs.put_byte.Statement.{statement}
 use Rattle.print.proofs.put_byte.Tie as tie
 

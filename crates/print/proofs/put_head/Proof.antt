@@ -1,8 +1,8 @@
 -- `print::put_head` meets its contract. Assumes nothing.
 use native.Mathlib.Omega.{arith}
+use borrow.Author.Needs.{needs}
 use Rattle.print.proofs.Putting.{puts-both, puts-as}
 use Rattle.print.proofs.Words.{head-text}
-use borrow.Author.Needs.{needs}
 use Rattle.print.proofs.put_head.Statement.{statement}
 use Rattle.print.proofs.put_head.Tie as tie
 

@@ -3,11 +3,11 @@ use Prim.Native.Nat.{_+_, _-_}
 use native.Mathlib.Omega.{arith}
 use mathlib.Core.Path.{_≡_, _∙_, ap}
 use mathlib.Core.List.{[]}
-use denote.Ref.{now}
 use lib.ListN.{take, drop}
+use borrow.Author.Needs.{needs}
+use denote.Ref.{now}
 use Rattle.paper.proofs.Same.{part-length}
 use Rattle.print.proofs.Putting.{puts-as}
-use borrow.Author.Needs.{needs}
 use Rattle.print.proofs.put_name.Statement.{statement}
 use Rattle.print.proofs.put_name.Tie as tie
 

@@ -2,11 +2,11 @@
 use Prim.Native.Nat.{_≤_, _<_}
 use native.Mathlib.Omega.{arith}
 use mathlib.Core.Path.{sym, _∙_}
+use borrow.Author.Needs.{needs}
 use denote.Ref.{now}
 use Rattle.paper.specs.Names.{namesOf}
 use Rattle.print.proofs.Putting.{puts-as}
 use Rattle.print.proofs.Words.{above, below, test-0, test-1, test-258, test-named}
-use borrow.Author.Needs.{needs}
 use Rattle.print.proofs.put_test.Statement.{statement}
 use Rattle.print.proofs.put_test.Tie as tie
 

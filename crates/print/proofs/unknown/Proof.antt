@@ -1,12 +1,12 @@
 -- `print::unknown` meets its contract. Assumes nothing.
 use mathlib.Core.Path.{_≡_, ap}
 use mathlib.Core.Option.{none}
+use borrow.Author.Needs.{needs}
 use Rattle.paper.specs.Items.{testNumber, stepAt}
 use Rattle.paper.proofs.Fields.{step-found}
 use Rattle.item.proofs.Saying.{said}
 use Rattle.shape.proofs.Operands.{not-step}
 use Rattle.print.proofs.Unknowns.{unknown-test}
-use borrow.Author.Needs.{needs}
 use Rattle.print.proofs.unknown.Statement.{statement}
 use Rattle.print.proofs.unknown.Tie as tie
 
