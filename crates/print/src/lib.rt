@@ -1,5 +1,5 @@
 // The text of a query. The same functions count its bytes, with no room, and write them, with room enough: what does not fit is only counted.
-// Path, step and expression call each other; a call opens a bracket each time, so at most 65 deep.
+// Path, step and expression call each other; each round of calls opens a bracket, so there are at most 65.
 use item::Item;
 use names::Listed;
 use paper::Answer;
@@ -23,7 +23,7 @@ ghost use Rattle.names.specs.Listing.{Indexed};
 ghost use Rattle.print.specs.Writing.{Puts, between, termPieces, operandPieces, headPieces, Known, Names, Some, Prints, Query};
 
 // How far printing has come: the next item, and the place of the next byte.
-pub struct Reached {
+struct Reached {
     item: usize,
     byte: usize,
 }
