@@ -135,12 +135,12 @@ module _ (items : List ℕ) (at depth : ℕ) (l : at < length items) where
   walk-not e Malformed w = rw (at-place items at l, e, operand-not depth (drop (at + 1) items), w)
 
   -- A bracket of `and` holds an `and`, a bracket of `or` an `or`.
-  and-there : (e : Expr) (next : ℕ) → getD items at 0 ≡ andItem → takeOperand (takeWithin (suc depth)) (drop at items) ≡ some (e, drop next items) → isAnd e ≡ true
+  pub and-there : (e : Expr) (next : ℕ) → getD items at 0 ≡ andItem → takeOperand (takeWithin (suc depth)) (drop at items) ≡ some (e, drop next items) → isAnd e ≡ true
   and-there e next i h =
       let f = from-operand (suc depth) (takeWithin (suc depth)) (from-within (suc depth)) (drop at items) (e, drop next items) h in
       sym (begins-and e (drop next items)) ∙ ap (begins andItem) (sym (f .items) ∙ at-place items at l) ∙ rw i
 
-  or-there : (e : Expr) (next : ℕ) → getD items at 0 ≡ orItem → takeOperand (takeWithin (suc depth)) (drop at items) ≡ some (e, drop next items) → isOr e ≡ true
+  pub or-there : (e : Expr) (next : ℕ) → getD items at 0 ≡ orItem → takeOperand (takeWithin (suc depth)) (drop at items) ≡ some (e, drop next items) → isOr e ≡ true
   or-there e next i h =
       let f = from-operand (suc depth) (takeWithin (suc depth)) (from-within (suc depth)) (drop at items) (e, drop next items) h in
       sym (begins-or e (drop next items)) ∙ ap (begins orItem) (sym (f .items) ∙ at-place items at l) ∙ rw i

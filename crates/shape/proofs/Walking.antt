@@ -100,12 +100,12 @@ run-over w [] = refl
 run-over w (x ∷ xs) = ⊎-elim (λ p. rw p (run-over w xs)) (λ p. rw p (ne-eqb w x (λ e. eqb-false x w p (sym e)))) (decide (eqb x w))
 
 -- What is read after a run is not of its operator.
-operand-not-and : (d : ℕ) (ws : List ℕ) (r : Expr × List ℕ) → takeOperand (takeWithin d) (drop (leading andItem ws) ws) ≡ some r → isAnd (r .0) ≡ false
+pub operand-not-and : (d : ℕ) (ws : List ℕ) (r : Expr × List ℕ) → takeOperand (takeWithin d) (drop (leading andItem ws) ws) ≡ some r → isAnd (r .0) ≡ false
 operand-not-and d ws r h =
     let f = from-operand d (takeWithin d) (from-within d) (drop (leading andItem ws) ws) r h in
     sym (begins-and (r .0) (r .1)) ∙ ap (begins andItem) (sym (f .items)) ∙ run-over andItem ws
 
-term-not-or : (d : ℕ) (ws : List ℕ) (r : Expr × List ℕ) → andsFrom (takeWithin d) 0 (drop (leading orItem ws) ws) ≡ some r → isOr (r .0) ≡ false
+pub term-not-or : (d : ℕ) (ws : List ℕ) (r : Expr × List ℕ) → andsFrom (takeWithin d) 0 (drop (leading orItem ws) ws) ≡ some r → isOr (r .0) ≡ false
 term-not-or d ws r h =
     let f = from-term d (takeWithin d) (from-within d) (drop (leading orItem ws) ws) r (term (takeWithin d) (drop (leading orItem ws) ws) ∙ h) in
     sym (begins-or (r .0) (r .1)) ∙ ap (begins orItem) (sym (f .items)) ∙ run-over orItem ws

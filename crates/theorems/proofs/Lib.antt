@@ -24,3 +24,6 @@ pub mod Deep
 pub mod Refusals
 pub mod Exactly
 pub mod Places
+pub mod Spelling
+pub mod Rereading
+pub mod RoundTrip

@@ -1,0 +1,227 @@
+-- Printing steps and predicates in a row: what is printed so far, with the text of what is left, is the text of the whole. Assumes nothing.
+use Prim.Native.Nat.{ℕ, zero, suc, _+_, _-_, _*_, _≤_, _<_}
+use native.Mathlib.Omega.{arith}
+use native.Mathlib.Numerals.{add-one}
+use mathlib.Core.Path.{_≡_, refl, sym, _∙_, ap}
+use mathlib.Core.Bool.{Bool, true, false, cond}
+use mathlib.Core.Logic.{_⊎_, inl, inr, ⊎-elim}
+use mathlib.Core.List.{List, [], _∷_, _++_, append-assoc, append-nil}
+use mathlib.Core.Option.{some}
+use lib.Dec.{ltb}
+use lib.ListN.{length, getD, drop, drop-of-length-le}
+use lib.Seq.{drop-cons}
+use borrow.Author.Tests.{ltb-true, ltb-false, lt-ltb}
+use Rattle.paper.specs.Tools.{ascii}
+use Rattle.paper.specs.Query.{Axis, Test, Expr, Steps, stop, step, Preds, pred}
+use Rattle.paper.specs.Items.{Head, stepAt, Taken, takePreds, takeSteps, takeWithin, stepCount}
+use Rattle.paper.specs.Printing.{Piece, exprPieces, relativePieces, laterPieces, predsPieces, textOf, closePred}
+use Rattle.paper.proofs.Tests.{found-some, some-inj, none-some, decide}
+use Rattle.paper.proofs.Decoding.{orsFrom, whole}
+use Rattle.paper.proofs.Encoding.{from-steps, from-within}
+use Rattle.print.specs.declared.Reached.{Reached}
+use Rattle.print.specs.Writing.{Puts, Some, Prints, between, headPieces}
+use Rattle.print.proofs.Putting.{puts-none, puts-both, puts-as}
+use Rattle.print.proofs.Chains.{text-append}
+
+-- A row: `rows n` reads n of them.
+module _ {A : Type 0} (rows : ℕ → List ℕ → Taken A) (piecesOf : A → List Piece) (names : List (List ℕ)) (items : List ℕ) (at pen : ℕ) (taken : Taken A) (old : List ℕ) where
+  -- What is left to print, with so many owed.
+  pub record Rest (out : List ℕ) (place byte owed : ℕ) : Type 0 where
+    pub all : A
+    pub rest : A
+    pub left : List ℕ
+    pub done : List ℕ
+    pub taken-all : taken ≡ some (all, left)
+    pub takes : rows owed (drop place items) ≡ some (rest, left)
+    pub text : done ++ textOf names (piecesOf rest) ≡ textOf names (piecesOf all)
+    pub puts : Puts done pen old out byte
+    pub onward : at ≤ place
+    pub inside : place ≤ length items
+    pub low : byte + 16384 * at ≤ pen + 16384 * place
+
+  -- Nothing printed yet.
+  pub rest-start : (owed : ℕ) → at ≤ length items → rows owed (drop at items) ≡ taken → Some taken → Rest old at pen owed
+  rest-start owed l e s =
+      record {
+        all = s .tree .0;
+        rest = s .tree .0;
+        left = s .tree .1;
+        done = [];
+        taken-all = s .taken-whole;
+        takes = e ∙ s .taken-whole;
+        text = refl;
+        puts = puts-none pen old;
+        onward = omega arith;
+        inside = l;
+        low = omega arith;
+      }
+
+  -- One more.
+  rest-more : (out new bytes : List ℕ) (place byte owed next byte′ owed′ : ℕ) (rest′ : A) (l : Rest out place byte owed) → rows owed′ (drop next items) ≡ some (rest′, l .left)
+      → bytes ++ textOf names (piecesOf rest′) ≡ textOf names (piecesOf (l .rest)) → Puts bytes byte out new byte′ → place ≤ next → next ≤ length items
+      → byte′ + 16384 * place ≤ byte + 16384 * next → Rest new next byte′ owed′
+  rest-more out new bytes place byte owed next byte′ owed′ rest′ l t e p o i low′ =
+      record {
+        all = l .all;
+        rest = rest′;
+        left = l .left;
+        done = l .done ++ bytes;
+        taken-all = l .taken-all;
+        takes = t;
+        text = append-assoc (l .done) bytes (textOf names (piecesOf rest′)) ∙ ap (λ (x : List ℕ). l .done ++ x) e ∙ l .text;
+        puts = puts-both (l .puts) p;
+        onward = omega (arith, l .onward);
+        inside = i;
+        low = omega (arith, l .low);
+      }
+
+  -- None owed.
+  pub rest-done : (out : List ℕ) (place byte owed : ℕ) (empty : A) → ((ws : List ℕ) → rows 0 ws ≡ some (empty, ws)) → textOf names (piecesOf empty) ≡ [] → owed ≤ 0
+      → Rest out place byte owed → Prints names items at pen 0 taken piecesOf old out (record { item = place; byte = byte })
+  rest-done out place byte (suc owed) empty stops blank z l = absurd (omega arith)
+  rest-done out place byte zero empty stops blank z l =
+      let e : _≡_ {A = A × List ℕ} (empty, drop place items) (l .rest, l .left) = some-inj (sym (stops (drop place items)) ∙ l .takes) in
+      record {
+        what = l .all;
+        reads = l .taken-all ∙ ap (λ (x : List ℕ). some (l .all, x)) (sym (ap (λ x. x .1) e));
+        puts =
+            puts-as
+            (sym (append-nil (l .done)) ∙ ap (λ (x : List ℕ). l .done ++ x) (sym blank ∙ ap (λ x. textOf names (piecesOf (x .0))) e) ∙ l .text)
+            (l .puts);
+        onward = l .onward;
+        inside = l .inside;
+        low = omega (arith, l .low);
+      }
+
+-- What stands where a predicate is owed: a bracket may be opened, and an expression stands in it.
+module _ (depth : ℕ) (items : List ℕ) (place : ℕ) where
+  pub pred-opens : (owed : ℕ) (t : Preds × List ℕ) → 0 < owed → takePreds (takeWithin depth) owed (drop place items) ≡ some t → (1 ≤ depth) × Some (orsFrom (takeWithin (depth - 1)) 0 (drop place items))
+  pred-opens zero t z h = absurd (omega arith)
+  pred-opens (suc n) t z h =
+      found-some (takeWithin depth (drop place items)) _ t h (λ r p q. within-opens depth r p)
+    where
+      within-opens : (d : ℕ) (r : Expr × List ℕ) → takeWithin d (drop place items) ≡ some r → (1 ≤ d) × Some (orsFrom (takeWithin (d - 1)) 0 (drop place items))
+      within-opens zero r p = none-some p
+      within-opens (suc d) r p =
+          let e : suc d - 1 ≡ d = omega arith in
+          (omega arith, record { tree = r; taken-whole = rw e (sym (whole (takeWithin d) (drop place items)) ∙ p) })
+
+  pred-more : (owed : ℕ) (t : Preds × List ℕ) (e : Expr) (next : ℕ) → 0 < owed → takePreds (takeWithin depth) owed (drop place items) ≡ some t
+      → orsFrom (takeWithin (depth - 1)) 0 (drop place items) ≡ some (e, drop next items)
+      → (ps : Preds) × (takePreds (takeWithin depth) (owed - 1) (drop next items) ≡ some (ps, t .1)) × (t .0 ≡ pred e ps)
+  pred-more zero t e next z h w = absurd (omega arith)
+  pred-more (suc n) t e next z h w =
+      found-some (takeWithin depth (drop place items)) _ t h
+      (λ r p q.
+      let same : _≡_ {A = Expr × List ℕ} r (e, drop next items) = some-inj (sym p ∙ reads depth r p) in
+      found-some (takePreds (takeWithin depth) n (r .1)) (λ s. some (pred (r .0) (s .0), s .1)) t q
+      (λ s u v.
+      let k : suc n - 1 ≡ n = omega arith in
+      let f : _≡_ {A = Preds × List ℕ} (pred (r .0) (s .0), s .1) t = some-inj v in (
+        s .0,
+        rw k (ap (λ x. takePreds (takeWithin depth) n (x .1)) (sym same) ∙ u ∙ ap (λ x. some (s .0, x .1)) f),
+        ap (λ x. x .0) (sym f) ∙ ap (λ x. pred (x .0) (s .0)) same,
+      )))
+    where
+      reads : (d : ℕ) (r : Expr × List ℕ) → takeWithin depth (drop place items) ≡ some r → takeWithin depth (drop place items) ≡ some (e, drop next items)
+      reads d r p = go depth w r p
+        where
+          go : (d : ℕ) → orsFrom (takeWithin (d - 1)) 0 (drop place items) ≡ some (e, drop next items) → (r : Expr × List ℕ) → takeWithin d (drop place items) ≡ some r
+              → takeWithin d (drop place items) ≡ some (e, drop next items)
+          go zero w r p = none-some p
+          go (suc d) w r p = let k : suc d - 1 ≡ d = omega arith in whole (takeWithin d) (drop place items) ∙ rw k at w
+
+-- A number is below another or not.
+pub within : (i n : ℕ) → (i < n) ⊎ (n ≤ i)
+within i n = ⊎-elim (λ e. inl (ltb-true i n e)) (λ e. inr (ltb-false i n e)) (decide (ltb i n))
+
+-- What stands where a step is owed.
+module _ (depth : ℕ) (items : List ℕ) (place : ℕ) where
+  pub step-there : (owed : ℕ) (t : Steps × List ℕ) → 0 < owed → takeSteps (takeWithin depth) owed (drop place items) ≡ some t → place < length items
+  step-there zero t z h = absurd (omega arith)
+  step-there (suc n) t z h = ⊎-elim (λ l. l) (λ l. none-some (sym (ap (takeSteps (takeWithin depth) (suc n)) (drop-of-length-le items l)) ∙ h)) (within place (length items))
+
+  cons-there : place < length items → drop place items ≡ getD items place 0 ∷ drop (place + 1) items
+  cons-there l = drop-cons items place 0 l ∙ ap (λ (k : ℕ). getD items place 0 ∷ drop k items) (sym (add-one place))
+
+  pub step-head : (owed : ℕ) (t : Steps × List ℕ) → 0 < owed → takeSteps (takeWithin depth) owed (drop place items) ≡ some t
+      → (h : Head) × (stepAt (getD items place 0) ≡ some h) × Some (takePreds (takeWithin depth) (h .count) (drop (place + 1) items))
+  step-head zero t z h = absurd (omega arith)
+  step-head (suc n) t z h =
+      let g = rw (cons-there (step-there (suc n) t z h)) at h in
+      found-some (stepAt (getD items place 0)) _ t g
+      (λ a p q. found-some (takePreds (takeWithin depth) (a .count) (drop (place + 1) items)) _ t q (λ r u v. (a, p, record { tree = r; taken-whole = u })))
+
+  step-more : (owed : ℕ) (t : Steps × List ℕ) (a : Head) (ps : Preds) (next : ℕ) → 0 < owed → takeSteps (takeWithin depth) owed (drop place items) ≡ some t
+      → stepAt (getD items place 0) ≡ some a → takePreds (takeWithin depth) (a .count) (drop (place + 1) items) ≡ some (ps, drop next items)
+      → (s : Steps) × (takeSteps (takeWithin depth) (owed - 1) (drop next items) ≡ some (s, t .1)) × (t .0 ≡ step (a .axis) (a .test) ps s)
+  step-more zero t a ps next z h e w = absurd (omega arith)
+  step-more (suc n) t a ps next z h e w =
+      let g = rw (cons-there (step-there (suc n) t z h), e, w) at h in
+      found-some (takeSteps (takeWithin depth) n (drop next items)) (λ s. some (step (a .axis) (a .test) ps (s .0), s .1)) t g
+      (λ s u v.
+      let k : suc n - 1 ≡ n = omega arith in
+      let f : _≡_ {A = Steps × List ℕ} (step (a .axis) (a .test) ps (s .0), s .1) t = some-inj v in
+      (s .0, rw k (u ∙ ap (λ x. some (s .0, x .1)) f), ap (λ x. x .0) (sym f)))
+
+-- Later steps are those of a relative path after a `/`, where there are any.
+later-text : (names : List (List ℕ)) (depth n : ℕ) (ws : List ℕ) (t : Steps × List ℕ) → takeSteps (takeWithin depth) n ws ≡ some t
+    → between (ascii "/") n ++ textOf names (relativePieces (t .0)) ≡ textOf names (laterPieces (t .0))
+later-text names depth n ws t h = go (t .0) n (from-steps depth (takeWithin depth) (from-within depth) n ws t h .count)
+  where
+    go : (s : Steps) (m : ℕ) → stepCount s ≡ m → between (ascii "/") m ++ textOf names (relativePieces s) ≡ textOf names (laterPieces s)
+    go stop zero e = refl
+    go stop (suc m) e = absurd (omega arith)
+    go (step a u ps s) zero e = absurd (omega arith)
+    go (step a u ps s) (suc m) e = rw (lt-ltb 0 (suc m) (omega arith))
+
+-- What may stand between is no longer than its sign.
+pub between-brief : (sign : List ℕ) (n : ℕ) → length (between sign n) ≤ length sign
+between-brief sign n = go (ltb 0 n)
+  where
+    go : (b : Bool) → length (cond b sign []) ≤ length sign
+    go true = omega arith
+    go false = omega arith
+
+-- The text of a step, its predicates and what follows.
+step-text : (names : List (List ℕ)) (a : Axis) (t : Test) (ps : Preds) (s : Steps) (bytes : List ℕ) → bytes ++ textOf names (relativePieces s) ≡ textOf names (laterPieces s)
+    → textOf names (headPieces a t) ++ textOf names (predsPieces ps) ++ bytes ++ textOf names (relativePieces s) ≡ textOf names (relativePieces (step a t ps s))
+step-text names a t ps s bytes e =
+    append-assoc (textOf names (headPieces a t) ++ textOf names (predsPieces ps)) bytes (textOf names (relativePieces s)) ∙
+    ap (λ (x : List ℕ). textOf names (headPieces a t) ++ textOf names (predsPieces ps) ++ x) e ∙
+    append-assoc (textOf names (headPieces a t)) (textOf names (predsPieces ps)) (textOf names (laterPieces s)) ∙
+    ap (λ (x : List ℕ). textOf names (headPieces a t) ++ x) (sym (text-append names (predsPieces ps) (laterPieces s))) ∙
+    sym (text-append names (headPieces a t) (predsPieces ps ++ laterPieces s))
+
+-- The text of a predicate and of those after it.
+pred-text : (names : List (List ℕ)) (e : Expr) (ps : Preds) → (91 ∷ []) ++ textOf names (exprPieces e) ++ (93 ∷ []) ++ textOf names (predsPieces ps) ≡ textOf names (predsPieces (pred e ps))
+pred-text names e ps =
+    ap (λ (x : List ℕ). 91 ∷ x) (append-assoc (textOf names (exprPieces e)) (93 ∷ []) (textOf names (predsPieces ps)) ∙ sym (text-append names (exprPieces e) (closePred ∷ predsPieces ps)))
+
+-- A predicate more, in its bracket.
+pub pred-turn : (names : List (List ℕ)) (depth : ℕ) (items old : List ℕ) (at pen : ℕ) (taken : Taken Preds) (out mid new last : List ℕ) (place byte owed opened byte′ : ℕ) (r : Reached)
+    → 0 < owed → Rest (takePreds (takeWithin depth)) predsPieces names items at pen taken old out place byte owed → Puts (91 ∷ []) byte out mid opened
+    → Prints names items place opened 64 (orsFrom (takeWithin (depth - 1)) 0 (drop place items)) exprPieces mid new r → Puts (93 ∷ []) (r .byte) new last byte′
+    → Rest (takePreds (takeWithin depth)) predsPieces names items at pen taken old last (r .item) byte′ (owed - 1)
+pred-turn names depth items old at pen taken out mid new last place byte owed opened byte′ r z i p w q =
+    let m = pred-more depth items place owed (i .rest, i .left) (w .what) (r .item) z (i .takes) (w .reads) in
+    rest-more (takePreds (takeWithin depth)) predsPieces names items at pen taken old out last ((91 ∷ []) ++ textOf names (exprPieces (w .what)) ++ (93 ∷ [])) place byte owed (r .item) byte′ (owed - 1)
+    (m .0) i (m .1) (pred-text names (w .what) (m .0) ∙ ap (λ x. textOf names (predsPieces x)) (sym (m .2))) (puts-both (puts-both p (w .puts)) q) (w .onward) (w .inside)
+    (omega (arith, w .low, p .moved, q .moved))
+
+-- A step more, and a `/` where another follows.
+pub step-turn : (names : List (List ℕ)) (depth : ℕ) (items old : List ℕ) (at pen : ℕ) (taken : Taken Steps) (out mid new last : List ℕ) (place byte owed headed byte′ : ℕ) (h : Head) (r : Reached)
+    → 0 < owed → Rest (takeSteps (takeWithin depth)) relativePieces names items at pen taken old out place byte owed → stepAt (getD items place 0) ≡ some h
+    → Puts (textOf names (headPieces (h .axis) (h .test))) byte out mid headed → headed ≤ byte + 8212
+    → Prints names items (place + 1) headed 0 (takePreds (takeWithin depth) (h .count) (drop (place + 1) items)) predsPieces mid new r
+    → Puts (between (ascii "/") (owed - 1)) (r .byte) new last byte′
+    → Rest (takeSteps (takeWithin depth)) relativePieces names items at pen taken old last (r .item) byte′ (owed - 1)
+step-turn names depth items old at pen taken out mid new last place byte owed headed byte′ h r z i e p b v q =
+    let m = step-more depth items place owed (i .rest, i .left) h (v .what) (r .item) z (i .takes) e (v .reads) in
+    let slash = between (ascii "/") (owed - 1) in
+    let later = later-text names depth (owed - 1) (drop (r .item) items) (m .0, i .left) (m .1) in
+    rest-more (takeSteps (takeWithin depth)) relativePieces names items at pen taken old out last
+    (textOf names (headPieces (h .axis) (h .test)) ++ textOf names (predsPieces (v .what)) ++ slash) place byte owed (r .item) byte′ (owed - 1)
+    (m .0) i (m .1) (step-text names (h .axis) (h .test) (v .what) (m .0) slash later ∙ ap (λ x. textOf names (relativePieces x)) (sym (m .2)))
+    (puts-both (puts-both p (v .puts)) q) (omega (arith, v .onward)) (v .inside)
+    (omega (arith, v .low, q .moved, between-brief (ascii "/") (owed - 1)))

@@ -1,0 +1,68 @@
+-- What writing promises: bytes are put from a place on as far as the room goes, and the place moves on by all of them.
+use Prim.Native.Nat.{ℕ, _+_, _*_, _≤_, _<_}
+use mathlib.Core.Path.{_≡_}
+use mathlib.Core.Bool.{false, _||_, cond}
+use mathlib.Core.List.{List, [], _∷_}
+use mathlib.Core.Option.{some}
+use lib.Dec.{ltb}
+use lib.ListN.{length, getD, drop}
+use lib.Seq.{sets}
+use Rattle.paper.specs.Limits.{listLimit, itemLimit}
+use Rattle.paper.specs.Query.{Axis, Test, Expr}
+use Rattle.paper.specs.Query.{Query as Queried}
+use Rattle.paper.specs.Items.{stepAt, Taken, decode}
+use Rattle.paper.specs.Measures.{isOr, isAnd}
+use Rattle.paper.specs.Printing.{Piece, colonsSign, axisWord, testWord, grouped, exprPieces, textOf}
+use Rattle.paper.specs.Answers.{unknownItem}
+use Rattle.names.specs.Listing.{Indexed}
+use Rattle.print.specs.declared.Reached.{Reached}
+
+-- The text is put from `pen` on; what does not fit is only counted. With no room this is a count, with room enough the text stands there.
+pub record Puts (text : List ℕ) (pen : ℕ) (old new : List ℕ) (next : ℕ) : Type 0 where
+  pub moved : next ≡ pen + length text
+  pub wrote : new ≡ sets old pen text
+
+-- A sign, where something is left to print after it.
+abbrev pub between : List ℕ → ℕ → List ℕ
+between sign left = cond (ltb 0 left) sign []
+
+-- An expression as a term of `or` and as an operand of `and`: with the bracket that it gets there.
+abbrev pub termPieces : Expr → List Piece
+termPieces e = grouped (isOr e) (exprPieces e)
+
+abbrev pub operandPieces : Expr → List Piece
+operandPieces e = grouped (isOr e || isAnd e) (exprPieces e)
+
+-- A step without its predicates.
+abbrev pub headPieces : Axis → Test → List Piece
+headPieces a t = axisWord a ∷ colonsSign ∷ testWord t ∷ []
+
+-- A test by its number, of which the list has a name where it is one.
+abbrev pub Known : ℕ → ℕ → Type 0
+Known count test = (test ≤ 258) × (2 ≤ test → test < 258 → test < count + 2)
+
+-- The list is indexed and no longer than it may be, and has a name for each that the items have.
+pub record Names (list starts : List ℕ) (count : ℕ) (items : List ℕ) : Type 0 where
+  pub indexed : Indexed list starts count
+  pub few : length list ≤ listLimit
+  pub known : (i : ℕ) → unknownItem count (stepAt (getD items i 0)) ≡ false
+
+-- Something is taken: the items are what they are printed as.
+pub record Some {A : Type 0} (taken : Taken A) : Type 0 where
+  pub tree : A × List ℕ
+  pub taken-whole : taken ≡ some tree
+
+-- The items are a query.
+pub record Query (items : List ℕ) : Type 0 where
+  pub query : Queried
+  pub decoded : decode items ≡ some query
+  pub few-items : length items ≤ itemLimit
+
+-- What is taken from the items at `at` is put, and both places move past it. Each item has 16,384 bytes at most, and `spare` are left over.
+pub record Prints {A : Type 0} (names : List (List ℕ)) (items : List ℕ) (at pen spare : ℕ) (taken : Taken A) (piecesOf : A → List Piece) (old new : List ℕ) (r : Reached) : Type 0 where
+  pub what : A
+  pub reads : taken ≡ some (what, drop (r .item) items)
+  pub puts : Puts (textOf names (piecesOf what)) pen old new (r .byte)
+  pub onward : at ≤ r .item
+  pub inside : r .item ≤ length items
+  pub low : r .byte + 16384 * at + spare ≤ pen + 16384 * r .item
