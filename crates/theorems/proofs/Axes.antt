@@ -1,18 +1,18 @@
 -- The laws of an axis: all that the theorems use of it. A new axis needs these laws and nothing else. Assumes nothing.
 use Prim.Native.Nat.{ℕ, _<_}
-use mathlib.Core.Path.{_≡_, refl, sym}
-use mathlib.Core.Bool.{true}
+use mathlib.Core.Path.{_≡_, refl, sym, subst}
+use mathlib.Core.Bool.{true, not, false≢true}
 use mathlib.Core.List.{List}
 use lib.Dec.{eqb}
 use borrow.Author.Tests.{eqb-true, eq-eqb}
 use Rattle.paper.specs.Query.{Axis, self, child, parent, descendantOrSelf, ancestorOrSelf}
-use Rattle.paper.specs.Document.{Table, nodes, marked}
+use Rattle.paper.specs.Document.{Table, nodes, parentOf, marked}
 use Rattle.paper.specs.Selection.{leads}
 use Rattle.paper.specs.Extraction.{rank, extracted}
-use Rattle.paper.proofs.Tests.{agree}
-use Rattle.paper.proofs.Trees.{Tree, Closed}
-use Rattle.theorems.specs.Demands.{Converse}
-use Rattle.theorems.proofs.Renumber.{rank-same, over-renumbered, child-renumbered}
+use Rattle.paper.proofs.Tests.{agree, and-true}
+use Rattle.paper.proofs.Trees.{Tree, Closed, over-marked, tree, closed}
+use Rattle.theorems.specs.Demands.{Converse, rises, StaysInside, Renumbered}
+use Rattle.theorems.proofs.Renumber.{rank-same, over-renumbered, child-renumbered, marks-root}
 
 pub same-turned : (i j : ℕ) → eqb i j ≡ eqb j i
 same-turned i j = agree (eqb i j) (eqb j i) (λ h. eq-eqb j i (sym (eqb-true i j h))) (λ h. eq-eqb i j (sym (eqb-true j i h)))
@@ -25,6 +25,18 @@ converse t parent i j = refl
 converse t descendantOrSelf i j = refl
 converse t ancestorOrSelf i j = refl
 
+-- AN AXIS THAT RISES STAYS INSIDE CLOSED MARKS.
+pub leads-inside : (t : Table) → Tree t → (m : List ℕ) → Closed t m → (a : Axis) → rises a ≡ true → (i j : ℕ) → i < nodes t → marked m i ≡ true
+    → leads t a i j ≡ true → marked m j ≡ true
+leads-inside t w m c self r i j l h d = subst (λ k. marked m k ≡ true) (eqb-true i j d) h
+leads-inside t w m c child r i j l h d = absurd (false≢true r)
+leads-inside t w m c parent r i j l h d = subst (λ k. marked m k ≡ true) (eqb-true (parentOf t i) j (and-true (not (eqb i 0)) (eqb (parentOf t i) j) d .1)) (c i l h)
+leads-inside t w m c descendantOrSelf r i j l h d = absurd (false≢true r)
+leads-inside t w m c ancestorOrSelf r i j l h d = over-marked t w m c j i l h d
+
+pub stays-inside : StaysInside
+stays-inside t m a i j ft fm r l h d = leads-inside t (tree t ft) m (closed t m fm) a r i j l h d
+
 -- RENUMBERING KEEPS THE AXIS: it leads from a marked node to a marked node exactly if it leads from the one's new number to the other's.
 pub leads-renumbered : (t : Table) → Tree t → (m : List ℕ) → Closed t m → marked m 0 ≡ true → (a : Axis) (i j : ℕ) → i < nodes t → j < nodes t
     → marked m i ≡ true → marked m j ≡ true → leads (extracted t m) a (rank m i) (rank m j) ≡ leads t a i j
@@ -33,3 +45,9 @@ leads-renumbered t w m c root child i j li lj hi hj = child-renumbered t w m c r
 leads-renumbered t w m c root parent i j li lj hi hj = child-renumbered t w m c root j i li hj hi
 leads-renumbered t w m c root descendantOrSelf i j li lj hi hj = over-renumbered t w m c root i hi j lj hj
 leads-renumbered t w m c root ancestorOrSelf i j li lj hi hj = over-renumbered t w m c root j hj i li hi
+
+pub renumbered : Renumbered
+renumbered t m a i j ft fm li lj hi hj =
+    let w = tree t ft in
+    let c = closed t m fm in
+    leads-renumbered t w m c (marks-root t w m c i li hi) a i j li lj hi hj

@@ -10,12 +10,12 @@ use mathlib.Core.Logic.{⊎-elim, by-cases}
 use borrow.Author.Tests.{eqb-true, eq-eqb, ne-eqb, not-true}
 use Rattle.paper.specs.Query.{self, parent, Test, anyNode, Steps, stop, step, Preds, bare, pred}
 use Rattle.paper.specs.Document.{Table, nodes, parentOf, kindOf, marked}
-use Rattle.paper.specs.Selection.{meets, holds, finds, allHold, arrives}
+use Rattle.paper.specs.Selection.{leads, meets, holds, finds, allHold, arrives}
 use Rattle.paper.specs.Composition.{turned, atRoot, wayBack, reversed}
 use Rattle.paper.proofs.Tests.{and-true, true-and, decide, agree}
 use Rattle.paper.proofs.Trees.{Tree, parent-le, Closed, tree, closed}
 use Rattle.theorems.specs.Demands.{Reverse}
-use Rattle.theorems.proofs.Axes.{converse}
+use Rattle.theorems.proofs.Axes.{converse, leads-inside}
 use Rattle.theorems.proofs.Stepping.{goes, went}
 
 module _ (t : Table) (m : List ℕ) where
@@ -59,14 +59,15 @@ module _ (t : Table) (m : List ℕ) where
   root-alone w c i l h p =
       by-cases (ℕ-discrete i 0) (λ e. e)
       (λ e.
+      let up : leads t parent i (parentOf t i) ≡ true = true-and (ap not (ne-eqb i 0 e)) (eq-eqb (parentOf t i) (parentOf t i) refl) in
       absurd
       (false≢true
       (sym (not-true (finds t m (step parent anyNode bare stop) i) p) ∙
       goes t m parent anyNode bare (λ j. true) i (parentOf t i)
       (record {
         inside = omega (arith, parent-le t w i l);
-        there = c i l h;
-        along = true-and (ap not (ne-eqb i 0 e)) (eq-eqb (parentOf t i) (parentOf t i) refl);
+        there = leads-inside t w m c parent refl i (parentOf t i) l h up;
+        along = up;
         met = refl;
         fine = refl;
       })

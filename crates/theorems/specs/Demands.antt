@@ -1,12 +1,13 @@
 -- What composition owes, in full, for every document and every pair of queries. The proofs are in proofs/, one file a concept.
 use Prim.Native.Nat.{ℕ, _+_, _≤_, _<_, max}
 use mathlib.Core.Path.{_≡_}
-use mathlib.Core.Bool.{true, _&&_}
+use mathlib.Core.Bool.{Bool, true, false, _&&_}
 use mathlib.Core.List.{List, [], _∷_}
 use mathlib.Core.Option.{none, some}
 use lib.ListN.{length, replicate}
 use Rattle.paper.specs.Limits.{itemLimit, bracketLimit}
-use Rattle.paper.specs.Query.{Axis, Expr, path, both, either, negated, Steps, stop, step, Preds, bare, pred, Query, paths}
+use Rattle.paper.specs.Query.{Axis, self, child, parent, descendantOrSelf, ancestorOrSelf}
+use Rattle.paper.specs.Query.{Expr, path, both, either, negated, Steps, stop, step, Preds, bare, pred, Query, paths}
 use Rattle.paper.specs.Document.{Table, nodes, tableFault, marked, marksFault}
 use Rattle.paper.specs.Selection.{leads, holds, arrives, keeps, kept}
 use Rattle.paper.specs.Extraction.{rank, extracted}
@@ -46,9 +47,29 @@ Secrecy =
     (t u : Table) (outer inner : Query) → tableFault t ≡ none → tableFault u ≡ none
     → view t inner ≡ view u inner → view t (composed outer inner) ≡ view u (composed outer inner)
 
--- CONVERSE: an axis leads from i to j exactly if its turned axis leads from j to i.
+-- THE LAWS OF AN AXIS, all that the theorems use of it. CONVERSE: an axis leads from i to j exactly if its turned axis leads from j to i.
 abbrev pub Converse : Type 0
 Converse = (t : Table) (a : Axis) (i j : ℕ) → leads t (turned a) i j ≡ leads t a j i
+
+-- Does the axis lead from a node only to nodes at or above it?
+abbrev pub rises : Axis → Bool
+rises self = true
+rises child = false
+rises parent = true
+rises descendantOrSelf = false
+rises ancestorOrSelf = true
+
+-- STAYS INSIDE: an axis that rises leads from a marked node only to marked nodes, since marks are closed under parents.
+abbrev pub StaysInside : Type 0
+StaysInside =
+    (t : Table) (marks : List ℕ) (a : Axis) (i j : ℕ) → tableFault t ≡ none → marksFault t marks ≡ none → rises a ≡ true → i < nodes t → marked marks i ≡ true
+    → leads t a i j ≡ true → marked marks j ≡ true
+
+-- RENUMBERED: an axis leads from a marked node to a marked node exactly if it leads, in the extracted table, from the one's new number to the other's.
+abbrev pub Renumbered : Type 0
+Renumbered =
+    (t : Table) (marks : List ℕ) (a : Axis) (i j : ℕ) → tableFault t ≡ none → marksFault t marks ≡ none → i < nodes t → j < nodes t
+    → marked marks i ≡ true → marked marks j ≡ true → leads (extracted t marks) a (rank marks i) (rank marks j) ≡ leads t a i j
 
 -- REVERSE: the reverse of a path holds at a node exactly if the path leads there from the root, inside marks.
 abbrev pub Reverse : Type 0
