@@ -192,3 +192,89 @@ module _ (op : Operator) (text old : List ℕ) (from place : ℕ) (all : Got Exp
         over : (n : ℕ) → op .more n (l .so-far) (tokensAt text here) ≡ got (l .so-far) (tokensAt text here)
         over zero = op .stops (l .so-far) (tokensAt text here)
         over (suc n) = op .goes n (l .so-far) (tokensAt text here) ∙ rw s
+
+-- An operand is to be read at `here`: what its answer makes of the whole.
+pub record Awaits (op : Operator) (text old out : List ℕ) (from place : ℕ) (all : Got Expr) (here filled run : ℕ) : Type 0 where
+  pub stuck : (n spot : ℕ) → op .one (tokensAt text here) ≡ refused n spot → all ≡ refused n spot
+  pub gives : (out′ : List ℕ) (past end : ℕ) → Gives text out out′ here filled (3 * here) filled (op .one (tokensAt text here)) encodeExpr past end
+      → Left op text old out′ from place all past end run
+  pub onward : from ≤ here
+  pub inside : here ≤ length text
+  pub grows : filled + run + 3 * from ≤ place + 3 * here
+
+awaits-first : (op : Operator) (text old : List ℕ) (from place : ℕ) (all : Got Expr) → all ≡ whole op (tokensAt text from) → from ≤ length text
+    → Awaits op text old old from place all from place 0
+awaits-first op text old from place all is inside =
+    record {
+      stuck = start-stuck op text old from place all is;
+      gives = λ out′ past end g. left-start op text old from place all is out′ past end g;
+      onward = omega arith;
+      inside = inside;
+      grows = omega arith;
+    }
+
+awaits-next : (op : Operator) (text old : List ℕ) (from place : ℕ) (all : Got Expr) (out : List ℕ) (here filled run : ℕ) → Left op text old out from place all here filled run
+    → (mid : ℕ) → says (op .word) (tokensAt text here) ≡ true → Past text here mid
+    → Awaits op text old out from place all mid filled (run + 1)
+awaits-next op text old from place all out here filled run l mid s p =
+    record {
+      stuck = left-stuck op text old from place all out here filled run l mid s p;
+      gives = λ out′ past end g. left-more op text old from place all out here filled run l mid s p out′ past end g;
+      onward = omega (arith, l .onward, p .onward);
+      inside = p .inside;
+      grows = omega (arith, l .grows, p .onward);
+    }
+
+-- AN EXPRESSION: an operand of `and` is to be read, in a term that an `or` awaits; the term began at `since` in the text and at `begun` in the items.
+module _ (look : List ℕ → Option ℕ) (within : ℕ → List Placed → Got Expr) (text old : List ℕ) (from place : ℕ) where
+  pub record Turn (out : List ℕ) (here filled begun anded ored : ℕ) : Type 0 where
+    pub since : ℕ
+    pub mid : List ℕ
+    pub outer : Awaits (ors look within) text old mid from place (readExpr look within (tokensAt text from)) since begun ored
+    pub inner : Awaits (ands look within) text mid out since begun (readTerm look within (tokensAt text since)) here filled anded
+
+  pub turn-start : from ≤ length text → Turn old from place place 0 0
+  turn-start inside =
+      record {
+        since = from;
+        mid = old;
+        outer = awaits-first (ors look within) text old from place _ (expr-whole look within (tokensAt text from)) inside;
+        inner = awaits-first (ands look within) text old from place _ (term-whole look within (tokensAt text from)) inside;
+      }
+
+  module _ (out : List ℕ) (here filled begun anded ored : ℕ) (t : Turn out here filled begun anded ored) where
+    pub turn-stuck : (n spot : ℕ) → readOperand look within (tokensAt text here) ≡ refused n spot → readExpr look within (tokensAt text from) ≡ refused n spot
+    turn-stuck n spot h = t .outer .stuck n spot (t .inner .stuck n spot h)
+
+    -- The operand is read.
+    module _ (out′ : List ℕ) (past end : ℕ) (g : Gives text out out′ here filled (3 * here) filled (readOperand look within (tokensAt text here)) encodeExpr past end) where
+      pub operands : Left (ands look within) text (t .mid) out′ (t .since) begun (readTerm look within (tokensAt text (t .since))) past end anded
+      operands = t .inner .gives out′ past end g
+
+      pub turn-and : (next : ℕ) → says (ascii "and") (tokensAt text past) ≡ true → Past text past next → Turn out′ next end begun (anded + 1) ored
+      turn-and next s p =
+          record {
+            since = t .since;
+            mid = t .mid;
+            outer = t .outer;
+            inner = awaits-next (ands look within) text (t .mid) (t .since) begun _ out′ past end anded operands next s p;
+          }
+
+      -- The term is read.
+      module _ (new : List ℕ) (s : says (ascii "and") (tokensAt text past) ≡ false) (m : Grouped out′ new begun end anded andItem) where
+        pub terms : Left (ors look within) text old new from place (readExpr look within (tokensAt text from)) past (end + anded) ored
+        terms =
+            t .outer .gives new past (end + anded) (left-done (ands look within) text (t .mid) (t .since) begun _ out′ past end anded operands new s m)
+
+        pub turn-or : (next : ℕ) → says (ascii "or") (tokensAt text past) ≡ true → Past text past next → Turn new next (end + anded) (end + anded) 0 (ored + 1)
+        turn-or next s′ p =
+            record {
+              since = next;
+              mid = new;
+              outer = awaits-next (ors look within) text old from place _ new past (end + anded) ored terms next s′ p;
+              inner = awaits-first (ands look within) text new next (end + anded) _ (term-whole look within (tokensAt text next)) (p .inside);
+            }
+
+        pub turn-done : (last : List ℕ) → says (ascii "or") (tokensAt text past) ≡ false → Grouped new last place (end + anded) ored orItem
+            → Gives text old last from place (3 * from) place (readExpr look within (tokensAt text from)) encodeExpr past (end + anded + ored)
+        turn-done last s′ m′ = left-done (ors look within) text old from place _ new past (end + anded) ored terms last s′ m′

@@ -541,7 +541,7 @@ fn group(out: &mut [u32], place: usize, end: usize, count: usize, item: u32)
 
 // PATH, STEP AND EXPRESSION.
 
-// An expression: terms joined by `or`.
+// An expression: operands joined by `and` and `or`, each run's operators put before its operands where it ends.
 fn expression(
     text: &[u8],
     list: &[u8],
@@ -557,73 +557,48 @@ fn expression(
     requires { ⌜ place ≤ 3 * cursor .at ⌝ }
     ensures { λ r. ⌜ Reads (now (text .entry)) (now (out .entry)) (now (out .exit)) (cursor .at) place (3 * cursor .at) place (readExpr (lookOf known (now (list .entry))) (readWithin (lookOf known (now (list .entry))) depth) (tokensAt (now (text .entry)) (cursor .at))) encodeExpr r ⌝ }
 {
-    let first = term(text, list, starts, count, known, cursor, depth, out, place);
-    let Part::Done { next, end } = first else {
-        return first;
-    };
-    let mut here = next;
-    let mut filled = end;
-    let mut run: usize = 0;
+    let mut here = cursor;
+    let mut filled = place;
+    let mut begun = place;
+    let mut ands: usize = 0;
+    let mut ors: usize = 0;
     loop {
-        let ahead = word_ahead(text, here, b"or");
-        let Ahead::There { place: _, next } = ahead else {
-            break;
+        let one = operand(text, list, starts, count, known, here, depth, out, filled);
+        let Part::Done { next, end } = one else {
+            return one;
         };
-        let more = term(text, list, starts, count, known, next, depth, out, filled);
-        let Part::Done { next, end } = more else {
-            return more;
-        };
-        here = next;
-        filled = end;
-        run += 1;
-    }
-    group(out, place, filled, run, item::OR);
-    Part::Done {
-        next: here,
-        end: filled + run,
-    }
-}
-
-// A term of `or`: operands joined by `and`.
-fn term(
-    text: &[u8],
-    list: &[u8],
-    starts: &[u16; 257],
-    count: usize,
-    known: bool,
-    cursor: Cursor,
-    depth: usize,
-    out: &mut [u32],
-    place: usize,
-) -> Part
-    requires { ⌜ Ready (now text) (now list) (now starts) count (cursor .at) depth ⌝ }
-    requires { ⌜ place ≤ 3 * cursor .at ⌝ }
-    ensures { λ r. ⌜ Reads (now (text .entry)) (now (out .entry)) (now (out .exit)) (cursor .at) place (3 * cursor .at) place (readTerm (lookOf known (now (list .entry))) (readWithin (lookOf known (now (list .entry))) depth) (tokensAt (now (text .entry)) (cursor .at))) encodeExpr r ⌝ }
-{
-    let first = operand(text, list, starts, count, known, cursor, depth, out, place);
-    let Part::Done { next, end } = first else {
-        return first;
-    };
-    let mut here = next;
-    let mut filled = end;
-    let mut run: usize = 0;
-    loop {
-        let ahead = word_ahead(text, here, b"and");
-        let Ahead::There { place: _, next } = ahead else {
-            break;
-        };
-        let more = operand(text, list, starts, count, known, next, depth, out, filled);
-        let Part::Done { next, end } = more else {
-            return more;
-        };
-        here = next;
-        filled = end;
-        run += 1;
-    }
-    group(out, place, filled, run, item::AND);
-    Part::Done {
-        next: here,
-        end: filled + run,
+        let and = word_ahead(text, next, b"and");
+        match and {
+            Ahead::There {
+                place: _,
+                next: past,
+            } => {
+                here = past;
+                filled = end;
+                ands += 1;
+            }
+            Ahead::Other(_) => {
+                group(out, begun, end, ands, item::AND);
+                let closed = end + ands;
+                let or = word_ahead(text, next, b"or");
+                let Ahead::There {
+                    place: _,
+                    next: past,
+                } = or
+                else {
+                    group(out, place, closed, ors, item::OR);
+                    return Part::Done {
+                        next,
+                        end: closed + ors,
+                    };
+                };
+                here = past;
+                filled = closed;
+                begun = closed;
+                ands = 0;
+                ors += 1;
+            }
+        }
     }
 }
 

@@ -1,18 +1,16 @@
 -- The functions of `read` that call each other meet their contracts: path, step and expression, with falling remaining text.
--- Each loop's invariant is that what is left to read gives the answer of the whole (`Left` of a run of operands, `PredRow` and `StepRow`).
--- The measure of a call is the number of bytes left, then the order bracketed, expression, term, operand, steps, step. Assumes nothing.
+-- Each loop's invariant is that what is left to read gives the answer of the whole (`Turn` of an expression, `PredRow` and `StepRow`).
+-- The measure of a call is the number of bytes left, then the order bracketed, expression, operand, steps, step. Assumes nothing.
 use Prim.Native.Nat.{_-_, _+_, _*_}
 use mathlib.Core.Path.{_≡_, refl, _∙_, ap}
-use mathlib.Core.List.{List}
 use native.Mathlib.Omega.{arith}
 use borrow.Author.Needs.{needs}
 use denote.Ref.{now}
 use lib.ListN.{length}
-use Rattle.paper.specs.Query.{Expr}
-use Rattle.paper.specs.Reading.{Got, got, then, readSteps, readTerm, readExpr, readWithin}
+use Rattle.paper.specs.Reading.{got, then, readSteps, readWithin}
 use Rattle.read.specs.Parts.{tokensAt, lookOf, deepIf, passSort}
 use Rattle.read.proofs.Heading.{axis-small}
-use Rattle.read.proofs.Runs.{ors, ands, Left, left-start, start-stuck, left-more, left-stuck, left-done, term-whole, expr-whole, passed-on}
+use Rattle.read.proofs.Runs.{Turn, turn-start, turn-stuck, operands, turn-and, terms, turn-or, turn-done, passed-on}
 use Rattle.read.proofs.Rows.{PredRow, preds-start, preds-more, preds-stuck, preds-done, StepRow, steps-start, step-more, step-stuck, steps-more, steps-done, joined-past, deep-few}
 use Rattle.read.proofs.Operands.{too-deep, opened, closed, unclosed, not-stuck, not-done, round-done, path-done, plain-done, tested-done}
 use Prim.Native.Nat.{ℕ, _<_}
@@ -20,25 +18,22 @@ use borrow.Fn.Kinds.{In}
 use borrow.Fn.PlainCycle.{Measures, is, falls, and}
 use Rattle.read.proofs.bracketed.Reads as bracketed
 use Rattle.read.proofs.bracketed.Kinds as bracketed-kinds
-use Rattle.read.proofs.+bracketed+expression+operand+predicates+step+steps+term.Lts-bracketed as bracketed-lts
+use Rattle.read.proofs.+bracketed+expression+operand+predicates+step+steps.Lts-bracketed as bracketed-lts
 use Rattle.read.proofs.expression.Reads as expression
 use Rattle.read.proofs.expression.Kinds as expression-kinds
-use Rattle.read.proofs.+bracketed+expression+operand+predicates+step+steps+term.Lts-expression as expression-lts
+use Rattle.read.proofs.+bracketed+expression+operand+predicates+step+steps.Lts-expression as expression-lts
 use Rattle.read.proofs.operand.Reads as operand
 use Rattle.read.proofs.operand.Kinds as operand-kinds
-use Rattle.read.proofs.+bracketed+expression+operand+predicates+step+steps+term.Lts-operand as operand-lts
+use Rattle.read.proofs.+bracketed+expression+operand+predicates+step+steps.Lts-operand as operand-lts
 use Rattle.read.proofs.predicates.Reads as predicates
 use Rattle.read.proofs.predicates.Kinds as predicates-kinds
-use Rattle.read.proofs.+bracketed+expression+operand+predicates+step+steps+term.Lts-predicates as predicates-lts
+use Rattle.read.proofs.+bracketed+expression+operand+predicates+step+steps.Lts-predicates as predicates-lts
 use Rattle.read.proofs.step.Reads as step
 use Rattle.read.proofs.step.Kinds as step-kinds
-use Rattle.read.proofs.+bracketed+expression+operand+predicates+step+steps+term.Lts-step as step-lts
+use Rattle.read.proofs.+bracketed+expression+operand+predicates+step+steps.Lts-step as step-lts
 use Rattle.read.proofs.steps.Reads as steps
 use Rattle.read.proofs.steps.Kinds as steps-kinds
-use Rattle.read.proofs.+bracketed+expression+operand+predicates+step+steps+term.Lts-steps as steps-lts
-use Rattle.read.proofs.term.Reads as term
-use Rattle.read.proofs.term.Kinds as term-kinds
-use Rattle.read.proofs.+bracketed+expression+operand+predicates+step+steps+term.Lts-term as term-lts
+use Rattle.read.proofs.+bracketed+expression+operand+predicates+step+steps.Lts-steps as steps-lts
 use Rattle.read.proofs.group.Reads as group-reads
 use Rattle.read.proofs.joined.Reads as joined-reads
 use Rattle.read.proofs.mark.Reads as mark-reads
@@ -49,8 +44,8 @@ use Rattle.read.proofs.put_deep.Reads as put-deep-reads
 use Rattle.read.proofs.step_head.Reads as step-head-reads
 use Rattle.read.proofs.step_word.Reads as step-word-reads
 use Rattle.read.proofs.word_ahead.Reads as word-ahead-reads
-use Rattle.read.proofs.+bracketed+expression+operand+predicates+step+steps+term.{statement}
-use Rattle.read.proofs.+bracketed+expression+operand+predicates+step+steps+term.Tie.{close}
+use Rattle.read.proofs.+bracketed+expression+operand+predicates+step+steps.{statement}
+use Rattle.read.proofs.+bracketed+expression+operand+predicates+step+steps.Tie.{close}
 
 abbrev μ-bracketed : Measures 4 bracketed-kinds.ps ℕ
 μ-bracketed κs a = (length (now (a .0)) - a .1 .1 .1 .1 .1 .0 .at) * 8 + 5
@@ -69,9 +64,6 @@ abbrev μ-step : Measures 4 step-kinds.ps ℕ
 
 abbrev μ-steps : Measures 4 steps-kinds.ps ℕ
 μ-steps κs a = (length (now (a .0)) - a .1 .1 .1 .1 .1 .0 .at) * 8 + 1
-
-abbrev μ-term : Measures 4 term-kinds.ps ℕ
-μ-term κs a = (length (now (a .0)) - a .1 .1 .1 .1 .1 .0 .at) * 8 + 3
 
 abbrev bracketed-at : ℕ → In 4 bracketed-kinds.ps
 bracketed-at t = and 4 bracketed-kinds.ps (is 4 bracketed-kinds.ps μ-bracketed t) bracketed.Pre
@@ -113,12 +105,6 @@ steps-at t = and 4 steps-kinds.ps (is 4 steps-kinds.ps μ-steps t) steps.Pre
 
 abbrev steps-below : ℕ → In 4 steps-kinds.ps
 steps-below t = and 4 steps-kinds.ps (falls 4 steps-kinds.ps _<_ μ-steps t) steps.Pre
-
-abbrev term-at : ℕ → In 4 term-kinds.ps
-term-at t = and 4 term-kinds.ps (is 4 term-kinds.ps μ-term t) term.Pre
-
-abbrev term-below : ℕ → In 4 term-kinds.ps
-term-below t = and 4 term-kinds.ps (falls 4 term-kinds.ps _<_ μ-term t) term.Pre
 
 bracketed-returns : (t : ℕ) → bracketed-lts.Need-returns (
   expression-below t,
@@ -243,36 +229,51 @@ bracketed-returns-4 t c =
     unclosed _ _ _ _ _ (s .args .closer) _ _ (opened look (s .args .depth) (s .args .bracket) (tokensAt (now (s .args .text)) (s .args .cursor .at)) (c .before .before .before .before .before .before .before .before .before .before .before .if1 .left)) _ _ _ g (m .0) (m .1)
 
 abbrev expression-Inv-loop : expression-lts.InvT-loop
-expression-Inv-loop text list starts count known depth out₀ place end here₀ filled₀ run₀ t21 out here filled run =
-    (length out ≡ length out₀) × ((old : List ℕ) (from : ℕ) (all : Got Expr) → Left (ors (lookOf known list) (readWithin (lookOf known list) depth)) text old out₀ from place all (here₀ .at) filled₀ 0 → Left (ors (lookOf known list) (readWithin (lookOf known list) depth)) text old out from place all (here .at) filled run)
+expression-Inv-loop text list starts count known depth out₀ place here₀ filled₀ begun₀ ands₀ ors₀ t23 t24 out here filled begun ands ors =
+    (length out ≡ length out₀) × Turn (lookOf known list) (readWithin (lookOf known list) depth) text out₀ (here₀ .at) place out (here .at) filled begun ands ors
 
 abbrev expression-μ-loop : expression-lts.MeasureT-loop
-expression-μ-loop text list starts count known depth out₀ place end here₀ filled₀ run₀ t21 out here filled run =
+expression-μ-loop text list starts count known depth out₀ place here₀ filled₀ begun₀ ands₀ ors₀ t23 t24 out here filled begun ands ors =
     length text - here .at
 
-expression-term-requires : (t : ℕ) → expression-lts.Need-term-requires (
-  term-below t,
-  term.Post,
+expression-loop-holds : (t : ℕ) → expression-lts.Need-loop-holds (
+  operand-below t,
+  operand.Post,
   word-ahead-reads.Asked,
   word-ahead-reads.Learnt,
   group-reads.Asked,
   group-reads.Learnt,
 ) (expression-at t) expression.Post expression-Inv-loop expression-μ-loop
-expression-term-requires t c κs = search needs
+expression-loop-holds t c =
+    let s = c .before .before .before in
+    (search needs, turn-start (lookOf (s .args .known) (now (s .args .list))) (readWithin (lookOf (s .args .known) (now (s .args .list))) (s .args .depth)) (now (s .args .text)) (now (s .args .out)) (s .args .cursor .at) (s .args .place) (s .pre .1 .0 .inside))
 
-expression-enum-known-first : (t : ℕ) → expression-lts.Need-enum-known-first (
-  term-below t,
-  term.Post,
+expression-operand-requires : (t : ℕ) → expression-lts.Need-operand-requires (
+  operand-below t,
+  operand.Post,
   word-ahead-reads.Asked,
   word-ahead-reads.Learnt,
   group-reads.Asked,
   group-reads.Learnt,
 ) (expression-at t) expression.Post expression-Inv-loop expression-μ-loop
-expression-enum-known-first t c = search needs
+expression-operand-requires t c κs =
+    let s = c .before .before .before .before .before in
+    let turn = c .before .loop .inv .1 in
+    (omega (arith, turn .outer .onward, turn .inner .onward, turn .inner .inside, s .pre .0), (record { short = s .pre .1 .0 .short; names = s .pre .1 .0 .names; inside = turn .inner .inside; shallow = s .pre .1 .0 .shallow }, omega (arith, turn .outer .grows, turn .inner .grows, s .pre .1 .1)))
+
+expression-enum-known-one : (t : ℕ) → expression-lts.Need-enum-known-one (
+  operand-below t,
+  operand.Post,
+  word-ahead-reads.Asked,
+  word-ahead-reads.Learnt,
+  group-reads.Asked,
+  group-reads.Learnt,
+) (expression-at t) expression.Post expression-Inv-loop expression-μ-loop
+expression-enum-known-one t c = search needs
 
 expression-same-length : (t : ℕ) → expression-lts.Need-same-length (
-  term-below t,
-  term.Post,
+  operand-below t,
+  operand.Post,
   word-ahead-reads.Asked,
   word-ahead-reads.Learnt,
   group-reads.Asked,
@@ -281,32 +282,23 @@ expression-same-length : (t : ℕ) → expression-lts.Need-same-length (
 expression-same-length t c = search needs
 
 expression-returns : (t : ℕ) → expression-lts.Need-returns (
-  term-below t,
-  term.Post,
+  operand-below t,
+  operand.Post,
   word-ahead-reads.Asked,
   word-ahead-reads.Learnt,
   group-reads.Asked,
   group-reads.Learnt,
 ) (expression-at t) expression.Post expression-Inv-loop expression-μ-loop
 expression-returns t c =
-    let s = c .before .before .before .before .before .before .before .before in
+    let s = c .before .before .before .before .before .before .before .before .before in
     let look = lookOf (s .args .known) (now (s .args .list)) in
     let within = readWithin look (s .args .depth) in
-    passed-on _ _ _ _ _ _ _ _ _ _ _ _ _ _ _ _ _ _ (c .before .before .before .term .result) (c .match .keys2) (c .before .before .before .term .ensures) (start-stuck (ors look within) _ (s .args .out .now) _ (s .args .place) _ (expr-whole look within (tokensAt (now (s .args .text)) (s .args .cursor .at))))
-
-expression-loop-holds : (t : ℕ) → expression-lts.Need-loop-holds (
-  term-below t,
-  term.Post,
-  word-ahead-reads.Asked,
-  word-ahead-reads.Learnt,
-  group-reads.Asked,
-  group-reads.Learnt,
-) (expression-at t) expression.Post expression-Inv-loop expression-μ-loop
-expression-loop-holds t c = search needs
+    let turn = c .before .before .before .before .before .loop .inv .1 in
+    passed-on _ _ _ _ _ _ _ _ _ _ _ _ _ _ _ _ _ _ (c .before .before .before .operand .result) (c .match .keys2) (c .before .before .before .operand .ensures) (turn-stuck look within _ _ _ _ _ _ _ _ _ _ turn)
 
 expression-slice-aggregate-word-ahead : (t : ℕ) → expression-lts.Need-slice-aggregate-word-ahead (
-  term-below t,
-  term.Post,
+  operand-below t,
+  operand.Post,
   word-ahead-reads.Asked,
   word-ahead-reads.Learnt,
   group-reads.Asked,
@@ -314,52 +306,79 @@ expression-slice-aggregate-word-ahead : (t : ℕ) → expression-lts.Need-slice-
 ) (expression-at t) expression.Post expression-Inv-loop expression-μ-loop
 expression-slice-aggregate-word-ahead t c = search needs
 
--- What has been read where the loop's turn begins.
-expression-left : (t : ℕ) (c : expression-lts.At-loop (
-  term-below t,
-  term.Post,
-  word-ahead-reads.Asked,
-  word-ahead-reads.Learnt,
-  group-reads.Asked,
-  group-reads.Learnt,
-) (expression-at t) expression.Post expression-Inv-loop expression-μ-loop)
-    → let s = c .before .before .before .before .before .before .before .before .before .before .before in
-    let look = lookOf (s .args .known) (now (s .args .list)) in
-    let within = readWithin look (s .args .depth) in
-    Left (ors look within) (now (s .args .text)) (now (s .args .out)) (c .loop .out) (s .args .cursor .at) (s .args .place) (readExpr look within (tokensAt (now (s .args .text)) (s .args .cursor .at))) (c .loop .here .at) (c .loop .filled) (c .loop .run)
-expression-left t c =
-    let s = c .before .before .before .before .before .before .before .before .before .before .before in
-    let look = lookOf (s .args .known) (now (s .args .list)) in
-    let within = readWithin look (s .args .depth) in
-    let ts = tokensAt (now (s .args .text)) (s .args .cursor .at) in
-    c .loop .inv .1 _ _ _ (left-start (ors look within) _ _ _ _ _ (expr-whole look within ts) _ _ _ (rw (c .before .before .first .given .1) at (c .before .before .before .before .before .before .term .ensures)))
-
 expression-word-ahead-requires : (t : ℕ) → expression-lts.Need-word-ahead-requires (
-  term-below t,
-  term.Post,
+  operand-below t,
+  operand.Post,
   word-ahead-reads.Asked,
   word-ahead-reads.Learnt,
   group-reads.Asked,
   group-reads.Learnt,
 ) (expression-at t) expression.Post expression-Inv-loop expression-μ-loop
 expression-word-ahead-requires t c κs =
-    let s = c .before .before .before .before .before .before .before .before .before .before .before .before in
-    let l = expression-left t (c .before) in
-    (l .inside, search needs)
+    let turn = c .before .before .before .before .before .before .before .before .loop .inv .1 in
+    let g = rw (c .before .before .one .given .1) at (c .before .before .before .before .before .before .operand .ensures) in
+    (omega (arith, g .inside, turn .inner .inside), search needs)
 
-expression-enum-known-ahead : (t : ℕ) → expression-lts.Need-enum-known-ahead (
-  term-below t,
-  term.Post,
+expression-enum-known-and : (t : ℕ) → expression-lts.Need-enum-known-and (
+  operand-below t,
+  operand.Post,
   word-ahead-reads.Asked,
   word-ahead-reads.Learnt,
   group-reads.Asked,
   group-reads.Learnt,
 ) (expression-at t) expression.Post expression-Inv-loop expression-μ-loop
-expression-enum-known-ahead t c = search needs
+expression-enum-known-and t c = search needs
+
+expression-add-ands : (t : ℕ) → expression-lts.Need-add-ands (
+  operand-below t,
+  operand.Post,
+  word-ahead-reads.Asked,
+  word-ahead-reads.Learnt,
+  group-reads.Asked,
+  group-reads.Learnt,
+) (expression-at t) expression.Post expression-Inv-loop expression-μ-loop
+expression-add-ands t c =
+    let s = c .before .before .before .before .before .before .before .before .before .before .before .before .before .before .before .before in
+    let look = lookOf (s .args .known) (now (s .args .list)) in
+    let within = readWithin look (s .args .depth) in
+    let turn = c .before .before .before .before .before .before .before .before .before .before .before .before .loop .inv .1 in
+    let g = rw (c .before .before .before .before .before .before .one .given .1) at (c .before .before .before .before .before .before .before .before .before .before .operand .ensures) in
+    let l = operands look within _ _ _ _ _ _ _ _ _ _ turn _ _ _ g in
+    omega (arith, l .grows, l .inside, turn .outer .grows, s .pre .1 .0 .short, s .pre .1 .1)
+
+expression-loop-less : (t : ℕ) → expression-lts.Need-loop-less (
+  operand-below t,
+  operand.Post,
+  word-ahead-reads.Asked,
+  word-ahead-reads.Learnt,
+  group-reads.Asked,
+  group-reads.Learnt,
+) (expression-at t) expression.Post expression-Inv-loop expression-μ-loop
+expression-loop-less t c =
+    let g = rw (c .before .before .before .before .before .before .one .given .1) at (c .before .before .before .before .before .before .before .before .before .before .operand .ensures) in
+    let and = rw (c .before .and .given .1) at (c .before .before .before .word-ahead .ensures) in
+    omega (arith, and .2 .onward, and .2 .inside, g .onward)
+
+expression-loop-again : (t : ℕ) → expression-lts.Need-loop-again (
+  operand-below t,
+  operand.Post,
+  word-ahead-reads.Asked,
+  word-ahead-reads.Learnt,
+  group-reads.Asked,
+  group-reads.Learnt,
+) (expression-at t) expression.Post expression-Inv-loop expression-μ-loop
+expression-loop-again t c =
+    let s = c .before .before .before .before .before .before .before .before .before .before .before .before .before .before .before .before in
+    let look = lookOf (s .args .known) (now (s .args .list)) in
+    let within = readWithin look (s .args .depth) in
+    let turn = c .before .before .before .before .before .before .before .before .before .before .before .before .loop .inv .1 in
+    let g = rw (c .before .before .before .before .before .before .one .given .1) at (c .before .before .before .before .before .before .before .before .before .before .operand .ensures) in
+    let and = rw (c .before .and .given .1) at (c .before .before .before .word-ahead .ensures) in
+    (search needs, turn-and look within _ _ _ _ _ _ _ _ _ _ turn _ _ _ g _ (and .0) (and .2))
 
 expression-enum-told : (t : ℕ) → expression-lts.Need-enum-told (
-  term-below t,
-  term.Post,
+  operand-below t,
+  operand.Post,
   word-ahead-reads.Asked,
   word-ahead-reads.Learnt,
   group-reads.Asked,
@@ -367,33 +386,122 @@ expression-enum-told : (t : ℕ) → expression-lts.Need-enum-told (
 ) (expression-at t) expression.Post expression-Inv-loop expression-μ-loop
 expression-enum-told t c = search needs
 
-expression-term-requires-2 : (t : ℕ) → expression-lts.Need-term-requires-2 (
-  term-below t,
-  term.Post,
+expression-group-requires : (t : ℕ) → expression-lts.Need-group-requires (
+  operand-below t,
+  operand.Post,
   word-ahead-reads.Asked,
   word-ahead-reads.Learnt,
   group-reads.Asked,
   group-reads.Learnt,
 ) (expression-at t) expression.Post expression-Inv-loop expression-μ-loop
-expression-term-requires-2 t c κs =
-    let s = c .before .before .before .before .before .before .before .before .before .before .before .before .before .before .before .before .before in
-    let l = expression-left t (c .before .before .before .before .before .before) in
-    let w = rw (c .before .before .ahead .given .1) at (c .before .before .before .before .word-ahead .ensures) in
-    (omega (arith, l .onward, w .2 .onward, w .2 .inside, s .pre .0), (record { short = s .pre .1 .0 .short; names = s .pre .1 .0 .names; inside = w .2 .inside; shallow = s .pre .1 .0 .shallow }, omega (arith, l .grows, w .2 .onward, s .pre .1 .1)))
+expression-group-requires t c κs =
+    let s = c .before .before .before .before .before .before .before .before .before .before .before .before .before .before .before .before in
+    let look = lookOf (s .args .known) (now (s .args .list)) in
+    let within = readWithin look (s .args .depth) in
+    let turn = c .before .before .before .before .before .before .before .before .before .before .before .before .loop .inv .1 in
+    let g = rw (c .before .before .before .before .before .before .one .given .1) at (c .before .before .before .before .before .before .before .before .before .before .operand .ensures) in
+    let l = operands look within _ _ _ _ _ _ _ _ _ _ turn _ _ _ g in
+    (omega (arith, l .ends), omega (arith, l .grows, l .inside, turn .outer .grows, s .pre .1 .0 .short, s .pre .1 .1), omega (arith, l .grows, l .inside, turn .outer .grows, s .pre .1 .0 .short, s .pre .1 .1))
 
-expression-enum-known-more : (t : ℕ) → expression-lts.Need-enum-known-more (
-  term-below t,
-  term.Post,
+expression-add-closed : (t : ℕ) → expression-lts.Need-add-closed (
+  operand-below t,
+  operand.Post,
   word-ahead-reads.Asked,
   word-ahead-reads.Learnt,
   group-reads.Asked,
   group-reads.Learnt,
 ) (expression-at t) expression.Post expression-Inv-loop expression-μ-loop
-expression-enum-known-more t c = search needs
+expression-add-closed t c =
+    let s = c .before .before .before .before .before .before .before .before .before .before .before .before .before .before .before .before .before .before .before in
+    let look = lookOf (s .args .known) (now (s .args .list)) in
+    let within = readWithin look (s .args .depth) in
+    let turn = c .before .before .before .before .before .before .before .before .before .before .before .before .before .before .before .loop .inv .1 in
+    let g = rw (c .before .before .before .before .before .before .before .before .before .one .given .1) at (c .before .before .before .before .before .before .before .before .before .before .before .before .before .operand .ensures) in
+    let l = operands look within _ _ _ _ _ _ _ _ _ _ turn _ _ _ g in
+    omega (arith, l .grows, l .inside, turn .outer .grows, s .pre .1 .0 .short, s .pre .1 .1)
+
+expression-slice-aggregate-word-ahead-2 :
+    (t : ℕ) → expression-lts.Need-slice-aggregate-word-ahead-2 (
+      operand-below t,
+      operand.Post,
+      word-ahead-reads.Asked,
+      word-ahead-reads.Learnt,
+      group-reads.Asked,
+      group-reads.Learnt,
+    ) (expression-at t) expression.Post expression-Inv-loop expression-μ-loop
+expression-slice-aggregate-word-ahead-2 t c = search needs
+
+expression-word-ahead-requires-2 : (t : ℕ) → expression-lts.Need-word-ahead-requires-2 (
+  operand-below t,
+  operand.Post,
+  word-ahead-reads.Asked,
+  word-ahead-reads.Learnt,
+  group-reads.Asked,
+  group-reads.Learnt,
+) (expression-at t) expression.Post expression-Inv-loop expression-μ-loop
+expression-word-ahead-requires-2 t c κs =
+    let g = rw (c .before .before .before .before .before .before .before .before .before .before .one .given .1) at (c .before .before .before .before .before .before .before .before .before .before .before .before .before .before .operand .ensures) in
+    (g .inside, search needs)
+
+expression-enum-known-or : (t : ℕ) → expression-lts.Need-enum-known-or (
+  operand-below t,
+  operand.Post,
+  word-ahead-reads.Asked,
+  word-ahead-reads.Learnt,
+  group-reads.Asked,
+  group-reads.Learnt,
+) (expression-at t) expression.Post expression-Inv-loop expression-μ-loop
+expression-enum-known-or t c = search needs
+
+expression-enum-told-2 : (t : ℕ) → expression-lts.Need-enum-told-2 (
+  operand-below t,
+  operand.Post,
+  word-ahead-reads.Asked,
+  word-ahead-reads.Learnt,
+  group-reads.Asked,
+  group-reads.Learnt,
+) (expression-at t) expression.Post expression-Inv-loop expression-μ-loop
+expression-enum-told-2 t c = search needs
+
+expression-group-requires-2 : (t : ℕ) → expression-lts.Need-group-requires-2 (
+  operand-below t,
+  operand.Post,
+  word-ahead-reads.Asked,
+  word-ahead-reads.Learnt,
+  group-reads.Asked,
+  group-reads.Learnt,
+) (expression-at t) expression.Post expression-Inv-loop expression-μ-loop
+expression-group-requires-2 t c κs =
+    let s = c .before .before .before .before .before .before .before .before .before .before .before .before .before .before .before .before .before .before .before .before .before .before .before .before in
+    let look = lookOf (s .args .known) (now (s .args .list)) in
+    let within = readWithin look (s .args .depth) in
+    let turn = c .before .before .before .before .before .before .before .before .before .before .before .before .before .before .before .before .before .before .before .before .loop .inv .1 in
+    let g = rw (c .before .before .before .before .before .before .before .before .before .before .before .before .before .before .one .given .1) at (c .before .before .before .before .before .before .before .before .before .before .before .before .before .before .before .before .before .before .operand .ensures) in
+    let and = rw (c .before .before .before .before .before .before .before .before .before .enum-told .given .1) at (c .before .before .before .before .before .before .before .before .before .before .before .word-ahead .ensures) in
+    let whole = terms look within _ _ _ _ _ _ _ _ _ _ turn _ _ _ g _ (and .0) (c .before .before .before .before .before .before .before .group .ensures) in
+    (omega (arith, whole .ends), omega (arith, whole .grows, whole .inside, s .pre .1 .0 .short, s .pre .1 .1), omega (arith, whole .grows, whole .inside, s .pre .1 .0 .short, s .pre .1 .1))
+
+expression-add-t37 : (t : ℕ) → expression-lts.Need-add-t37 (
+  operand-below t,
+  operand.Post,
+  word-ahead-reads.Asked,
+  word-ahead-reads.Learnt,
+  group-reads.Asked,
+  group-reads.Learnt,
+) (expression-at t) expression.Post expression-Inv-loop expression-μ-loop
+expression-add-t37 t c =
+    let s = c .before .before .before .before .before .before .before .before .before .before .before .before .before .before .before .before .before .before .before .before .before .before .before .before .before .before .before in
+    let look = lookOf (s .args .known) (now (s .args .list)) in
+    let within = readWithin look (s .args .depth) in
+    let turn = c .before .before .before .before .before .before .before .before .before .before .before .before .before .before .before .before .before .before .before .before .before .before .before .loop .inv .1 in
+    let g = rw (c .before .before .before .before .before .before .before .before .before .before .before .before .before .before .before .before .before .one .given .1) at (c .before .before .before .before .before .before .before .before .before .before .before .before .before .before .before .before .before .before .before .before .before .operand .ensures) in
+    let and = rw (c .before .before .before .before .before .before .before .before .before .before .before .before .enum-told .given .1) at (c .before .before .before .before .before .before .before .before .before .before .before .before .before .before .word-ahead .ensures) in
+    let whole = terms look within _ _ _ _ _ _ _ _ _ _ turn _ _ _ g _ (and .0) (c .before .before .before .before .before .before .before .before .before .before .group .ensures) in
+    omega (arith, whole .grows, whole .inside, s .pre .1 .0 .short, s .pre .1 .1)
 
 expression-same-length-2 : (t : ℕ) → expression-lts.Need-same-length-2 (
-  term-below t,
-  term.Post,
+  operand-below t,
+  operand.Post,
   word-ahead-reads.Asked,
   word-ahead-reads.Learnt,
   group-reads.Asked,
@@ -402,116 +510,73 @@ expression-same-length-2 : (t : ℕ) → expression-lts.Need-same-length-2 (
 expression-same-length-2 t c = search needs
 
 expression-returns-2 : (t : ℕ) → expression-lts.Need-returns-2 (
-  term-below t,
-  term.Post,
+  operand-below t,
+  operand.Post,
   word-ahead-reads.Asked,
   word-ahead-reads.Learnt,
   group-reads.Asked,
   group-reads.Learnt,
 ) (expression-at t) expression.Post expression-Inv-loop expression-μ-loop
 expression-returns-2 t c =
-    let s = c .before .before .before .before .before .before .before .before .before .before .before .before .before .before .before .before .before .before .before .before .before in
+    let s = c .before .before .before .before .before .before .before .before .before .before .before .before .before .before .before .before .before .before .before .before .before .before .before .before .before .before .before in
     let look = lookOf (s .args .known) (now (s .args .list)) in
     let within = readWithin look (s .args .depth) in
-    let l = expression-left t (c .before .before .before .before .before .before .before .before .before .before) in
-    let w = rw (c .before .before .before .before .before .before .ahead .given .1) at (c .before .before .before .before .before .before .before .before .word-ahead .ensures) in
-    passed-on _ _ _ _ _ _ _ _ _ _ _ _ _ _ _ _ _ _ (c .before .before .before .term2 .result) (c .match3 .keys2) (c .before .before .before .term2 .ensures) (left-stuck (ors look within) _ _ _ _ _ _ _ _ _ l _ (w .0) (w .2))
+    let turn = c .before .before .before .before .before .before .before .before .before .before .before .before .before .before .before .before .before .before .before .before .before .before .before .loop .inv .1 in
+    let g = rw (c .before .before .before .before .before .before .before .before .before .before .before .before .before .before .before .before .before .one .given .1) at (c .before .before .before .before .before .before .before .before .before .before .before .before .before .before .before .before .before .before .before .before .before .operand .ensures) in
+    let and = rw (c .before .before .before .before .before .before .before .before .before .before .before .before .enum-told .given .1) at (c .before .before .before .before .before .before .before .before .before .before .before .before .before .before .word-ahead .ensures) in
+    let or = rw (c .before .before .before .before .enum-told2 .given .1) at (c .before .before .before .before .before .before .word-ahead2 .ensures) in
+    turn-done look within _ _ _ _ _ _ _ _ _ _ turn _ _ _ g _ (and .0) (c .before .before .before .before .before .before .before .before .before .before .group .ensures) _ (or .0) (c .before .before .group2 .ensures)
 
-expression-add-run : (t : ℕ) → expression-lts.Need-add-run (
-  term-below t,
-  term.Post,
+expression-add-ors : (t : ℕ) → expression-lts.Need-add-ors (
+  operand-below t,
+  operand.Post,
   word-ahead-reads.Asked,
   word-ahead-reads.Learnt,
   group-reads.Asked,
   group-reads.Learnt,
 ) (expression-at t) expression.Post expression-Inv-loop expression-μ-loop
-expression-add-run t c =
-    let s = c .before .before .before .before .before .before .before .before .before .before .before .before .before .before .before .before .before .before .before .before .before .before .before in
-    let l = expression-left t (c .before .before .before .before .before .before .before .before .before .before .before .before) in
-    omega (arith, l .grows, l .inside, s .pre .1 .0 .short, s .pre .1 .1)
+expression-add-ors t c =
+    let s = c .before .before .before .before .before .before .before .before .before .before .before .before .before .before .before .before .before .before .before .before .before .before .before .before in
+    let look = lookOf (s .args .known) (now (s .args .list)) in
+    let within = readWithin look (s .args .depth) in
+    let turn = c .before .before .before .before .before .before .before .before .before .before .before .before .before .before .before .before .before .before .before .before .loop .inv .1 in
+    let g = rw (c .before .before .before .before .before .before .before .before .before .before .before .before .before .before .one .given .1) at (c .before .before .before .before .before .before .before .before .before .before .before .before .before .before .before .before .before .before .operand .ensures) in
+    let and = rw (c .before .before .before .before .before .before .before .before .before .enum-told .given .1) at (c .before .before .before .before .before .before .before .before .before .before .before .word-ahead .ensures) in
+    let whole = terms look within _ _ _ _ _ _ _ _ _ _ turn _ _ _ g _ (and .0) (c .before .before .before .before .before .before .before .group .ensures) in
+    omega (arith, whole .grows, whole .inside, s .pre .1 .0 .short, s .pre .1 .1)
 
-expression-loop-less : (t : ℕ) → expression-lts.Need-loop-less (
-  term-below t,
-  term.Post,
+expression-loop-less-2 : (t : ℕ) → expression-lts.Need-loop-less-2 (
+  operand-below t,
+  operand.Post,
   word-ahead-reads.Asked,
   word-ahead-reads.Learnt,
   group-reads.Asked,
   group-reads.Learnt,
 ) (expression-at t) expression.Post expression-Inv-loop expression-μ-loop
-expression-loop-less t c =
-    let g = rw (c .before .more .given .1) at (c .before .before .before .before .before .term2 .ensures) in
-    let w = rw (c .before .before .before .before .before .before .before .before .ahead .given .1) at (c .before .before .before .before .before .before .before .before .before .before .word-ahead .ensures) in
-    omega (arith, w .2 .onward, g .onward, g .inside)
+expression-loop-less-2 t c =
+    let g = rw (c .before .before .before .before .before .before .before .before .before .before .before .before .before .before .one .given .1) at (c .before .before .before .before .before .before .before .before .before .before .before .before .before .before .before .before .before .before .operand .ensures) in
+    let or = rw (c .before .or .given .1) at (c .before .before .before .word-ahead2 .ensures) in
+    omega (arith, or .2 .onward, or .2 .inside, g .onward)
 
-expression-loop-again : (t : ℕ) → expression-lts.Need-loop-again (
-  term-below t,
-  term.Post,
+expression-loop-again-2 : (t : ℕ) → expression-lts.Need-loop-again-2 (
+  operand-below t,
+  operand.Post,
   word-ahead-reads.Asked,
   word-ahead-reads.Learnt,
   group-reads.Asked,
   group-reads.Learnt,
 ) (expression-at t) expression.Post expression-Inv-loop expression-μ-loop
-expression-loop-again t c = (
+expression-loop-again-2 t c = (
   search needs,
-  let s = c .before .before .before .before .before .before .before .before .before .before .before .before .before .before .before .before .before .before .before .before .before .before .before in
+  let s = c .before .before .before .before .before .before .before .before .before .before .before .before .before .before .before .before .before .before .before .before .before .before .before .before in
       let look = lookOf (s .args .known) (now (s .args .list)) in
       let within = readWithin look (s .args .depth) in
-      let g = rw (c .before .more .given .1) at (c .before .before .before .before .before .term2 .ensures) in
-      let w = rw (c .before .before .before .before .before .before .before .before .ahead .given .1) at (c .before .before .before .before .before .before .before .before .before .before .word-ahead .ensures) in
-      λ old from all l. left-more (ors look within) _ old from _ all _ _ _ _ (c .before .before .before .before .before .before .before .before .before .before .before .before .loop .inv .1 old from all l) _ (w .0) (w .2) _ _ _ g,
+      let turn = c .before .before .before .before .before .before .before .before .before .before .before .before .before .before .before .before .before .before .before .before .loop .inv .1 in
+      let g = rw (c .before .before .before .before .before .before .before .before .before .before .before .before .before .before .one .given .1) at (c .before .before .before .before .before .before .before .before .before .before .before .before .before .before .before .before .before .before .operand .ensures) in
+      let and = rw (c .before .before .before .before .before .before .before .before .before .enum-told .given .1) at (c .before .before .before .before .before .before .before .before .before .before .before .word-ahead .ensures) in
+      let or = rw (c .before .or .given .1) at (c .before .before .before .word-ahead2 .ensures) in
+      turn-or look within _ _ _ _ _ _ _ _ _ _ turn _ _ _ g _ (and .0) (c .before .before .before .before .before .before .before .group .ensures) _ (or .0) (or .2),
 )
-
-expression-group-requires : (t : ℕ) → expression-lts.Need-group-requires (
-  term-below t,
-  term.Post,
-  word-ahead-reads.Asked,
-  word-ahead-reads.Learnt,
-  group-reads.Asked,
-  group-reads.Learnt,
-) (expression-at t) expression.Post expression-Inv-loop expression-μ-loop
-expression-group-requires t c κs =
-    let s = c .before .before .before .before .before .before .before .before .before .before .before .before .before .before .before .before in
-    let l = expression-left t (c .before .before .before .before .before) in
-    (omega (arith, l .ends), omega (arith, l .grows, l .inside, s .pre .1 .0 .short, s .pre .1 .1), omega (arith, l .grows, l .inside, s .pre .1 .0 .short, s .pre .1 .1))
-
-expression-add-t31 : (t : ℕ) → expression-lts.Need-add-t31 (
-  term-below t,
-  term.Post,
-  word-ahead-reads.Asked,
-  word-ahead-reads.Learnt,
-  group-reads.Asked,
-  group-reads.Learnt,
-) (expression-at t) expression.Post expression-Inv-loop expression-μ-loop
-expression-add-t31 t c =
-    let s = c .before .before .before .before .before .before .before .before .before .before .before .before .before .before .before .before .before .before .before in
-    let l = expression-left t (c .before .before .before .before .before .before .before .before) in
-    omega (arith, l .grows, l .inside, s .pre .1 .0 .short, s .pre .1 .1)
-
-expression-same-length-3 : (t : ℕ) → expression-lts.Need-same-length-3 (
-  term-below t,
-  term.Post,
-  word-ahead-reads.Asked,
-  word-ahead-reads.Learnt,
-  group-reads.Asked,
-  group-reads.Learnt,
-) (expression-at t) expression.Post expression-Inv-loop expression-μ-loop
-expression-same-length-3 t c = search needs
-
-expression-returns-3 : (t : ℕ) → expression-lts.Need-returns-3 (
-  term-below t,
-  term.Post,
-  word-ahead-reads.Asked,
-  word-ahead-reads.Learnt,
-  group-reads.Asked,
-  group-reads.Learnt,
-) (expression-at t) expression.Post expression-Inv-loop expression-μ-loop
-expression-returns-3 t c =
-    let s = c .before .before .before .before .before .before .before .before .before .before .before .before .before .before .before .before .before .before .before in
-    let look = lookOf (s .args .known) (now (s .args .list)) in
-    let within = readWithin look (s .args .depth) in
-    let l = expression-left t (c .before .before .before .before .before .before .before .before) in
-    let w = rw (c .before .before .before .before .enum-told .given .1) at (c .before .before .before .before .before .before .word-ahead .ensures) in
-    left-done (ors look within) _ _ _ _ _ _ _ _ _ l _ (w .0) (c .before .before .group .ensures)
 
 operand-opening-requires : (t : ℕ) → operand-lts.Need-opening-requires (
   opening-reads.Asked,
@@ -1490,288 +1555,9 @@ steps-returns-2 t c =
     let l = step-more look within _ _ _ _ _ _ _ _ _ _ (c .before .before .before .before .before .before .before .before .before .before .before .before .before .before .before .before .before .before .before .loop .inv .1) _ _ _ _ _ (c .before .before .before .before .before .before .before .before .before .before .before .before .before .before .before .before .before .put-deep .ensures .0) (c .before .before .before .before .before .before .before .before .before .before .before .before .before .before .before .before .before .put-deep .ensures .1) g in
     steps-done look within _ _ _ _ _ _ _ _ _ l _ _ _ (rw (c .before .before .before .before .before .enum-told .given .1) at (c .before .before .before .before .before .before .before .joined .ensures)) (c .before .before .before .path-word .ensures) (c .before .before .put .ensures)
 
-abbrev term-Inv-loop : term-lts.InvT-loop
-term-Inv-loop text list starts count known depth out₀ place end here₀ filled₀ run₀ t21 out here filled run =
-    (length out ≡ length out₀) × ((old : List ℕ) (from : ℕ) (all : Got Expr) → Left (ands (lookOf known list) (readWithin (lookOf known list) depth)) text old out₀ from place all (here₀ .at) filled₀ 0 → Left (ands (lookOf known list) (readWithin (lookOf known list) depth)) text old out from place all (here .at) filled run)
-
-abbrev term-μ-loop : term-lts.MeasureT-loop
-term-μ-loop text list starts count known depth out₀ place end here₀ filled₀ run₀ t21 out here filled run =
-    length text - here .at
-
-term-operand-requires : (t : ℕ) → term-lts.Need-operand-requires (
-  operand-below t,
-  operand.Post,
-  word-ahead-reads.Asked,
-  word-ahead-reads.Learnt,
-  group-reads.Asked,
-  group-reads.Learnt,
-) (term-at t) term.Post term-Inv-loop term-μ-loop
-term-operand-requires t c κs = search needs
-
-term-enum-known-first : (t : ℕ) → term-lts.Need-enum-known-first (
-  operand-below t,
-  operand.Post,
-  word-ahead-reads.Asked,
-  word-ahead-reads.Learnt,
-  group-reads.Asked,
-  group-reads.Learnt,
-) (term-at t) term.Post term-Inv-loop term-μ-loop
-term-enum-known-first t c = search needs
-
-term-same-length : (t : ℕ) → term-lts.Need-same-length (
-  operand-below t,
-  operand.Post,
-  word-ahead-reads.Asked,
-  word-ahead-reads.Learnt,
-  group-reads.Asked,
-  group-reads.Learnt,
-) (term-at t) term.Post term-Inv-loop term-μ-loop
-term-same-length t c = search needs
-
-term-returns : (t : ℕ) → term-lts.Need-returns (
-  operand-below t,
-  operand.Post,
-  word-ahead-reads.Asked,
-  word-ahead-reads.Learnt,
-  group-reads.Asked,
-  group-reads.Learnt,
-) (term-at t) term.Post term-Inv-loop term-μ-loop
-term-returns t c =
-    let s = c .before .before .before .before .before .before .before .before in
-    let look = lookOf (s .args .known) (now (s .args .list)) in
-    let within = readWithin look (s .args .depth) in
-    passed-on _ _ _ _ _ _ _ _ _ _ _ _ _ _ _ _ _ _ (c .before .before .before .operand .result) (c .match .keys2) (c .before .before .before .operand .ensures) (start-stuck (ands look within) _ (s .args .out .now) _ (s .args .place) _ (term-whole look within (tokensAt (now (s .args .text)) (s .args .cursor .at))))
-
-term-loop-holds : (t : ℕ) → term-lts.Need-loop-holds (
-  operand-below t,
-  operand.Post,
-  word-ahead-reads.Asked,
-  word-ahead-reads.Learnt,
-  group-reads.Asked,
-  group-reads.Learnt,
-) (term-at t) term.Post term-Inv-loop term-μ-loop
-term-loop-holds t c = search needs
-
-term-slice-aggregate-word-ahead : (t : ℕ) → term-lts.Need-slice-aggregate-word-ahead (
-  operand-below t,
-  operand.Post,
-  word-ahead-reads.Asked,
-  word-ahead-reads.Learnt,
-  group-reads.Asked,
-  group-reads.Learnt,
-) (term-at t) term.Post term-Inv-loop term-μ-loop
-term-slice-aggregate-word-ahead t c = search needs
-
--- What has been read where the loop's turn begins.
-term-left : (t : ℕ) (c : term-lts.At-loop (
-  operand-below t,
-  operand.Post,
-  word-ahead-reads.Asked,
-  word-ahead-reads.Learnt,
-  group-reads.Asked,
-  group-reads.Learnt,
-) (term-at t) term.Post term-Inv-loop term-μ-loop)
-    → let s = c .before .before .before .before .before .before .before .before .before .before .before in
-    let look = lookOf (s .args .known) (now (s .args .list)) in
-    let within = readWithin look (s .args .depth) in
-    Left (ands look within) (now (s .args .text)) (now (s .args .out)) (c .loop .out) (s .args .cursor .at) (s .args .place) (readTerm look within (tokensAt (now (s .args .text)) (s .args .cursor .at))) (c .loop .here .at) (c .loop .filled) (c .loop .run)
-term-left t c =
-    let s = c .before .before .before .before .before .before .before .before .before .before .before in
-    let look = lookOf (s .args .known) (now (s .args .list)) in
-    let within = readWithin look (s .args .depth) in
-    let ts = tokensAt (now (s .args .text)) (s .args .cursor .at) in
-    c .loop .inv .1 _ _ _ (left-start (ands look within) _ _ _ _ _ (term-whole look within ts) _ _ _ (rw (c .before .before .first .given .1) at (c .before .before .before .before .before .before .operand .ensures)))
-
-term-word-ahead-requires : (t : ℕ) → term-lts.Need-word-ahead-requires (
-  operand-below t,
-  operand.Post,
-  word-ahead-reads.Asked,
-  word-ahead-reads.Learnt,
-  group-reads.Asked,
-  group-reads.Learnt,
-) (term-at t) term.Post term-Inv-loop term-μ-loop
-term-word-ahead-requires t c κs =
-    let s = c .before .before .before .before .before .before .before .before .before .before .before .before in
-    let l = term-left t (c .before) in
-    (l .inside, search needs)
-
-term-enum-known-ahead : (t : ℕ) → term-lts.Need-enum-known-ahead (
-  operand-below t,
-  operand.Post,
-  word-ahead-reads.Asked,
-  word-ahead-reads.Learnt,
-  group-reads.Asked,
-  group-reads.Learnt,
-) (term-at t) term.Post term-Inv-loop term-μ-loop
-term-enum-known-ahead t c = search needs
-
-term-enum-told : (t : ℕ) → term-lts.Need-enum-told (
-  operand-below t,
-  operand.Post,
-  word-ahead-reads.Asked,
-  word-ahead-reads.Learnt,
-  group-reads.Asked,
-  group-reads.Learnt,
-) (term-at t) term.Post term-Inv-loop term-μ-loop
-term-enum-told t c = search needs
-
-term-operand-requires-2 : (t : ℕ) → term-lts.Need-operand-requires-2 (
-  operand-below t,
-  operand.Post,
-  word-ahead-reads.Asked,
-  word-ahead-reads.Learnt,
-  group-reads.Asked,
-  group-reads.Learnt,
-) (term-at t) term.Post term-Inv-loop term-μ-loop
-term-operand-requires-2 t c κs =
-    let s = c .before .before .before .before .before .before .before .before .before .before .before .before .before .before .before .before .before in
-    let l = term-left t (c .before .before .before .before .before .before) in
-    let w = rw (c .before .before .ahead .given .1) at (c .before .before .before .before .word-ahead .ensures) in
-    (omega (arith, l .onward, w .2 .onward, w .2 .inside, s .pre .0), (record { short = s .pre .1 .0 .short; names = s .pre .1 .0 .names; inside = w .2 .inside; shallow = s .pre .1 .0 .shallow }, omega (arith, l .grows, w .2 .onward, s .pre .1 .1)))
-
-term-enum-known-more : (t : ℕ) → term-lts.Need-enum-known-more (
-  operand-below t,
-  operand.Post,
-  word-ahead-reads.Asked,
-  word-ahead-reads.Learnt,
-  group-reads.Asked,
-  group-reads.Learnt,
-) (term-at t) term.Post term-Inv-loop term-μ-loop
-term-enum-known-more t c = search needs
-
-term-same-length-2 : (t : ℕ) → term-lts.Need-same-length-2 (
-  operand-below t,
-  operand.Post,
-  word-ahead-reads.Asked,
-  word-ahead-reads.Learnt,
-  group-reads.Asked,
-  group-reads.Learnt,
-) (term-at t) term.Post term-Inv-loop term-μ-loop
-term-same-length-2 t c = search needs
-
-term-returns-2 : (t : ℕ) → term-lts.Need-returns-2 (
-  operand-below t,
-  operand.Post,
-  word-ahead-reads.Asked,
-  word-ahead-reads.Learnt,
-  group-reads.Asked,
-  group-reads.Learnt,
-) (term-at t) term.Post term-Inv-loop term-μ-loop
-term-returns-2 t c =
-    let s = c .before .before .before .before .before .before .before .before .before .before .before .before .before .before .before .before .before .before .before .before .before in
-    let look = lookOf (s .args .known) (now (s .args .list)) in
-    let within = readWithin look (s .args .depth) in
-    let l = term-left t (c .before .before .before .before .before .before .before .before .before .before) in
-    let w = rw (c .before .before .before .before .before .before .ahead .given .1) at (c .before .before .before .before .before .before .before .before .word-ahead .ensures) in
-    passed-on _ _ _ _ _ _ _ _ _ _ _ _ _ _ _ _ _ _ (c .before .before .before .operand2 .result) (c .match3 .keys2) (c .before .before .before .operand2 .ensures) (left-stuck (ands look within) _ _ _ _ _ _ _ _ _ l _ (w .0) (w .2))
-
-term-add-run : (t : ℕ) → term-lts.Need-add-run (
-  operand-below t,
-  operand.Post,
-  word-ahead-reads.Asked,
-  word-ahead-reads.Learnt,
-  group-reads.Asked,
-  group-reads.Learnt,
-) (term-at t) term.Post term-Inv-loop term-μ-loop
-term-add-run t c =
-    let s = c .before .before .before .before .before .before .before .before .before .before .before .before .before .before .before .before .before .before .before .before .before .before .before in
-    let l = term-left t (c .before .before .before .before .before .before .before .before .before .before .before .before) in
-    omega (arith, l .grows, l .inside, s .pre .1 .0 .short, s .pre .1 .1)
-
-term-loop-less : (t : ℕ) → term-lts.Need-loop-less (
-  operand-below t,
-  operand.Post,
-  word-ahead-reads.Asked,
-  word-ahead-reads.Learnt,
-  group-reads.Asked,
-  group-reads.Learnt,
-) (term-at t) term.Post term-Inv-loop term-μ-loop
-term-loop-less t c =
-    let g = rw (c .before .more .given .1) at (c .before .before .before .before .before .operand2 .ensures) in
-    let w = rw (c .before .before .before .before .before .before .before .before .ahead .given .1) at (c .before .before .before .before .before .before .before .before .before .before .word-ahead .ensures) in
-    omega (arith, w .2 .onward, g .onward, g .inside)
-
-term-loop-again : (t : ℕ) → term-lts.Need-loop-again (
-  operand-below t,
-  operand.Post,
-  word-ahead-reads.Asked,
-  word-ahead-reads.Learnt,
-  group-reads.Asked,
-  group-reads.Learnt,
-) (term-at t) term.Post term-Inv-loop term-μ-loop
-term-loop-again t c = (
-  search needs,
-  let s = c .before .before .before .before .before .before .before .before .before .before .before .before .before .before .before .before .before .before .before .before .before .before .before in
-      let look = lookOf (s .args .known) (now (s .args .list)) in
-      let within = readWithin look (s .args .depth) in
-      let g = rw (c .before .more .given .1) at (c .before .before .before .before .before .operand2 .ensures) in
-      let w = rw (c .before .before .before .before .before .before .before .before .ahead .given .1) at (c .before .before .before .before .before .before .before .before .before .before .word-ahead .ensures) in
-      λ old from all l. left-more (ands look within) _ old from _ all _ _ _ _ (c .before .before .before .before .before .before .before .before .before .before .before .before .loop .inv .1 old from all l) _ (w .0) (w .2) _ _ _ g,
-)
-
-term-group-requires : (t : ℕ) → term-lts.Need-group-requires (
-  operand-below t,
-  operand.Post,
-  word-ahead-reads.Asked,
-  word-ahead-reads.Learnt,
-  group-reads.Asked,
-  group-reads.Learnt,
-) (term-at t) term.Post term-Inv-loop term-μ-loop
-term-group-requires t c κs =
-    let s = c .before .before .before .before .before .before .before .before .before .before .before .before .before .before .before .before in
-    let l = term-left t (c .before .before .before .before .before) in
-    (omega (arith, l .ends), omega (arith, l .grows, l .inside, s .pre .1 .0 .short, s .pre .1 .1), omega (arith, l .grows, l .inside, s .pre .1 .0 .short, s .pre .1 .1))
-
-term-add-t31 : (t : ℕ) → term-lts.Need-add-t31 (
-  operand-below t,
-  operand.Post,
-  word-ahead-reads.Asked,
-  word-ahead-reads.Learnt,
-  group-reads.Asked,
-  group-reads.Learnt,
-) (term-at t) term.Post term-Inv-loop term-μ-loop
-term-add-t31 t c =
-    let s = c .before .before .before .before .before .before .before .before .before .before .before .before .before .before .before .before .before .before .before in
-    let l = term-left t (c .before .before .before .before .before .before .before .before) in
-    omega (arith, l .grows, l .inside, s .pre .1 .0 .short, s .pre .1 .1)
-
-term-same-length-3 : (t : ℕ) → term-lts.Need-same-length-3 (
-  operand-below t,
-  operand.Post,
-  word-ahead-reads.Asked,
-  word-ahead-reads.Learnt,
-  group-reads.Asked,
-  group-reads.Learnt,
-) (term-at t) term.Post term-Inv-loop term-μ-loop
-term-same-length-3 t c = search needs
-
-term-returns-3 : (t : ℕ) → term-lts.Need-returns-3 (
-  operand-below t,
-  operand.Post,
-  word-ahead-reads.Asked,
-  word-ahead-reads.Learnt,
-  group-reads.Asked,
-  group-reads.Learnt,
-) (term-at t) term.Post term-Inv-loop term-μ-loop
-term-returns-3 t c =
-    let s = c .before .before .before .before .before .before .before .before .before .before .before .before .before .before .before .before .before .before .before in
-    let look = lookOf (s .args .known) (now (s .args .list)) in
-    let within = readWithin look (s .args .depth) in
-    let l = term-left t (c .before .before .before .before .before .before .before .before) in
-    let w = rw (c .before .before .before .before .enum-told .given .1) at (c .before .before .before .before .before .before .word-ahead .ensures) in
-    left-done (ands look within) _ _ _ _ _ _ _ _ _ l _ (w .0) (c .before .before .group .ensures)
-
-pub +bracketed+expression+operand+predicates+step+steps+term-spec : {M : Type 1} → statement M
-+bracketed+expression+operand+predicates+step+steps+term-spec =
-    close
-    μ-bracketed
-    μ-expression
-    μ-operand
-    μ-predicates
-    μ-step
-    μ-steps
-    μ-term
-    (λ t. bracketed-lts.spec (
+pub +bracketed+expression+operand+predicates+step+steps-spec : {M : Type 1} → statement M
++bracketed+expression+operand+predicates+step+steps-spec =
+    close μ-bracketed μ-expression μ-operand μ-predicates μ-step μ-steps (λ t. bracketed-lts.spec (
       expression-below t,
       expression.Post,
       mark-reads.Asked,
@@ -1793,8 +1579,8 @@ pub +bracketed+expression+operand+predicates+step+steps+term-spec : {M : Type 1}
     (bracketed-same-length-3 t)
     (bracketed-returns-4 t))
     (λ t. expression-lts.spec (
-      term-below t,
-      term.Post,
+      operand-below t,
+      operand.Post,
       word-ahead-reads.Asked,
       word-ahead-reads.Learnt,
       group-reads.Asked,
@@ -1804,26 +1590,31 @@ pub +bracketed+expression+operand+predicates+step+steps+term-spec : {M : Type 1}
     expression.Post
     expression-Inv-loop
     expression-μ-loop
-    (expression-term-requires t)
-    (expression-enum-known-first t)
+    (expression-loop-holds t)
+    (expression-operand-requires t)
+    (expression-enum-known-one t)
     (expression-same-length t)
     (expression-returns t)
-    (expression-loop-holds t)
     (expression-slice-aggregate-word-ahead t)
     (expression-word-ahead-requires t)
-    (expression-enum-known-ahead t)
-    (expression-enum-told t)
-    (expression-term-requires-2 t)
-    (expression-enum-known-more t)
-    (expression-same-length-2 t)
-    (expression-returns-2 t)
-    (expression-add-run t)
+    (expression-enum-known-and t)
+    (expression-add-ands t)
     (expression-loop-less t)
     (expression-loop-again t)
+    (expression-enum-told t)
     (expression-group-requires t)
-    (expression-add-t31 t)
-    (expression-same-length-3 t)
-    (expression-returns-3 t))
+    (expression-add-closed t)
+    (expression-slice-aggregate-word-ahead-2 t)
+    (expression-word-ahead-requires-2 t)
+    (expression-enum-known-or t)
+    (expression-enum-told-2 t)
+    (expression-group-requires-2 t)
+    (expression-add-t37 t)
+    (expression-same-length-2 t)
+    (expression-returns-2 t)
+    (expression-add-ors t)
+    (expression-loop-less-2 t)
+    (expression-loop-again-2 t))
     (λ t. operand-lts.spec (
       opening-reads.Asked,
       opening-reads.Learnt,
@@ -1911,7 +1702,7 @@ pub +bracketed+expression+operand+predicates+step+steps+term-spec : {M : Type 1}
     (step-returns-2 t)
     (step-returns-3 t)
     (step-returns-4 t))
-    (λ t. steps-lts.spec (
+    λ t. steps-lts.spec (
       put-deep-reads.Asked,
       put-deep-reads.Learnt,
       step-below t,
@@ -1945,36 +1736,4 @@ pub +bracketed+expression+operand+predicates+step+steps+term-spec : {M : Type 1}
     (steps-path-word-requires t)
     (steps-put-requires t)
     (steps-same-length-2 t)
-    (steps-returns-2 t))
-    λ t. term-lts.spec (
-      operand-below t,
-      operand.Post,
-      word-ahead-reads.Asked,
-      word-ahead-reads.Learnt,
-      group-reads.Asked,
-      group-reads.Learnt,
-    )
-    (term-at t)
-    term.Post
-    term-Inv-loop
-    term-μ-loop
-    (term-operand-requires t)
-    (term-enum-known-first t)
-    (term-same-length t)
-    (term-returns t)
-    (term-loop-holds t)
-    (term-slice-aggregate-word-ahead t)
-    (term-word-ahead-requires t)
-    (term-enum-known-ahead t)
-    (term-enum-told t)
-    (term-operand-requires-2 t)
-    (term-enum-known-more t)
-    (term-same-length-2 t)
-    (term-returns-2 t)
-    (term-add-run t)
-    (term-loop-less t)
-    (term-loop-again t)
-    (term-group-requires t)
-    (term-add-t31 t)
-    (term-same-length-3 t)
-    (term-returns-3 t)
+    (steps-returns-2 t)
