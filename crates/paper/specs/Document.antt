@@ -12,6 +12,10 @@ pub record Table : Type 0 where
   pub parents : List ℕ
   pub kinds : List ℕ
 
+-- The table of two columns.
+abbrev pub tableOf : List ℕ → List ℕ → Table
+tableOf parents kinds = record { parents = parents; kinds = kinds }
+
 -- The number of nodes.
 abbrev pub nodes : Table → ℕ
 nodes t = length (t .parents)

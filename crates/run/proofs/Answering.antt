@@ -16,7 +16,7 @@ use Rattle.paper.specs.Limits.{itemLimit, nodeLimit}
 use Rattle.paper.specs.Query.{Query}
 use Rattle.paper.specs.Items.{decode}
 use Rattle.paper.specs.Measures.{size, height}
-use Rattle.paper.specs.Document.{Table, nodes, parentOf, tableFault, marked, goodMark, marksFault}
+use Rattle.paper.specs.Document.{Table, nodes, parentOf, tableFault, marked, goodMark, marksFault, tableOf}
 use Rattle.paper.specs.Extraction.{rank}
 use Rattle.paper.specs.Selection.{kept}
 use Rattle.paper.specs.Answers.{value, refusal, line, lineQuery, tooLong, short, scratchOf, markedCount, atExit, runAnswer, runMarks, runScratch, keptGot, zerosGot}
@@ -29,7 +29,7 @@ use Rattle.paper.proofs.Trees.{tree, good-marks}
 use Rattle.paper.proofs.Sizes.{size-decoded, height-size}
 use Rattle.paper.proofs.Refusing.{line-value, when-none, or-none, Refuses, refusal-told, refused-keeps}
 use Rattle.paper.proofs.Keeping.{length-kept}
-use Rattle.sets.specs.Sets.{bits, tableOf}
+use Rattle.sets.specs.Sets.{bits}
 use Rattle.shape.specs.Walks.{shapeOf}
 use Rattle.shape.specs.declared.Shape.the-variants.{Query as IsQuery, Malformed as NoQuery}
 use Rattle.run.specs.Evals.{Ready, Runs, roomAnswer}

@@ -13,11 +13,11 @@ use Rattle.paper.specs.Measures.{height}
 use Rattle.paper.specs.Selection.{arrives}
 use Rattle.paper.specs.Answers.{Answer, value, line, lineQuery, tooLong, short, scratchOf}
 use Rattle.paper.specs.Items.{Taken, Head, stepAt, pathAt, decode}
-use Rattle.paper.specs.Document.{Table, nodes, marked, over, tableFault, marksFault}
+use Rattle.paper.specs.Document.{Table, nodes, marked, over, tableFault, marksFault, tableOf}
 use Rattle.paper.proofs.Trees.{Tree}
 use Rattle.item.specs.declared.Step.{Step}
 use Rattle.item.proofs.Saying.{numbered}
-use Rattle.sets.specs.Sets.{bits, tableOf}
+use Rattle.sets.specs.Sets.{bits}
 
 -- A document that can be searched: columns and marks of one length, a tree, and marks of 0 and 1.
 pub record Ready (parents kinds marks : List ℕ) : Type 0 where

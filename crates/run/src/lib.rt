@@ -14,12 +14,12 @@ ghost use lib.ListN.{length, getD, drop, replicate};
 ghost use Rattle.paper.specs.Answers.{runAnswer, runMarks, runScratch};
 ghost use Rattle.paper.specs.Told.{told};
 ghost use Rattle.paper.specs.Query.{Test, Query};
-ghost use Rattle.paper.specs.Document.{marked};
+ghost use Rattle.paper.specs.Document.{marked, tableOf};
 ghost use Rattle.paper.specs.Items.{pathAt, testNumber, goodTest, decode, takePreds, takeSteps, takeOperand, takeWithin};
 ghost use Rattle.paper.specs.Measures.{heightExpr, heightSteps, heightPreds};
 ghost use Rattle.paper.specs.Selection.{meets, holds, finds, allHold, selects, kept};
 ghost use Rattle.paper.proofs.Decoding.{orsFrom, andsFrom};
-ghost use Rattle.sets.specs.Sets.{bits, tableOf};
+ghost use Rattle.sets.specs.Sets.{bits};
 ghost use Rattle.run.specs.Evals.{Ready, Readable, Fits, Ends, StepThere, StepSaid, Evaluates, Narrows, Moves, PathThere, Runs, keepsBy, roomAnswer};
 
 // The numbers of the axes that spread what is selected.

@@ -11,13 +11,13 @@ use lib.ListN.{length}
 use borrow.Author.Tests.{eqb-true, eq-eqb, ne-eqb}
 use Rattle.paper.specs.Tools.{someBelow}
 use Rattle.paper.specs.Query.{Axis, self, child, parent, descendantOrSelf, ancestorOrSelf}
-use Rattle.paper.specs.Document.{Table, nodes, parentOf}
+use Rattle.paper.specs.Document.{Table, nodes, parentOf, tableOf}
 use Rattle.paper.specs.Items.{axisNumber, axisOf}
 use Rattle.paper.specs.Selection.{childOf}
 use Rattle.paper.proofs.Tests.{and-true, true-and, agree, some-inj}
 use Rattle.paper.proofs.Fields.{axis-number}
 use Rattle.paper.proofs.Searches.{some-intro, some-elim}
-use Rattle.sets.specs.Sets.{bits, tableOf, image}
+use Rattle.sets.specs.Sets.{bits, image}
 use Rattle.sets.proofs.Bits.{and-none}
 
 -- A search that nothing passes finds nothing.

@@ -11,10 +11,6 @@ use Rattle.paper.specs.Selection.{leads}
 abbrev pub bits : ℕ → (ℕ → Bool) → List ℕ
 bits n f = column n (λ i. cond (f i) 1 0)
 
--- The table of two columns.
-abbrev pub tableOf : List ℕ → List ℕ → Table
-tableOf parents kinds = record { parents = parents; kinds = kinds }
-
 -- The nodes to which the axis leads from a node of the set.
 unfoldable pub image : Table → Axis → (ℕ → Bool) → ℕ → Bool
 image t a f i = someBelow (nodes t) (λ j. f j && leads t a j i)

@@ -5,11 +5,12 @@ ghost use mathlib.Core.List.{List, _++_};
 ghost use Prim.Native.Nat.{ℕ, _+_, _≤_, _<_};
 ghost use lib.ListN.{length, getD, take, drop, replicate};
 ghost use lib.Dec.{eqb, leb};
+ghost use Rattle.paper.specs.Document.{tableOf};
 ghost use Rattle.paper.specs.Query.{Axis, child, descendantOrSelf, ancestorOrSelf, Test};
 ghost use Rattle.paper.specs.Items.{axisNumber, testNumber, goodTest};
 ghost use Rattle.paper.specs.Selection.{meets};
 ghost use Rattle.paper.proofs.Trees.{Tree};
-ghost use Rattle.sets.specs.Sets.{bits, tableOf, image};
+ghost use Rattle.sets.specs.Sets.{bits, image};
 
 // Fills the set with one byte.
 pub fn fill(set: &mut [u8], b: u8)

@@ -11,11 +11,11 @@ use mathlib.Core.Option.{none}
 use lib.Dec.{eqb}
 use lib.ListN.{length, getD}
 use borrow.Author.Tests.{eqb-true, eq-eqb, ne-eqb}
-use Rattle.paper.specs.Document.{Table, nodes, parentOf, kindOf, climbs, over, goodNode, tableFault, marksFault}
+use Rattle.paper.specs.Document.{Table, nodes, parentOf, kindOf, climbs, over, goodNode, tableFault, marksFault, tableOf}
 use Rattle.paper.proofs.Tests.{and-true, or-left}
 use Rattle.paper.proofs.Trees.{Tree, tree, closed}
 use Rattle.paper.proofs.Extracting.{good-later, in-order}
-use Rattle.table.specs.Climbs.{tableOf, shapeOf, Falls, Ordered}
+use Rattle.table.specs.Climbs.{shapeOf, Falls, Ordered}
 
 twice : (b : Bool) → (b || b) ≡ b
 twice true = refl

@@ -4,12 +4,8 @@ use mathlib.Core.Path.{_≡_}
 use mathlib.Core.Bool.{true}
 use mathlib.Core.List.{List, []}
 use lib.ListN.{length, getD}
-use Rattle.paper.specs.Document.{Table, over, marked}
+use Rattle.paper.specs.Document.{Table, over, marked, tableOf}
 use Rattle.paper.specs.Extraction.{rank}
-
--- The table of two columns.
-abbrev pub tableOf : List ℕ → List ℕ → Table
-tableOf parents kinds = record { parents = parents; kinds = kinds }
 
 -- The table of a parent column, where kinds do not matter.
 abbrev pub shapeOf : List ℕ → Table

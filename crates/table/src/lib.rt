@@ -7,12 +7,12 @@ ghost use mathlib.Core.List.{List};
 ghost use Prim.Native.Nat.{ℕ, _+_, _<_, _≤_};
 ghost use lib.ListN.{length, getD};
 ghost use Rattle.paper.specs.Tools.{written};
-ghost use Rattle.paper.specs.Document.{over, goodNode, tableFault, marked, goodMark, marksFault};
+ghost use Rattle.paper.specs.Document.{over, goodNode, tableFault, marked, goodMark, marksFault, tableOf};
 ghost use Rattle.paper.specs.Extraction.{rank, pickFrom};
 ghost use Rattle.paper.specs.Answers.{extractAnswer, extractParents, extractKinds};
 ghost use Rattle.paper.specs.Told.{told};
 ghost use Rattle.table.specs.Faults.{faultOf};
-ghost use Rattle.table.specs.Climbs.{tableOf, shapeOf, Falls, Ordered, Last, newParent, Numbered};
+ghost use Rattle.table.specs.Climbs.{shapeOf, Falls, Ordered, Last, newParent, Numbered};
 
 // The first bad node, if there is one.
 pub enum Fault {

@@ -18,8 +18,8 @@ use Rattle.paper.proofs.Tests.{some-inj}
 use Rattle.paper.proofs.Fields.{step-found}
 use Rattle.paper.specs.Selection.{meets, allHold}
 use Rattle.paper.specs.Composition.{turned}
-use Rattle.paper.specs.Document.{marked}
-use Rattle.sets.specs.Sets.{bits, tableOf, image}
+use Rattle.paper.specs.Document.{marked, tableOf}
+use Rattle.sets.specs.Sets.{bits, image}
 use Rattle.paper.specs.Measures.{heightExpr, heightPreds}
 use Rattle.run.specs.Evals.{Fits, Narrows}
 use Rattle.run.proofs.Slices.{part-length, first-stays, second-comes, length-stays, front-is, front-back, front-length}

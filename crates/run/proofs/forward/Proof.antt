@@ -11,13 +11,13 @@ use lib.Seq.{length-take-le}
 use denote.Ref.{now}
 use Rattle.paper.specs.Items.{Head, takePreds, takeWithin}
 use Rattle.paper.specs.Measures.{heightPreds}
-use Rattle.paper.specs.Document.{marked}
+use Rattle.paper.specs.Document.{marked, tableOf}
 use Rattle.paper.specs.Selection.{meets, allHold}
 use Rattle.paper.proofs.Tests.{some-inj}
 use Rattle.paper.proofs.Fields.{step-found}
 use Rattle.item.specs.declared.Step.{Step}
 use Rattle.item.proofs.Saying.{numbered}
-use Rattle.sets.specs.Sets.{bits, tableOf, image}
+use Rattle.sets.specs.Sets.{bits, image}
 use Rattle.run.specs.Evals.{Fits, Narrows}
 use Rattle.run.proofs.Slices.{front-length, front-back}
 use Rattle.run.proofs.Running.{one-fits}

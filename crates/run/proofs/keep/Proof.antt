@@ -6,9 +6,10 @@ use mathlib.Core.List.{_++_}
 use lib.ListN.{length, take, drop, replicate}
 use lib.Seq.{length-take-le}
 use denote.Ref.{now}
+use Rattle.paper.specs.Document.{tableOf}
 use Rattle.paper.specs.Measures.{height}
 use Rattle.paper.specs.Selection.{selects, keeps, kept}
-use Rattle.sets.specs.Sets.{bits, tableOf}
+use Rattle.sets.specs.Sets.{bits}
 use Rattle.run.specs.Evals.{keepsBy}
 use Rattle.run.proofs.Slices.{front-length}
 use Rattle.run.proofs.Running.{one-fits}

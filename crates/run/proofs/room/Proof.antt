@@ -9,12 +9,11 @@ use lib.ListN.{length}
 use denote.Ref.{now}
 use Rattle.paper.specs.Limits.{itemLimit, nodeLimit}
 use Rattle.paper.specs.Items.{decode}
-use Rattle.paper.specs.Document.{nodes}
+use Rattle.paper.specs.Document.{nodes, tableOf}
 use Rattle.paper.specs.Answers.{value, refusal, tooLong}
 use Rattle.paper.proofs.Tests.{or-left, or-right}
 use Rattle.paper.proofs.Sizes.{size-decoded, height-size}
 use Rattle.table.specs.Faults.{faultOf}
-use Rattle.sets.specs.Sets.{tableOf}
 use Rattle.run.proofs.Answering.{Agree, shaped-none, shaped-some, room-long, room-six, room-seven, room-eight, room-ten, room-value, scratch-small}
 use borrow.Author.Needs.{needs}
 use Rattle.run.proofs.room.Statement.{statement}

@@ -5,12 +5,12 @@ use mathlib.Core.Path.{_≡_, refl, sym, _∙_, ap, ap₂}
 use lib.ListN.{length, take, replicate}
 use lib.Seq.{length-take-le}
 use denote.Ref.{now}
+use Rattle.paper.specs.Document.{tableOf}
 use Rattle.paper.specs.Answers.{value}
 use Rattle.paper.specs.Told.{told}
 use Rattle.paper.specs.Extraction.{rank}
 use Rattle.paper.specs.Selection.{kept}
 use Rattle.paper.proofs.Keeping.{length-kept}
-use Rattle.sets.specs.Sets.{tableOf}
 use Rattle.run.proofs.Answering.{accepted, searchable, runnable, refused-answer, refused-marks, refused-scratch, runs, run-marks, run-scratch}
 use borrow.Author.Needs.{needs}
 use Rattle.run.proofs.run.Statement.{statement}

@@ -12,9 +12,9 @@ use lib.Seq.{length-take-le}
 use denote.Ref.{now}
 use Rattle.paper.specs.Items.{takeSteps, takeWithin}
 use Rattle.paper.specs.Measures.{heightSteps, height}
-use Rattle.paper.specs.Document.{marked}
+use Rattle.paper.specs.Document.{marked, tableOf}
 use Rattle.paper.proofs.Tests.{some-inj}
-use Rattle.sets.specs.Sets.{bits, tableOf}
+use Rattle.sets.specs.Sets.{bits}
 use Rattle.run.specs.Evals.{Fits, Moves}
 use Rattle.run.proofs.Slices.{front-length, front-back}
 use Rattle.run.proofs.Running.{one-fits}

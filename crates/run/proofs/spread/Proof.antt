@@ -5,8 +5,8 @@ use mathlib.Core.Bool.{Bool, _&&_, _||_}
 use lib.ListN.{length}
 use denote.Ref.{now}
 use Rattle.paper.specs.Query.{descendantOrSelf, ancestorOrSelf}
-use Rattle.paper.specs.Document.{marked}
-use Rattle.sets.specs.Sets.{bits, tableOf, image}
+use Rattle.paper.specs.Document.{marked, tableOf}
+use Rattle.sets.specs.Sets.{bits, image}
 use Rattle.run.specs.Evals.{keepsBy}
 use Rattle.run.proofs.Rows.{bits-same}
 use Rattle.run.proofs.Selecting.{spreads}

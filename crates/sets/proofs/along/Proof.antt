@@ -4,8 +4,9 @@ use mathlib.Core.Path.{sym, _∙_, ap}
 use lib.ListN.{length}
 use denote.Ref.{now}
 use borrow.Author.Needs.{needs}
+use Rattle.paper.specs.Document.{tableOf}
 use Rattle.paper.specs.Query.{Axis, child, descendantOrSelf, ancestorOrSelf}
-use Rattle.sets.specs.Sets.{tableOf, image}
+use Rattle.sets.specs.Sets.{image}
 use Rattle.sets.proofs.Bits.{bits-same}
 use Rattle.sets.proofs.Axes.{same-image, other-axis, self-image}
 use Rattle.sets.proofs.along.Statement.{statement}

@@ -7,8 +7,9 @@ use mathlib.Core.Bool.{not, _&&_}
 use lib.ListN.{length, length-set}
 use lib.Dec.{eqb}
 use denote.Ref.{now}
+use Rattle.paper.specs.Document.{tableOf}
 use Rattle.paper.specs.Query.{Axis}
-use Rattle.sets.specs.Sets.{image, tableOf}
+use Rattle.sets.specs.Sets.{image}
 use Rattle.sets.proofs.Bits.{resized}
 use Rattle.sets.proofs.Axes.{Moving}
 use Rattle.sets.proofs.ParentPass.{parentState, parent-start, parent-turn, parent-end, parent-first}

@@ -9,12 +9,11 @@ use lib.ListN.{length}
 use denote.Ref.{now}
 use Rattle.paper.specs.Tools.{when}
 use Rattle.paper.specs.Limits.{nodeLimit}
-use Rattle.paper.specs.Document.{Table, nodes, tableFault, marksFault}
+use Rattle.paper.specs.Document.{Table, nodes, tableFault, marksFault, tableOf}
 use Rattle.paper.specs.Extraction.{rank}
 use Rattle.paper.specs.Answers.{value, line, short, markedCount, extractAnswer}
 use Rattle.paper.proofs.Tests.{or-left, or-right}
 use Rattle.table.specs.Faults.{faultOf}
-use Rattle.table.specs.Climbs.{tableOf}
 use Rattle.table.proofs.Lines.{too-long, Agree, right-lengths}
 use Rattle.table.proofs.answer.Statement.{statement}
 use Rattle.table.proofs.answer.Tie as tie

@@ -5,11 +5,10 @@ use borrow.Author.Needs.{needs}
 use lib.ListN.{length, getD}
 use denote.Ref.{now}
 use Rattle.paper.specs.Tools.{written}
-use Rattle.paper.specs.Document.{Table}
+use Rattle.paper.specs.Document.{Table, tableOf}
 use Rattle.paper.specs.Extraction.{pickFrom, extracted}
 use Rattle.paper.specs.Answers.{value, extractAnswer}
 use Rattle.paper.specs.Told.{told}
-use Rattle.table.specs.Climbs.{tableOf}
 use Rattle.table.proofs.Ways.{ordered}
 use Rattle.table.proofs.Lines.{Accepted, accepted, refused, wrote}
 use Rattle.table.proofs.extract.Statement.{statement}

@@ -9,8 +9,8 @@ use borrow.Author.Tests.{lt-leb, le-leb}
 use lib.Dec.{eqb, leb}
 use lib.ListN.{length}
 use denote.Ref.{now}
-use Rattle.paper.specs.Document.{Table, parentOf, kindOf, over, goodNode}
-use Rattle.table.specs.Climbs.{tableOf, Falls}
+use Rattle.paper.specs.Document.{Table, parentOf, kindOf, over, goodNode, tableOf}
+use Rattle.table.specs.Climbs.{Falls}
 use Rattle.table.proofs.Ways.{way-low}
 use Rattle.table.proofs.good_node.Statement.{statement}
 use Rattle.table.proofs.good_node.Tie as tie

@@ -6,8 +6,7 @@ use mathlib.Core.Path.{_≡_, refl, sym, _∙_, ap}
 use mathlib.Core.List.{List}
 use borrow.Author.Needs.{needs}
 use denote.Ref.{now}
-use Rattle.paper.specs.Document.{over}
-use Rattle.table.specs.Climbs.{tableOf}
+use Rattle.paper.specs.Document.{over, tableOf}
 use Rattle.table.proofs.Ways.{way-up, way-end}
 use Rattle.table.proofs.is_over.Statement.{statement}
 use Rattle.table.proofs.is_over.Tie as tie

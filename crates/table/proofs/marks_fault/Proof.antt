@@ -8,8 +8,7 @@ use borrow.Author.Count.{below-more}
 use borrow.Author.Needs.{needs}
 use lib.ListN.{length}
 use denote.Ref.{now}
-use Rattle.paper.specs.Document.{goodMark, marksFault}
-use Rattle.table.specs.Climbs.{tableOf}
+use Rattle.paper.specs.Document.{goodMark, marksFault, tableOf}
 use Rattle.table.proofs.Firsts.{no-fault, fault-at}
 use Rattle.table.proofs.marks_fault.Statement.{statement}
 use Rattle.table.proofs.marks_fault.Tie as tie

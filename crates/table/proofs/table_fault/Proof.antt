@@ -9,8 +9,7 @@ use borrow.Author.Tests.{eq-eqb, ne-eqb}
 use lib.ListN.{length}
 use denote.Ref.{now}
 use Rattle.paper.specs.Tools.{firstBelow}
-use Rattle.paper.specs.Document.{Table, nodes, goodNode, tableFault}
-use Rattle.table.specs.Climbs.{tableOf}
+use Rattle.paper.specs.Document.{Table, nodes, goodNode, tableFault, tableOf}
 use Rattle.table.proofs.Firsts.{no-fault, fault-at}
 use Rattle.table.proofs.Ways.{falls-good}
 use Rattle.table.proofs.table_fault.Statement.{statement}

@@ -1,0 +1,11 @@
+-- A case of the enum in one number: what `code` gives is the code of what the case tells. Assumes nothing.
+use Prim.Native.Nat.{ℕ, _+_, _*_, _<_}
+use mathlib.Core.Path.{_≡_, refl, sym, _∙_, ap, subst}
+use Rattle.paper.specs.Answers.{Answer, value, refusal}
+use Rattle.halyardfig.specs.Codes.{high, codeOf, Small}
+
+pub value-code : (a : Answer) (n r : ℕ) → a ≡ value n → r ≡ n → Small a → r ≡ codeOf a
+value-code a n r is e s = e ∙ ap codeOf (sym is)
+
+pub refusal-code : (a : Answer) (number place r : ℕ) → a ≡ refusal number place → (place < high → r ≡ number * high + place) → Small a → r ≡ codeOf a
+refusal-code a number place r is e s = e (subst Small is s) ∙ ap codeOf (sym is)

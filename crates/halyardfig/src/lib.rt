@@ -1,0 +1,99 @@
+// The C interface: each call lends its slices to an entry point and answers in one number.
+use paper::Answer;
+ghost use Prim.Native.Nat.{_+_, _*_, _<_};
+ghost use mathlib.Core.Path.{_≡_};
+ghost use lib.ListN.{length};
+ghost use Rattle.paper.specs.Document.{tableOf};
+ghost use Rattle.paper.specs.Answers.{readAnswer, readOut, printAnswer, printOut, composeAnswer, composeOut, runAnswer, runMarks, runScratch, extractAnswer, extractParents, extractKinds};
+ghost use Rattle.paper.specs.Told.{told};
+ghost use Rattle.halyardfig.specs.Codes.{high, codeOf, Small};
+
+// 2^32, by which a refusal's number is multiplied.
+const HIGH: u64 = 4294967296;
+
+// A refusal in one number.
+fn refused(number: u64, place: usize) -> u64
+    requires { ⌜ number < 11 ⌝ }
+    ensures { λ r. ⌜ (place < high → r ≡ number * high + place) ⌝ }
+{
+    number * HIGH + place as u64 % HIGH
+}
+
+// An answer in one number.
+fn code(answer: Answer) -> u64
+    ensures { λ r. ⌜ (Small (told answer) → r ≡ codeOf (told answer)) ⌝ }
+{
+    match answer {
+        Answer::Value(value) => value as u64,
+        Answer::TooLong => refused(1, 0),
+        Answer::BadName(place) => refused(2, place),
+        Answer::NoQuery(place) => refused(3, place),
+        Answer::TooDeep(place) => refused(4, place),
+        Answer::UnknownName(place) => refused(5, place),
+        Answer::BadQuery(place) => refused(6, place),
+        Answer::BadTable(place) => refused(7, place),
+        Answer::BadMarks(place) => refused(8, place),
+        Answer::TooNested(nesting) => refused(9, nesting),
+        Answer::Short(needed) => refused(10, needed),
+    }
+}
+
+// Reads a query: `read::read` for C.
+#[no_mangle]
+pub extern "C" fn halyardfig_read(text: &[u8], names: &[u8], out: &mut [u32]) -> u64
+    ensures { λ r. ⌜ r ≡ codeOf (readAnswer (now (text .entry)) (now (names .entry)) (length (now (out .entry)))) ⌝ }
+    ensures { λ _. ⌜ now (out .exit) ≡ readOut (now (text .entry)) (now (names .entry)) (now (out .entry)) ⌝ }
+{
+    code(read::read(text, names, out))
+}
+
+// Prints a query: `print::print` for C.
+#[no_mangle]
+pub extern "C" fn halyardfig_print(query: &[u32], names: &[u8], out: &mut [u8]) -> u64
+    ensures { λ r. ⌜ r ≡ codeOf (printAnswer (now (query .entry)) (now (names .entry)) (length (now (out .entry)))) ⌝ }
+    ensures { λ _. ⌜ now (out .exit) ≡ printOut (now (query .entry)) (now (names .entry)) (now (out .entry)) ⌝ }
+{
+    code(print::print(query, names, out))
+}
+
+// Composes two queries: `compose::compose` for C.
+#[no_mangle]
+pub extern "C" fn halyardfig_compose(outer: &[u32], inner: &[u32], out: &mut [u32]) -> u64
+    ensures { λ r. ⌜ r ≡ codeOf (composeAnswer (now (outer .entry)) (now (inner .entry)) (length (now (out .entry)))) ⌝ }
+    ensures { λ _. ⌜ now (out .exit) ≡ composeOut (now (outer .entry)) (now (inner .entry)) (now (out .entry)) ⌝ }
+{
+    code(compose::compose(outer, inner, out))
+}
+
+// Runs a query: `run::run` for C.
+#[no_mangle]
+pub extern "C" fn halyardfig_run(
+    query: &[u32],
+    parent: &[u16],
+    kind: &[u16],
+    given: &[u8],
+    marks: &mut [u8],
+    scratch: &mut [u8],
+) -> u64
+    ensures { λ r. ⌜ r ≡ codeOf (runAnswer (now (query .entry)) (tableOf (now (parent .entry)) (now (kind .entry))) (now (given .entry)) (length (now (marks .entry))) (length (now (scratch .entry)))) ⌝ }
+    ensures { λ _. ⌜ now (marks .exit) ≡ runMarks (now (query .entry)) (tableOf (now (parent .entry)) (now (kind .entry))) (now (given .entry)) (now (marks .entry)) (length (now (scratch .entry))) ⌝ }
+    ensures { λ _. ⌜ now (scratch .exit) ≡ runScratch (now (query .entry)) (tableOf (now (parent .entry)) (now (kind .entry))) (now (given .entry)) (length (now (marks .entry))) (now (scratch .entry)) ⌝ }
+{
+    code(run::run(query, parent, kind, given, marks, scratch))
+}
+
+// Writes the marked nodes as a table: `table::extract` for C.
+#[no_mangle]
+pub extern "C" fn halyardfig_extract(
+    parent: &[u16],
+    kind: &[u16],
+    marks: &[u8],
+    out_parent: &mut [u16],
+    out_kind: &mut [u16],
+) -> u64
+    ensures { λ r. ⌜ r ≡ codeOf (extractAnswer (tableOf (now (parent .entry)) (now (kind .entry))) (now (marks .entry)) (length (now («out_parent» .entry))) (length (now («out_kind» .entry)))) ⌝ }
+    ensures { λ _. ⌜ now («out_parent» .exit) ≡ extractParents (tableOf (now (parent .entry)) (now (kind .entry))) (now (marks .entry)) (now («out_parent» .entry)) (length (now («out_kind» .entry))) ⌝ }
+    ensures { λ _. ⌜ now («out_kind» .exit) ≡ extractKinds (tableOf (now (parent .entry)) (now (kind .entry))) (now (marks .entry)) (length (now («out_parent» .entry))) (now («out_kind» .entry)) ⌝ }
+{
+    code(table::extract(parent, kind, marks, out_parent, out_kind))
+}
