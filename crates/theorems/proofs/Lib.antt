@@ -27,3 +27,4 @@ pub mod Places
 pub mod Spelling
 pub mod Rereading
 pub mod RoundTrip
+pub mod NameBounds
