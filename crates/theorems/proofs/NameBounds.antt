@@ -1,9 +1,9 @@
 -- The lines of a list start within it and are no longer than it, so a bad line has its place there and a name has so many bytes at most. By induction over the bytes. Assumes nothing.
 use Prim.Native.Nat.{ℕ, zero, suc, _+_, _≤_}
 use native.Mathlib.Omega.{arith}
-use mathlib.Core.Path.{_≡_, refl, subst}
+use mathlib.Core.Path.{_≡_, subst}
 use mathlib.Core.List.{List, [], _∷_, map}
-use mathlib.Core.Option.{none, some}
+use mathlib.Core.Option.{some}
 use lib.Dec.{eqb}
 use lib.ListN.{length, getD}
 use Rattle.paper.specs.Names.{Line, grown, linesFrom, badLine, firstBad, namesFault, namesOf}
