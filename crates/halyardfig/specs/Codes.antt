@@ -1,5 +1,5 @@
 -- An answer as one number for C: the value, or the refusal number times 2^32 plus the place.
-use Prim.Native.Nat.{ℕ, _+_, _*_, _<_}
+use Prim.Native.Nat.{ℕ, _+_, _*_}
 use Rattle.paper.specs.Answers.{Answer, value, refusal}
 
 -- 2^32.
@@ -9,8 +9,3 @@ high = 4294967296
 abbrev pub codeOf : Answer → ℕ
 codeOf (value n) = n
 codeOf (refusal number place) = number * high + place
-
--- The value, or the place, is below 2^32.
-abbrev pub Small : Answer → Type 0
-Small (value n) = n < high
-Small (refusal number place) = place < high

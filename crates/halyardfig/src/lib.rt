@@ -6,7 +6,8 @@ ghost use lib.ListN.{length};
 ghost use Rattle.paper.specs.Document.{tableOf};
 ghost use Rattle.paper.specs.Answers.{readAnswer, readOut, printAnswer, printOut, composeAnswer, composeOut, runAnswer, runMarks, runScratch, extractAnswer, extractParents, extractKinds};
 ghost use Rattle.paper.specs.Told.{told};
-ghost use Rattle.halyardfig.specs.Codes.{high, codeOf, Small};
+ghost use Rattle.theorems.specs.Bounds.{Small};
+ghost use Rattle.halyardfig.specs.Codes.{high, codeOf};
 
 // 2^32, by which a refusal's number is multiplied.
 const HIGH: u64 = 4294967296;

@@ -27,3 +27,8 @@ pub mod Places
 pub mod Spelling
 pub mod Rereading
 pub mod RoundTrip
+pub mod NameBounds
+pub mod PrintBounds
+pub mod ReadBounds
+pub mod ComposeBounds
+pub mod Bounds

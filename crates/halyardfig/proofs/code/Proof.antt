@@ -5,9 +5,6 @@ use Rattle.paper.specs.Told.{told}
 use Rattle.halyardfig.proofs.Coding.{value-code, refusal-code}
 use Rattle.halyardfig.proofs.code.Statement.{statement}
 use Rattle.halyardfig.proofs.code.Tie as tie
-use Rattle.halyardfig.proofs.code.Reads as reads
-use Rattle.halyardfig.proofs.code.Lts as lts
-use Rattle.halyardfig.proofs.refused.Reads as refused-reads
 
 enum-known-answer : tie.Need-enum-known-answer
 enum-known-answer c = search needs

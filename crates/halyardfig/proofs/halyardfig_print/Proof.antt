@@ -1,26 +1,23 @@
+-- `halyardfig_print` meets its contract: the code of what `print::print` answers, which is small, and what that writes. Assumes nothing.
 use borrow.Author.Needs.{needs}
+use Rattle.theorems.proofs.Bounds.{print-small}
+use Rattle.halyardfig.proofs.Coding.{coded}
 use Rattle.halyardfig.proofs.halyardfig_print.Statement.{statement}
 use Rattle.halyardfig.proofs.halyardfig_print.Tie as tie
-use Rattle.halyardfig.proofs.halyardfig_print.Reads as reads
-use Rattle.halyardfig.proofs.halyardfig_print.Lts as lts
-use Rattle.halyardfig.proofs.code.Reads as code-reads
-use Rattle.print.proofs.print.Reads as print-reads
 
--- src/lib.rt:56:10
 print-requires : tie.Need-print-requires
 print-requires c κs = search needs
 
--- src/lib.rt:56:5
 code-requires : tie.Need-code-requires
 code-requires c κs = search needs
 
--- src/lib.rt:51:1
 same-length : tie.Need-same-length
 same-length c = search needs
 
--- src/lib.rt:51:1
 returns : tie.Need-returns
-returns c = ?
+returns c =
+    let said = c .before .before .before .print .ensures in
+    (coded (said .0) (print-small _ _ _) (c .code .ensures), said .1)
 
 pub halyardfig-print-spec : {M : Type 1} → statement M
 halyardfig-print-spec = tie.close (tie.spec print-requires code-requires same-length returns)

@@ -1,26 +1,23 @@
+-- `halyardfig_read` meets its contract: the code of what `read::read` answers, which is small, and what that writes. Assumes nothing.
 use borrow.Author.Needs.{needs}
+use Rattle.theorems.proofs.Bounds.{read-small}
+use Rattle.halyardfig.proofs.Coding.{coded}
 use Rattle.halyardfig.proofs.halyardfig_read.Statement.{statement}
 use Rattle.halyardfig.proofs.halyardfig_read.Tie as tie
-use Rattle.halyardfig.proofs.halyardfig_read.Reads as reads
-use Rattle.halyardfig.proofs.halyardfig_read.Lts as lts
-use Rattle.halyardfig.proofs.code.Reads as code-reads
-use Rattle.read.proofs.read.Reads as read-reads
 
--- src/lib.rt:47:10
 read-requires : tie.Need-read-requires
 read-requires c κs = search needs
 
--- src/lib.rt:47:5
 code-requires : tie.Need-code-requires
 code-requires c κs = search needs
 
--- src/lib.rt:42:1
 same-length : tie.Need-same-length
 same-length c = search needs
 
--- src/lib.rt:42:1
 returns : tie.Need-returns
-returns c = ?
+returns c =
+    let said = c .before .before .before .read .ensures in
+    (coded (said .0) (read-small _ _ _) (c .code .ensures), said .1)
 
 pub halyardfig-read-spec : {M : Type 1} → statement M
 halyardfig-read-spec = tie.close (tie.spec read-requires code-requires same-length returns)

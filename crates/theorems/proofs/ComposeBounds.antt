@@ -1,0 +1,74 @@
+-- A composition of two queries of at most 4,096 items each has fewer than 2^32 items and brackets: 01's formula, and no more steps, paths and brackets than items. By induction over the query. Assumes nothing.
+use Prim.Native.Nat.{ℕ, _+_, _*_, _≤_, _<_}
+use native.Mathlib.Omega.{arith}
+use native.Mathlib.Nat.{mul-le-mul}
+use mathlib.Core.Bool.{Bool, true, false}
+use mathlib.Core.List.{List, [], _∷_}
+use lib.ListN.{length}
+use Rattle.paper.specs.Query.{Expr, path, both, either, negated, Steps, stop, step, Preds, bare, pred, Query, paths}
+use Rattle.paper.specs.Measures.{sizeExpr, sizeSteps, sizePreds, sizePaths, size}
+use Rattle.paper.specs.Measures.{roundLeftOfAnd, roundRightOfAnd, roundRightOfOr, inBrackets, nestExpr, nestSteps, nestPreds, nestPaths, nesting}
+use Rattle.paper.specs.Composition.{composed, stepsInExpr, stepsInSteps, stepsInPreds, stepsInPaths, selectedSize, composedSize}
+use Rattle.theorems.proofs.Sizes.{composed-size}
+
+-- A query has no more steps and paths than items.
+mutual
+  expr-steps : (e : Expr) → stepsInExpr e ≤ sizeExpr e
+  expr-steps (path s) = omega (arith, steps-steps s)
+  expr-steps (both a b) = omega (arith, expr-steps a, expr-steps b)
+  expr-steps (either a b) = omega (arith, expr-steps a, expr-steps b)
+  expr-steps (negated a) = omega (arith, expr-steps a)
+
+  steps-steps : (s : Steps) → stepsInSteps s ≤ sizeSteps s
+  steps-steps stop = omega arith
+  steps-steps (step a t ps rest) = omega (arith, preds-steps ps, steps-steps rest)
+
+  preds-steps : (ps : Preds) → stepsInPreds ps ≤ sizePreds ps
+  preds-steps bare = omega arith
+  preds-steps (pred e ps) = omega (arith, expr-steps e, preds-steps ps)
+
+paths-steps : (ps : List Steps) → stepsInPaths ps + length ps ≤ sizePaths ps
+paths-steps [] = omega arith
+paths-steps (p ∷ ps) = omega (arith, steps-steps p, paths-steps ps)
+
+-- A query has no more brackets open at once than items.
+bracket-one : (b : Bool) (n : ℕ) → inBrackets b n ≤ 1 + n
+bracket-one true n = omega arith
+bracket-one false n = omega arith
+
+mutual
+  expr-nest : (e : Expr) → 1 + nestExpr e ≤ sizeExpr e
+  expr-nest (path s) = omega (arith, steps-nest s)
+  expr-nest (both a b) =
+      omega (arith, expr-nest a, expr-nest b, bracket-one (roundLeftOfAnd a) (nestExpr a), bracket-one (roundRightOfAnd b) (nestExpr b))
+  expr-nest (either a b) = omega (arith, expr-nest a, expr-nest b, bracket-one (roundRightOfOr b) (nestExpr b))
+  expr-nest (negated a) = omega (arith, expr-nest a)
+
+  steps-nest : (s : Steps) → nestSteps s ≤ sizeSteps s
+  steps-nest stop = omega arith
+  steps-nest (step a t ps rest) = omega (arith, preds-nest ps, steps-nest rest)
+
+  preds-nest : (ps : Preds) → nestPreds ps ≤ sizePreds ps
+  preds-nest bare = omega arith
+  preds-nest (pred e ps) = omega (arith, expr-nest e, preds-nest ps)
+
+paths-nest : (ps : List Steps) → nestPaths ps ≤ sizePaths ps
+paths-nest [] = omega arith
+paths-nest (p ∷ ps) = omega (arith, steps-nest p, paths-nest ps)
+
+pub nesting-size : (q : Query) → nesting q ≤ size q
+unfolding nesting size
+nesting-size q = paths-nest (paths q)
+
+-- TWO QUERIES OF AT MOST 4,096 ITEMS COMPOSE TO FEWER THAN 2^32.
+pub composed-small : (outer inner : Query) → size outer ≤ 4096 → size inner ≤ 4096 → size (composed outer inner) < 4294967296
+unfolding size composedSize selectedSize
+composed-small outer inner o i =
+    let s : selectedSize inner ≤ 24576 = omega (arith, paths-steps (paths inner)) in
+    let t : stepsInPaths (paths outer) ≤ 4096 = omega (arith, paths-steps (paths outer)) in
+    let m : length (paths outer) ≤ 4096 = omega (arith, paths-steps (paths outer)) in
+    let v : 5 + 2 * selectedSize inner ≤ 49157 = omega arith in
+    let l : 3 + selectedSize inner ≤ 24579 = omega arith in
+    let guards : stepsInPaths (paths outer) * (5 + 2 * selectedSize inner) ≤ 201347072 = mul-le-mul t v in
+    let lasts : length (paths outer) * (3 + selectedSize inner) ≤ 100675584 = mul-le-mul m l in
+    omega (arith, composed-size outer inner)

@@ -1,0 +1,110 @@
+-- A printed text has at most five pieces an item, and each piece is a sign, a word of the grammar or a name of the list. By induction over the query. Assumes nothing.
+use Prim.Native.Nat.{ℕ, suc, _+_, _*_, _≤_, _<_}
+use native.Mathlib.Omega.{arith}
+use mathlib.Core.Path.{_≡_, subst}
+use mathlib.Core.Bool.{Bool, true, false}
+use mathlib.Core.List.{List, [], _∷_}
+use mathlib.Core.Option.{some}
+use lib.ListN.{length, getD, length-append}
+use Rattle.paper.specs.Query.{Axis, self, child, parent, descendantOrSelf, ancestorOrSelf}
+use Rattle.paper.specs.Query.{Test, anyNode, textNode, named, anyElement}
+use Rattle.paper.specs.Query.{Expr, path, both, either, negated, Steps, stop, step, Preds, bare, pred, Query}
+use Rattle.paper.specs.Items.{stepAt}
+use Rattle.paper.specs.Measures.{sizeExpr, sizeSteps, sizePreds, sizePaths, size}
+use Rattle.paper.specs.Measures.{roundLeftOfAnd, roundRightOfAnd, roundRightOfOr}
+use Rattle.paper.specs.Printing.{Piece, slashSign, colonsSign, barSign, openPred, closePred, openGroup, openNot, closeRound, andWord, orWord, axisWord, testWord}
+use Rattle.paper.specs.Printing.{axisText, testText, pieceText, grouped, exprPieces, relativePieces, laterPieces, predsPieces, pathPieces, pathsPieces, pieces, textOf, printed}
+use Rattle.paper.specs.Answers.{unknownItem, unknownFrom}
+use Rattle.paper.proofs.Tests.{none-some, some-inj}
+use Rattle.theorems.proofs.Seeing.{chosen}
+
+-- Brackets are two pieces.
+group-few : (b : Bool) (ps : List Piece) → length (grouped b ps) ≤ 2 + length ps
+group-few true ps = omega (arith, length-append ps (closeRound ∷ []))
+group-few false ps = omega arith
+
+mutual
+  -- The two brackets around a predicate are counted with it.
+  expr-few : (e : Expr) → 2 + length (exprPieces e) ≤ 5 * sizeExpr e
+  expr-few (path s) = omega (arith, relative-few s)
+  expr-few (both a b) =
+      let left = grouped (roundLeftOfAnd a) (exprPieces a) in
+      let right = grouped (roundRightOfAnd b) (exprPieces b) in
+      omega (
+        arith,
+        expr-few a,
+        expr-few b,
+        group-few (roundLeftOfAnd a) (exprPieces a),
+        group-few (roundRightOfAnd b) (exprPieces b),
+        length-append left (andWord ∷ right),
+      )
+  expr-few (either a b) =
+      let right = grouped (roundRightOfOr b) (exprPieces b) in
+      omega (arith, expr-few a, expr-few b, group-few (roundRightOfOr b) (exprPieces b), length-append (exprPieces a) (orWord ∷ right))
+  expr-few (negated a) = omega (arith, expr-few a, length-append (exprPieces a) (closeRound ∷ []))
+
+  relative-few : (s : Steps) → length (relativePieces s) ≤ 5 * sizeSteps s
+  relative-few stop = omega arith
+  relative-few (step a t ps rest) = omega (arith, preds-few ps, later-few rest, length-append (predsPieces ps) (laterPieces rest))
+
+  later-few : (s : Steps) → length (laterPieces s) ≤ 5 * sizeSteps s
+  later-few stop = omega arith
+  later-few (step a t ps rest) = omega (arith, preds-few ps, later-few rest, length-append (predsPieces ps) (laterPieces rest))
+
+  preds-few : (ps : Preds) → length (predsPieces ps) ≤ 5 * sizePreds ps
+  preds-few bare = omega arith
+  preds-few (pred e ps) = omega (arith, expr-few e, preds-few ps, length-append (exprPieces e) (closePred ∷ predsPieces ps))
+
+paths-few : (ps : List Steps) → length (pathsPieces ps) ≤ 5 * sizePaths ps
+paths-few [] = omega arith
+paths-few (p ∷ ps) = omega (arith, relative-few p, paths-few ps, length-append (pathPieces p) (pathsPieces ps))
+
+pieces-few : (q : Query) → length (pieces q) ≤ 5 * size q
+unfolding pieces size
+pieces-few q =
+    omega (arith, relative-few (q .first), paths-few (q .others), length-append (pathPieces (q .first)) (pathsPieces (q .others)))
+
+axis-short : (a : Axis) → length (axisText a) ≤ 18
+axis-short self = omega arith
+axis-short child = omega arith
+axis-short parent = omega arith
+axis-short descendantOrSelf = omega arith
+axis-short ancestorOrSelf = omega arith
+
+-- The names have at most 8,192 bytes, which is what a list has.
+module _ (names : List (List ℕ)) (short : (v : ℕ) → length (getD names v []) ≤ 8192) where
+  test-short : (t : Test) → length (testText names t) ≤ 8192
+  test-short anyNode = omega arith
+  test-short textNode = omega arith
+  test-short (named v) = short v
+  test-short anyElement = omega arith
+
+  piece-short : (p : Piece) → length (pieceText names p) ≤ 8192
+  piece-short slashSign = omega arith
+  piece-short colonsSign = omega arith
+  piece-short barSign = omega arith
+  piece-short openPred = omega arith
+  piece-short closePred = omega arith
+  piece-short openGroup = omega arith
+  piece-short openNot = omega arith
+  piece-short closeRound = omega arith
+  piece-short andWord = omega arith
+  piece-short orWord = omega arith
+  piece-short (axisWord a) = omega (arith, axis-short a)
+  piece-short (testWord t) = test-short t
+
+  text-short : (ps : List Piece) → length (textOf names ps) ≤ 8192 * length ps
+  text-short [] = omega arith
+  text-short (p ∷ ps) = omega (arith, piece-short p, text-short ps, length-append (pieceText names p) (textOf names ps))
+
+  -- A PRINTED TEXT HAS AT MOST 40,960 BYTES AN ITEM.
+  pub printed-short : (q : Query) → length (printed names q) ≤ 40960 * size q
+  unfolding printed
+  printed-short q = omega (arith, text-short (pieces q), pieces-few q)
+
+-- AN ITEM WHOSE NAME IS UNKNOWN IS AMONG THE ITEMS.
+pub unknown-within : (count at : ℕ) (ws : List ℕ) (place : ℕ) → unknownFrom count at ws ≡ some place → place < at + length ws
+unknown-within count at [] place e = none-some e
+unknown-within count at (w ∷ ws) place e =
+    chosen (unknownItem count (stepAt w)) e (λ c f. subst (λ p. p < at + suc (length ws)) (some-inj f) (omega arith))
+    (λ c f. omega (arith, unknown-within count (suc at) ws place f))
