@@ -16,17 +16,6 @@ ghost use Rattle.paper.specs.Told.{told};
 ghost use Rattle.compose.specs.Pieces.{placed, owing, eaten, stepItem, stepItems, IsQuery, pathsGot, StepSaid};
 ghost use Rattle.compose.specs.Pieces.{someNodeItems, visibleItems, lastItems, guardedStep, guardedItem, guardedItems, Raisable, guardedPath, reversedItems, eachGot, selectedGot, sizeGot};
 
-// The numbers of the axes that the composition brings in, and of `node()`.
-const SELF: u32 = 0;
-
-const PARENT: u32 = 2;
-
-const DESCENDANT_OR_SELF: u32 = 3;
-
-const ANCESTOR_OR_SELF: u32 = 4;
-
-const NODE: u32 = 0;
-
 // How many steps, predicates or operands belong to an item.
 fn owes(w: u32) -> usize
     ensures { λ r. ⌜ (r ≡ owing w) × (r ≤ 8191) ⌝ }
@@ -102,8 +91,8 @@ fn as_step(w: u32) -> Step
     let item = item::unpack(w);
     let Item::Step(step) = item else {
         return Step {
-            axis: SELF,
-            test: NODE,
+            axis: item::SELF,
+            test: item::ANY_NODE,
             count: 0,
         };
     };
@@ -154,8 +143,8 @@ fn put_at_root(out: &mut [u32], at: usize)
     out[at] = item::NOT;
     out[at + 1] = item::pack_path(1);
     out[at + 2] = item::pack_step(Step {
-        axis: PARENT,
-        test: NODE,
+        axis: item::PARENT,
+        test: item::ANY_NODE,
         count: 0,
     });
 }
@@ -170,7 +159,7 @@ fn put_way_back(steps: &[u32], out: &mut [u32], at: usize)
     let mut back = at + 1 + steps.len();
     put_at_root(out, back);
     let mut place = 0;
-    let mut test = NODE;
+    let mut test = item::ANY_NODE;
     let mut count = 1;
     while place < steps.len() {
         let step = as_step(steps[place]);
@@ -187,7 +176,7 @@ fn put_way_back(steps: &[u32], out: &mut [u32], at: usize)
         count = step.count;
     }
     out[at] = item::pack_step(Step {
-        axis: SELF,
+        axis: item::SELF,
         test,
         count,
     });
@@ -237,7 +226,7 @@ fn put_some_node(axis: u32, out: &mut [u32], at: usize, from: usize, count: usiz
     out[at] = item::pack_path(1);
     out[at + 1] = item::pack_step(Step {
         axis,
-        test: NODE,
+        test: item::ANY_NODE,
         count: 1,
     });
     copy(out, at + 2, from, count);
@@ -250,8 +239,8 @@ fn put_visible(out: &mut [u32], at: usize, from: usize, count: usize) -> usize
     ensures { λ r. ⌜ (now (out .exit) ≡ placed (visibleItems (take count (drop from (now (out .entry))))) at (now (out .entry))) × (r ≡ at + 5 + count + count) ⌝ }
 {
     out[at] = item::OR;
-    let second = put_some_node(DESCENDANT_OR_SELF, out, at + 1, from, count);
-    put_some_node(ANCESTOR_OR_SELF, out, second, from, count)
+    let second = put_some_node(item::DESCENDANT_OR_SELF, out, at + 1, from, count);
+    put_some_node(item::ANCESTOR_OR_SELF, out, second, from, count)
 }
 
 // The last step of every top-level path.
@@ -260,11 +249,11 @@ fn put_last(out: &mut [u32], at: usize, from: usize, count: usize) -> usize
     ensures { λ r. ⌜ (now (out .exit) ≡ placed (lastItems (take count (drop from (now (out .entry))))) at (now (out .entry))) × (r ≡ at + 3 + count) ⌝ }
 {
     out[at] = item::pack_step(Step {
-        axis: DESCENDANT_OR_SELF,
-        test: NODE,
+        axis: item::DESCENDANT_OR_SELF,
+        test: item::ANY_NODE,
         count: 1,
     });
-    put_some_node(ANCESTOR_OR_SELF, out, at + 1, from, count)
+    put_some_node(item::ANCESTOR_OR_SELF, out, at + 1, from, count)
 }
 
 // A step gets V as its first predicate, whatever its axis.

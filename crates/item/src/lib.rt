@@ -15,6 +15,28 @@ pub const OR: u32 = 3;
 
 pub const NOT: u32 = 4;
 
+// The numbers of the axes, and how many there are.
+pub const SELF: u32 = 0;
+
+pub const CHILD: u32 = 1;
+
+pub const PARENT: u32 = 2;
+
+pub const DESCENDANT_OR_SELF: u32 = 3;
+
+pub const ANCESTOR_OR_SELF: u32 = 4;
+
+pub const AXES: u32 = 5;
+
+// The tests `node()` and `text()`, that of the name 0, and `*`.
+pub const ANY_NODE: u32 = 0;
+
+pub const TEXT_NODE: u32 = 1;
+
+pub const NAMED: u32 = 2;
+
+pub const ANY_ELEMENT: u32 = 258;
+
 // What a step item says: the numbers of its axis and its test, and how many predicates follow.
 pub struct Step {
     pub axis: u32,

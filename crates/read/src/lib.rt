@@ -102,29 +102,10 @@ const STAR: usize = 10;
 
 const WORD: usize = 13;
 
-// Axes by the paper's numbers, and the numbers that no axis and no called test has.
-const SELF: u32 = 0;
+// The numbers that no axis and no called test has.
+const NO_AXIS: u32 = item::AXES;
 
-const CHILD: u32 = 1;
-
-const PARENT: u32 = 2;
-
-const DESCENDANT_OR_SELF: u32 = 3;
-
-const ANCESTOR_OR_SELF: u32 = 4;
-
-const NO_AXIS: u32 = 5;
-
-const NO_CALL: u32 = 2;
-
-// The tests `node()`, `text()` and `*`, and that of the name 0.
-const ANY_NODE: u32 = 0;
-
-const TEXT_NODE: u32 = 1;
-
-const ANY_ELEMENT: u32 = 258;
-
-const NAMED: u32 = 2;
+const NO_CALL: u32 = item::NAMED;
 
 // TOKENS.
 
@@ -279,19 +260,19 @@ fn axis_of(text: &[u8], start: usize, len: usize) -> u32
     ensures { λ r. ⌜ r ≡ axisCode (axisNamed (take len (drop start (now (text .entry))))) ⌝ }
 {
     if same_word(text, start, len, b"self") {
-        return SELF;
+        return item::SELF;
     }
     if same_word(text, start, len, b"child") {
-        return CHILD;
+        return item::CHILD;
     }
     if same_word(text, start, len, b"parent") {
-        return PARENT;
+        return item::PARENT;
     }
     if same_word(text, start, len, b"descendant-or-self") {
-        return DESCENDANT_OR_SELF;
+        return item::DESCENDANT_OR_SELF;
     }
     if same_word(text, start, len, b"ancestor-or-self") {
-        return ANCESTOR_OR_SELF;
+        return item::ANCESTOR_OR_SELF;
     }
     NO_AXIS
 }
@@ -326,10 +307,10 @@ fn call_of(text: &[u8], start: usize, len: usize) -> u32
     ensures { λ r. ⌜ r ≡ callCode (take len (drop start (now (text .entry)))) ⌝ }
 {
     if same_word(text, start, len, b"node") {
-        return ANY_NODE;
+        return item::ANY_NODE;
     }
     if same_word(text, start, len, b"text") {
-        return TEXT_NODE;
+        return item::TEXT_NODE;
     }
     NO_CALL
 }
@@ -404,7 +385,7 @@ fn tested(
     if let Token::Star = token {
         return Head::Tested {
             axis,
-            test: ANY_ELEMENT,
+            test: item::ANY_ELEMENT,
             next: past,
         };
     }
@@ -419,7 +400,7 @@ fn tested(
     match found {
         Found::At(v) => Head::Tested {
             axis,
-            test: v as u32 + NAMED,
+            test: v as u32 + item::NAMED,
             next: past,
         },
         Found::Nothing => Head::Unknown(place),
@@ -441,16 +422,22 @@ fn step_head(
 {
     let dot = mark(text, cursor, DOT);
     if let Ahead::There { place: _, next } = dot {
-        return Head::Plain { axis: SELF, next };
+        return Head::Plain {
+            axis: item::SELF,
+            next,
+        };
     }
     let dots = mark(text, cursor, DOTS);
     if let Ahead::There { place: _, next } = dots {
-        return Head::Plain { axis: PARENT, next };
+        return Head::Plain {
+            axis: item::PARENT,
+            next,
+        };
     }
     let ahead = axis_ahead(text, cursor);
     match ahead {
         AxisAhead::Named { axis, next } => tested(text, list, starts, count, known, next, axis),
-        AxisAhead::Unnamed => tested(text, list, starts, count, known, cursor, CHILD),
+        AxisAhead::Unnamed => tested(text, list, starts, count, known, cursor, item::CHILD),
     }
 }
 
@@ -471,7 +458,11 @@ fn put_deep(out: &mut [u32], place: usize, deep: bool) -> usize
     ensures { λ r. ⌜ (Wrote (now (out .entry)) (now (out .exit)) place (deepItems deep)) × (r ≡ place + length (deepItems deep)) ⌝ }
 {
     if deep {
-        put(out, place, step_word(DESCENDANT_OR_SELF, ANY_NODE, 0));
+        put(
+            out,
+            place,
+            step_word(item::DESCENDANT_OR_SELF, item::ANY_NODE, 0),
+        );
         return place + 1;
     }
     place
@@ -780,7 +771,7 @@ fn step(
     let head = step_head(text, list, starts, count, known, cursor);
     match head {
         Head::Plain { axis, next } => {
-            put(out, place, step_word(axis, ANY_NODE, 0));
+            put(out, place, step_word(axis, item::ANY_NODE, 0));
             Part::Done {
                 next,
                 end: place + 1,

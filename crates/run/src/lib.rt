@@ -22,11 +22,6 @@ ghost use Rattle.paper.proofs.Decoding.{orsFrom, andsFrom};
 ghost use Rattle.sets.specs.Sets.{bits};
 ghost use Rattle.run.specs.Evals.{Ready, Readable, Fits, Ends, StepThere, StepSaid, Evaluates, Narrows, Moves, PathThere, Runs, keepsBy, roomAnswer};
 
-// The numbers of the axes that spread what is selected.
-const DESCENDANT_OR_SELF: u32 = 3;
-
-const ANCESTOR_OR_SELF: u32 = 4;
-
 // Where so many steps end.
 fn past_steps(items: &[u32], at: usize, count: usize, depth: usize) -> usize
     requires { ⌜ (at ≤ length (now items)) × (depth ≤ 64) × (Readable (takeSteps (takeWithin depth) count (drop at (now items)))) ⌝ }
@@ -320,8 +315,8 @@ fn spread(parent: &[u16], kind: &[u16], given: &[u8], marks: &mut [u8], set: &mu
     ensures { λ _. ⌜ ((f : ℕ → Bool) → now (marks .entry) ≡ bits (length (now (parent .entry))) f → now (marks .exit) ≡ bits (length (now (parent .entry))) (keepsBy (tableOf (now (parent .entry)) (now (kind .entry))) (now (given .entry)) f)) ⌝ }
 {
     sets::copy(marks, set);
-    sets::along(parent, DESCENDANT_OR_SELF, set);
-    sets::along(parent, ANCESTOR_OR_SELF, marks);
+    sets::along(parent, item::DESCENDANT_OR_SELF, set);
+    sets::along(parent, item::ANCESTOR_OR_SELF, marks);
     sets::add(set, marks);
     sets::keep(given, marks);
 }
