@@ -1,4 +1,4 @@
-/* Random name lists, documents, marks, queries and texts, all of them good. */
+/* Random name lists, documents, marks, queries and texts, all of them good; and ways to damage them. */
 #include "making.h"
 
 #include <stdlib.h>
@@ -44,8 +44,8 @@ static void add_name(struct list *list, const char *name, size_t length)
 /* Words that look like something else, each different from the others. */
 static const char *const words[] = {"a",      "b",    "c",     "and",   "or",   "not", "node",         "text", "self",
                                     "child",  "x.y",  "a-b",   "_",     "div",  "A",   "parent",       "a.",   "not-",
-                                    "nodes",  "mod",  "comment", "b2",  "-"};
-enum { WORDS = sizeof words / sizeof words[0] - 1 };
+                                    "nodes",  "mod",  "comment", "b2"};
+enum { WORDS = sizeof words / sizeof words[0] };
 
 void make_list(struct dice *dice, struct list *list, unsigned names)
 {
@@ -237,6 +237,53 @@ void make_deep_query(struct dice *dice, struct query *query, unsigned nesting, u
         make_deep_path(&making, nesting);
 }
 
+static void make_long_steps(struct making *making)
+{
+    unsigned steps = (unsigned)making->bounds.items - 1;
+    put(making, path_item(steps));
+    for (unsigned i = 0; i < steps; i++)
+        put(making, step_item(random_axis(making->dice), random_test(making->dice, making->bounds.names), 0));
+}
+
+static void make_long_predicates(struct making *making)
+{
+    unsigned predicates = (unsigned)(making->bounds.items - 2) / 2;
+    put(making, path_item(1));
+    put(making, step_item(CHILD, NODE_TEST, predicates));
+    for (unsigned i = 0; i < predicates; i++)
+        put_leaf(making);
+}
+
+static void make_long_paths(struct making *making)
+{
+    while (making->query->count + 2 <= making->bounds.items)
+        put_leaf(making);
+    if (making->query->count < making->bounds.items)
+        put(making, path_item(0));
+}
+
+/* Operators stand before their operands; `or` stands outside `and`, so that no bracket is printed. */
+static void make_long_operands(struct making *making)
+{
+    unsigned operators = (unsigned)(making->bounds.items - 4) / 3;
+    unsigned ors = (unsigned)below(making->dice, operators + 1);
+    put(making, path_item(1));
+    put(making, step_item(DESCENDANT_OR_SELF, NODE_TEST, 1));
+    for (unsigned i = 0; i < operators; i++)
+        put(making, i < ors ? OR_ITEM : AND_ITEM);
+    for (unsigned i = 0; i <= operators; i++)
+        put_leaf(making);
+}
+
+void make_long_query(struct dice *dice, struct query *query, size_t most_items, unsigned names)
+{
+    static void (*const makers[])(struct making *) = {make_long_steps, make_long_predicates, make_long_paths,
+                                                      make_long_operands};
+    struct making making = {dice, query, {most_items, 1, 1, names}};
+    query->count = 0;
+    makers[below(dice, sizeof makers / sizeof makers[0])](&making);
+}
+
 /* Texts. */
 
 struct writing {
@@ -246,6 +293,7 @@ struct writing {
     const struct list *list;
     size_t at;
     unsigned loose;
+    bool after_word;
 };
 
 static bool in_word(uint8_t byte)
@@ -273,10 +321,10 @@ static void put_space(struct writing *writing, bool needed)
 
 static void put_token_bytes(struct writing *writing, const uint8_t *token, size_t length)
 {
-    struct text *text = writing->text;
-    put_space(writing, text->length > 0 && in_word(text->bytes[text->length - 1]) && in_word(token[0]));
+    put_space(writing, writing->after_word && in_word(token[0]));
     for (size_t i = 0; i < length; i++)
-        put_byte(text, token[i]);
+        put_byte(writing->text, token[i]);
+    writing->after_word = in_word(token[0]) && token[0] != '.';
 }
 
 static void put_token(struct writing *writing, const char *token)
@@ -380,7 +428,7 @@ static void write_expr(struct writing *writing)
 
 void make_text(struct dice *dice, struct text *text, const struct query *query, const struct list *list)
 {
-    struct writing writing = {dice, text, query, list, 0, chance(dice, 50) ? 20 : 0};
+    struct writing writing = {dice, text, query, list, 0, chance(dice, 50) ? 20 : 0, false};
     text->length = 0;
     text->overflowed = false;
     while (writing.at < query->count) {
@@ -392,4 +440,116 @@ void make_text(struct dice *dice, struct text *text, const struct query *query, 
             put_token(&writing, "|");
     }
     put_space(&writing, false);
+}
+
+/* Damage. */
+
+static uint8_t odd_byte(struct dice *dice)
+{
+    static const char bytes[] = "/.:|[]()*a b\t\nAz09_-@$,'\"=!\r\001\177";
+    return chance(dice, 90) ? (uint8_t)bytes[below(dice, sizeof bytes)] : (uint8_t)roll(dice);
+}
+
+/* Puts a byte in, takes one out or changes one; answers the new length. */
+static size_t damage_bytes(struct dice *dice, uint8_t *bytes, size_t length, size_t room)
+{
+    size_t place = below(dice, length + 1), throw = below(dice, 3);
+    if (throw == 0 && length < room) {
+        memmove(bytes + place + 1, bytes + place, length - place);
+        bytes[place] = odd_byte(dice);
+        return length + 1;
+    }
+    if (place == length)
+        return length;
+    if (throw == 1) {
+        memmove(bytes + place, bytes + place + 1, length - place - 1);
+        return length - 1;
+    }
+    bytes[place] = odd_byte(dice);
+    return length;
+}
+
+void damage_text(struct dice *dice, struct text *text)
+{
+    if (chance(dice, 15))
+        text->length = below(dice, text->length + 1);
+    for (size_t times = between(dice, 1, 3); times > 0; times--)
+        text->length = damage_bytes(dice, text->bytes, text->length, TEXT_ROOM);
+}
+
+void damage_list(struct dice *dice, struct list *list)
+{
+    for (size_t times = between(dice, 1, 2); times > 0; times--)
+        list->length = damage_bytes(dice, list->bytes, list->length, LIST_ROOM);
+}
+
+static uint32_t odd_item(struct dice *dice)
+{
+    size_t throw = below(dice, 8);
+    if (throw == 0)
+        return (uint32_t)roll(dice);
+    if (throw < 3)
+        return path_item((unsigned)below(dice, 3));
+    if (throw < 5)
+        return step_item((unsigned)below(dice, 6), (unsigned)below(dice, 4), (unsigned)below(dice, 3));
+    return (uint32_t)below(dice, 6);
+}
+
+static void damage_item(struct dice *dice, struct query *query)
+{
+    size_t place = below(dice, query->count), rest = query->count - place;
+    switch (below(dice, 4)) {
+    case 0:
+        query->items[place] ^= (uint32_t)1 << below(dice, 32);
+        return;
+    case 1:
+        query->items[place] = odd_item(dice);
+        return;
+    case 2:
+        memmove(query->items + place, query->items + place + 1, (rest - 1) * sizeof query->items[0]);
+        query->count--;
+        return;
+    default:
+        if (query->count == ITEM_ROOM)
+            return;
+        memmove(query->items + place + 1, query->items + place, rest * sizeof query->items[0]);
+        query->items[place] = odd_item(dice);
+        query->count++;
+    }
+}
+
+void damage_query(struct dice *dice, struct query *query)
+{
+    if (chance(dice, 10))
+        query->count = below(dice, query->count + 1);
+    for (size_t times = between(dice, 1, 2); times > 0 && query->count > 0; times--)
+        damage_item(dice, query);
+}
+
+void damage_table(struct dice *dice, struct table *table)
+{
+    for (size_t times = between(dice, 1, 2); times > 0 && table->nodes > 0; times--) {
+        size_t node = below(dice, table->nodes), throw = below(dice, 4);
+        if (throw == 0)
+            table->parent[node] = (uint16_t)below(dice, table->nodes + 2);
+        else if (throw == 1)
+            table->kind[node] = chance(dice, 50) ? (uint16_t)below(dice, 3) : (uint16_t)between(dice, 256, 259);
+        else if (throw == 2)
+            table->marks[node] ^= 1;
+        else
+            table->marks[node] = (uint8_t)roll(dice);
+    }
+}
+
+void make_token_soup(struct dice *dice, struct text *text, size_t tokens)
+{
+    static const char *const soup[] = {"/", "/",  "//", ".",   "..",  "::",   "|",    "[",     "]",    "(", ")",
+                                       "*", "a",  "b",  "and", "or",  "not",  "node", "text",  "self", "[", "]",
+                                       "(", ")",  " ",  "\t",  "\n",  "child", "not(", "node()", "a",   ":", "-"};
+    text->length = 0;
+    text->overflowed = false;
+    put_byte(text, '/');
+    for (; tokens > 0; tokens--)
+        for (const char *byte = soup[below(dice, sizeof soup / sizeof soup[0])]; *byte != 0; byte++)
+            put_byte(text, (uint8_t)*byte);
 }

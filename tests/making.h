@@ -1,4 +1,4 @@
-/* Random name lists, documents, marks, queries and texts, all of them good. */
+/* Random name lists, documents, marks, queries and texts, all of them good; and ways to damage them. */
 #ifndef MAKING_H
 #define MAKING_H
 
@@ -52,10 +52,22 @@ void make_query(struct dice *dice, struct query *query, struct bounds bounds);
 /* A query whose brackets are nested exactly so deep, of mixed kinds. */
 void make_deep_query(struct dice *dice, struct query *query, unsigned nesting, unsigned names);
 
+/* A query that is one long run of some kind: steps, predicates, paths, or left-grouped operands. */
+void make_long_query(struct dice *dice, struct query *query, size_t most_items, unsigned names);
+
 /* A text of the query with random abbreviations, white space and superfluous brackets. */
 void make_text(struct dice *dice, struct text *text, const struct query *query, const struct list *list);
 
-/* How many names a word of one name list has; the text of name v. */
+/* The bytes of name v and their number. */
 const uint8_t *name_at(const struct list *list, unsigned v, size_t *length);
+
+/* Each changes a few places: good input becomes nearly good. */
+void damage_text(struct dice *dice, struct text *text);
+void damage_query(struct dice *dice, struct query *query);
+void damage_list(struct dice *dice, struct list *list);
+void damage_table(struct dice *dice, struct table *table);
+
+/* A text of tokens in any order. */
+void make_token_soup(struct dice *dice, struct text *text, size_t tokens);
 
 #endif
