@@ -57,7 +57,7 @@ static void write_text(const uint8_t *bytes, size_t length)
 
 static void write_document(const char *what)
 {
-    printf("C %s\n", what);
+    printf("C %s, CASE=%llu\n", what, (unsigned long long)group_case());
     write_names();
     write_column('P', table.parent);
     write_column('K', table.kind);

@@ -18,6 +18,7 @@ static struct {
     uint8_t marks[NODES];
     size_t nodes;
     char shown[1 << 16];
+    bool ended;
 } now;
 
 static xmlNodePtr tree[NODES];
@@ -188,7 +189,8 @@ static void take_line(char *line)
         compare(rest);
         return;
     default:
-        if (strncmp(line, "engine: ", 8) != 0 || strstr(line, " 0 failed") == NULL)
+        now.ended = strncmp(line, "engine: ", 8) == 0 && strstr(line, " 0 failed") != NULL;
+        if (!now.ended)
             tally(false, "%s", line);
     }
 }
@@ -204,5 +206,7 @@ int main(void)
         take_line(line);
     }
     free(line);
+    if (!now.ended)
+        tally(false, "the cases do not end as they should");
     return group_end();
 }

@@ -7,7 +7,6 @@
 #include <stdlib.h>
 #include <string.h>
 #include <sys/mman.h>
-#include <time.h>
 #include <unistd.h>
 
 enum { GUARD_VALUE = 0xA5, FAILURES_SHOWN = 10, SHOWN_MOST = 5000, FIXED_SEED = 20260701 };
@@ -90,11 +89,7 @@ static void catch_traps(void)
 static uint64_t seed_asked(void)
 {
     const char *asked = getenv("SEED");
-    if (asked == NULL || *asked == 0)
-        return FIXED_SEED;
-    if (strcmp(asked, "clock") == 0)
-        return (uint64_t)time(NULL);
-    return strtoull(asked, NULL, 10);
+    return asked == NULL || *asked == 0 ? FIXED_SEED : strtoull(asked, NULL, 10);
 }
 
 void group_start(const char *name)
@@ -110,14 +105,14 @@ void group_start(const char *name)
     catch_traps();
 }
 
-unsigned cases_percent(void)
-{
-    return group.percent;
-}
-
 uint64_t group_seed(void)
 {
     return group.seed;
+}
+
+uint64_t group_case(void)
+{
+    return group.current_case;
 }
 
 static void count_one(bool passed)
@@ -247,13 +242,6 @@ void *lend(unsigned slot, size_t bytes)
     uint8_t *start = slot_memory(slot) + SLOT_BYTES - bytes;
     memset(start - GUARD_BYTES, GUARD_VALUE, GUARD_BYTES);
     slots[slot].start = start;
-    return start;
-}
-
-void *lend_copy(unsigned slot, const void *from, size_t bytes)
-{
-    void *start = lend(slot, bytes);
-    memcpy(start, from, bytes);
     return start;
 }
 

@@ -20,7 +20,7 @@ size_t below(struct dice *dice, size_t bound);
 size_t between(struct dice *dice, size_t least, size_t most);
 bool chance(struct dice *dice, unsigned percent);
 
-/* Starts a group: takes SEED, CASES and CASE from the environment. */
+/* Starts a group: takes SEED, CASES and CASE from the environment. Traps end it as a failure. */
 void group_start(const char *name);
 
 /* Counts one test and says what failed. */
@@ -41,9 +41,9 @@ void show_items(const char *what, const uint32_t *items, size_t count);
 /* Prints the group's line and gives the exit status. */
 int group_end(void);
 
-/* How long a run is asked for, in percent, and the group's seed. */
-unsigned cases_percent(void);
+/* The group's seed, and the number of the case being tried. */
 uint64_t group_seed(void);
+uint64_t group_case(void);
 
 /*
  * Lent memory: it ends at a page that cannot be touched and begins after guard bytes.
@@ -52,7 +52,6 @@ uint64_t group_seed(void);
 enum { SLOTS = 16, SLOT_BYTES = 1 << 26, GUARD_BYTES = 64 };
 
 void *lend(unsigned slot, size_t bytes);
-void *lend_copy(unsigned slot, const void *from, size_t bytes);
 bool guards_whole(void);
 
 /* Are so many bytes all of one value? */
