@@ -84,8 +84,8 @@ static inline uint32_t halyardfig_value(uint64_t answer)
  * Refuses, in this order: 1 (text over 32,768 bytes, list over 8,192), 2,
  * then 3 or 4, whichever place comes first (3 if they are equal), 5, 10 (place: the items needed).
  */
-uint64_t halyardfig_read(const uint8_t *text, size_t text_len, const uint8_t *names, size_t names_len,
-                         uint32_t *out, size_t out_len);
+uint64_t halyardfig_read(const uint8_t *text, size_t text_len, const uint8_t *names, size_t names_len, uint32_t *out,
+                         size_t out_len);
 
 /*
  * Writes a query's text to out, axes written out, with the names of a list.
@@ -93,8 +93,8 @@ uint64_t halyardfig_read(const uint8_t *text, size_t text_len, const uint8_t *na
  * Refuses, in this order: 1 (query over 4,096 items, list over 8,192 bytes), 2, 6 (place 0),
  * 5 (place: the item), 10 (place: the bytes needed).
  */
-uint64_t halyardfig_print(const uint32_t *query, size_t query_len, const uint8_t *names, size_t names_len,
-                          uint8_t *out, size_t out_len);
+uint64_t halyardfig_print(const uint32_t *query, size_t query_len, const uint8_t *names, size_t names_len, uint8_t *out,
+                          size_t out_len);
 
 /*
  * Composes two queries into one and writes its items to out: run inside any marks,
@@ -116,8 +116,8 @@ uint64_t halyardfig_compose(const uint32_t *outer, size_t outer_len, const uint3
  * 6 (place 0), 7 (place: the node), 8 (place: the node), 10 (place: the bytes of scratch needed).
  */
 uint64_t halyardfig_run(const uint32_t *query, size_t query_len, const uint16_t *parent, size_t parent_len,
-                        const uint16_t *kind, size_t kind_len, const uint8_t *given, size_t given_len,
-                        uint8_t *marks, size_t marks_len, uint8_t *scratch, size_t scratch_len);
+                        const uint16_t *kind, size_t kind_len, const uint8_t *given, size_t given_len, uint8_t *marks,
+                        size_t marks_len, uint8_t *scratch, size_t scratch_len);
 
 /*
  * Writes the marked nodes of a document, in order, as a new table with its parents renumbered.

@@ -78,8 +78,8 @@ static bool write_printed(const struct query *printing)
 static bool run_query(const struct query *running)
 {
     static uint8_t scratch[SCRATCH_ROOM];
-    uint64_t answer = halyardfig_run(running->items, running->count, table.parent, table.nodes, table.kind,
-                                     table.nodes, table.marks, table.nodes, kept, table.nodes, scratch, sizeof scratch);
+    uint64_t answer = halyardfig_run(running->items, running->count, table.parent, table.nodes, table.kind, table.nodes,
+                                     table.marks, table.nodes, kept, table.nodes, scratch, sizeof scratch);
     return halyardfig_refused(answer) == 0 || complain("a good run is refused");
 }
 
@@ -115,8 +115,7 @@ static bool single_query(struct dice *dice)
     make_document(dice, 40);
     make_single(dice);
     make_text(dice, &text, &query, &list);
-    uint64_t answer =
-        halyardfig_read(text.bytes, text.length, list.bytes, list.length, query.items, ITEM_ROOM);
+    uint64_t answer = halyardfig_read(text.bytes, text.length, list.bytes, list.length, query.items, ITEM_ROOM);
     if (halyardfig_refused(answer) != 0)
         return complain("a good text is refused");
     if (!run_query(&query))
@@ -134,8 +133,7 @@ static uint64_t make_composed(struct dice *dice)
 {
     make_query(dice, &outer, (struct bounds){between(dice, 1, 12), (unsigned)below(dice, 3), 2, list.count});
     make_query(dice, &inner, (struct bounds){between(dice, 1, 12), (unsigned)below(dice, 3), 2, list.count});
-    uint64_t answer =
-        halyardfig_compose(outer.items, outer.count, inner.items, inner.count, composed.items, ITEM_ROOM);
+    uint64_t answer = halyardfig_compose(outer.items, outer.count, inner.items, inner.count, composed.items, ITEM_ROOM);
     composed.count = halyardfig_value(answer);
     return halyardfig_refused(answer);
 }

@@ -42,9 +42,9 @@ static void add_name(struct list *list, const char *name, size_t length)
 }
 
 /* Words that look like something else, each different from the others. */
-static const char *const words[] = {"a",      "b",    "c",     "and",   "or",   "not", "node",         "text", "self",
-                                    "child",  "x.y",  "a-b",   "_",     "div",  "A",   "parent",       "a.",   "not-",
-                                    "nodes",  "mod",  "comment", "b2"};
+static const char *const words[] = {"a",    "b",     "c",     "and", "or",      "not", "node", "text",
+                                    "self", "child", "x.y",   "a-b", "_",       "div", "A",    "parent",
+                                    "a.",   "not-",  "nodes", "mod", "comment", "b2"};
 enum { WORDS = sizeof words / sizeof words[0] };
 
 void make_list(struct dice *dice, struct list *list, unsigned names)
@@ -120,8 +120,17 @@ static bool is_full(const struct making *making)
 
 static unsigned random_axis(struct dice *dice)
 {
-    static const unsigned axes[] = {SELF,   CHILD,  CHILD,  CHILD, CHILD, PARENT, PARENT, DESCENDANT_OR_SELF,
-                                    DESCENDANT_OR_SELF, DESCENDANT_OR_SELF, ANCESTOR_OR_SELF};
+    static const unsigned axes[] = {SELF,
+                                    CHILD,
+                                    CHILD,
+                                    CHILD,
+                                    CHILD,
+                                    PARENT,
+                                    PARENT,
+                                    DESCENDANT_OR_SELF,
+                                    DESCENDANT_OR_SELF,
+                                    DESCENDANT_OR_SELF,
+                                    ANCESTOR_OR_SELF};
     return axes[below(dice, sizeof axes / sizeof axes[0])];
 }
 
@@ -164,10 +173,10 @@ static void make_expr(struct making *making, unsigned nesting)
         make_path(making, nesting, 1);
         return;
     }
-    uint32_t operator = throw == 8 ? NOT_ITEM : throw == 7 ? AND_ITEM : OR_ITEM;
+    uint32_t operator= throw == 8 ? NOT_ITEM : throw == 7 ? AND_ITEM : OR_ITEM;
     put(making, operator);
     make_expr(making, nesting - 1);
-    if (operator != NOT_ITEM)
+    if (operator!= NOT_ITEM)
         make_expr(making, nesting - 1);
 }
 
@@ -543,9 +552,9 @@ void damage_table(struct dice *dice, struct table *table)
 
 void make_token_soup(struct dice *dice, struct text *text, size_t tokens)
 {
-    static const char *const soup[] = {"/", "/",  "//", ".",   "..",  "::",   "|",    "[",     "]",    "(", ")",
-                                       "*", "a",  "b",  "and", "or",  "not",  "node", "text",  "self", "[", "]",
-                                       "(", ")",  " ",  "\t",  "\n",  "child", "not(", "node()", "a",   ":", "-"};
+    static const char *const soup[] = {"/", "/", "//", ".",   "..", "::",    "|",    "[",      "]",    "(", ")",
+                                       "*", "a", "b",  "and", "or", "not",   "node", "text",   "self", "[", "]",
+                                       "(", ")", " ",  "\t",  "\n", "child", "not(", "node()", "a",    ":", "-"};
     text->length = 0;
     text->overflowed = false;
     put_byte(text, '/');

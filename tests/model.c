@@ -72,21 +72,21 @@ static bool reads_token_soup(struct dice *dice)
 
 static bool reads_many_brackets(struct dice *dice)
 {
-    static const char *const opens[] = {"[", "(", "not(", "a[", "a[", "(", "not("};
-    list_of(&list, "a");
-    text.length = 0;
+    static const char *const opens[] = {"(", "not(", "a[", "a and (", "a or not(", "a[a][a or b["};
+    list_of(&list, "a b");
     memcpy(text.bytes, "/a[", 3);
     text.length = 3;
-    for (size_t left = between(dice, 60, 68), kind; left > 0; left--) {
-        kind = chance(dice, 1) ? 0 : between(dice, 1, 6);
-        size_t length = strlen(opens[kind]);
-        memcpy(text.bytes + text.length, opens[kind], length);
-        text.length += length;
+    for (size_t left = between(dice, 60, 68); left > 0; left--) {
+        const char *opening = opens[below(dice, sizeof opens / sizeof opens[0])];
+        memcpy(text.bytes + text.length, opening, strlen(opening));
+        text.length += strlen(opening);
     }
     text.bytes[text.length++] = 'a';
     for (size_t i = text.length; i > 0; i--)
         if (text.bytes[i - 1] == '[' || text.bytes[i - 1] == '(')
             text.bytes[text.length++] = text.bytes[i - 1] == '[' ? ']' : ')';
+    if (chance(dice, 50))
+        damage_text(dice, &text);
     return twin_read(dice, text.bytes, text.length, list.bytes, list.length, ITEM_ROOM);
 }
 
@@ -224,8 +224,7 @@ static bool make_composition(struct dice *dice, unsigned names)
 {
     make_query(dice, &outer, (struct bounds){between(dice, 1, 15), (unsigned)below(dice, 4), 2, names});
     make_query(dice, &inner, (struct bounds){between(dice, 1, 12), (unsigned)below(dice, 3), 2, names});
-    uint64_t answer =
-        halyardfig_compose(outer.items, outer.count, inner.items, inner.count, composed.items, ITEM_ROOM);
+    uint64_t answer = halyardfig_compose(outer.items, outer.count, inner.items, inner.count, composed.items, ITEM_ROOM);
     composed.count = halyardfig_value(answer);
     return halyardfig_refused(answer) == 0;
 }
@@ -331,7 +330,7 @@ int main(void)
     try_cases("read good text", 3000, reads_good_text);
     try_cases("read damaged text", 6000, reads_damaged_text);
     try_cases("read token soup", 20000, reads_token_soup);
-    try_cases("read many brackets", 1000, reads_many_brackets);
+    try_cases("read many brackets", 2000, reads_many_brackets);
     try_cases("print and read back", 2000, prints_and_reads_back);
     try_cases("print damaged query", 3000, prints_damaged_query);
     try_cases("compose", 1500, composes);

@@ -139,7 +139,22 @@ static uint64_t take_names(struct names *names, const uint8_t *list, size_t list
 
 /* Tokens. */
 
-enum sort { SLASH, SLASHES, DOT, DOTS, COLONS, BAR, OPEN_SQUARE, CLOSE_SQUARE, OPEN_ROUND, CLOSE_ROUND, STAR, WORD, END, NONE };
+enum sort {
+    SLASH,
+    SLASHES,
+    DOT,
+    DOTS,
+    COLONS,
+    BAR,
+    OPEN_SQUARE,
+    CLOSE_SQUARE,
+    OPEN_ROUND,
+    CLOSE_ROUND,
+    STAR,
+    WORD,
+    END,
+    NONE
+};
 
 struct token {
     enum sort sort;
@@ -1157,8 +1172,8 @@ uint64_t model_print(const uint32_t *query, size_t query_len, const uint8_t *nam
     return writing.count;
 }
 
-uint64_t model_compose(const uint32_t *outer, size_t outer_len, const uint32_t *inner, size_t inner_len,
-                       uint32_t *out, size_t out_len)
+uint64_t model_compose(const uint32_t *outer, size_t outer_len, const uint32_t *inner, size_t inner_len, uint32_t *out,
+                       size_t out_len)
 {
     pool_used = 0;
     if (outer_len > MOST_ITEMS || inner_len > MOST_ITEMS)

@@ -14,8 +14,8 @@ static const uint16_t sample_kind[SAMPLE_NODES] = {0, 2, 3, 4, 1, 3, 5};
 /* Reads a text with the names a b c d. */
 static uint64_t read_text(struct query *query, const char *text)
 {
-    return halyardfig_read((const uint8_t *)text, strlen(text), (const uint8_t *)sample_names,
-                           strlen(sample_names), query->items, ITEM_ROOM);
+    return halyardfig_read((const uint8_t *)text, strlen(text), (const uint8_t *)sample_names, strlen(sample_names),
+                           query->items, ITEM_ROOM);
 }
 
 static void read_good(struct query *query, const char *text)
@@ -31,8 +31,7 @@ static uint64_t compose_texts(struct query *made, const char *outer_text, const 
     static struct query outer, inner;
     read_good(&outer, outer_text);
     read_good(&inner, inner_text);
-    uint64_t answer =
-        halyardfig_compose(outer.items, outer.count, inner.items, inner.count, made->items, ITEM_ROOM);
+    uint64_t answer = halyardfig_compose(outer.items, outer.count, inner.items, inner.count, made->items, ITEM_ROOM);
     made->count = halyardfig_refused(answer) == 0 ? halyardfig_value(answer) : 0;
     return answer;
 }
@@ -44,8 +43,8 @@ static void marks_are(const char *name, const struct query *query, const char *e
     uint8_t marks[SAMPLE_NODES];
     char shown[SAMPLE_NODES + 1] = "";
     unsigned kept = 0;
-    uint64_t answer = halyardfig_run(query->items, query->count, sample_parent, SAMPLE_NODES, sample_kind,
-                                     SAMPLE_NODES, given, SAMPLE_NODES, marks, SAMPLE_NODES, scratch, sizeof scratch);
+    uint64_t answer = halyardfig_run(query->items, query->count, sample_parent, SAMPLE_NODES, sample_kind, SAMPLE_NODES,
+                                     given, SAMPLE_NODES, marks, SAMPLE_NODES, scratch, sizeof scratch);
     for (size_t i = 0; i < SAMPLE_NODES; i++) {
         shown[i] = (char)('0' + marks[i]);
         kept += expected[i] == '1';
@@ -59,9 +58,10 @@ static void run_samples(void)
     static const struct {
         const char *name, *text, *marks;
     } samples[] = {
-        {"P1", "/", "1111111"},           {"P2", "/b", "0000000"},       {"P3", "/a/b[c]", "1111100"},
-        {"P4", "/a/b[not(c)]", "1100011"}, {"P5", "//text()", "1111100"}, {"P6", "//d/../..", "1111111"},
-        {"P7", "/..", "0000000"},          {"P8 alone", "/a[not(b/c)]", "0000000"},
+        {"P1", "/", "1111111"},        {"P2", "/b", "0000000"},
+        {"P3", "/a/b[c]", "1111100"},  {"P4", "/a/b[not(c)]", "1100011"},
+        {"P5", "//text()", "1111100"}, {"P6", "//d/../..", "1111111"},
+        {"P7", "/..", "0000000"},      {"P8 alone", "/a[not(b/c)]", "0000000"},
     };
     static struct query query;
     for (size_t i = 0; i < sizeof samples / sizeof samples[0]; i++) {
@@ -125,13 +125,18 @@ static void read_samples(void)
         const char *text;
         unsigned number, place;
     } samples[] = {
-        {"", 3, 0},       {"//", 3, 2},        {"/.[a]", 3, 2},           {"/a[/b]", 3, 3},
-        {"/a[b|c]", 3, 4}, {"/a[(b)/c]", 3, 6}, {"/a/preceding::b", 3, 12}, {"/e", 5, 1},
+        {"", 3, 0},
+        {"//", 3, 2},
+        {"/.[a]", 3, 2},
+        {"/a[/b]", 3, 3},
+        {"/a[b|c]", 3, 4},
+        {"/a[(b)/c]", 3, 6},
+        {"/a/preceding::b", 3, 12},
+        {"/e", 5, 1},
     };
     static struct query query;
     for (size_t i = 0; i < sizeof samples / sizeof samples[0]; i++)
-        answer_is(samples[i].text, read_text(&query, samples[i].text),
-                  REFUSED(samples[i].number, samples[i].place));
+        answer_is(samples[i].text, read_text(&query, samples[i].text), REFUSED(samples[i].number, samples[i].place));
     answer_is("63 brackets", read_text(&query, repeated("/a[", "(", 63, "b", ")")), REFUSED(3, 130));
     char text[256];
     snprintf(text, sizeof text, "%s]", repeated("/a[", "(", 63, "b", ")"));

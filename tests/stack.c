@@ -171,10 +171,31 @@ static void start_text(const char *start)
 
 /* What opens a bracket; the last byte is the bracket. */
 static const char *const openings[] = {
-    "a[",        "(",           "not(",          "a and (a or ", "a or (a or ",      "a and (a and ",  "(a or ",
-    "a/b[",      "a[a][a[",     "not(a and ",    "a and not(",   "a or a and not(",  "a[a or ",        "self::a[",
-    "a or b[",   "a and b//a[", "(a or a) and (", "a//.//*[",    ".. or a/text()[",  "not((",          "a[not(",
-    "a and (a or not(a[",       "node()[(",       "a or (a and not(a[a or ",          "a[a and (a or a[",
+    "a[",
+    "(",
+    "not(",
+    "a and (a or ",
+    "a or (a or ",
+    "a and (a and ",
+    "(a or ",
+    "a/b[",
+    "a[a][a[",
+    "not(a and ",
+    "a and not(",
+    "a or a and not(",
+    "a[a or ",
+    "self::a[",
+    "a or b[",
+    "a and b//a[",
+    "(a or a) and (",
+    "a//.//*[",
+    ".. or a/text()[",
+    "not((",
+    "a[not(",
+    "a and (a or not(a[",
+    "node()[(",
+    "a or (a and not(a[a or ",
+    "a[a and (a or a[",
 };
 enum { OPENINGS = sizeof openings / sizeof openings[0] };
 
@@ -381,8 +402,8 @@ static void many_names(struct dice *dice)
 
 static void report(enum call which)
 {
-    printf("stack of %s: %zu bytes at most, %zu inputs, %zu of them accepted\n", call_names[which],
-           worst[which].bytes, worst[which].inputs, worst[which].accepted);
+    printf("stack of %s: %zu bytes at most, of %zu inputs, %zu of them accepted; worst: %.60s\n", call_names[which],
+           worst[which].bytes, worst[which].inputs, worst[which].accepted, worst[which].input);
     tally(worst[which].accepted > 0, "%s was never accepted", call_names[which]);
     tally(worst[which].bytes <= STACK_LIMIT, "%s uses %zu bytes of stack, over %d, on %s", call_names[which],
           worst[which].bytes, STACK_LIMIT, worst[which].input);

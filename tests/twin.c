@@ -114,8 +114,8 @@ bool twin_print(struct dice *dice, const uint32_t *query, size_t query_len, cons
     return false;
 }
 
-bool twin_compose(struct dice *dice, const uint32_t *outer, size_t outer_len, const uint32_t *inner,
-                  size_t inner_len, size_t room)
+bool twin_compose(struct dice *dice, const uint32_t *outer, size_t outer_len, const uint32_t *inner, size_t inner_len,
+                  size_t room)
 {
     piece_count = 0;
     const uint32_t *our_outer = lend_read(outer, outer_len * sizeof *outer);
@@ -157,8 +157,8 @@ bool twin_run(struct dice *dice, const uint32_t *query, size_t query_len, const 
     return false;
 }
 
-bool twin_extract(struct dice *dice, const uint16_t *parent, size_t parent_len, const uint16_t *kind,
-                  size_t kind_len, const uint8_t *marks, size_t marks_len, size_t parent_room, size_t kind_room)
+bool twin_extract(struct dice *dice, const uint16_t *parent, size_t parent_len, const uint16_t *kind, size_t kind_len,
+                  const uint8_t *marks, size_t marks_len, size_t parent_room, size_t kind_room)
 {
     piece_count = 0;
     const uint16_t *our_parent = lend_read(parent, parent_len * sizeof *parent);
