@@ -1,9 +1,12 @@
 /* Every refusal of every call at its edges, in the order of document 01, with what it may and may not write. */
+#define _GNU_SOURCE
 #include "halyardfig.h"
 #include "making.h"
 
+#include <stdio.h>
 #include <stdlib.h>
 #include <string.h>
+#include <sys/mman.h>
 
 enum { PIECES = 6, FILL = 0x5A, LONGEST = 1 << 17 };
 
@@ -651,6 +654,62 @@ static void rooms(void)
     run_is("nothing marked", root_query, 1, &table, (struct lengths){7, 7, 7, 7, 29}, 0, 28);
 }
 
+/* Memory lent twice for reading is read twice. */
+static void lent_twice(void)
+{
+    static struct query once, again;
+    const uint32_t copy[] = {good_inner[0], good_inner[1]};
+    static const uint16_t zeros[] = {0};
+    static const uint8_t given[] = {1};
+    uint8_t marks[1], scratch[4];
+    uint64_t answer = halyardfig_compose(good_inner, 2, good_inner, 2, once.items, ITEM_ROOM);
+    tally(answer == halyardfig_compose(good_inner, 2, copy, 2, again.items, ITEM_ROOM) && answer == 28 &&
+              memcmp(once.items, again.items, 28 * sizeof(uint32_t)) == 0,
+          "a query composed with itself");
+    tally(halyardfig_run(root_query, 1, zeros, 1, zeros, 1, given, 1, marks, 1, scratch, 4) == 1, "one column twice");
+}
+
+/* Lengths of 2^32 and a little, which are no small lengths; the memory is all zeros and hardly touched. */
+static void huge_lengths(void)
+{
+    const size_t huge = ((size_t)1 << 32) + 1, bytes = huge * sizeof(uint32_t);
+    void *memory = mmap(NULL, bytes, PROT_READ | PROT_WRITE, MAP_PRIVATE | MAP_ANONYMOUS | MAP_NORESERVE, -1, 0);
+    if (memory == MAP_FAILED) {
+        printf("no room to try huge lengths\n");
+        return;
+    }
+    const uint8_t slash[] = {'/'}, one[] = {1};
+    const uint16_t zero[] = {0};
+    uint32_t items[9];
+    uint8_t marks[1], room[9];
+    uint16_t parents[1], kinds[1];
+    answer_is("huge text", halyardfig_read(memory, huge, slash, 0, items, 9), REFUSED(1, 0));
+    answer_is("huge list", halyardfig_read(slash, 1, memory, huge, items, 9), REFUSED(1, 0));
+    answer_is("huge room for items", halyardfig_read(slash, 1, slash, 0, memory, huge), 1);
+    answer_is("huge query printed", halyardfig_print(memory, huge, slash, 0, room, 9), REFUSED(1, 0));
+    answer_is("huge list printed", halyardfig_print(root_query, 1, memory, huge, room, 9), REFUSED(1, 0));
+    answer_is("huge room for text", halyardfig_print(root_query, 1, slash, 0, memory, huge), 1);
+    answer_is("huge outer", halyardfig_compose(memory, huge, root_query, 1, items, 9), REFUSED(1, 0));
+    answer_is("huge inner", halyardfig_compose(root_query, 1, memory, huge, items, 9), REFUSED(1, 0));
+    answer_is("huge room composed", halyardfig_compose(root_query, 1, root_query, 1, memory, huge), 9);
+    answer_is("huge query run", halyardfig_run(memory, huge, zero, 1, zero, 1, one, 1, marks, 1, room, 9),
+              REFUSED(1, 0));
+    answer_is("huge parent", halyardfig_run(root_query, 1, memory, huge, zero, 1, one, 1, marks, 1, room, 9),
+              REFUSED(1, 0));
+    answer_is("huge kind", halyardfig_run(root_query, 1, zero, 1, memory, huge, one, 1, marks, 1, room, 9),
+              REFUSED(1, 0));
+    answer_is("huge given", halyardfig_run(root_query, 1, zero, 1, zero, 1, memory, huge, marks, 1, room, 9),
+              REFUSED(1, 0));
+    answer_is("huge marks", halyardfig_run(root_query, 1, zero, 1, zero, 1, one, 1, memory, huge, room, 9),
+              REFUSED(1, 0));
+    answer_is("huge scratch", halyardfig_run(root_query, 1, zero, 1, zero, 1, one, 1, marks, 1, memory, huge), 1);
+    answer_is("huge marks extracted", halyardfig_extract(zero, 1, zero, 1, memory, huge, parents, 1, kinds, 1),
+              REFUSED(1, 0));
+    answer_is("huge output column", halyardfig_extract(zero, 1, zero, 1, one, 1, memory, huge, kinds, 1),
+              REFUSED(1, 0));
+    munmap(memory, bytes);
+}
+
 int main(void)
 {
     group_start("refusals");
@@ -668,5 +727,7 @@ int main(void)
     bad_tables();
     bad_marks();
     rooms();
+    lent_twice();
+    huge_lengths();
     return group_end();
 }

@@ -100,12 +100,6 @@ static const char *repeated(const char *start, const char *part, size_t times, c
     return text;
 }
 
-static void answer_is(const char *what, uint64_t answer, uint64_t expected)
-{
-    tally(answer == expected, "%s: answer %u with %u, expected %u with %u", what, halyardfig_refused(answer),
-          halyardfig_place(answer), halyardfig_refused(expected), halyardfig_place(expected));
-}
-
 static void size_samples(void)
 {
     static struct query made;

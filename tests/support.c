@@ -136,6 +136,12 @@ void tally(bool passed, const char *format, ...)
     va_end(arguments);
 }
 
+void answer_is(const char *what, uint64_t answer, uint64_t expected)
+{
+    tally(answer == expected, "%s: answer %u with %u, expected %u with %u", what, (unsigned)(answer >> 32),
+          (unsigned)answer, (unsigned)(expected >> 32), (unsigned)expected);
+}
+
 bool complain(const char *format, ...)
 {
     if (group.failed >= FAILURES_SHOWN)

@@ -26,6 +26,9 @@ void group_start(const char *name);
 /* Counts one test and says what failed. */
 void tally(bool passed, const char *format, ...) __attribute__((format(printf, 2, 3)));
 
+/* Counts one test: a call answered as expected. */
+void answer_is(const char *what, uint64_t answer, uint64_t expected);
+
 /* Tries a random test so many times (times CASES percent), each with its own dice. */
 void try_cases(const char *what, unsigned count, bool (*test)(struct dice *dice));
 
