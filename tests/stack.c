@@ -111,16 +111,19 @@ static size_t painted_over(void (*call)(void))
 static void measure_call(enum call which, const char *input)
 {
     static void (*const calls[CALLS])(void) = {call_read, call_print, call_compose, call_run, call_extract};
+    static char trying[2 * NAMED_MOST];
     static size_t empty;
     if (empty == 0)
         empty = painted_over(call_nothing);
+    snprintf(trying, sizeof trying, "%s on %.*s", call_names[which], NAMED_MOST - 1, input);
+    now_trying(trying);
     size_t bytes = painted_over(calls[which]) - empty;
     worst[which].inputs++;
     worst[which].accepted += halyardfig_refused(answer) == 0;
     if (bytes <= worst[which].bytes)
         return;
     worst[which].bytes = bytes;
-    snprintf(worst[which].input, NAMED_MOST, "%.*s", NAMED_MOST - 1, input);
+    snprintf(worst[which].input, NAMED_MOST, "%s", input);
 }
 
 /* Tries the query in memory as it is in every call that takes one. */

@@ -136,6 +136,11 @@ void tally(bool passed, const char *format, ...)
     va_end(arguments);
 }
 
+void now_trying(const char *what)
+{
+    group.what = what;
+}
+
 void answer_is(const char *what, uint64_t answer, uint64_t expected)
 {
     tally(answer == expected, "%s: answer %u with %u, expected %u with %u", what, (unsigned)(answer >> 32),

@@ -32,6 +32,9 @@ void answer_is(const char *what, uint64_t answer, uint64_t expected);
 /* Tries a random test so many times (times CASES percent), each with its own dice. */
 void try_cases(const char *what, unsigned count, bool (*test)(struct dice *dice));
 
+/* Names what is being tried, for the message of a trap. */
+void now_trying(const char *what);
+
 /* Prints a line under the case that failed; answers false, so that a test can end with it. */
 bool complain(const char *format, ...) __attribute__((format(printf, 1, 2)));
 
