@@ -146,7 +146,10 @@ static bool compose_anything(struct dice *dice)
 
 static bool run_anything(struct dice *dice)
 {
-    any_query(dice, &query);
+    if (chance(dice, 50))
+        make_query(dice, &query, (struct bounds){MOST_ITEMS_TRIED / 2, 3, 3, 4});
+    else
+        any_query(dice, &query);
     any_table(dice);
     size_t kinds = agreeing(dice), given = agreeing(dice), marks = agreeing(dice);
     size_t scratch = any_length(dice, 2000, 20000);
