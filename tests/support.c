@@ -9,7 +9,7 @@
 #include <sys/mman.h>
 #include <unistd.h>
 
-enum { GUARD_VALUE = 0xA5, FAILURES_SHOWN = 10, SHOWN_MOST = 5000, FIXED_SEED = 20260701 };
+enum { GUARD_VALUE = 0xA5, FAILURES_SHOWN = 5, TALLIES_SHOWN = 40, SHOWN_MOST = 5000, FIXED_SEED = 20260701 };
 
 static struct {
     const char *name;
@@ -21,6 +21,7 @@ static struct {
     uint64_t current_case;
     uint64_t passed;
     uint64_t failed;
+    uint64_t failed_before;
 } group;
 
 static struct {
@@ -126,7 +127,7 @@ static void count_one(bool passed)
 void tally(bool passed, const char *format, ...)
 {
     count_one(passed);
-    if (passed)
+    if (passed || group.failed > TALLIES_SHOWN)
         return;
     va_list arguments;
     va_start(arguments, format);
@@ -134,6 +135,12 @@ void tally(bool passed, const char *format, ...)
     vprintf(format, arguments);
     printf("\n");
     va_end(arguments);
+}
+
+/* Only the first failures of each test are shown. */
+static bool shows(void)
+{
+    return group.failed - group.failed_before < FAILURES_SHOWN;
 }
 
 void now_trying(const char *what)
@@ -149,7 +156,7 @@ void answer_is(const char *what, uint64_t answer, uint64_t expected)
 
 bool complain(const char *format, ...)
 {
-    if (group.failed >= FAILURES_SHOWN)
+    if (!shows())
         return false;
     va_list arguments;
     va_start(arguments, format);
@@ -167,6 +174,7 @@ void try_cases(const char *what, unsigned count, bool (*test)(struct dice *dice)
     uint64_t first = group.one_case ? group.chosen_case : 0;
     uint64_t end = group.one_case ? group.chosen_case + 1 : total;
     group.what = what;
+    group.failed_before = group.failed;
     for (uint64_t i = first; i < end; i++) {
         struct dice dice = {group.seed ^ (i * 0xD1342543DE82EF95u)};
         for (const char *letter = what; *letter != 0; letter++)
@@ -176,11 +184,6 @@ void try_cases(const char *what, unsigned count, bool (*test)(struct dice *dice)
         count_one(passed);
     }
     group.what = NULL;
-}
-
-static bool shows(void)
-{
-    return group.failed < FAILURES_SHOWN;
 }
 
 void show_text(const char *what, const uint8_t *bytes, size_t count)
