@@ -1,0 +1,136 @@
+/*
+ * Halyardfig: queries in a part of XPath 1.0, run over node tables as subtree queries, and composed.
+ *
+ * A query in memory is an array of 32-bit items, made by halyardfig_read or halyardfig_compose.
+ * A document is two columns of one length, parent and kind: node 0 is the root (parent 0, kind 0),
+ * kind 1 is text, kind 2 + v an element with the name v of the name list, counted from 0.
+ * Marks are one byte a node, 0 or 1; a marked node's parent is marked.
+ * A name list is names one after another, each ended by LF.
+ *
+ * Every call examines all that it is lent before it writes. A refused call changes no byte.
+ * Pointers are not null and are aligned for their type, even where a length is 0;
+ * memory that a call writes does not overlap other memory lent to the same call.
+ * Lengths count elements, not bytes. No call allocates, and none keeps what it is lent.
+ *
+ * An answer below 2^32 is the call's value. Any other answer is a refusal:
+ * its number times 2^32, plus its place.
+ *
+ *   1   a length is over its limit, or two lengths that must agree do not    place 0
+ *   2   name list: a line is no name, is over 64 bytes, has no LF,
+ *       is the 257th, or repeats an earlier line                             start of that line
+ *   3   text: no query begins like this, or the text ends too early          the token, the byte, or the length
+ *   4   text: a bracket with which 65 are open at once                       place of the bracket
+ *   5   a name that is not in the list                                       byte of the text; printing: the item
+ *   6   items that are no query, no items, or nested over 64                 0; composing: 1 for the inner query
+ *   7   table: a bad node, or no nodes                                       the node; 0 for no nodes
+ *   8   marks: not 0 or 1, or a marked node under an unmarked one            the node
+ *   9   the composed query would be nested over 64                           its nesting
+ *   10  room too short, or a query over 4,096 items                          the number needed
+ */
+#ifndef HALYARDFIG_H
+#define HALYARDFIG_H
+
+#include <stddef.h>
+#include <stdint.h>
+
+/* The limits of what is lent for reading. */
+#define HALYARDFIG_TEXT_BYTES 32768
+#define HALYARDFIG_NAMES_BYTES 8192
+#define HALYARDFIG_QUERY_ITEMS 4096
+#define HALYARDFIG_NODES 4096
+
+/* The limits inside a name list and inside a query. */
+#define HALYARDFIG_NAME_BYTES 64
+#define HALYARDFIG_NAMES 256
+#define HALYARDFIG_NESTING 64
+
+/* The refusal numbers. */
+#define HALYARDFIG_REFUSED_LENGTH 1
+#define HALYARDFIG_REFUSED_NAMES 2
+#define HALYARDFIG_REFUSED_SYNTAX 3
+#define HALYARDFIG_REFUSED_BRACKET 4
+#define HALYARDFIG_REFUSED_NAME 5
+#define HALYARDFIG_REFUSED_QUERY 6
+#define HALYARDFIG_REFUSED_TABLE 7
+#define HALYARDFIG_REFUSED_MARKS 8
+#define HALYARDFIG_REFUSED_NESTING 9
+#define HALYARDFIG_REFUSED_ROOM 10
+
+#ifdef __cplusplus
+extern "C" {
+#endif
+
+/* The refusal number of an answer; 0 if the call was accepted. */
+static inline uint32_t halyardfig_refused(uint64_t answer)
+{
+    return (uint32_t)(answer >> 32);
+}
+
+/* The place of a refusal. */
+static inline uint32_t halyardfig_place(uint64_t answer)
+{
+    return (uint32_t)(answer & 0xffffffffu);
+}
+
+/* The value of an accepted call. */
+static inline uint32_t halyardfig_value(uint64_t answer)
+{
+    return (uint32_t)(answer & 0xffffffffu);
+}
+
+/*
+ * Reads a query text with the names of a list and writes the query's items to out.
+ * Value: the number of items; out past it is untouched.
+ * Refuses, in this order: 1 (text over 32,768 bytes, list over 8,192), 2,
+ * then 3 or 4, whichever place comes first (3 if they are equal), 5, 10 (place: the items needed).
+ */
+uint64_t halyardfig_read(const uint8_t *text, size_t text_len, const uint8_t *names, size_t names_len, uint32_t *out,
+                         size_t out_len);
+
+/*
+ * Writes a query's text to out, axes written out, with the names of a list.
+ * Value: the number of bytes; out past it is untouched, and no zero byte ends the text.
+ * Refuses, in this order: 1 (query over 4,096 items, list over 8,192 bytes), 2, 6 (place 0),
+ * 5 (place: the item), 10 (place: the bytes needed).
+ */
+uint64_t halyardfig_print(const uint32_t *query, size_t query_len, const uint8_t *names, size_t names_len, uint8_t *out,
+                          size_t out_len);
+
+/*
+ * Composes two queries into one and writes its items to out: run inside any marks,
+ * it keeps what outer keeps when run inside the marks that inner leaves.
+ * Value: the number of items; out past it is untouched.
+ * Refuses, in this order: 1 (a query over 4,096 items), 6 (place 0 for outer, 1 for inner, outer first),
+ * 9 (place: the nesting), 10 (place: the items needed).
+ */
+uint64_t halyardfig_compose(const uint32_t *outer, size_t outer_len, const uint32_t *inner, size_t inner_len,
+                            uint32_t *out, size_t out_len);
+
+/*
+ * Runs a query on a document inside the given marks and writes to marks what it keeps:
+ * the given marks of the nodes selected, of all above them and of all below them.
+ * Value: the number of nodes kept. Scratch needs nodes x 2 x (height + 1) bytes, where a path's height
+ * is 1 + the greatest of its predicates, and that of `and`, `or` and `not` 1 + the greatest below;
+ * that part of it is zero afterwards, the rest untouched.
+ * Refuses, in this order: 1 (query over 4,096 items, over 4,096 nodes, columns or marks of unequal length),
+ * 6 (place 0), 7 (place: the node), 8 (place: the node), 10 (place: the bytes of scratch needed).
+ */
+uint64_t halyardfig_run(const uint32_t *query, size_t query_len, const uint16_t *parent, size_t parent_len,
+                        const uint16_t *kind, size_t kind_len, const uint8_t *given, size_t given_len, uint8_t *marks,
+                        size_t marks_len, uint8_t *scratch, size_t scratch_len);
+
+/*
+ * Writes the marked nodes of a document, in order, as a new table with its parents renumbered.
+ * Value: the number of nodes written; both columns past it are untouched. All marks zero gives 0.
+ * Refuses, in this order: 1 (over 4,096 nodes, columns or marks of unequal length, output columns of
+ * unequal length), 7 (place: the node), 8 (place: the node), 10 (place: the nodes needed).
+ */
+uint64_t halyardfig_extract(const uint16_t *parent, size_t parent_len, const uint16_t *kind, size_t kind_len,
+                            const uint8_t *marks, size_t marks_len, uint16_t *out_parent, size_t out_parent_len,
+                            uint16_t *out_kind, size_t out_kind_len);
+
+#ifdef __cplusplus
+}
+#endif
+
+#endif

@@ -1,0 +1,169 @@
+/*
+ * Writes cases for an independent XPath engine, with what the library keeps of each.
+ * A line starts with a letter: C case, N names, P parents, K kinds, G given marks,
+ * Q a query text, each run inside the marks left by the one before it, and E the marks expected.
+ */
+#include "halyardfig.h"
+#include "making.h"
+
+#include <stdio.h>
+#include <string.h>
+
+enum { SCRATCH_ROOM = 1 << 20, PRINT_ROOM = 1 << 18 };
+
+static struct list list;
+static struct table table;
+static struct query query, outer, inner, composed;
+static uint8_t kept[NODE_ROOM];
+
+static void write_names(void)
+{
+    printf("N");
+    for (unsigned v = 0; v < list.count; v++) {
+        size_t length;
+        const uint8_t *name = name_at(&list, v, &length);
+        printf(" %.*s", (int)length, (const char *)name);
+    }
+    printf("\n");
+}
+
+static void write_column(char letter, const uint16_t *column)
+{
+    putchar(letter);
+    for (size_t i = 0; i < table.nodes; i++)
+        printf(" %u", column[i]);
+    printf("\n");
+}
+
+static void write_marks(char letter, const uint8_t *marks)
+{
+    printf("%c ", letter);
+    for (size_t i = 0; i < table.nodes; i++)
+        putchar('0' + marks[i]);
+    printf("\n");
+}
+
+/* A text on one line: tab and LF become \t and \n. */
+static void write_text(const uint8_t *bytes, size_t length)
+{
+    printf("Q ");
+    for (size_t i = 0; i < length; i++)
+        if (bytes[i] == '\n' || bytes[i] == '\t')
+            printf(bytes[i] == '\n' ? "\\n" : "\\t");
+        else
+            putchar(bytes[i]);
+    printf("\n");
+}
+
+static void write_document(const char *what)
+{
+    printf("C %s, CASE=%llu\n", what, (unsigned long long)group_case());
+    write_names();
+    write_column('P', table.parent);
+    write_column('K', table.kind);
+    write_marks('G', table.marks);
+}
+
+static bool write_printed(const struct query *printing)
+{
+    static uint8_t printed[PRINT_ROOM];
+    uint64_t answer =
+        halyardfig_print(printing->items, printing->count, list.bytes, list.length, printed, sizeof printed);
+    if (halyardfig_refused(answer) != 0)
+        return complain("a good query is not printed");
+    write_text(printed, halyardfig_value(answer));
+    return true;
+}
+
+static bool run_query(const struct query *running)
+{
+    static uint8_t scratch[SCRATCH_ROOM];
+    uint64_t answer = halyardfig_run(running->items, running->count, table.parent, table.nodes, table.kind, table.nodes,
+                                     table.marks, table.nodes, kept, table.nodes, scratch, sizeof scratch);
+    return halyardfig_refused(answer) == 0 || complain("a good run is refused");
+}
+
+static void make_document(struct dice *dice, size_t most)
+{
+    make_list(dice, &list, (unsigned)between(dice, 1, 4));
+    make_table(dice, &table, between(dice, 1, most), list.count);
+    if (chance(dice, 60))
+        make_marks(dice, &table, (unsigned)between(dice, 60, 99));
+}
+
+/* Did the last run keep some of what was given, and not all? */
+static bool kept_some(void)
+{
+    bool something = memchr(kept, 1, table.nodes) != NULL;
+    return something && memcmp(kept, table.marks, table.nodes) != 0;
+}
+
+/* A query that keeps a part of the document, if a few throws find one. */
+static void make_single(struct dice *dice)
+{
+    for (unsigned throws = 0; throws < 4; throws++) {
+        make_query(dice, &query, (struct bounds){between(dice, 1, 30), (unsigned)below(dice, 5), 3, list.count});
+        if (run_query(&query) && kept_some())
+            return;
+    }
+}
+
+/* One query, as printed and as a loose text that the library reads. */
+static bool single_query(struct dice *dice)
+{
+    static struct text text;
+    make_document(dice, 40);
+    make_single(dice);
+    make_text(dice, &text, &query, &list);
+    uint64_t answer = halyardfig_read(text.bytes, text.length, list.bytes, list.length, query.items, ITEM_ROOM);
+    if (halyardfig_refused(answer) != 0)
+        return complain("a good text is refused");
+    if (!run_query(&query))
+        return false;
+    write_document("printed query");
+    bool printed = write_printed(&query);
+    write_marks('E', kept);
+    write_document("query as it was read");
+    write_text(text.bytes, text.length);
+    write_marks('E', kept);
+    return printed;
+}
+
+static uint64_t make_composed(struct dice *dice)
+{
+    make_query(dice, &outer, (struct bounds){between(dice, 1, 12), (unsigned)below(dice, 3), 2, list.count});
+    make_query(dice, &inner, (struct bounds){between(dice, 1, 12), (unsigned)below(dice, 3), 2, list.count});
+    uint64_t answer = halyardfig_compose(outer.items, outer.count, inner.items, inner.count, composed.items, ITEM_ROOM);
+    composed.count = halyardfig_value(answer);
+    return halyardfig_refused(answer);
+}
+
+/* A composed query, and its inner and outer query in turn. */
+static bool composed_query(struct dice *dice)
+{
+    make_document(dice, 25);
+    for (unsigned throws = 0; throws < 4; throws++) {
+        uint64_t refused = make_composed(dice);
+        if (refused == 10)
+            return true;
+        if (refused != 0 || !run_query(&composed))
+            return complain("a good composition is refused");
+        if (kept_some())
+            break;
+    }
+    write_document("composed query");
+    bool printed = write_printed(&composed);
+    write_marks('E', kept);
+    write_document("inner then outer");
+    printed = write_printed(&inner) && write_printed(&outer) && printed;
+    write_marks('E', kept);
+    return printed;
+}
+
+int main(void)
+{
+    group_start("engine");
+    try_cases("single query", 8000, single_query);
+    try_cases("composed query", 3000, composed_query);
+    return group_end();
+}

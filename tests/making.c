@@ -1,0 +1,564 @@
+/* Random name lists, documents, marks, queries and texts, all of them good; and ways to damage them. */
+#include "making.h"
+
+#include <stdlib.h>
+#include <string.h>
+
+enum { SELF, CHILD, PARENT, DESCENDANT_OR_SELF, ANCESTOR_OR_SELF, AXES };
+enum { NODE_TEST = 0, TEXT_TEST = 1, FIRST_NAME = 2, ANY_TEST = 258 };
+
+uint32_t path_item(unsigned steps)
+{
+    return steps << 3;
+}
+
+uint32_t step_item(unsigned axis, unsigned test, unsigned predicates)
+{
+    return 1 | axis << 3 | test << 6 | predicates << 15;
+}
+
+/* Name lists. */
+
+void list_of(struct list *list, const char *names)
+{
+    list->length = 0;
+    list->count = 0;
+    for (const char *byte = names; *byte != 0; byte++) {
+        list->bytes[list->length++] = *byte == ' ' ? '\n' : (uint8_t)*byte;
+        list->count += *byte == ' ';
+    }
+    if (list->length > 0) {
+        list->bytes[list->length++] = '\n';
+        list->count++;
+    }
+}
+
+static void add_name(struct list *list, const char *name, size_t length)
+{
+    memcpy(list->bytes + list->length, name, length);
+    list->length += length;
+    list->bytes[list->length++] = '\n';
+    list->count++;
+}
+
+/* Words that look like something else, each different from the others. */
+static const char *const words[] = {"a",    "b",     "c",     "and", "or",      "not", "node", "text",
+                                    "self", "child", "x.y",   "a-b", "_",       "div", "A",    "parent",
+                                    "a.",   "not-",  "nodes", "mod", "comment", "b2"};
+enum { WORDS = sizeof words / sizeof words[0] };
+
+void make_list(struct dice *dice, struct list *list, unsigned names)
+{
+    list->length = 0;
+    list->count = 0;
+    size_t first = below(dice, 3) == 0 ? below(dice, WORDS) : 0;
+    for (unsigned i = 0; i < names && i < WORDS; i++) {
+        const char *word = words[(first + i) % WORDS];
+        add_name(list, word, strlen(word));
+    }
+    for (unsigned i = WORDS; i < names; i++) {
+        char made[] = {'n', (char)('A' + i / 26), (char)('a' + i % 26)};
+        add_name(list, made, sizeof made);
+    }
+}
+
+const uint8_t *name_at(const struct list *list, unsigned v, size_t *length)
+{
+    const uint8_t *start = list->bytes;
+    for (; v > 0; v--)
+        start = (const uint8_t *)memchr(start, '\n', (size_t)(list->bytes + list->length - start)) + 1;
+    *length = (size_t)((const uint8_t *)memchr(start, '\n', (size_t)(list->bytes + list->length - start)) - start);
+    return start;
+}
+
+/* Documents. */
+
+static uint16_t random_kind(struct dice *dice, unsigned names)
+{
+    return names == 0 || chance(dice, 20) ? 1 : (uint16_t)(2 + below(dice, names));
+}
+
+void make_table(struct dice *dice, struct table *table, size_t nodes, unsigned names)
+{
+    unsigned climb = (unsigned)between(dice, 5, 70);
+    table->nodes = nodes;
+    for (size_t i = 0; i < nodes; i++) {
+        size_t above = i == 0 ? 0 : i - 1;
+        while (above != 0 && (table->kind[above] == 1 || chance(dice, climb)))
+            above = table->parent[above];
+        table->parent[i] = (uint16_t)above;
+        table->kind[i] = i == 0 ? 0 : random_kind(dice, names);
+        table->marks[i] = 1;
+    }
+}
+
+void make_marks(struct dice *dice, struct table *table, unsigned percent)
+{
+    for (size_t i = 0; i < table->nodes; i++)
+        table->marks[i] = (i == 0 || table->marks[table->parent[i]] == 1) && chance(dice, percent);
+}
+
+/* Queries. */
+
+struct making {
+    struct dice *dice;
+    struct query *query;
+    struct bounds bounds;
+};
+
+static void put(struct making *making, uint32_t item)
+{
+    if (making->query->count == ITEM_ROOM)
+        abort();
+    making->query->items[making->query->count++] = item;
+}
+
+static bool is_full(const struct making *making)
+{
+    return making->query->count >= making->bounds.items;
+}
+
+static unsigned random_axis(struct dice *dice)
+{
+    static const unsigned axes[] = {SELF,
+                                    CHILD,
+                                    CHILD,
+                                    CHILD,
+                                    CHILD,
+                                    PARENT,
+                                    PARENT,
+                                    DESCENDANT_OR_SELF,
+                                    DESCENDANT_OR_SELF,
+                                    DESCENDANT_OR_SELF,
+                                    ANCESTOR_OR_SELF};
+    return axes[below(dice, sizeof axes / sizeof axes[0])];
+}
+
+static unsigned random_test(struct dice *dice, unsigned names)
+{
+    size_t throw = below(dice, 10);
+    if (throw < 3 || (throw > 5 && names == 0))
+        return NODE_TEST;
+    if (throw < 4)
+        return TEXT_TEST;
+    return throw < 6 ? ANY_TEST : FIRST_NAME + (unsigned)below(dice, names);
+}
+
+static void make_expr(struct making *making, unsigned nesting);
+
+static void make_step(struct making *making, unsigned nesting)
+{
+    unsigned predicates = 0;
+    while (nesting > 0 && !is_full(making) && predicates < 3 && chance(making->dice, 30))
+        predicates++;
+    put(making, step_item(random_axis(making->dice), random_test(making->dice, making->bounds.names), predicates));
+    for (unsigned i = 0; i < predicates; i++)
+        make_expr(making, nesting - 1);
+}
+
+static void make_path(struct making *making, unsigned nesting, unsigned least)
+{
+    unsigned steps = least;
+    while (!is_full(making) && steps < 5 && chance(making->dice, 50))
+        steps++;
+    put(making, path_item(steps));
+    for (unsigned i = 0; i < steps; i++)
+        make_step(making, nesting);
+}
+
+static void make_expr(struct making *making, unsigned nesting)
+{
+    size_t throw = nesting == 0 || is_full(making) ? 0 : below(making->dice, 9);
+    if (throw < 5) {
+        make_path(making, nesting, 1);
+        return;
+    }
+    uint32_t operator= throw == 8 ? NOT_ITEM : throw == 7 ? AND_ITEM : OR_ITEM;
+    put(making, operator);
+    make_expr(making, nesting - 1);
+    if (operator!= NOT_ITEM)
+        make_expr(making, nesting - 1);
+}
+
+void make_query(struct dice *dice, struct query *query, struct bounds bounds)
+{
+    struct making making = {dice, query, bounds};
+    unsigned paths = chance(dice, 60) ? 1 : (unsigned)between(dice, 1, bounds.paths);
+    query->count = 0;
+    for (unsigned i = 0; i < paths; i++)
+        make_path(&making, bounds.nesting, chance(dice, 90));
+}
+
+static void put_leaf(struct making *making)
+{
+    put(making, path_item(1));
+    put(making, step_item(random_axis(making->dice), random_test(making->dice, making->bounds.names), 0));
+}
+
+static void make_deep_expr(struct making *making, unsigned nesting);
+
+/* A step with one predicate that is nested one less deep. */
+static void make_deep_path(struct making *making, unsigned nesting)
+{
+    put(making, path_item(1));
+    put(making, step_item(random_axis(making->dice), random_test(making->dice, making->bounds.names), 1));
+    make_deep_expr(making, nesting - 1);
+}
+
+/* An operator whose printed round bracket holds the rest: `or` right of `or`, or either right or left of `and`. */
+static void make_deep_operator(struct making *making, unsigned nesting)
+{
+    bool left = chance(making->dice, 30);
+    uint32_t high = left || chance(making->dice, 50) ? AND_ITEM : OR_ITEM;
+    uint32_t low = left || high == OR_ITEM ? OR_ITEM : chance(making->dice, 50) ? AND_ITEM : OR_ITEM;
+    put(making, high);
+    if (!left)
+        put_leaf(making);
+    put(making, low);
+    make_deep_path(making, nesting - 1);
+    put_leaf(making);
+    if (left)
+        put_leaf(making);
+}
+
+static void make_deep_expr(struct making *making, unsigned nesting)
+{
+    size_t throw = nesting == 0 ? 0 : below(making->dice, 3);
+    if (nesting == 0) {
+        put_leaf(making);
+    } else if (throw == 1) {
+        put(making, NOT_ITEM);
+        make_deep_expr(making, nesting - 1);
+    } else if (throw == 2 && nesting >= 2) {
+        make_deep_operator(making, nesting);
+    } else {
+        make_deep_path(making, nesting);
+    }
+}
+
+void make_deep_query(struct dice *dice, struct query *query, unsigned nesting, unsigned names)
+{
+    struct making making = {dice, query, {ITEM_ROOM, nesting, 1, names}};
+    query->count = 0;
+    if (nesting == 0)
+        put_leaf(&making);
+    else
+        make_deep_path(&making, nesting);
+}
+
+static void make_long_steps(struct making *making)
+{
+    unsigned steps = (unsigned)making->bounds.items - 1;
+    put(making, path_item(steps));
+    for (unsigned i = 0; i < steps; i++)
+        put(making, step_item(random_axis(making->dice), random_test(making->dice, making->bounds.names), 0));
+}
+
+static void make_long_predicates(struct making *making)
+{
+    unsigned predicates = (unsigned)(making->bounds.items - 2) / 2;
+    put(making, path_item(1));
+    put(making, step_item(CHILD, NODE_TEST, predicates));
+    for (unsigned i = 0; i < predicates; i++)
+        put_leaf(making);
+}
+
+static void make_long_paths(struct making *making)
+{
+    while (making->query->count + 2 <= making->bounds.items)
+        put_leaf(making);
+    if (making->query->count < making->bounds.items)
+        put(making, path_item(0));
+}
+
+/* Operators stand before their operands; `or` stands outside `and`, so that no bracket is printed. */
+static void make_long_operands(struct making *making)
+{
+    unsigned operators = (unsigned)(making->bounds.items - 4) / 3;
+    unsigned ors = (unsigned)below(making->dice, operators + 1);
+    put(making, path_item(1));
+    put(making, step_item(DESCENDANT_OR_SELF, NODE_TEST, 1));
+    for (unsigned i = 0; i < operators; i++)
+        put(making, i < ors ? OR_ITEM : AND_ITEM);
+    for (unsigned i = 0; i <= operators; i++)
+        put_leaf(making);
+}
+
+void make_long_query(struct dice *dice, struct query *query, size_t most_items, unsigned names)
+{
+    static void (*const makers[])(struct making *) = {make_long_steps, make_long_predicates, make_long_paths,
+                                                      make_long_operands};
+    struct making making = {dice, query, {most_items, 1, 1, names}};
+    query->count = 0;
+    makers[below(dice, sizeof makers / sizeof makers[0])](&making);
+}
+
+/* Texts. */
+
+struct writing {
+    struct dice *dice;
+    struct text *text;
+    const struct query *query;
+    const struct list *list;
+    size_t at;
+    unsigned loose;
+    bool after_word;
+};
+
+static bool in_word(uint8_t byte)
+{
+    return (byte >= 'a' && byte <= 'z') || (byte >= 'A' && byte <= 'Z') || (byte >= '0' && byte <= '9') ||
+           byte == '.' || byte == '-' || byte == '_';
+}
+
+static void put_byte(struct text *text, uint8_t byte)
+{
+    if (text->length < TEXT_ROOM)
+        text->bytes[text->length++] = byte;
+    else
+        text->overflowed = true;
+}
+
+static void put_space(struct writing *writing, bool needed)
+{
+    static const char spaces[] = "   \t\n";
+    while (needed || chance(writing->dice, writing->loose)) {
+        put_byte(writing->text, (uint8_t)spaces[below(writing->dice, sizeof spaces - 1)]);
+        needed = false;
+    }
+}
+
+static void put_token_bytes(struct writing *writing, const uint8_t *token, size_t length)
+{
+    put_space(writing, writing->after_word && in_word(token[0]));
+    for (size_t i = 0; i < length; i++)
+        put_byte(writing->text, token[i]);
+    writing->after_word = in_word(token[0]) && token[0] != '.';
+}
+
+static void put_token(struct writing *writing, const char *token)
+{
+    put_token_bytes(writing, (const uint8_t *)token, strlen(token));
+}
+
+static void write_test(struct writing *writing, unsigned test)
+{
+    if (test == ANY_TEST) {
+        put_token(writing, "*");
+    } else if (test >= FIRST_NAME) {
+        size_t length;
+        const uint8_t *name = name_at(writing->list, test - FIRST_NAME, &length);
+        put_token_bytes(writing, name, length);
+    } else {
+        put_token(writing, test == NODE_TEST ? "node" : "text");
+        put_token(writing, "(");
+        put_token(writing, ")");
+    }
+}
+
+static void write_axis(struct writing *writing, unsigned axis)
+{
+    static const char *const names[AXES] = {"self", "child", "parent", "descendant-or-self", "ancestor-or-self"};
+    if (axis == CHILD && chance(writing->dice, 70))
+        return;
+    put_token(writing, names[axis]);
+    put_token(writing, "::");
+}
+
+static void write_expr(struct writing *writing);
+
+static void write_step(struct writing *writing, uint32_t item)
+{
+    unsigned axis = item >> 3 & 7, test = item >> 6 & 511, predicates = item >> 15;
+    bool shortens = test == NODE_TEST && predicates == 0 && chance(writing->dice, 70);
+    if (shortens && (axis == SELF || axis == PARENT)) {
+        put_token(writing, axis == SELF ? "." : "..");
+        return;
+    }
+    write_axis(writing, axis);
+    write_test(writing, test);
+    for (; predicates > 0; predicates--) {
+        put_token(writing, "[");
+        write_expr(writing);
+        put_token(writing, "]");
+    }
+}
+
+/* Steps, some plain descendant steps as `//`; the slash that leads the first one is its own caller's. */
+static void write_steps(struct writing *writing, unsigned steps, bool absolute)
+{
+    bool joined = !absolute;
+    for (; steps > 0; steps--) {
+        uint32_t item = writing->query->items[writing->at++];
+        bool plain = item == step_item(DESCENDANT_OR_SELF, NODE_TEST, 0);
+        if (plain && !joined && steps > 1 && chance(writing->dice, 80)) {
+            put_token(writing, "//");
+            joined = true;
+            continue;
+        }
+        if (!joined)
+            put_token(writing, "/");
+        write_step(writing, item);
+        joined = false;
+    }
+}
+
+static uint32_t item_kind(const struct writing *writing)
+{
+    return writing->query->items[writing->at] & 7;
+}
+
+static void write_bracketed(struct writing *writing, bool needed)
+{
+    bool brackets = needed || chance(writing->dice, writing->loose / 4);
+    if (brackets)
+        put_token(writing, "(");
+    write_expr(writing);
+    if (brackets)
+        put_token(writing, ")");
+}
+
+static void write_expr(struct writing *writing)
+{
+    uint32_t item = writing->query->items[writing->at++], kind = item & 7;
+    if (kind == NOT_ITEM) {
+        put_token(writing, "not");
+        put_token(writing, "(");
+        write_bracketed(writing, false);
+        put_token(writing, ")");
+    } else if (kind == AND_ITEM || kind == OR_ITEM) {
+        write_bracketed(writing, kind == AND_ITEM && item_kind(writing) == OR_ITEM);
+        put_token(writing, kind == AND_ITEM ? "and" : "or");
+        write_bracketed(writing, item_kind(writing) == kind || (kind == AND_ITEM && item_kind(writing) == OR_ITEM));
+    } else {
+        write_steps(writing, item >> 3, false);
+    }
+}
+
+void make_text(struct dice *dice, struct text *text, const struct query *query, const struct list *list)
+{
+    struct writing writing = {dice, text, query, list, 0, chance(dice, 50) ? 20 : 0, false};
+    text->length = 0;
+    text->overflowed = false;
+    while (writing.at < query->count) {
+        unsigned steps = query->items[writing.at++] >> 3;
+        if (steps == 0)
+            put_token(&writing, "/");
+        write_steps(&writing, steps, true);
+        if (writing.at < query->count)
+            put_token(&writing, "|");
+    }
+    put_space(&writing, false);
+}
+
+/* Damage. */
+
+static uint8_t odd_byte(struct dice *dice)
+{
+    static const char bytes[] = "/.:|[]()*a b\t\nAz09_-@$,'\"=!\r\001\177";
+    return chance(dice, 90) ? (uint8_t)bytes[below(dice, sizeof bytes)] : (uint8_t)roll(dice);
+}
+
+/* Puts a byte in, takes one out or changes one; answers the new length. */
+static size_t damage_bytes(struct dice *dice, uint8_t *bytes, size_t length, size_t room)
+{
+    size_t place = below(dice, length + 1), throw = below(dice, 3);
+    if (throw == 0 && length < room) {
+        memmove(bytes + place + 1, bytes + place, length - place);
+        bytes[place] = odd_byte(dice);
+        return length + 1;
+    }
+    if (place == length)
+        return length;
+    if (throw == 1) {
+        memmove(bytes + place, bytes + place + 1, length - place - 1);
+        return length - 1;
+    }
+    bytes[place] = odd_byte(dice);
+    return length;
+}
+
+void damage_text(struct dice *dice, struct text *text)
+{
+    if (chance(dice, 15))
+        text->length = below(dice, text->length + 1);
+    for (size_t times = between(dice, 1, 3); times > 0; times--)
+        text->length = damage_bytes(dice, text->bytes, text->length, TEXT_ROOM);
+}
+
+void damage_list(struct dice *dice, struct list *list)
+{
+    for (size_t times = between(dice, 1, 2); times > 0; times--)
+        list->length = damage_bytes(dice, list->bytes, list->length, LIST_ROOM);
+}
+
+static uint32_t odd_item(struct dice *dice)
+{
+    size_t throw = below(dice, 8);
+    if (throw == 0)
+        return (uint32_t)roll(dice);
+    if (throw < 3)
+        return path_item((unsigned)below(dice, 3));
+    if (throw < 5)
+        return step_item((unsigned)below(dice, 6), (unsigned)below(dice, 4), (unsigned)below(dice, 3));
+    return (uint32_t)below(dice, 6);
+}
+
+static void damage_item(struct dice *dice, struct query *query)
+{
+    size_t place = below(dice, query->count), rest = query->count - place;
+    switch (below(dice, 4)) {
+    case 0:
+        query->items[place] ^= (uint32_t)1 << below(dice, 32);
+        return;
+    case 1:
+        query->items[place] = odd_item(dice);
+        return;
+    case 2:
+        memmove(query->items + place, query->items + place + 1, (rest - 1) * sizeof query->items[0]);
+        query->count--;
+        return;
+    default:
+        if (query->count == ITEM_ROOM)
+            return;
+        memmove(query->items + place + 1, query->items + place, rest * sizeof query->items[0]);
+        query->items[place] = odd_item(dice);
+        query->count++;
+    }
+}
+
+void damage_query(struct dice *dice, struct query *query)
+{
+    if (chance(dice, 10))
+        query->count = below(dice, query->count + 1);
+    for (size_t times = between(dice, 1, 2); times > 0 && query->count > 0; times--)
+        damage_item(dice, query);
+}
+
+void damage_table(struct dice *dice, struct table *table)
+{
+    for (size_t times = between(dice, 1, 2); times > 0 && table->nodes > 0; times--) {
+        size_t node = below(dice, table->nodes), throw = below(dice, 4);
+        if (throw == 0)
+            table->parent[node] = (uint16_t)below(dice, table->nodes + 2);
+        else if (throw == 1)
+            table->kind[node] = chance(dice, 50) ? (uint16_t)below(dice, 3) : (uint16_t)between(dice, 256, 259);
+        else if (throw == 2)
+            table->marks[node] ^= 1;
+        else
+            table->marks[node] = (uint8_t)roll(dice);
+    }
+}
+
+void make_token_soup(struct dice *dice, struct text *text, size_t tokens)
+{
+    static const char *const soup[] = {"/", "/", "//", ".",   "..", "::",    "|",    "[",      "]",    "(", ")",
+                                       "*", "a", "b",  "and", "or", "not",   "node", "text",   "self", "[", "]",
+                                       "(", ")", " ",  "\t",  "\n", "child", "not(", "node()", "a",    ":", "-"};
+    text->length = 0;
+    text->overflowed = false;
+    put_byte(text, '/');
+    for (; tokens > 0; tokens--)
+        for (const char *byte = soup[below(dice, sizeof soup / sizeof soup[0])]; *byte != 0; byte++)
+            put_byte(text, (uint8_t)*byte);
+}

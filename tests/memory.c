@@ -1,0 +1,189 @@
+/* Arbitrary memory into every call: no trap, nothing written that may not be, the same answer twice. */
+#include "halyardfig.h"
+#include "twin.h"
+
+#include <string.h>
+
+enum { MOST_NODES_TRIED = 40, MOST_ITEMS_TRIED = 60 };
+
+static struct list list;
+static struct text text;
+static struct query query, second;
+static struct table table;
+
+/* A length that is mostly small, sometimes at a limit. */
+static size_t any_length(struct dice *dice, size_t usual, size_t limit)
+{
+    size_t throw = below(dice, 50);
+    if (throw == 0)
+        return between(dice, limit - 1, limit);
+    return throw < 4 ? 0 : between(dice, 0, usual);
+}
+
+static void any_text(struct dice *dice)
+{
+    text.length = any_length(dice, 80, TEXT_ROOM);
+    if (chance(dice, 40)) {
+        scatter(dice, text.bytes, text.length);
+        return;
+    }
+    static const char bytes[] = "/////..::||[[]](()))**aab\n\t ornotdextself-_1";
+    for (size_t i = 0; i < text.length; i++)
+        text.bytes[i] = (uint8_t)bytes[below(dice, sizeof bytes)];
+}
+
+static void any_list(struct dice *dice)
+{
+    make_list(dice, &list, (unsigned)below(dice, 6));
+    if (chance(dice, 30))
+        damage_list(dice, &list);
+    if (chance(dice, 80))
+        return;
+    list.length = any_length(dice, 60, LIST_ROOM);
+    for (size_t i = 0; i < list.length; i++)
+        list.bytes[i] = chance(dice, 90) ? (uint8_t)between(dice, 'a', 'z') : (uint8_t)roll(dice);
+    for (size_t i = 0; i < list.length; i++)
+        if (chance(dice, 20))
+            list.bytes[i] = '\n';
+}
+
+static uint32_t any_item(struct dice *dice)
+{
+    size_t throw = below(dice, 20);
+    if (throw == 0)
+        return (uint32_t)roll(dice);
+    if (throw < 7)
+        return path_item((unsigned)below(dice, 3));
+    if (throw < 14)
+        return step_item((unsigned)below(dice, 5), (unsigned)below(dice, 5), (unsigned)below(dice, 3));
+    if (throw < 19)
+        return (uint32_t)between(dice, 2, 4);
+    return path_item((unsigned)below(dice, 8192));
+}
+
+static void any_query(struct dice *dice, struct query *made)
+{
+    size_t throw = below(dice, 10);
+    if (throw < 3) {
+        make_query(dice, made, (struct bounds){MOST_ITEMS_TRIED / 2, 3, 3, 4});
+        if (throw == 0)
+            damage_query(dice, made);
+        return;
+    }
+    made->count = any_length(dice, MOST_ITEMS_TRIED, ITEM_ROOM);
+    if (throw < 5)
+        scatter(dice, made->items, made->count * sizeof made->items[0]);
+    else
+        for (size_t i = 0; i < made->count; i++)
+            made->items[i] = any_item(dice);
+}
+
+static void any_table(struct dice *dice)
+{
+    make_table(dice, &table, between(dice, 0, MOST_NODES_TRIED), 4);
+    if (chance(dice, 40))
+        make_marks(dice, &table, 80);
+    if (chance(dice, 50))
+        damage_table(dice, &table);
+    if (chance(dice, 70))
+        return;
+    scatter(dice, table.parent, table.nodes * sizeof table.parent[0]);
+    for (size_t i = 0; i < table.nodes && chance(dice, 95); i++) {
+        table.parent[i] = (uint16_t)below(dice, i + 2);
+        table.kind[i] = (uint16_t)below(dice, 5);
+        table.marks[i] = (uint8_t)below(dice, 3);
+    }
+}
+
+/* A length that mostly agrees with the table's. */
+static size_t agreeing(struct dice *dice)
+{
+    return chance(dice, 98) ? table.nodes : between(dice, 0, MOST_NODES_TRIED);
+}
+
+/* Both answers are those of one call, so it must have looked at nothing else. */
+static bool in_range(const char *call, uint64_t first, size_t most_value)
+{
+    uint64_t number = halyardfig_refused(first);
+    if (number > 10 || (number == 0 && halyardfig_value(first) > most_value))
+        return complain("%s gives an answer out of range", call);
+    return twin_answer == first || complain("%s answers otherwise the second time", call);
+}
+
+static bool read_anything(struct dice *dice)
+{
+    any_text(dice);
+    any_list(dice);
+    size_t room = any_length(dice, 100, ITEM_ROOM);
+    if (!twin_read(dice, text.bytes, text.length, list.bytes, list.length, room))
+        return false;
+    uint64_t first = twin_answer;
+    return twin_read(dice, text.bytes, text.length, list.bytes, list.length, room) && in_range("read", first, room);
+}
+
+static bool print_anything(struct dice *dice)
+{
+    any_query(dice, &query);
+    any_list(dice);
+    size_t room = any_length(dice, 3000, TEXT_ROOM);
+    if (!twin_print(dice, query.items, query.count, list.bytes, list.length, room))
+        return false;
+    uint64_t first = twin_answer;
+    return twin_print(dice, query.items, query.count, list.bytes, list.length, room) && in_range("print", first, room);
+}
+
+static bool compose_anything(struct dice *dice)
+{
+    any_query(dice, &query);
+    any_query(dice, &second);
+    size_t room = any_length(dice, 5000, ITEM_ROOM);
+    if (!twin_compose(dice, query.items, query.count, second.items, second.count, room))
+        return false;
+    uint64_t first = twin_answer;
+    return twin_compose(dice, query.items, query.count, second.items, second.count, room) &&
+           in_range("compose", first, room);
+}
+
+static bool run_anything(struct dice *dice)
+{
+    if (chance(dice, 50))
+        make_query(dice, &query, (struct bounds){MOST_ITEMS_TRIED / 2, 3, 3, 4});
+    else
+        any_query(dice, &query);
+    any_table(dice);
+    size_t kinds = agreeing(dice), given = agreeing(dice), marks = agreeing(dice);
+    size_t scratch = any_length(dice, 2000, 20000);
+    uint64_t first = 0;
+    for (unsigned time = 0; time < 2; time++) {
+        if (!twin_run(dice, query.items, query.count, table.parent, table.nodes, table.kind, kinds, table.marks, given,
+                      marks, scratch))
+            return false;
+        first = time == 0 ? twin_answer : first;
+    }
+    return in_range("run", first, table.nodes);
+}
+
+static bool extract_anything(struct dice *dice)
+{
+    any_table(dice);
+    size_t kinds = agreeing(dice), marks = agreeing(dice), room = between(dice, 0, MOST_NODES_TRIED);
+    size_t kind_room = chance(dice, 95) ? room : between(dice, 0, MOST_NODES_TRIED);
+    uint64_t first = 0;
+    for (unsigned time = 0; time < 2; time++) {
+        if (!twin_extract(dice, table.parent, table.nodes, table.kind, kinds, table.marks, marks, room, kind_room))
+            return false;
+        first = time == 0 ? twin_answer : first;
+    }
+    return in_range("extract", first, room);
+}
+
+int main(void)
+{
+    group_start("memory");
+    try_cases("read", 12000, read_anything);
+    try_cases("print", 10000, print_anything);
+    try_cases("compose", 8000, compose_anything);
+    try_cases("run", 15000, run_anything);
+    try_cases("extract", 10000, extract_anything);
+    return group_end();
+}

@@ -1,0 +1,36 @@
+/*
+ * Document 01 in plain C, as an independent model of the five calls.
+ * Each model call takes what the library's call takes, answers alike and writes alike.
+ */
+#ifndef PAPER_H
+#define PAPER_H
+
+#include <stdbool.h>
+#include <stddef.h>
+#include <stdint.h>
+
+uint64_t model_read(const uint8_t *text, size_t text_len, const uint8_t *names, size_t names_len, uint32_t *out,
+                    size_t out_len);
+uint64_t model_print(const uint32_t *query, size_t query_len, const uint8_t *names, size_t names_len, uint8_t *out,
+                     size_t out_len);
+uint64_t model_compose(const uint32_t *outer, size_t outer_len, const uint32_t *inner, size_t inner_len, uint32_t *out,
+                       size_t out_len);
+uint64_t model_run(const uint32_t *query, size_t query_len, const uint16_t *parent, size_t parent_len,
+                   const uint16_t *kind, size_t kind_len, const uint8_t *given, size_t given_len, uint8_t *marks,
+                   size_t marks_len, uint8_t *scratch, size_t scratch_len);
+uint64_t model_extract(const uint16_t *parent, size_t parent_len, const uint16_t *kind, size_t kind_len,
+                       const uint8_t *marks, size_t marks_len, uint16_t *out_parent, size_t out_parent_len,
+                       uint16_t *out_kind, size_t out_kind_len);
+
+/* What can be measured of a query in memory. */
+struct measures {
+    bool is_query;
+    size_t paths;
+    size_t steps;
+    size_t nesting;
+    size_t height;
+};
+
+struct measures measure(const uint32_t *query, size_t query_len);
+
+#endif

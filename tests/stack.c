@@ -1,0 +1,433 @@
+/* The stack that each call uses on its worst inputs, measured on a painted stack. */
+#define _GNU_SOURCE
+#include "halyardfig.h"
+#include "making.h"
+
+#include <stdio.h>
+#include <stdlib.h>
+#include <string.h>
+#include <sys/mman.h>
+#include <ucontext.h>
+#include <unistd.h>
+
+enum { STACK_BYTES = 1 << 18, STACK_LIMIT = 65536, PAINT = 0xC7 };
+enum { SCRATCH_ROOM = 1 << 25, PRINT_ROOM = 1 << 19, MIXED_TEXTS = 60, NAMED_MOST = 100 };
+
+enum call { READ, PRINT, COMPOSE, RUN, EXTRACT, CALLS };
+static const char *const call_names[CALLS] = {"read", "print", "compose", "run", "extract"};
+
+static struct {
+    size_t bytes;
+    size_t inputs;
+    size_t accepted;
+    char input[NAMED_MOST];
+} worst[CALLS];
+
+/* What the calls are lent. */
+static char text[TEXT_ROOM + 1];
+static size_t text_length;
+static struct list list;
+static struct query query, outer, inner, made;
+static struct table table, extracted;
+static uint8_t kept[NODE_ROOM], scratch[SCRATCH_ROOM], printed[PRINT_ROOM];
+static uint64_t answer;
+
+static void call_nothing(void)
+{
+    answer = 0;
+}
+
+static void call_read(void)
+{
+    answer = halyardfig_read((const uint8_t *)text, text_length, list.bytes, list.length, query.items, ITEM_ROOM);
+}
+
+static void call_print(void)
+{
+    answer = halyardfig_print(query.items, query.count, list.bytes, list.length, printed, PRINT_ROOM);
+}
+
+static void call_compose(void)
+{
+    answer = halyardfig_compose(outer.items, outer.count, inner.items, inner.count, made.items, ITEM_ROOM);
+}
+
+static void call_run(void)
+{
+    answer = halyardfig_run(query.items, query.count, table.parent, table.nodes, table.kind, table.nodes, table.marks,
+                            table.nodes, kept, table.nodes, scratch, SCRATCH_ROOM);
+}
+
+static void call_extract(void)
+{
+    answer = halyardfig_extract(table.parent, table.nodes, table.kind, table.nodes, table.marks, table.nodes,
+                                extracted.parent, NODE_ROOM, extracted.kind, NODE_ROOM);
+}
+
+/* A painted stack; below it is a page that cannot be touched. */
+static uint8_t *stack_memory(void)
+{
+    static uint8_t *memory;
+    if (memory != NULL)
+        return memory;
+    size_t page = (size_t)sysconf(_SC_PAGESIZE);
+    memory = mmap(NULL, STACK_BYTES + page, PROT_NONE, MAP_PRIVATE | MAP_ANONYMOUS, -1, 0);
+    if (memory == MAP_FAILED || mprotect(memory + page, STACK_BYTES, PROT_READ | PROT_WRITE) != 0)
+        abort();
+    memory += page;
+    memset(memory, PAINT, STACK_BYTES);
+    return memory;
+}
+
+/* Makes a call on the painted stack. */
+static void call_painted(void (*call)(void))
+{
+    static ucontext_t here, there;
+    if (getcontext(&there) != 0)
+        abort();
+    there.uc_stack.ss_sp = stack_memory();
+    there.uc_stack.ss_size = STACK_BYTES;
+    there.uc_link = &here;
+    makecontext(&there, call, 0);
+    if (swapcontext(&here, &there) != 0)
+        abort();
+}
+
+/* Bytes from the top of the painted stack down to the lowest word that a call changed; paints them anew. */
+static size_t painted_over(void (*call)(void))
+{
+    uint64_t paint;
+    memset(&paint, PAINT, sizeof paint);
+    uint8_t *memory = stack_memory();
+    call_painted(call);
+    const uint64_t *word = (const uint64_t *)memory;
+    while (*word == paint)
+        word++;
+    size_t clean = (size_t)((const uint8_t *)word - memory);
+    memset(memory + clean, PAINT, STACK_BYTES - clean);
+    return STACK_BYTES - clean;
+}
+
+static void measure_call(enum call which, const char *input)
+{
+    static void (*const calls[CALLS])(void) = {call_read, call_print, call_compose, call_run, call_extract};
+    static char trying[2 * NAMED_MOST];
+    static size_t empty;
+    if (empty == 0)
+        empty = painted_over(call_nothing);
+    snprintf(trying, sizeof trying, "%s on %.*s", call_names[which], NAMED_MOST - 1, input);
+    now_trying(trying);
+    size_t bytes = painted_over(calls[which]) - empty;
+    worst[which].inputs++;
+    worst[which].accepted += halyardfig_refused(answer) == 0;
+    if (bytes <= worst[which].bytes)
+        return;
+    worst[which].bytes = bytes;
+    snprintf(worst[which].input, NAMED_MOST, "%s", input);
+}
+
+/* Tries the query in memory as it is in every call that takes one. */
+static void measure_query(const char *input)
+{
+    static const uint32_t simple[] = {1 << 3, 1 | 1 << 3 | 2 << 6};
+    measure_call(PRINT, input);
+    measure_call(RUN, input);
+    outer = query;
+    memcpy(inner.items, simple, sizeof simple);
+    inner.count = 2;
+    measure_call(COMPOSE, input);
+    inner = query;
+    memcpy(outer.items, simple, sizeof simple);
+    outer.count = 2;
+    measure_call(COMPOSE, input);
+}
+
+/* Reads the text, and where that is accepted goes on with its query. */
+static void measure_text(void)
+{
+    measure_call(READ, text);
+    query.count = halyardfig_value(answer);
+    if (halyardfig_refused(answer) == 0)
+        measure_query(text);
+}
+
+static void add(const char *part)
+{
+    size_t length = strlen(part);
+    if (text_length + length > TEXT_ROOM)
+        return;
+    memcpy(text + text_length, part, length + 1);
+    text_length += length;
+}
+
+static void add_times(const char *part, size_t times)
+{
+    for (size_t i = 0; i < times; i++)
+        add(part);
+}
+
+static void start_text(const char *start)
+{
+    text_length = 0;
+    add(start);
+}
+
+/* What opens a bracket; the last byte is the bracket. */
+static const char *const openings[] = {
+    "a[",
+    "(",
+    "not(",
+    "a and (a or ",
+    "a or (a or ",
+    "a and (a and ",
+    "(a or ",
+    "a/b[",
+    "a[a][a[",
+    "not(a and ",
+    "a and not(",
+    "a or a and not(",
+    "a[a or ",
+    "self::a[",
+    "a or b[",
+    "a and b//a[",
+    "(a or a) and (",
+    "a//.//*[",
+    ".. or a/text()[",
+    "not((",
+    "a[not(",
+    "a and (a or not(a[",
+    "node()[(",
+    "a or (a and not(a[a or ",
+    "a[a and (a or a[",
+};
+enum { OPENINGS = sizeof openings / sizeof openings[0] };
+
+static unsigned opened(const char *opening)
+{
+    unsigned count = 0;
+    for (const char *byte = opening; *byte != 0; byte++)
+        if (strncmp(byte, "node()", 6) == 0 || strncmp(byte, "text()", 6) == 0)
+            byte += 5;
+        else if (*byte == '[' || *byte == '(')
+            count++;
+        else if (*byte == ']' || *byte == ')')
+            count--;
+    return count;
+}
+
+/* Writes the closers of all that the text has open. */
+static void close_all(void)
+{
+    static char open[TEXT_ROOM];
+    size_t depth = 0;
+    for (size_t i = 0; i < text_length; i++)
+        if (text[i] == '[' || text[i] == '(')
+            open[depth++] = text[i];
+        else if (text[i] == ']' || text[i] == ')')
+            depth--;
+    while (depth > 0)
+        add(open[--depth] == '[' ? "]" : ")");
+}
+
+/* A text that opens brackets by turns from a choice of openings, up to a depth, then closes them. */
+static void measure_nested(const char *const *choice, size_t choices, unsigned depth, bool closes)
+{
+    start_text("/a[");
+    unsigned open = 1;
+    for (size_t turn = 0; open < depth; turn = (turn + 1) % choices) {
+        const char *opening = choice[turn];
+        if (open + opened(opening) > depth)
+            opening = "(";
+        add(opening);
+        open += opened(opening);
+    }
+    add("a");
+    if (closes)
+        close_all();
+    measure_text();
+}
+
+static void measure_depths(const char *const *choice, size_t choices)
+{
+    static const unsigned depths[] = {60, 62, 63, 64};
+    for (size_t i = 0; i < sizeof depths / sizeof depths[0]; i++)
+        measure_nested(choice, choices, depths[i], true);
+    measure_nested(choice, choices, 64, false);
+    measure_nested(choice, choices, 65, true);
+    measure_nested(choice, choices, 2000, false);
+}
+
+static void single_openings(void)
+{
+    for (size_t i = 0; i < OPENINGS; i++)
+        measure_depths(&openings[i], 1);
+}
+
+static void paired_openings(void)
+{
+    for (size_t i = 0; i < OPENINGS; i++)
+        for (size_t j = 0; j < OPENINGS; j++) {
+            const char *pair[] = {openings[i], openings[j]};
+            measure_nested(pair, 2, 64, true);
+        }
+}
+
+static void mixed_openings(struct dice *dice)
+{
+    for (unsigned i = 0; i < MIXED_TEXTS; i++) {
+        const char *mixed[16];
+        for (size_t j = 0; j < 16; j++)
+            mixed[j] = openings[below(dice, OPENINGS)];
+        measure_depths(mixed, 16);
+    }
+}
+
+/* One part again and again, as often as given and as often as a text can hold. */
+static void measure_run_of(const char *start, const char *part, const char *end, size_t times)
+{
+    size_t most = (TEXT_ROOM - strlen(start) - strlen(end)) / strlen(part);
+    const size_t counts[] = {times, most};
+    for (size_t i = 0; i < 2; i++) {
+        start_text(start);
+        add_times(part, counts[i]);
+        add(end);
+        measure_text();
+    }
+}
+
+static void long_texts(void)
+{
+    measure_run_of("/a[a", " or a", "]", 1360);
+    measure_run_of("/a[a", " and a", "]", 1360);
+    measure_run_of("/a[a", " or a and a", "]", 680);
+    measure_run_of("/a[a", " or not(a)", "]", 1020);
+    measure_run_of("/a", "[a]", "", 2000);
+    measure_run_of("/a", "/a", "", 4094);
+    measure_run_of("/a", "[a]/a", "", 1000);
+    measure_run_of("/", "|/", "", 4095);
+    measure_run_of("/a", "|/a[b]", "", 1000);
+    measure_run_of("/a[", "not(", "", 4000);
+    measure_run_of("/a[", "(", "", 16000);
+    measure_run_of("/a", "[a", "", 4000);
+    measure_run_of("/", "a", "", 64);
+    measure_run_of("", " ", "/", 100);
+    measure_run_of("/a[", "a/", "a]", 4000);
+    measure_run_of("//", ".//", ".", 2000);
+}
+
+static void fill_query(uint32_t first, uint32_t second, size_t count)
+{
+    query.count = count;
+    for (size_t i = 0; i < count; i++)
+        query.items[i] = i % 2 == 0 ? first : second;
+}
+
+/* Items that are no query, as deep as they can pretend to be. */
+static void malformed_queries(void)
+{
+    static const struct {
+        const char *what;
+        uint32_t first, second;
+    } fills[] = {
+        {"4,096 not", NOT_ITEM, NOT_ITEM},
+        {"4,096 or", OR_ITEM, OR_ITEM},
+        {"4,096 and", AND_ITEM, AND_ITEM},
+        {"or and by turns", OR_ITEM, AND_ITEM},
+        {"or not by turns", OR_ITEM, NOT_ITEM},
+        {"paths in predicates", 1 << 3, 1 | 1 << 3 | 1 << 15},
+        {"many steps and predicates", 8191 << 3, 1 | 1 << 3 | 8191 << 15},
+        {"steps only", 1 | 1 << 3, 1 | 1 << 3},
+        {"steps with predicates", 1 | 1 << 3 | 1 << 15, 1 | 1 << 3 | 1 << 15},
+        {"paths only", 1 << 3, 1 << 3},
+    };
+    for (size_t i = 0; i < sizeof fills / sizeof fills[0]; i++) {
+        fill_query(fills[i].first, fills[i].second, ITEM_ROOM);
+        measure_query(fills[i].what);
+        query.items[0] = 1 << 3;
+        query.items[1] = 1 | 1 << 3 | 1 << 15;
+        measure_query(fills[i].what);
+    }
+}
+
+static void long_and_deep_queries(struct dice *dice)
+{
+    for (unsigned i = 0; i < MIXED_TEXTS; i++) {
+        make_long_query(dice, &query, between(dice, ITEM_ROOM - 20, ITEM_ROOM), 2);
+        measure_query("a long query");
+        make_deep_query(dice, &query, (unsigned)between(dice, 58, 64), 2);
+        measure_query("a deep query");
+    }
+}
+
+/* Two deep queries composed, as deep as their composition may be. */
+static void deep_compositions(struct dice *dice)
+{
+    for (unsigned i = 0; i < 2 * MIXED_TEXTS; i++) {
+        unsigned depth = (unsigned)between(dice, 1, 60);
+        make_deep_query(dice, &outer, depth, 2);
+        make_deep_query(dice, &inner, 62 - depth, 2);
+        measure_call(COMPOSE, "two deep queries");
+    }
+}
+
+static void make_chain(size_t nodes)
+{
+    table.nodes = nodes;
+    for (size_t i = 0; i < nodes; i++) {
+        table.parent[i] = (uint16_t)(i == 0 ? 0 : i - 1);
+        table.kind[i] = i == 0 ? 0 : 2;
+        table.marks[i] = 1;
+    }
+}
+
+static void large_tables(struct dice *dice)
+{
+    make_chain(NODE_ROOM);
+    measure_call(EXTRACT, "a chain of 4,096 nodes");
+    start_text("//a[.//a[../a or not(a)]]");
+    measure_text();
+    make_table(dice, &table, NODE_ROOM, 2);
+    make_marks(dice, &table, 99);
+    measure_call(EXTRACT, "a table of 4,096 nodes");
+    measure_text();
+    table.kind[NODE_ROOM - 1] = 0;
+    measure_call(EXTRACT, "a bad table of 4,096 nodes");
+    measure_text();
+}
+
+/* A list of 256 names, a and b among them. */
+static void many_names(struct dice *dice)
+{
+    make_list(dice, &list, 256);
+    single_openings();
+    mixed_openings(dice);
+}
+
+static void report(enum call which)
+{
+    printf("stack of %s: %zu bytes at most, of %zu inputs, %zu of them accepted; worst: %.60s\n", call_names[which],
+           worst[which].bytes, worst[which].inputs, worst[which].accepted, worst[which].input);
+    tally(worst[which].accepted > 0, "%s was never accepted", call_names[which]);
+    tally(worst[which].bytes <= STACK_LIMIT, "%s uses %zu bytes of stack, over %d, on %s", call_names[which],
+          worst[which].bytes, STACK_LIMIT, worst[which].input);
+}
+
+int main(void)
+{
+    group_start("stack");
+    struct dice dice = {group_seed()};
+    list_of(&list, "a b");
+    make_chain(3);
+    single_openings();
+    paired_openings();
+    mixed_openings(&dice);
+    long_texts();
+    malformed_queries();
+    long_and_deep_queries(&dice);
+    deep_compositions(&dice);
+    many_names(&dice);
+    large_tables(&dice);
+    for (unsigned i = 0; i < CALLS; i++)
+        report((enum call)i);
+    return group_end();
+}

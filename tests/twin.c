@@ -1,0 +1,180 @@
+/* Calls of the library beside calls of the model on equal memory. */
+#include "twin.h"
+
+#include "halyardfig.h"
+#include "paper.h"
+
+#include <string.h>
+
+/* Two slots for each piece lent: the library's, and the same piece as the model has it. */
+enum { PIECES = 6 };
+
+uint64_t twin_answer;
+
+static struct {
+    size_t bytes;
+    void *ours;
+    void *models;
+} pieces[PIECES];
+static unsigned piece_count;
+static void *written_first;
+
+static void *new_piece(size_t bytes)
+{
+    pieces[piece_count].bytes = bytes;
+    pieces[piece_count].ours = lend(2 * piece_count, bytes);
+    pieces[piece_count].models = lend(2 * piece_count + 1, bytes);
+    return pieces[piece_count++].ours;
+}
+
+/* Lends memory that is read. */
+static void *lend_read(const void *from, size_t bytes)
+{
+    void *ours = new_piece(bytes);
+    memcpy(ours, from, bytes);
+    memcpy(pieces[piece_count - 1].models, from, bytes);
+    return ours;
+}
+
+/* Lends memory that is written, full of random bytes. */
+static void *lend_write(struct dice *dice, size_t bytes)
+{
+    uint64_t pattern = roll(dice);
+    uint8_t *ours = new_piece(bytes);
+    for (size_t i = 0; i < bytes; i++)
+        ours[i] = (uint8_t)(pattern >> (i % 8 * 8));
+    memcpy(pieces[piece_count - 1].models, ours, bytes);
+    return ours;
+}
+
+static void *model_piece(unsigned piece)
+{
+    return pieces[piece].models;
+}
+
+/* The lengths are those of the pieces, in elements. */
+static bool compare(const char *call, uint64_t ours, uint64_t models)
+{
+    twin_answer = ours;
+    if (ours != models)
+        return complain("%s answered %u with %u, the model %u with %u", call, (unsigned)(ours >> 32), (unsigned)ours,
+                        (unsigned)(models >> 32), (unsigned)models);
+    for (unsigned i = 0; i < piece_count; i++)
+        if (memcmp(pieces[i].ours, pieces[i].models, pieces[i].bytes) != 0)
+            return complain("%s left other bytes in its argument %u than the model", call, i);
+    return guards_whole() || complain("%s wrote outside what it was lent", call);
+}
+
+const uint32_t *twin_items(void)
+{
+    return written_first;
+}
+
+const uint8_t *twin_bytes(void)
+{
+    return written_first;
+}
+
+const uint8_t *twin_marks(void)
+{
+    return written_first;
+}
+
+bool twin_read(struct dice *dice, const uint8_t *text, size_t text_len, const uint8_t *names, size_t names_len,
+               size_t room)
+{
+    piece_count = 0;
+    const uint8_t *our_text = lend_read(text, text_len);
+    const uint8_t *our_names = lend_read(names, names_len);
+    uint32_t *out = lend_write(dice, room * sizeof *out);
+    written_first = out;
+    uint64_t ours = halyardfig_read(our_text, text_len, our_names, names_len, out, room);
+    uint64_t models = model_read(model_piece(0), text_len, model_piece(1), names_len, model_piece(2), room);
+    if (compare("read", ours, models))
+        return true;
+    show_text("text", text, text_len);
+    show_text("names", names, names_len);
+    return false;
+}
+
+bool twin_print(struct dice *dice, const uint32_t *query, size_t query_len, const uint8_t *names, size_t names_len,
+                size_t room)
+{
+    piece_count = 0;
+    const uint32_t *our_query = lend_read(query, query_len * sizeof *query);
+    const uint8_t *our_names = lend_read(names, names_len);
+    uint8_t *out = lend_write(dice, room);
+    written_first = out;
+    uint64_t ours = halyardfig_print(our_query, query_len, our_names, names_len, out, room);
+    uint64_t models = model_print(model_piece(0), query_len, model_piece(1), names_len, model_piece(2), room);
+    if (compare("print", ours, models))
+        return true;
+    show_items("query", query, query_len);
+    show_text("names", names, names_len);
+    return false;
+}
+
+bool twin_compose(struct dice *dice, const uint32_t *outer, size_t outer_len, const uint32_t *inner, size_t inner_len,
+                  size_t room)
+{
+    piece_count = 0;
+    const uint32_t *our_outer = lend_read(outer, outer_len * sizeof *outer);
+    const uint32_t *our_inner = lend_read(inner, inner_len * sizeof *inner);
+    uint32_t *out = lend_write(dice, room * sizeof *out);
+    written_first = out;
+    uint64_t ours = halyardfig_compose(our_outer, outer_len, our_inner, inner_len, out, room);
+    uint64_t models = model_compose(model_piece(0), outer_len, model_piece(1), inner_len, model_piece(2), room);
+    if (compare("compose", ours, models))
+        return true;
+    show_items("outer", outer, outer_len);
+    show_items("inner", inner, inner_len);
+    return false;
+}
+
+bool twin_run(struct dice *dice, const uint32_t *query, size_t query_len, const uint16_t *parent, size_t parent_len,
+              const uint16_t *kind, size_t kind_len, const uint8_t *given, size_t given_len, size_t marks_len,
+              size_t scratch_len)
+{
+    piece_count = 0;
+    const uint32_t *our_query = lend_read(query, query_len * sizeof *query);
+    const uint16_t *our_parent = lend_read(parent, parent_len * sizeof *parent);
+    const uint16_t *our_kind = lend_read(kind, kind_len * sizeof *kind);
+    const uint8_t *our_given = lend_read(given, given_len);
+    uint8_t *marks = lend_write(dice, marks_len);
+    uint8_t *scratch = lend_write(dice, scratch_len);
+    written_first = marks;
+    uint64_t ours = halyardfig_run(our_query, query_len, our_parent, parent_len, our_kind, kind_len, our_given,
+                                   given_len, marks, marks_len, scratch, scratch_len);
+    uint64_t models = model_run(model_piece(0), query_len, model_piece(1), parent_len, model_piece(2), kind_len,
+                                model_piece(3), given_len, model_piece(4), marks_len, model_piece(5), scratch_len);
+    if (compare("run", ours, models))
+        return true;
+    show_items("query", query, query_len);
+    show_words("parent", parent, parent_len);
+    show_words("kind", kind, kind_len);
+    show_bytes("given", given, given_len);
+    show_bytes("marks", marks, marks_len);
+    return false;
+}
+
+bool twin_extract(struct dice *dice, const uint16_t *parent, size_t parent_len, const uint16_t *kind, size_t kind_len,
+                  const uint8_t *marks, size_t marks_len, size_t parent_room, size_t kind_room)
+{
+    piece_count = 0;
+    const uint16_t *our_parent = lend_read(parent, parent_len * sizeof *parent);
+    const uint16_t *our_kind = lend_read(kind, kind_len * sizeof *kind);
+    const uint8_t *our_marks = lend_read(marks, marks_len);
+    uint16_t *out_parent = lend_write(dice, parent_room * sizeof *out_parent);
+    uint16_t *out_kind = lend_write(dice, kind_room * sizeof *out_kind);
+    written_first = out_parent;
+    uint64_t ours = halyardfig_extract(our_parent, parent_len, our_kind, kind_len, our_marks, marks_len, out_parent,
+                                       parent_room, out_kind, kind_room);
+    uint64_t models = model_extract(model_piece(0), parent_len, model_piece(1), kind_len, model_piece(2), marks_len,
+                                    model_piece(3), parent_room, model_piece(4), kind_room);
+    if (compare("extract", ours, models))
+        return true;
+    show_words("parent", parent, parent_len);
+    show_words("kind", kind, kind_len);
+    show_bytes("marks", marks, marks_len);
+    return false;
+}

@@ -1,0 +1,32 @@
+/*
+ * Calls of the library beside calls of the model on equal memory.
+ * Each answers whether both answered alike and left every lent byte alike, guards included.
+ * The last answer stands in twin_answer.
+ */
+#ifndef TWIN_H
+#define TWIN_H
+
+#include "making.h"
+
+extern uint64_t twin_answer;
+
+bool twin_read(struct dice *dice, const uint8_t *text, size_t text_len, const uint8_t *names, size_t names_len,
+               size_t room);
+bool twin_print(struct dice *dice, const uint32_t *query, size_t query_len, const uint8_t *names, size_t names_len,
+                size_t room);
+bool twin_compose(struct dice *dice, const uint32_t *outer, size_t outer_len, const uint32_t *inner, size_t inner_len,
+                  size_t room);
+bool twin_run(struct dice *dice, const uint32_t *query, size_t query_len, const uint16_t *parent, size_t parent_len,
+              const uint16_t *kind, size_t kind_len, const uint8_t *given, size_t given_len, size_t marks_len,
+              size_t scratch_len);
+bool twin_extract(struct dice *dice, const uint16_t *parent, size_t parent_len, const uint16_t *kind, size_t kind_len,
+                  const uint8_t *marks, size_t marks_len, size_t parent_room, size_t kind_room);
+
+/* What the last accepted read, compose or print wrote. */
+const uint32_t *twin_items(void);
+const uint8_t *twin_bytes(void);
+
+/* What the last accepted run wrote. */
+const uint8_t *twin_marks(void);
+
+#endif
