@@ -1,0 +1,4 @@
+pub mod Splitting
+pub mod Digits
+pub mod Values
+pub mod Parts
