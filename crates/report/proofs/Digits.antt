@@ -1,10 +1,10 @@
 -- The digits of a number: the last one follows those of a tenth, and a number below 10 ^ k has at most k. By induction over the bound. Assumes nothing.
 use Prim.Native.Nat.{ℕ, zero, suc, _+_, _*_, _^_, _/_, _%_, _≤_, _<_}
 use native.Mathlib.Omega.{arith}
+use native.Mathlib.Nat.{pow-suc, div-lt-iff-lt-mul}
 use mathlib.Core.Path.{_≡_, refl, _∙_, ap}
 use mathlib.Core.Bool.{Bool, true, false, cond}
 use mathlib.Core.List.{List, [], _∷_, _++_}
-use mathlib.Core.Logic.{⊎-elim}
 use lib.Dec.{ltb}
 use lib.ListN.{length, length-append}
 use borrow.Author.Tests.{lt-ltb, le-ltb, ltb-true, ltb-false}
@@ -30,4 +30,16 @@ decimal-more n l = rw (le-ltb n 10 l) (ap (λ (x : List ℕ). x ++ ((48 + n % 10
 
 -- A number below 10 ^ k has at most k digits.
 pub decimal-few : (k n : ℕ) → n < 10 ^ suc k → length (decimal n) ≤ suc k
-decimal-few k n h = ?
+decimal-few zero n h = omega (arith, ap length (decimal-one n (omega arith)))
+decimal-few (suc k) n h = go (decimal-few k (n / 10)) (ltb n 10) refl
+  where
+    go : (n / 10 < 10 ^ suc k → length (decimal (n / 10)) ≤ suc k) → (b : Bool) → ltb n 10 ≡ b → length (decimal n) ≤ suc (suc k)
+    go again true p = omega (arith, ap length (decimal-one n (ltb-true n 10 p)))
+    go again false p =
+        let tenth : n / 10 < 10 ^ suc k = div-lt-iff-lt-mul {k = 10} {x = n} {y = 10 ^ suc k} (omega arith) .1 (rw (pow-suc 10 (suc k)) at h) in
+        omega (
+          arith,
+          again tenth,
+          ap length (decimal-more n (ltb-false n 10 p)),
+          length-append (decimal (n / 10)) ((48 + n % 10) ∷ []),
+        )

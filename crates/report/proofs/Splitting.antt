@@ -44,8 +44,8 @@ module _ (bytes : List ℕ) (at : ℕ) (p : Passed bytes at) where
   -- Where the bytes end the line ends, and nothing follows.
   pub ends-last : length bytes ≤ at → Ends bytes at
   ends-last l =
-      let none : drop at bytes ≡ [] = drop-of-length-le l in
-      let after : drop (suc at) bytes ≡ [] = drop-of-length-le (omega arith) in
+      let none : drop at bytes ≡ [] = drop-of-length-le bytes l in
+      let after : drop (suc at) bytes ≡ [] = (let past : length bytes ≤ suc at = omega arith in drop-of-length-le bytes past) in
       let line : take at bytes ++ [] ≡ firstLine bytes = rw none at (p .line) in
       let later : [] ≡ afterLine bytes = rw none at (p .later) in
       record { within = p .inside; says = rw append-nil at line; rest = after ∙ later }
@@ -56,8 +56,8 @@ starts-after bytes end l = record { inside = omega arith; follows = rw (add-one 
 
 pub starts-nowhere : (bytes : List ℕ) (end : ℕ) → end ≤ length bytes → length bytes ≤ end → Starts bytes end end
 starts-nowhere bytes end k l =
-    let here : drop end bytes ≡ [] = drop-of-length-le l in
-    let after : drop (suc end) bytes ≡ [] = drop-of-length-le (omega arith) in
+    let here : drop end bytes ≡ [] = drop-of-length-le bytes l in
+    let after : drop (suc end) bytes ≡ [] = (let past : length bytes ≤ suc end = omega arith in drop-of-length-le bytes past) in
     record { inside = k; follows = here ∙ sym after }
 
 -- The line after the first, and what follows that.

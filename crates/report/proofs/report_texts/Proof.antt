@@ -1,0 +1,118 @@
+use borrow.Author.Needs.{needs}
+use Rattle.report.proofs.report_texts.Statement.{statement}
+use Rattle.report.proofs.report_texts.Tie as tie
+use Rattle.report.proofs.report_texts.Reads as reads
+use Rattle.report.proofs.report_texts.Lts as lts
+use Rattle.read.proofs.read.Reads as read-reads
+use Rattle.report.proofs.put_refusal.Reads as put-refusal-reads
+use Rattle.report.proofs.report_queries.Reads as report-queries-reads
+
+-- src/lib.rt:169:48
+slice-aggregate-read : tie.Need-slice-aggregate-read
+slice-aggregate-read c = search needs
+
+-- src/lib.rt:169:9
+read-requires : tie.Need-read-requires
+read-requires c κs = search needs
+
+-- src/lib.rt:170:23
+enum-known-outer-answer : tie.Need-enum-known-outer-answer
+enum-known-outer-answer c = search needs
+
+-- src/lib.rt:171:33
+slice-aggregate-put-refusal : tie.Need-slice-aggregate-put-refusal
+slice-aggregate-put-refusal c = search needs
+
+-- src/lib.rt:171:9
+put-refusal-requires : tie.Need-put-refusal-requires
+put-refusal-requires c κs = search needs
+
+-- src/lib.rt:171:9
+same-length : tie.Need-same-length
+same-length c = search needs
+
+-- src/lib.rt:171:9
+returns : tie.Need-returns
+returns c = ?
+
+-- src/lib.rt:174:48
+slice-aggregate-read-2 : tie.Need-slice-aggregate-read-2
+slice-aggregate-read-2 c = search needs
+
+-- src/lib.rt:174:9
+read-requires-2 : tie.Need-read-requires-2
+read-requires-2 c κs = search needs
+
+-- src/lib.rt:175:23
+enum-known-inner-answer : tie.Need-enum-known-inner-answer
+enum-known-inner-answer c = search needs
+
+-- src/lib.rt:176:33
+slice-aggregate-put-refusal-2 : tie.Need-slice-aggregate-put-refusal-2
+slice-aggregate-put-refusal-2 c = search needs
+
+-- src/lib.rt:176:9
+put-refusal-requires-2 : tie.Need-put-refusal-requires-2
+put-refusal-requires-2 c κs = search needs
+
+-- src/lib.rt:176:9
+same-length-2 : tie.Need-same-length-2
+same-length-2 c = search needs
+
+-- src/lib.rt:176:9
+returns-2 : tie.Need-returns-2
+returns-2 c = ?
+
+-- src/lib.rt:179:9
+array-share-prefix-outer-query : tie.Need-array-share-prefix-outer-query
+array-share-prefix-outer-query c = ?
+
+-- src/lib.rt:179:9
+slice-aggregate-report-queries : tie.Need-slice-aggregate-report-queries
+slice-aggregate-report-queries c = ?
+
+-- src/lib.rt:180:9
+array-share-prefix-inner-query : tie.Need-array-share-prefix-inner-query
+array-share-prefix-inner-query c = ?
+
+-- src/lib.rt:180:9
+slice-aggregate-report-queries-2 : tie.Need-slice-aggregate-report-queries-2
+slice-aggregate-report-queries-2 c = ?
+
+-- src/lib.rt:178:5
+report-queries-requires : tie.Need-report-queries-requires
+report-queries-requires c κs = search needs
+
+-- src/lib.rt:165:1
+same-length-3 : tie.Need-same-length-3
+same-length-3 c = search needs
+
+-- src/lib.rt:165:1
+returns-3 : tie.Need-returns-3
+returns-3 c = ?
+
+pub report-texts-spec : {M : Type 1} → statement M
+report-texts-spec =
+    tie.close
+    (tie.spec
+    slice-aggregate-read
+    read-requires
+    enum-known-outer-answer
+    slice-aggregate-put-refusal
+    put-refusal-requires
+    same-length
+    returns
+    slice-aggregate-read-2
+    read-requires-2
+    enum-known-inner-answer
+    slice-aggregate-put-refusal-2
+    put-refusal-requires-2
+    same-length-2
+    returns-2
+    array-share-prefix-outer-query
+    slice-aggregate-report-queries
+    array-share-prefix-inner-query
+    slice-aggregate-report-queries-2
+    report-queries-requires
+    same-length-3
+    returns-3)
