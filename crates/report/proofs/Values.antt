@@ -6,7 +6,7 @@ use mathlib.Core.Bool.{Bool, false, _||_}
 use mathlib.Core.List.{List, [], _++_}
 use mathlib.Core.Option.{Option, none, some}
 use lib.Dec.{ltb}
-use lib.ListN.{length, take, drop}
+use lib.ListN.{length, take, drop, length-append}
 use lib.Seq.{take-at}
 use borrow.Author.Tests.{ltb-false}
 use Rattle.paper.specs.Tools.{when, written}
@@ -75,31 +75,37 @@ print-lines n room names unknown (some q) h =
     let e = bytes-value room text n (line-value 5 n unknown (line 10 (short room text) (value text)) h .1) in
     (omega arith, omega arith)
 
--- What an accepted call writes stands at the start.
-start : (n : ℕ) (new old : List ℕ) → n ≡ length new → take n (written new old) ≡ new
-start n new old e = take-at new (drop (length new) old) n (sym e)
-
 -- An accepted call that answered n: there was room for so much, and that stands at the start of what was lent.
 pub record Gives (new : List ℕ) (n room : ℕ) (out : List ℕ) : Type 0 where
   pub fits : n ≤ room
+  pub inside : n ≤ length out
+  pub counts : n ≡ length (take n out)
   pub starts : take n out ≡ new
 
 module _ (n : ℕ) (old out : List ℕ) where
+  gives : (new : List ℕ) → Fits new n (length old) → out ≡ written new old → Gives new n (length old) out
+  gives new f w =
+      let starts : take n out ≡ new = rw w (take-at new (drop (length new) old) n (sym (f .0))) in
+      record {
+        fits = f .1;
+        inside = omega (arith, f .0, ap length w, length-append new (drop (length new) old));
+        counts = f .0 ∙ sym (ap length starts);
+        starts = starts;
+      }
+
   pub read-gives : (text list : List ℕ) → value n ≡ readAnswer text list (length old) → out ≡ readOut text list old → Gives (readItems text list) n (length old) out
   unfolding readAnswer readItems readOut
   read-gives text list e w =
       let second = line-value 1 n (when (tooLong text textLimit || tooLong list listLimit) 0) _ (sym e) .1 in
       let third = line-value 2 n (namesFault list) _ second .1 in
-      let fits = read-lines n (length old) (readText (numberOf (namesOf list)) text) (got-value n (readText anyName text) _ third) in
-      record { fits = fits .1; starts = rw (w, sym e) (start n (readItems text list) old (fits .0)) }
+      gives (readItems text list) (read-lines n (length old) (readText (numberOf (namesOf list)) text) (got-value n (readText anyName text) _ third)) (rw (sym e) at w)
 
   pub compose-gives : (outer inner : List ℕ) → value n ≡ composeAnswer outer inner (length old) → out ≡ composeOut outer inner old
       → Gives (composedGot (decode outer) (decode inner)) n (length old) out
   unfolding composeAnswer composeOut
   compose-gives outer inner e w =
       let later = line-value 1 n (when (tooLong outer itemLimit || tooLong inner itemLimit) 0) _ (sym e) .1 in
-      let fits = compose-lines n (length old) (decode outer) (decode inner) later in
-      record { fits = fits .1; starts = rw (w, sym e) (start n (composedGot (decode outer) (decode inner)) old (fits .0)) }
+      gives (composedGot (decode outer) (decode inner)) (compose-lines n (length old) (decode outer) (decode inner) later) (rw (sym e) at w)
 
   pub print-gives : (query list : List ℕ) → value n ≡ printAnswer query list (length old) → out ≡ printOut query list old
       → Gives (textGot (namesOf list) (decode query)) n (length old) out
@@ -107,5 +113,4 @@ module _ (n : ℕ) (old out : List ℕ) where
   print-gives query list e w =
       let second = line-value 1 n (when (tooLong query itemLimit || tooLong list listLimit) 0) _ (sym e) .1 in
       let third = line-value 2 n (namesFault list) _ second .1 in
-      let fits = print-lines n (length old) (namesOf list) (unknownFrom (length (namesOf list)) 0 query) (decode query) third in
-      record { fits = fits .1; starts = rw (w, sym e) (start n (textGot (namesOf list) (decode query)) old (fits .0)) }
+      gives (textGot (namesOf list) (decode query)) (print-lines n (length old) (namesOf list) (unknownFrom (length (namesOf list)) 0 query) (decode query) third) (rw (sym e) at w)

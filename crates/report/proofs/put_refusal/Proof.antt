@@ -1,3 +1,9 @@
+-- `report::put_refusal` meets its contract: the words and numbers of the line one after the other. Assumes nothing.
+use Prim.Native.Nat.{_≤_}
+use native.Mathlib.Omega.{arith}
+use mathlib.Core.Path.{ap}
+use Rattle.print.proofs.Putting.{puts-as, puts-both}
+use Rattle.report.specs.Program.{decimal}
 use borrow.Author.Needs.{needs}
 use Rattle.report.proofs.put_refusal.Statement.{statement}
 use Rattle.report.proofs.put_refusal.Tie as tie
@@ -56,9 +62,28 @@ put-decimal-requires-2 c κs = search needs
 slice-aggregate-put-4 : tie.Need-slice-aggregate-put-4
 slice-aggregate-put-4 c = search needs
 
+-- Where the place is put, 63 bytes at most have been put.
+short : (c : tie.After-put-decimal2) → c .put-decimal2 .result ≤ 63
+short c =
+    let apart = c .before .before .before .before .before in
+    let numbered = apart .before .before .before .before .before in
+    let spaced = numbered .before .before .before .before .before in
+    let named = spaced .before .before .before .before .before in
+    let begun = named .before .before .before .before in
+    omega (
+      arith,
+      begun .put .ensures .moved,
+      named .put2 .ensures .moved,
+      spaced .put3 .ensures .moved,
+      numbered .put-decimal .ensures .1,
+      apart .put4 .ensures .moved,
+      c .put-decimal2 .ensures .1,
+      begun .before .before .before .before .before .pre,
+    )
+
 -- src/lib.rt:113:5
 put-requires-5 : tie.Need-put-requires-5
-put-requires-5 c κs = ?
+put-requires-5 c κs = omega (arith, short (c .before .before .before .before))
 
 -- src/lib.rt:103:1
 same-length : tie.Need-same-length
@@ -66,7 +91,20 @@ same-length c = search needs
 
 -- src/lib.rt:103:1
 returns : tie.Need-returns
-returns c = ?
+returns c =
+    let ended = c .before .before in
+    let placed = ended .before .before .before .before .before in
+    let apart = placed .before .before .before .before .before in
+    let numbered = apart .before .before .before .before .before in
+    let spaced = numbered .before .before .before .before .before in
+    let named = spaced .before .before .before .before .before in
+    let begun = named .before .before .before .before in
+    let number = puts-as (ap decimal (numbered .before .number-of .ensures)) (numbered .put-decimal .ensures .0) in
+    let place = puts-as (ap decimal (placed .before .place-of .ensures)) (placed .put-decimal2 .ensures .0) in
+    record {
+      puts = puts-both (puts-both (puts-both (puts-both (puts-both (puts-both (begun .put .ensures) (named .put2 .ensures)) (spaced .put3 .ensures)) number) (apart .put4 .ensures)) place) (ended .put5 .ensures);
+      few = omega (arith, short placed, ended .put5 .ensures .moved);
+    }
 
 pub put-refusal-spec : {M : Type 1} → statement M
 put-refusal-spec =

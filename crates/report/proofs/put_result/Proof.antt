@@ -1,3 +1,6 @@
+-- `report::put_result` meets its contract: the text, the words and the numbers one after the other. Assumes nothing.
+use native.Mathlib.Omega.{arith}
+use Rattle.print.proofs.Putting.{puts-both}
 use borrow.Author.Needs.{needs}
 use Rattle.report.proofs.put_result.Statement.{statement}
 use Rattle.report.proofs.put_result.Tie as tie
@@ -48,7 +51,27 @@ same-length c = search needs
 
 -- src/lib.rt:117:1
 returns : tie.Need-returns
-returns c = ?
+returns c =
+    let ended = c .before .before in
+    let nested = ended .before .before .before .before .before in
+    let parted = nested .before .before .before .before in
+    let sized = parted .before .before .before .before .before in
+    let begun = sized .before .before .before .before in
+    let written = begun .before .before .before .before .before in
+    record {
+      puts = puts-both (puts-both (puts-both (puts-both (puts-both (written .put .ensures) (begun .put2 .ensures)) (sized .put-decimal .ensures .0)) (parted .put3 .ensures)) (nested .put-decimal2 .ensures .0)) (ended .put4 .ensures);
+      few =
+        omega (
+          arith,
+          written .put .ensures .moved,
+          begun .put2 .ensures .moved,
+          sized .put-decimal .ensures .1,
+          parted .put3 .ensures .moved,
+          nested .put-decimal2 .ensures .1,
+          ended .put4 .ensures .moved,
+          written .before .before .before .before .pre,
+        );
+    }
 
 pub put-result-spec : {M : Type 1} → statement M
 put-result-spec =
