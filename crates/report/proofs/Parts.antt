@@ -1,10 +1,12 @@
 -- What one part of the work makes of the report: the line of its refusal, or what the later parts print. By cases of the answer. Assumes nothing.
-use Prim.Native.Nat.{ℕ, _≤_}
+use Prim.Native.Nat.{ℕ, _≤_, _<_}
 use Prim.Native.String.{String}
 use native.Mathlib.Omega.{arith}
 use mathlib.Core.Path.{_≡_, refl, sym, _∙_, ap}
 use mathlib.Core.List.{List}
 use mathlib.Core.Option.{Option, none, some}
+use lib.ListN.{length}
+use borrow.Author.Tests.{lt-ltb, le-ltb}
 use Rattle.paper.specs.Tools.{ascii}
 use Rattle.paper.specs.Query.{Query}
 use Rattle.paper.specs.Answers.{value, refusal}
@@ -14,7 +16,7 @@ use Rattle.paper.specs.declared.Answer.{Answer}
 use Rattle.paper.proofs.Refusing.{Refuses, refusal-told}
 use Rattle.shape.specs.Walks.{shapeOf}
 use Rattle.shape.specs.declared.Shape.the-variants.{Query as IsQuery, Malformed}
-use Rattle.report.specs.Program.{refusalLine, unlessRefused, nestingGot}
+use Rattle.report.specs.Program.{inputLimit, refusalLine, unlessRefused, nestingGot, inputAnswer}
 use Rattle.report.specs.Lines.{numberTold, placeTold, Reports}
 
 module _ (part : String) (said : Told) (later old new : List ℕ) (count : ℕ) where
@@ -29,6 +31,13 @@ module _ (part : String) (said : Told) (later old new : List ℕ) (count : ℕ) 
   -- A part that gives a value leaves the report to the later ones.
   pub given-part : (n : ℕ) → value n ≡ said → Reports later 32832 old new count → Reports (unlessRefused part said later) 32832 old new count
   given-part n e r = let line : unlessRefused part said later ≡ later = rw (sym e) in rw line r
+
+-- An input too long, and one that is not.
+pub input-long : (input : List ℕ) → inputLimit < length input → refusal 1 0 ≡ inputAnswer input
+input-long input l = rw (lt-ltb inputLimit (length input) l)
+
+pub input-taken : (input : List ℕ) → length input ≤ inputLimit → value (length input) ≡ inputAnswer input
+input-taken input l = rw (le-ltb inputLimit (length input) l)
 
 -- The nesting that the shape of items says.
 pub shape-nesting : (o : Option Query) (nest high : ℕ) → IsQuery nest high ≡ shapeOf o → nest ≡ nestingGot o

@@ -1,11 +1,11 @@
 -- Where the first line of some bytes ends: the bytes passed are its own as long as none of them is LF. By what is left of the bytes. Assumes nothing.
-use Prim.Native.Nat.{ℕ, suc, _+_, _≤_, _<_}
+use Prim.Native.Nat.{ℕ, suc, _+_, _-_, _≤_, _<_}
 use native.Mathlib.Numerals.{add-one}
 use native.Mathlib.Omega.{arith}
 use mathlib.Core.Path.{_≡_, refl, sym, _∙_, ap}
 use mathlib.Core.List.{List, [], _∷_, _++_, append-assoc, append-nil}
-use lib.ListN.{length, take, drop, getD, drop-of-length-le}
-use lib.Seq.{take-suc, drop-cons}
+use lib.ListN.{length, take, drop, getD, drop-of-length-le, length-drop}
+use lib.Seq.{take-all, take-suc, drop-cons}
 use borrow.Author.Tests.{eq-eqb, ne-eqb}
 use Rattle.report.specs.Program.{firstLine, afterLine}
 use Rattle.report.specs.Lines.{Ends, Starts}
@@ -60,6 +60,7 @@ starts-nowhere bytes end k l =
     let after : drop (suc end) bytes ≡ [] = (let past : length bytes ≤ suc end = omega arith in drop-of-length-le bytes past) in
     record { inside = k; follows = here ∙ sym after }
 
--- The line after the first, and what follows that.
-pub next-line : (bytes : List ℕ) (end start : ℕ) → Ends bytes end → Starts bytes end start → drop start bytes ≡ afterLine bytes
-next-line bytes end start e s = s .follows ∙ e .rest
+-- What is lent from the start of the next line on is what follows the first.
+pub rest-whole : (bytes : List ℕ) (end start : ℕ) → Ends bytes end → Starts bytes end start → take (length bytes - start) (drop start bytes) ≡ afterLine bytes
+rest-whole bytes end start e s =
+    take-all (length bytes - start) (drop start bytes) (omega (arith, length-drop start bytes)) ∙ (s .follows ∙ e .rest)

@@ -1,3 +1,12 @@
+-- `report::report` meets its contract: an input too long is refused, and any other is cut into its lines. Assumes nothing.
+use mathlib.Core.Path.{refl, sym, _∙_, ap}
+use mathlib.Core.Logic.{inl}
+use lib.Seq.{length-take-le}
+use denote.Ref.{now}
+use Rattle.paper.specs.declared.Answer.the-variants.{TooLong}
+use Rattle.report.specs.Program.{firstLine, afterLine, prints}
+use Rattle.report.proofs.Splitting.{rest-whole}
+use Rattle.report.proofs.Parts.{refused-part, given-part, input-long, input-taken}
 use borrow.Author.Needs.{needs}
 use Rattle.report.proofs.report.Statement.{statement}
 use Rattle.report.proofs.report.Tie as tie
@@ -22,7 +31,10 @@ same-length c = search needs
 
 -- src/lib.rt:191:9
 returns : tie.Need-returns
-returns c = ?
+unfolding prints
+returns c =
+    let input = now (c .before .before .before .before .before .before .before .before .args .input) in
+    refused-part "input" _ _ _ _ _ TooLong (inl refl) (input-long input (c .before .before .before .before .before .if1 .taken)) (c .before .before .put-refusal .ensures)
 
 -- src/lib.rt:193:9
 line-end-requires : tie.Need-line-end-requires
@@ -54,11 +66,11 @@ line-start-requires-2 c κs = search needs
 
 -- src/lib.rt:199:9
 slice-aggregate-report-texts : tie.Need-slice-aggregate-report-texts
-slice-aggregate-report-texts c = ?
+slice-aggregate-report-texts c = sym (length-take-le _ _ (c .before .before .before .before .before .line-end .ensures .within))
 
 -- src/lib.rt:200:9
 slice-aggregate-report-texts-2 : tie.Need-slice-aggregate-report-texts-2
-slice-aggregate-report-texts-2 c = ?
+slice-aggregate-report-texts-2 c = sym (length-take-le _ _ (c .before .before .before .line-end2 .ensures .within))
 
 -- src/lib.rt:201:9
 sub-report-texts : tie.Need-sub-report-texts
@@ -82,7 +94,16 @@ same-length-2 c = search needs
 
 -- src/lib.rt:187:1
 returns-2 : tie.Need-returns-2
-returns-2 c = ?
+unfolding prints
+returns-2 c =
+    let input = now (c .before .before .before .before .before .before .before .before .before .before .before .before .before .before .before .args .input) in
+    let first = c .before .before .before .before .before .before .before .before .before .before .before .line-end .ensures in
+    let second = c .before .before .before .before .before .before .before .before .line-end2 .ensures in
+    let after = rest-whole input _ _ first (c .before .before .before .before .before .before .before .before .before .before .line-start .ensures) in
+    let inner = second .says ∙ ap firstLine after in
+    let list = rest-whole _ _ _ second (c .before .before .before .before .before .before .before .line-start2 .ensures) ∙ ap afterLine after in
+    given-part "input" _ _ _ _ _ _ (input-taken input (c .before .before .before .before .before .before .before .before .before .before .before .before .if1 .left))
+    (rw (first .says, inner, list) at (c .before .before .report-texts .ensures))
 
 pub report-spec : {M : Type 1} → statement M
 report-spec =

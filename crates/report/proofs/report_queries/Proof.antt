@@ -1,3 +1,13 @@
+-- `report::report_queries` meets its contract: the line of a refusal, or the report on the composed query. Assumes nothing.
+use mathlib.Core.Path.{sym, _∙_, ap}
+use lib.ListN.{replicate}
+use denote.Ref.{now}
+use Rattle.paper.specs.Items.{decode}
+use Rattle.paper.specs.Answers.{composedGot}
+use Rattle.paper.specs.Told.{told}
+use Rattle.report.specs.Program.{printsQueries}
+use Rattle.report.proofs.Values.{Gives, compose-gives}
+use Rattle.report.proofs.Parts.{refused-part, given-part}
 use borrow.Author.Needs.{needs}
 use Rattle.report.proofs.report_queries.Statement.{statement}
 use Rattle.report.proofs.report_queries.Tie as tie
@@ -33,15 +43,27 @@ same-length c = search needs
 
 -- src/lib.rt:159:9
 returns : tie.Need-returns
-returns c = ?
+unfolding printsQueries
+returns c =
+    let asked = c .before .before .before .before .before .before .before in
+    refused-part "compose" _ _ _ _ _ (asked .compose .result) (c .before .before .before .before .before .match .keys2) (asked .compose .ensures .0) (c .before .before .put-refusal .ensures)
+
+-- What an accepted composition gives.
+gives : (c : tie.After-known-told) →
+    let start = c .before .before .before .before .before .before .before .before .before .before in
+    Gives (composedGot (decode (now (start .args .outer))) (decode (now (start .args .inner)))) (c .before .answer .given .0 .0) 4096 (c .before .before .before .before .compose .last .1 .1 .0)
+gives c =
+    let start = c .before .before .before .before .before .before .before .before .before .before in
+    let asked = c .before .before .before .before in
+    compose-gives (c .before .answer .given .0 .0) (replicate 4096 0) _ (now (start .args .outer)) (now (start .args .inner)) (ap told (sym (c .before .answer .given .1)) ∙ asked .compose .ensures .0) (asked .compose .ensures .1)
 
 -- src/lib.rt:161:18
 array-share-prefix-query : tie.Need-array-share-prefix-query
-array-share-prefix-query c = ?
+array-share-prefix-query c = gives c .inside
 
 -- src/lib.rt:161:18
 slice-aggregate-report-query : tie.Need-slice-aggregate-report-query
-slice-aggregate-report-query c = ?
+slice-aggregate-report-query c = gives (c .before) .counts
 
 -- src/lib.rt:161:5
 report-query-requires : tie.Need-report-query-requires
@@ -53,7 +75,11 @@ same-length-2 c = search needs
 
 -- src/lib.rt:153:1
 returns-2 : tie.Need-returns-2
-returns-2 c = ?
+unfolding printsQueries
+returns-2 c =
+    let asked = c .before .before .before .before .before .before .before .before .before in
+    let told-value = ap told (sym (c .before .before .before .before .before .before .answer .given .1)) ∙ asked .compose .ensures .0 in
+    given-part "compose" _ _ _ _ _ _ told-value (rw (gives (c .before .before .before .before .before) .starts) at (c .before .before .report-query .ensures))
 
 pub report-queries-spec : {M : Type 1} → statement M
 report-queries-spec =

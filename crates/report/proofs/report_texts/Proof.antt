@@ -1,3 +1,12 @@
+-- `report::report_texts` meets its contract: the line of the first refusal, or the report on the two queries. Assumes nothing.
+use mathlib.Core.Path.{_≡_, sym, _∙_, ap}
+use lib.ListN.{replicate}
+use denote.Ref.{now}
+use Rattle.paper.specs.Answers.{value, readAnswer, readItems}
+use Rattle.paper.specs.Told.{told}
+use Rattle.report.specs.Program.{printsTexts}
+use Rattle.report.proofs.Values.{Gives, read-gives}
+use Rattle.report.proofs.Parts.{refused-part, given-part}
 use borrow.Author.Needs.{needs}
 use Rattle.report.proofs.report_texts.Statement.{statement}
 use Rattle.report.proofs.report_texts.Tie as tie
@@ -33,7 +42,36 @@ same-length c = search needs
 
 -- src/lib.rt:171:9
 returns : tie.Need-returns
-returns c = ?
+unfolding printsTexts
+returns c =
+    let asked = c .before .before .before .before .before .before .before in
+    refused-part "outer" _ _ _ _ _ (asked .read .result) (c .before .before .before .before .before .match .keys2) (asked .read .ensures .0) (c .before .before .put-refusal .ensures)
+
+-- The outer text is read.
+outer-told : (c : tie.After-known-told) →
+    let start = c .before .before .before .before .before .before .before .before .before .before in
+    value (c .before .outer-answer .given .0 .0) ≡ readAnswer (now (start .args .outer)) (now (start .args .list)) 4096
+outer-told c = ap told (sym (c .before .outer-answer .given .1)) ∙ c .before .before .before .before .read .ensures .0
+
+outer-gives : (c : tie.After-known-told) →
+    let start = c .before .before .before .before .before .before .before .before .before .before in
+    Gives (readItems (now (start .args .outer)) (now (start .args .list))) (c .before .outer-answer .given .0 .0) 4096 (c .before .before .before .before .read .last .1 .1 .0)
+outer-gives c =
+    let start = c .before .before .before .before .before .before .before .before .before .before in
+    read-gives (c .before .outer-answer .given .0 .0) (replicate 4096 0) _ (now (start .args .outer)) (now (start .args .list)) (outer-told c) (c .before .before .before .before .read .ensures .1)
+
+-- The inner text is read.
+inner-told : (c : tie.After-known-told2) →
+    let start = c .before .before .before .before .before .before .before .before .before .before .before .before .before .before .before .before in
+    value (c .before .inner-answer .given .0 .0) ≡ readAnswer (now (start .args .inner)) (now (start .args .list)) 4096
+inner-told c = ap told (sym (c .before .inner-answer .given .1)) ∙ c .before .before .before .before .read2 .ensures .0
+
+inner-gives : (c : tie.After-known-told2) →
+    let start = c .before .before .before .before .before .before .before .before .before .before .before .before .before .before .before .before in
+    Gives (readItems (now (start .args .inner)) (now (start .args .list))) (c .before .inner-answer .given .0 .0) 4096 (c .before .before .before .before .read2 .last .1 .1 .0)
+inner-gives c =
+    let start = c .before .before .before .before .before .before .before .before .before .before .before .before .before .before .before .before in
+    read-gives (c .before .inner-answer .given .0 .0) (replicate 4096 0) _ (now (start .args .inner)) (now (start .args .list)) (inner-told c) (c .before .before .before .before .read2 .ensures .1)
 
 -- src/lib.rt:174:48
 slice-aggregate-read-2 : tie.Need-slice-aggregate-read-2
@@ -61,23 +99,27 @@ same-length-2 c = search needs
 
 -- src/lib.rt:176:9
 returns-2 : tie.Need-returns-2
-returns-2 c = ?
+unfolding printsTexts
+returns-2 c =
+    let asked = c .before .before .before .before .before .before .before in
+    given-part "outer" _ _ _ _ _ _ (outer-told (c .before .before .before .before .before .before .before .before .before))
+    (refused-part "inner" _ _ _ _ _ (asked .read2 .result) (c .before .before .before .before .before .match2 .keys2) (asked .read2 .ensures .0) (c .before .before .put-refusal2 .ensures))
 
 -- src/lib.rt:179:9
 array-share-prefix-outer-query : tie.Need-array-share-prefix-outer-query
-array-share-prefix-outer-query c = ?
+array-share-prefix-outer-query c = outer-gives (c .before .before .before .before .before .before) .inside
 
 -- src/lib.rt:179:9
 slice-aggregate-report-queries : tie.Need-slice-aggregate-report-queries
-slice-aggregate-report-queries c = ?
+slice-aggregate-report-queries c = outer-gives (c .before .before .before .before .before .before .before) .counts
 
 -- src/lib.rt:180:9
 array-share-prefix-inner-query : tie.Need-array-share-prefix-inner-query
-array-share-prefix-inner-query c = ?
+array-share-prefix-inner-query c = inner-gives (c .before) .inside
 
 -- src/lib.rt:180:9
 slice-aggregate-report-queries-2 : tie.Need-slice-aggregate-report-queries-2
-slice-aggregate-report-queries-2 c = ?
+slice-aggregate-report-queries-2 c = inner-gives (c .before .before) .counts
 
 -- src/lib.rt:178:5
 report-queries-requires : tie.Need-report-queries-requires
@@ -89,7 +131,11 @@ same-length-3 c = search needs
 
 -- src/lib.rt:165:1
 returns-3 : tie.Need-returns-3
-returns-3 c = ?
+unfolding printsTexts
+returns-3 c =
+    given-part "outer" _ _ _ _ _ _ (outer-told (c .before .before .before .before .before .before .before .before .before .before .before .before))
+    (given-part "inner" _ _ _ _ _ _ (inner-told (c .before .before .before .before .before .before))
+    (rw (outer-gives (c .before .before .before .before .before .before .before .before .before .before .before .before) .starts, inner-gives (c .before .before .before .before .before .before) .starts) at (c .before .before .report-queries .ensures)))
 
 pub report-texts-spec : {M : Type 1} → statement M
 report-texts-spec =
