@@ -8,7 +8,7 @@ use mathlib.Core.List.{List, [], _∷_, _++_}
 use lib.Dec.{ltb}
 use lib.ListN.{length, length-append}
 use borrow.Author.Tests.{lt-ltb, le-ltb, ltb-true, ltb-false}
-use Rattle.report.specs.Program.{digits, decimal}
+use Rattle.paper.specs.Program.{digits, decimal}
 
 -- Two bounds that suffice give the same digits.
 digits-same : (k m n : ℕ) → n < k → n < m → digits k n ≡ digits m n

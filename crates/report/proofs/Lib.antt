@@ -2,3 +2,4 @@ pub mod Splitting
 pub mod Digits
 pub mod Values
 pub mod Parts
+pub mod Unique

@@ -16,20 +16,20 @@ use Rattle.paper.specs.declared.Answer.{Answer}
 use Rattle.paper.proofs.Refusing.{Refuses, refusal-told}
 use Rattle.shape.specs.Walks.{shapeOf}
 use Rattle.shape.specs.declared.Shape.the-variants.{Query as IsQuery, Malformed}
-use Rattle.report.specs.Program.{inputLimit, refusalLine, unlessRefused, nestingGot, inputAnswer}
-use Rattle.report.specs.Lines.{numberTold, placeTold, Reports}
+use Rattle.paper.specs.Program.{inputLimit, refusalLine, unlessRefused, nestingGot, inputAnswer}
+use Rattle.report.specs.Lines.{numberTold, placeTold, reportLimit, Reports}
 
 module _ (part : String) (said : Told) (later old new : List ℕ) (count : ℕ) where
   -- A part that refuses is reported by its own line.
   pub refused-part : (a : Answer) → Refuses a → told a ≡ said → Reports (refusalLine (ascii part) (numberTold (told a)) (placeTold (told a))) 64 old new count
-      → Reports (unlessRefused part said later) 32832 old new count
+      → Reports (unlessRefused part said later) reportLimit old new count
   refused-part a f e r =
       let (number, place, t) = refusal-told a f in
       let line : unlessRefused part said later ≡ refusalLine (ascii part) (numberTold (told a)) (placeTold (told a)) = rw (sym e, t) in
       record { puts = rw line (r .puts); few = omega (arith, r .few) }
 
   -- A part that gives a value leaves the report to the later ones.
-  pub given-part : (n : ℕ) → value n ≡ said → Reports later 32832 old new count → Reports (unlessRefused part said later) 32832 old new count
+  pub given-part : (n : ℕ) → value n ≡ said → Reports later reportLimit old new count → Reports (unlessRefused part said later) reportLimit old new count
   given-part n e r = let line : unlessRefused part said later ≡ later = rw (sym e) in rw line r
 
 -- An input too long, and one that is not.

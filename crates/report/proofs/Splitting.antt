@@ -7,7 +7,7 @@ use mathlib.Core.List.{List, [], _∷_, _++_, append-assoc, append-nil}
 use lib.ListN.{length, take, drop, getD, drop-of-length-le, length-drop}
 use lib.Seq.{take-all, take-suc, drop-cons}
 use borrow.Author.Tests.{eq-eqb, ne-eqb}
-use Rattle.report.specs.Program.{firstLine, afterLine}
+use Rattle.paper.specs.Program.{firstLine, afterLine}
 use Rattle.report.specs.Lines.{Ends, Starts}
 
 -- The bytes before `at` belong to the first line.
@@ -26,7 +26,7 @@ module _ (bytes : List ℕ) (at : ℕ) (p : Passed bytes at) where
       let b = getD bytes at 0 in
       let tail = drop (suc at) bytes in
       let line : take (suc at) bytes ++ firstLine tail ≡ firstLine bytes =
-        rw (take-suc bytes at 0 l, append-assoc (take at bytes) (b ∷ []) (firstLine tail)) (rw (drop-cons bytes at 0 l, ne-eqb b 10 n) at (p .line)) in
+      rw (take-suc bytes at 0 l, append-assoc (take at bytes) (b ∷ []) (firstLine tail)) (rw (drop-cons bytes at 0 l, ne-eqb b 10 n) at (p .line)) in
       let later : afterLine tail ≡ afterLine bytes = rw (drop-cons bytes at 0 l, ne-eqb b 10 n) at (p .later) in
       rw (add-one at) (record { inside = omega arith; line = line; later = later })
 

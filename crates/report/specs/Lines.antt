@@ -6,7 +6,7 @@ use lib.ListN.{length, take, drop}
 use Rattle.paper.specs.Answers.{value, refusal}
 use Rattle.paper.specs.Answers.{Answer as Told}
 use Rattle.print.specs.Writing.{Puts}
-use Rattle.report.specs.Program.{firstLine, afterLine}
+use Rattle.paper.specs.Program.{firstLine, afterLine}
 
 -- The first line of the bytes ends at `end`.
 pub record Ends (bytes : List ℕ) (end : ℕ) : Type 0 where
@@ -27,6 +27,10 @@ numberTold (refusal number place) = number
 abbrev pub placeTold : Told → ℕ
 placeTold (value n) = 0
 placeTold (refusal number place) = place
+
+-- No report has more bytes: the room of a text, and 64 for the rest.
+abbrev pub reportLimit : ℕ
+reportLimit = 32832
 
 -- The text is put from the start on, as far as the room goes, and has at most so many bytes.
 pub record Reports (text : List ℕ) (most : ℕ) (old new : List ℕ) (count : ℕ) : Type 0 where

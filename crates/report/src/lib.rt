@@ -6,11 +6,12 @@ ghost use mathlib.Core.Path.{_≡_};
 ghost use mathlib.Core.List.{[], _∷_};
 ghost use Prim.Native.Nat.{_+_, _^_, _≤_, _<_};
 ghost use lib.ListN.{length};
+ghost use Rattle.paper.specs.Limits.{textLimit};
 ghost use Rattle.paper.specs.Items.{decode};
 ghost use Rattle.paper.specs.Told.{told};
 ghost use Rattle.print.specs.Writing.{Puts};
-ghost use Rattle.report.specs.Program.{decimal, refusalLine, resultLines, nestingGot, printsQuery, printsQueries, printsTexts, prints};
-ghost use Rattle.report.specs.Lines.{Ends, Starts, numberTold, placeTold, Reports};
+ghost use Rattle.paper.specs.Program.{decimal, refusalLine, resultLines, nestingGot, queryPrints, queriesPrint, textsPrint, programPrints};
+ghost use Rattle.report.specs.Lines.{Ends, Starts, numberTold, placeTold, reportLimit, Reports};
 
 // The most bytes of an input.
 pub const INPUT_LIMIT: usize = 49152;
@@ -115,8 +116,8 @@ fn put_refusal(out: &mut [u8], part: &[u8], answer: Answer) -> usize
 
 // Puts the text of a query, and the line of its size and nesting.
 fn put_result(out: &mut [u8], text: &[u8], size: usize, nesting: usize) -> usize
-    requires { ⌜ length (now text) ≤ 32768 ⌝ }
-    ensures { λ r. ⌜ Reports (resultLines (now (text .entry)) size nesting) 32832 (now (out .entry)) (now (out .exit)) r ⌝ }
+    requires { ⌜ length (now text) ≤ textLimit ⌝ }
+    ensures { λ r. ⌜ Reports (resultLines (now (text .entry)) size nesting) reportLimit (now (out .entry)) (now (out .exit)) r ⌝ }
 {
     let ended = print::put(out, 0, text);
     let begun = print::put(out, ended, b"\nsize ");
@@ -137,68 +138,66 @@ fn nesting_of(query: &[u32]) -> usize
     nesting
 }
 
-// The report on a composed query.
-fn report_query(query: &[u32], list: &[u8], out: &mut [u8]) -> usize
-    ensures { λ r. ⌜ Reports (printsQuery (now (query .entry)) (now (list .entry))) 32832 (now (out .entry)) (now (out .exit)) r ⌝ }
+// The report on a composed query of this nesting.
+fn report_query(query: &[u32], nesting: usize, list: &[u8], out: &mut [u8]) -> usize
+    requires { ⌜ nesting ≡ nestingGot (decode (now query)) ⌝ }
+    ensures { λ r. ⌜ Reports (queryPrints (now (query .entry)) (now (list .entry))) reportLimit (now (out .entry)) (now (out .exit)) r ⌝ }
 {
     let mut text = [0u8; 32768];
     let answer = print::print(query, list, &mut text);
     let Answer::Value(count) = answer else {
         return put_refusal(out, b"print", answer);
     };
-    put_result(out, &text[..count], query.len(), nesting_of(query))
+    put_result(out, &text[..count], query.len(), nesting)
 }
 
 // The report on an outer and an inner query.
 fn report_queries(outer: &[u32], inner: &[u32], list: &[u8], out: &mut [u8]) -> usize
-    ensures { λ r. ⌜ Reports (printsQueries (now (outer .entry)) (now (inner .entry)) (now (list .entry))) 32832 (now (out .entry)) (now (out .exit)) r ⌝ }
+    ensures { λ r. ⌜ Reports (queriesPrint (now (outer .entry)) (now (inner .entry)) (now (list .entry))) reportLimit (now (out .entry)) (now (out .exit)) r ⌝ }
 {
-    let mut query = [0u32; 4096];
-    let answer = compose::compose(outer, inner, &mut query);
+    let mut room = [0u32; 4096];
+    let answer = compose::compose(outer, inner, &mut room);
     let Answer::Value(size) = answer else {
         return put_refusal(out, b"compose", answer);
     };
-    report_query(&query[..size], list, out)
+    let query = &room[..size];
+    let nesting = nesting_of(query);
+    report_query(query, nesting, list, out)
 }
 
 // The report on the texts of an outer and an inner query, read with the names of the list.
 fn report_texts(outer: &[u8], inner: &[u8], list: &[u8], out: &mut [u8]) -> usize
-    ensures { λ r. ⌜ Reports (printsTexts (now (outer .entry)) (now (inner .entry)) (now (list .entry))) 32832 (now (out .entry)) (now (out .exit)) r ⌝ }
+    ensures { λ r. ⌜ Reports (textsPrint (now (outer .entry)) (now (inner .entry)) (now (list .entry))) reportLimit (now (out .entry)) (now (out .exit)) r ⌝ }
 {
-    let mut outer_query = [0u32; 4096];
-    let outer_answer = read::read(outer, list, &mut outer_query);
+    let mut outer_room = [0u32; 4096];
+    let outer_answer = read::read(outer, list, &mut outer_room);
     let Answer::Value(outer_size) = outer_answer else {
         return put_refusal(out, b"outer", outer_answer);
     };
-    let mut inner_query = [0u32; 4096];
-    let inner_answer = read::read(inner, list, &mut inner_query);
+    let mut inner_room = [0u32; 4096];
+    let inner_answer = read::read(inner, list, &mut inner_room);
     let Answer::Value(inner_size) = inner_answer else {
         return put_refusal(out, b"inner", inner_answer);
     };
-    report_queries(
-        &outer_query[..outer_size],
-        &inner_query[..inner_size],
-        list,
-        out,
-    )
+    let outer_query = &outer_room[..outer_size];
+    let inner_query = &inner_room[..inner_size];
+    report_queries(outer_query, inner_query, list, out)
 }
 
 // The report on an input: line 1 is the outer query, line 2 the inner, the rest the name list.
 pub fn report(input: &[u8], out: &mut [u8]) -> usize
-    ensures { λ r. ⌜ Reports (prints (now (input .entry))) 32832 (now (out .entry)) (now (out .exit)) r ⌝ }
+    ensures { λ r. ⌜ Reports (programPrints (now (input .entry))) reportLimit (now (out .entry)) (now (out .exit)) r ⌝ }
 {
     if INPUT_LIMIT < input.len() {
         return put_refusal(out, b"input", Answer::TooLong);
     }
     let outer_end = line_end(input);
+    let outer = &input[..outer_end];
     let inner_start = line_start(input, outer_end);
     let rest = &input[inner_start..];
     let inner_end = line_end(rest);
+    let inner = &rest[..inner_end];
     let list_start = line_start(rest, inner_end);
-    report_texts(
-        &input[..outer_end],
-        &rest[..inner_end],
-        &rest[list_start..],
-        out,
-    )
+    let list = &rest[list_start..];
+    report_texts(outer, inner, list, out)
 }

@@ -25,7 +25,6 @@ abbrev put-decimal-below : ℕ → In 1 put-decimal-kinds.ps
 put-decimal-below t =
     and 1 put-decimal-kinds.ps (falls 1 put-decimal-kinds.ps _<_ μ-put-decimal t) put-decimal.Pre
 
--- src/lib.rt:58:9
 put-decimal-put-digit-requires : (t : ℕ) → put-decimal-lts.Need-put-digit-requires (
   put-digit-reads.Asked,
   put-digit-reads.Learnt,
@@ -34,7 +33,6 @@ put-decimal-put-digit-requires : (t : ℕ) → put-decimal-lts.Need-put-digit-re
 ) (put-decimal-at t) put-decimal.Post
 put-decimal-put-digit-requires t c κs = omega arith
 
--- src/lib.rt:58:9
 put-decimal-same-length : (t : ℕ) → put-decimal-lts.Need-same-length (
   put-digit-reads.Asked,
   put-digit-reads.Learnt,
@@ -43,7 +41,6 @@ put-decimal-same-length : (t : ℕ) → put-decimal-lts.Need-same-length (
 ) (put-decimal-at t) put-decimal.Post
 put-decimal-same-length t c = search needs
 
--- src/lib.rt:58:9
 put-decimal-returns : (t : ℕ) → put-decimal-lts.Need-returns (
   put-digit-reads.Asked,
   put-digit-reads.Learnt,
@@ -55,7 +52,6 @@ put-decimal-returns t c =
     let puts = c .before .before .put-digit .ensures in
     (puts-as (sym (decimal-one (a .n) (c .before .before .before .before .if1 .taken))) puts, omega (arith, puts .moved))
 
--- src/lib.rt:60:9
 put-decimal-put-decimal-requires : (t : ℕ) → put-decimal-lts.Need-put-decimal-requires (
   put-digit-reads.Asked,
   put-digit-reads.Learnt,
@@ -64,7 +60,6 @@ put-decimal-put-decimal-requires : (t : ℕ) → put-decimal-lts.Need-put-decima
 ) (put-decimal-at t) put-decimal.Post
 put-decimal-put-decimal-requires t c κs = let measured = c .before .before .before .pre .0 in omega arith
 
--- src/lib.rt:61:5
 put-decimal-put-digit-requires-2 : (t : ℕ) → put-decimal-lts.Need-put-digit-requires-2 (
   put-digit-reads.Asked,
   put-digit-reads.Learnt,
@@ -73,7 +68,6 @@ put-decimal-put-digit-requires-2 : (t : ℕ) → put-decimal-lts.Need-put-digit-
 ) (put-decimal-at t) put-decimal.Post
 put-decimal-put-digit-requires-2 t c κs = omega (arith, c .before .before .before .put-decimal .ensures .1)
 
--- src/lib.rt:52:1
 put-decimal-same-length-2 : (t : ℕ) → put-decimal-lts.Need-same-length-2 (
   put-digit-reads.Asked,
   put-digit-reads.Learnt,
@@ -82,7 +76,6 @@ put-decimal-same-length-2 : (t : ℕ) → put-decimal-lts.Need-same-length-2 (
 ) (put-decimal-at t) put-decimal.Post
 put-decimal-same-length-2 t c = search needs
 
--- src/lib.rt:52:1
 put-decimal-returns-2 : (t : ℕ) → put-decimal-lts.Need-returns-2 (
   put-digit-reads.Asked,
   put-digit-reads.Learnt,
@@ -93,8 +86,8 @@ put-decimal-returns-2 t c =
     let start = c .before .before .before .before .before .before .before .before .before .before in
     let n = start .args .n in
     let puts =
-      puts-as (sym (decimal-more n (c .before .before .before .before .before .before .before .before .if1 .left)))
-      (puts-both (c .before .before .before .before .before .before .put-decimal .ensures .0) (c .before .before .put-digit2 .ensures)) in
+    puts-as (sym (decimal-more n (c .before .before .before .before .before .before .before .before .if1 .left)))
+    (puts-both (c .before .before .before .before .before .before .put-decimal .ensures .0) (c .before .before .put-digit2 .ensures)) in
     let few : n < 10 ^ 20 = omega arith in
     (puts, omega (arith, puts .moved, decimal-few 19 n few))
 

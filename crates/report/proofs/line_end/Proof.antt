@@ -5,8 +5,6 @@ use lib.ListN.{length}
 use Rattle.report.proofs.Splitting.{Passed, none-passed, one-passed, ends-there, ends-last}
 use Rattle.report.proofs.line_end.Statement.{statement}
 use Rattle.report.proofs.line_end.Tie as tie
-use Rattle.report.proofs.line_end.Reads as reads
-use Rattle.report.proofs.line_end.Lts as lts
 
 abbrev Inv-loop : tie.InvT-loop
 Inv-loop bytes at₀ at = Passed bytes at
@@ -14,31 +12,24 @@ Inv-loop bytes at₀ at = Passed bytes at
 abbrev μ-loop : tie.MeasureT-loop
 μ-loop bytes at₀ at = length bytes - at
 
--- src/lib.rt:25:5
 loop-holds : tie.Need-loop-holds Inv-loop μ-loop
 loop-holds c = none-passed _
 
--- src/lib.rt:26:12
 shared-slice-read-if1 : tie.Need-shared-slice-read-if1 Inv-loop μ-loop
 shared-slice-read-if1 c = omega arith
 
--- src/lib.rt:27:13
 returns : tie.Need-returns Inv-loop μ-loop
 returns c = let l = c .before .before .before .loop in ends-there _ (l .at) (l .inv) (omega arith) (c .if1 .taken)
 
--- src/lib.rt:29:9
 add-at : tie.Need-add-at Inv-loop μ-loop
 add-at c = omega arith
 
--- src/lib.rt:25:5
 loop-less : tie.Need-loop-less Inv-loop μ-loop
 loop-less c = omega arith
 
--- src/lib.rt:25:5
 loop-again : tie.Need-loop-again Inv-loop μ-loop
 loop-again c = let l = c .before .before .before .loop in one-passed _ (l .at) (l .inv) (omega arith) (c .if1 .left)
 
--- src/lib.rt:21:1
 returns-2 : tie.Need-returns-2 Inv-loop μ-loop
 returns-2 c = ends-last _ (c .before .loop .at) (c .before .loop .inv) (c .loop-test .left)
 

@@ -3,62 +3,44 @@ use Prim.Native.Nat.{_≤_}
 use native.Mathlib.Omega.{arith}
 use mathlib.Core.Path.{ap}
 use Rattle.print.proofs.Putting.{puts-as, puts-both}
-use Rattle.report.specs.Program.{decimal}
+use Rattle.paper.specs.Program.{decimal}
 use borrow.Author.Needs.{needs}
 use Rattle.report.proofs.put_refusal.Statement.{statement}
 use Rattle.report.proofs.put_refusal.Tie as tie
-use Rattle.report.proofs.put_refusal.Reads as reads
-use Rattle.report.proofs.put_refusal.Lts as lts
-use Rattle.print.proofs.put.Reads as put-reads
-use Rattle.report.proofs.number_of.Reads as number-of-reads
-use Rattle.report.proofs.place_of.Reads as place-of-reads
-use Rattle.report.proofs.put_decimal.Reads as put-decimal-reads
 
--- src/lib.rt:107:36
 slice-aggregate-put : tie.Need-slice-aggregate-put
 slice-aggregate-put c = search needs
 
--- src/lib.rt:107:9
 put-requires : tie.Need-put-requires
 put-requires c κs = search needs
 
--- src/lib.rt:108:9
 put-requires-2 : tie.Need-put-requires-2
 put-requires-2 c κs = search needs
 
--- src/lib.rt:109:41
 slice-aggregate-put-2 : tie.Need-slice-aggregate-put-2
 slice-aggregate-put-2 c = search needs
 
--- src/lib.rt:109:9
 put-requires-3 : tie.Need-put-requires-3
 put-requires-3 c κs = search needs
 
--- src/lib.rt:110:45
 number-of-requires : tie.Need-number-of-requires
 number-of-requires c κs = search needs
 
--- src/lib.rt:110:9
 put-decimal-requires : tie.Need-put-decimal-requires
 put-decimal-requires c κs = search needs
 
--- src/lib.rt:111:43
 slice-aggregate-put-3 : tie.Need-slice-aggregate-put-3
 slice-aggregate-put-3 c = search needs
 
--- src/lib.rt:111:9
 put-requires-4 : tie.Need-put-requires-4
 put-requires-4 c κs = search needs
 
--- src/lib.rt:112:42
 place-of-requires : tie.Need-place-of-requires
 place-of-requires c κs = search needs
 
--- src/lib.rt:112:9
 put-decimal-requires-2 : tie.Need-put-decimal-requires-2
 put-decimal-requires-2 c κs = search needs
 
--- src/lib.rt:113:29
 slice-aggregate-put-4 : tie.Need-slice-aggregate-put-4
 slice-aggregate-put-4 c = search needs
 
@@ -81,15 +63,12 @@ short c =
       begun .before .before .before .before .before .pre,
     )
 
--- src/lib.rt:113:5
 put-requires-5 : tie.Need-put-requires-5
 put-requires-5 c κs = omega (arith, short (c .before .before .before .before))
 
--- src/lib.rt:103:1
 same-length : tie.Need-same-length
 same-length c = search needs
 
--- src/lib.rt:103:1
 returns : tie.Need-returns
 returns c =
     let ended = c .before .before in

@@ -4,52 +4,37 @@ use Rattle.print.proofs.Putting.{puts-both}
 use borrow.Author.Needs.{needs}
 use Rattle.report.proofs.put_result.Statement.{statement}
 use Rattle.report.proofs.put_result.Tie as tie
-use Rattle.report.proofs.put_result.Reads as reads
-use Rattle.report.proofs.put_result.Lts as lts
-use Rattle.print.proofs.put.Reads as put-reads
-use Rattle.report.proofs.put_decimal.Reads as put-decimal-reads
 
--- src/lib.rt:121:9
 put-requires : tie.Need-put-requires
 put-requires c κs = search needs
 
--- src/lib.rt:122:40
 slice-aggregate-put : tie.Need-slice-aggregate-put
 slice-aggregate-put c = search needs
 
--- src/lib.rt:122:9
 put-requires-2 : tie.Need-put-requires-2
 put-requires-2 c κs = search needs
 
--- src/lib.rt:123:9
 put-decimal-requires : tie.Need-put-decimal-requires
 put-decimal-requires c κs = search needs
 
--- src/lib.rt:124:41
 slice-aggregate-put-2 : tie.Need-slice-aggregate-put-2
 slice-aggregate-put-2 c = search needs
 
--- src/lib.rt:124:9
 put-requires-3 : tie.Need-put-requires-3
 put-requires-3 c κs = search needs
 
--- src/lib.rt:125:9
 put-decimal-requires-2 : tie.Need-put-decimal-requires-2
 put-decimal-requires-2 c κs = search needs
 
--- src/lib.rt:126:29
 slice-aggregate-put-3 : tie.Need-slice-aggregate-put-3
 slice-aggregate-put-3 c = search needs
 
--- src/lib.rt:126:5
 put-requires-4 : tie.Need-put-requires-4
 put-requires-4 c κs = search needs
 
--- src/lib.rt:117:1
 same-length : tie.Need-same-length
 same-length c = search needs
 
--- src/lib.rt:117:1
 returns : tie.Need-returns
 returns c =
     let ended = c .before .before in
@@ -61,16 +46,16 @@ returns c =
     record {
       puts = puts-both (puts-both (puts-both (puts-both (puts-both (written .put .ensures) (begun .put2 .ensures)) (sized .put-decimal .ensures .0)) (parted .put3 .ensures)) (nested .put-decimal2 .ensures .0)) (ended .put4 .ensures);
       few =
-        omega (
-          arith,
-          written .put .ensures .moved,
-          begun .put2 .ensures .moved,
-          sized .put-decimal .ensures .1,
-          parted .put3 .ensures .moved,
-          nested .put-decimal2 .ensures .1,
-          ended .put4 .ensures .moved,
-          written .before .before .before .before .pre,
-        );
+          omega (
+            arith,
+            written .put .ensures .moved,
+            begun .put2 .ensures .moved,
+            sized .put-decimal .ensures .1,
+            parted .put3 .ensures .moved,
+            nested .put-decimal2 .ensures .1,
+            ended .put4 .ensures .moved,
+            written .before .before .before .before .pre,
+          );
     }
 
 pub put-result-spec : {M : Type 1} → statement M

@@ -1,18 +1,18 @@
 -- 01, "The printing program": for any input, the bytes that the program prints.
 use Prim.Native.Nat.{ℕ, zero, suc, _+_, _/_, _%_}
 use Prim.Native.String.{String}
-use mathlib.Core.Bool.{Bool, true, false, cond}
+use mathlib.Core.Bool.{cond}
 use mathlib.Core.List.{List, [], _∷_, _++_}
 use mathlib.Core.Option.{Option, none, some}
 use lib.Dec.{eqb, ltb}
 use lib.ListN.{length}
 use Rattle.paper.specs.Tools.{ascii, when}
 use Rattle.paper.specs.Limits.{textLimit, itemLimit}
 use Rattle.paper.specs.Query.{Query}
 use Rattle.paper.specs.Names.{namesOf}
 use Rattle.paper.specs.Items.{decode}
 use Rattle.paper.specs.Measures.{nesting}
 use Rattle.paper.specs.Answers.{Answer, value, refusal, line, tooLong, readAnswer, readItems, composeAnswer, composedGot, printAnswer, textGot}
 
 -- An input has at most 49,152 bytes.
 abbrev pub inputLimit : ℕ
@@ -28,23 +28,23 @@ abbrev pub afterLine : List ℕ → List ℕ
 afterLine [] = []
 afterLine (b ∷ bs) = let later = afterLine bs in cond (eqb b 10) bs later
 
--- A number in decimal digits, of which at most `most` are written.
+-- The last `most` decimal digits of a number, or all of them where it has fewer.
 abbrev pub digits : ℕ → ℕ → List ℕ
 digits zero n = []
 digits (suc most) n = let earlier = digits most (n / 10) in cond (ltb n 10) [] earlier ++ ((48 + n % 10) ∷ [])
 
--- A number in decimal digits: it has no more of them than one more than itself.
+-- A number in decimal digits; n has no more than n + 1 of them.
 unfoldable pub decimal : ℕ → List ℕ
 decimal n = digits (suc n) n
 
 -- The line of a refusal: `refused WHERE NUMBER PLACE`.
 abbrev pub refusalLine : List ℕ → ℕ → ℕ → List ℕ
-refusalLine place number spot = ascii "refused " ++ place ++ ascii " " ++ decimal number ++ ascii " " ++ decimal spot ++ ascii "\n"
+refusalLine part number place = ascii "refused " ++ part ++ ascii " " ++ decimal number ++ ascii " " ++ decimal place ++ ascii "\n"
 
--- What is printed where this part of the work answers so: the line of its refusal, or what the later parts print.
+-- What is printed where a part of the work answers so: the line of its refusal, or what the later parts print.
 abbrev pub unlessRefused : String → Answer → List ℕ → List ℕ
-unlessRefused place (value n) later = later
-unlessRefused place (refusal number spot) later = refusalLine (ascii place) number spot
+unlessRefused part (value n) later = later
+unlessRefused part (refusal number place) later = refusalLine (ascii part) number place
 
 -- Line 1 is the query, line 2 its size and nesting.
 abbrev pub resultLines : List ℕ → ℕ → ℕ → List ℕ
@@ -56,28 +56,28 @@ nestingGot none = 0
 nestingGot (some q) = nesting q
 
 -- What is printed of a composed query: text room is 32,768 bytes.
-unfoldable pub printsQuery : List ℕ → List ℕ → List ℕ
-printsQuery query list =
+unfoldable pub queryPrints : List ℕ → List ℕ → List ℕ
+queryPrints query list =
     unlessRefused "print" (printAnswer query list textLimit)
     (resultLines (textGot (namesOf list) (decode query)) (length query) (nestingGot (decode query)))
 
--- What is printed of the outer and the inner query: query room is 4,096 items for each.
-unfoldable pub printsQueries : List ℕ → List ℕ → List ℕ → List ℕ
-printsQueries outer inner list =
-    unlessRefused "compose" (composeAnswer outer inner itemLimit) (printsQuery (composedGot (decode outer) (decode inner)) list)
+-- What is printed of the outer and the inner query: query room is 4,096 items for each query.
+unfoldable pub queriesPrint : List ℕ → List ℕ → List ℕ → List ℕ
+queriesPrint outer inner list =
+    unlessRefused "compose" (composeAnswer outer inner itemLimit) (queryPrints (composedGot (decode outer) (decode inner)) list)
 
 -- What is printed of the two texts.
-unfoldable pub printsTexts : List ℕ → List ℕ → List ℕ → List ℕ
-printsTexts outer inner list =
+unfoldable pub textsPrint : List ℕ → List ℕ → List ℕ → List ℕ
+textsPrint outer inner list =
     unlessRefused "outer" (readAnswer outer list itemLimit)
-    (unlessRefused "inner" (readAnswer inner list itemLimit) (printsQueries (readItems outer list) (readItems inner list) list))
+    (unlessRefused "inner" (readAnswer inner list itemLimit) (queriesPrint (readItems outer list) (readItems inner list) list))
 
--- Input over 49,152 bytes is refused.
+-- Input over 49,152 bytes is refused: input gives 1 and 0.
 abbrev pub inputAnswer : List ℕ → Answer
 inputAnswer input = line 1 (when (tooLong input inputLimit) 0) (value (length input))
 
 -- WHAT THE PROGRAM PRINTS: line 1 is the outer query, line 2 the inner, the rest the name list.
-unfoldable pub prints : List ℕ → List ℕ
-prints input =
+unfoldable pub programPrints : List ℕ → List ℕ
+programPrints input =
     unlessRefused "input" (inputAnswer input)
-    (printsTexts (firstLine input) (firstLine (afterLine input)) (afterLine (afterLine input)))
+    (textsPrint (firstLine input) (firstLine (afterLine input)) (afterLine (afterLine input)))
