@@ -105,12 +105,14 @@ fn put_refusal(out: &mut [u8], part: &[u8], answer: Answer) -> usize
     requires { ⌜ length (now part) ≤ 8 ⌝ }
     ensures { λ r. ⌜ Reports (refusalLine (now (part .entry)) (numberTold (told answer)) (placeTold (told answer))) 64 (now (out .entry)) (now (out .exit)) r ⌝ }
 {
+    let number = number_of(answer);
+    let place = place_of(answer);
     let begun = print::put(out, 0, b"refused ");
     let named = print::put(out, begun, part);
     let spaced = print::put(out, named, b" ");
-    let numbered = put_decimal(out, spaced, number_of(answer));
+    let numbered = put_decimal(out, spaced, number);
     let apart = print::put(out, numbered, b" ");
-    let placed = put_decimal(out, apart, place_of(answer));
+    let placed = put_decimal(out, apart, place);
     print::put(out, placed, b"\n")
 }
 

@@ -25,7 +25,7 @@ returns : tie.Need-returns
 unfolding programPrints
 returns c =
     let input = now (c .before .before .before .before .before .before .before .before .args .input) in
-    refused-part "input" _ _ _ _ _ TooLong (inl refl) (input-long input (c .before .before .before .before .before .if1 .taken)) (c .before .before .put-refusal .ensures)
+    refused-part "input" _ _ _ _ _ TooLong (inl refl) (input-long input (omega (arith, c .before .before .before .before .before .if1 .taken))) (c .before .before .put-refusal .ensures)
 
 line-end-requires : tie.Need-line-end-requires
 line-end-requires c κs = search needs
@@ -78,7 +78,7 @@ returns-2 c =
     let after = rest-whole input _ _ first (c .before .before .before .before .before .before .before .before .before .line-start .ensures) in
     let inner = second .says ∙ ap firstLine after in
     let list = rest-whole _ _ _ second (c .before .before .before .before .before .line-start2 .ensures) ∙ ap afterLine after in
-    given-part "input" _ _ _ _ _ _ (input-taken input (c .before .before .before .before .before .before .before .before .before .before .before .before .if1 .left))
+    given-part "input" _ _ _ _ _ _ (input-taken input (omega (arith, c .before .before .before .before .before .before .before .before .before .before .before .before .if1 .left)))
     (rw (first .says, inner, list) at (c .before .before .report-texts .ensures))
 
 pub report-spec : {M : Type 1} → statement M
