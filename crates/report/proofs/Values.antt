@@ -1,9 +1,9 @@
 -- What an accepted call of an entry point answers and writes: the number of what it writes, which stands at the start. By 01's lines. Assumes nothing.
 use Prim.Native.Nat.{ℕ, _≤_}
 use native.Mathlib.Omega.{arith}
-use mathlib.Core.Path.{_≡_, refl, sym, _∙_, ap}
+use mathlib.Core.Path.{_≡_, sym, _∙_, ap}
 use mathlib.Core.Bool.{Bool, false, _||_}
-use mathlib.Core.List.{List, [], _++_}
+use mathlib.Core.List.{List}
 use mathlib.Core.Option.{Option, none, some}
 use lib.Dec.{ltb}
 use lib.ListN.{length, take, drop, length-append}
@@ -14,7 +14,7 @@ use Rattle.paper.specs.Limits.{itemLimit, textLimit, listLimit, bracketLimit}
 use Rattle.paper.specs.Query.{Query}
 use Rattle.paper.specs.Reading.{Got, got, refused, readText}
 use Rattle.paper.specs.Names.{namesFault, namesOf, numberOf}
-use Rattle.paper.specs.Items.{encode, decode}
+use Rattle.paper.specs.Items.{decode}
 use Rattle.paper.specs.Measures.{size, nesting}
 use Rattle.paper.specs.Printing.{printed}
 use Rattle.paper.specs.Composition.{composed}
@@ -49,11 +49,12 @@ got-value n (got q left) later h = h
 abbrev Fits : List ℕ → ℕ → ℕ → Type 0
 Fits new n room = (n ≡ length new) × (n ≤ room)
 
--- The last lines of reading, of composing and of printing.
+-- The last lines of reading, then of composing, then of printing.
 read-lines : (n room : ℕ) (g : Got Query) → lineGot g (λ q. line 10 (shortOfItems room (size q)) (value (size q))) ≡ value n → Fits (itemsGot g) n room
 read-lines n room (refused number place) h = absurd (let z : _≡_ {A = ℕ} 0 1 = cc in omega arith)
 read-lines n room (got q left) h = let e = items-value room (size q) n h in (omega (arith, size-items q), omega arith)
 
+-- The lines of composing after both queries were there.
 abbrev composedLines : ℕ → Query → Query → Answer
 composedLines room a b =
     line 9 (when (ltb bracketLimit (nesting (composed a b))) (nesting (composed a b)))

@@ -145,7 +145,7 @@ fn report_query(query: &[u32], nesting: usize, list: &[u8], out: &mut [u8]) -> u
     requires { ⌜ nesting ≡ nestingGot (decode (now query)) ⌝ }
     ensures { λ r. ⌜ Reports (queryPrints (now (query .entry)) (now (list .entry))) reportLimit (now (out .entry)) (now (out .exit)) r ⌝ }
 {
-    let mut text = [0u8; 32768];
+    let mut text = [0u8; paper::TEXT_LIMIT];
     let answer = print::print(query, list, &mut text);
     let Answer::Value(count) = answer else {
         return put_refusal(out, b"print", answer);
@@ -157,7 +157,7 @@ fn report_query(query: &[u32], nesting: usize, list: &[u8], out: &mut [u8]) -> u
 fn report_queries(outer: &[u32], inner: &[u32], list: &[u8], out: &mut [u8]) -> usize
     ensures { λ r. ⌜ Reports (queriesPrint (now (outer .entry)) (now (inner .entry)) (now (list .entry))) reportLimit (now (out .entry)) (now (out .exit)) r ⌝ }
 {
-    let mut room = [0u32; 4096];
+    let mut room = [0u32; paper::ITEM_LIMIT];
     let answer = compose::compose(outer, inner, &mut room);
     let Answer::Value(size) = answer else {
         return put_refusal(out, b"compose", answer);
@@ -171,12 +171,12 @@ fn report_queries(outer: &[u32], inner: &[u32], list: &[u8], out: &mut [u8]) -> 
 fn report_texts(outer: &[u8], inner: &[u8], list: &[u8], out: &mut [u8]) -> usize
     ensures { λ r. ⌜ Reports (textsPrint (now (outer .entry)) (now (inner .entry)) (now (list .entry))) reportLimit (now (out .entry)) (now (out .exit)) r ⌝ }
 {
-    let mut outer_room = [0u32; 4096];
+    let mut outer_room = [0u32; paper::ITEM_LIMIT];
     let outer_answer = read::read(outer, list, &mut outer_room);
     let Answer::Value(outer_size) = outer_answer else {
         return put_refusal(out, b"outer", outer_answer);
     };
-    let mut inner_room = [0u32; 4096];
+    let mut inner_room = [0u32; paper::ITEM_LIMIT];
     let inner_answer = read::read(inner, list, &mut inner_room);
     let Answer::Value(inner_size) = inner_answer else {
         return put_refusal(out, b"inner", inner_answer);
