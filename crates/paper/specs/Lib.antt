@@ -12,5 +12,6 @@ pub mod Measures
 pub mod Printing
 pub mod Composition
 pub mod Answers
+pub mod Program
 pub mod Samples
 pub mod Told

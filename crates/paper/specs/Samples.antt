@@ -1,5 +1,5 @@
--- 01, "Samples on both sides": P1 to P12 by one table and one statement, then 01's samples of reading and of the printing program by another.
--- Both tables go by the definitions of the entry points, and by texts.
+-- 01, "Samples on both sides": P1 to P12 by one table and one statement, then 01's samples of reading and of printing by another, and of the printing program by a third.
+-- The tables go by the definitions of the entry points and of the program, and by texts.
 use Prim.Native.Nat.{ℕ, zero, suc, _-_}
 use Prim.Native.String.{String}
 use mathlib.Core.Bool.{Bool, true, false, _&&_}
@@ -16,6 +16,7 @@ use Rattle.paper.specs.Printing.{printed, pieces}
 use Rattle.paper.specs.Document.{Table, over, goodNode, tableFault, goodMark, marksFault}
 use Rattle.paper.specs.Selection.{reaches, selects, keeps, kept}
 use Rattle.paper.specs.Composition.{reversed, selectedBy, visible, lastStep, composedPath, composed}
+use Rattle.paper.specs.Program.{decimal, queryPrints, queriesPrint, textsPrint, programPrints}
 use Rattle.paper.specs.Answers.{Answer, value, refusal, readAnswer, readOut, readItems, composeAnswer, composeOut, runAnswer, runMarks, printAnswer, printOut}
 
 -- The names a b c d, and the table.
@@ -161,3 +162,29 @@ starRows =
 pub textsHold : T (textsRead && textPrinted && allRows starRows)
 unfolding height over goodNode tableFault goodMark marksFault reaches selects keeps kept runAnswer runMarks readAnswer readOut readItems composeAnswer composeOut printAnswer printOut printed pieces namesFault namesOf badLine tokens tokenAt readText readTail readTested readStep readOperand readTerm readExpr readPath pathAt stepAt encode decode takeOperand takeTerm takeExpr size nesting reversed selectedBy visible lastStep composedPath composed
 textsHold = tt
+
+-- So many `not(` around b.
+abbrev pub denied : ℕ → List ℕ
+denied zero = ascii "b"
+denied (suc n) = ascii "not(" ++ denied n ++ ascii ")"
+
+-- Does the program print this of the input?
+abbrev pub printsOf : List ℕ → String → Bool
+printsOf input expected = same (programPrints input) (ascii expected)
+
+-- 01's sample, missing lines, a list without its last LF, and nesting 61 on `/b`.
+abbrev pub inputsPrinted : Bool
+inputsPrinted =
+    printsOf (ascii "/a\n/b\na\nb\n")
+    "/child::a[descendant-or-self::node()[self::b/parent::node()[not(parent::node())]] or ancestor-or-self::node()[self::b/parent::node()[not(parent::node())]]]/descendant-or-self::node()[ancestor-or-self::node()[self::b/parent::node()[not(parent::node())]]]\nsize 28 nesting 4\n" &&
+    printsOf (ascii "") "refused outer 3 0\n" &&
+    printsOf (ascii "/") "refused inner 3 0\n" &&
+    printsOf (ascii "/a") "refused outer 5 1\n" &&
+    printsOf (ascii "/\n/[\n") "refused inner 3 1\n" &&
+    printsOf (ascii "/a\n/b\na\nb") "refused outer 2 2\n" &&
+    printsOf (ascii "/a[" ++ denied 60 ++ ascii "]\n/b\na\nb\n") "refused compose 9 65\n"
+
+-- All of it is printed so, by computation.
+pub inputsHold : T inputsPrinted
+unfolding decimal queryPrints queriesPrint textsPrint programPrints readAnswer readItems composeAnswer printAnswer printed pieces namesFault namesOf badLine tokens tokenAt readText readTail readTested readStep readOperand readTerm readExpr readPath pathAt stepAt encode decode takeOperand takeTerm takeExpr size nesting reversed selectedBy visible lastStep composedPath composed
+inputsHold = tt

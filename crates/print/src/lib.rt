@@ -40,7 +40,7 @@ fn put_byte(out: &mut [u8], pen: usize, b: u8) -> usize
 }
 
 // Puts bytes one after the other.
-fn put(out: &mut [u8], pen: usize, bytes: &[u8]) -> usize
+pub fn put(out: &mut [u8], pen: usize, bytes: &[u8]) -> usize
     requires { ⌜ pen + length (now bytes) < 2 ^ 40 ⌝ }
     ensures { λ r. ⌜ Puts (now (bytes .entry)) pen (now (out .entry)) (now (out .exit)) r ⌝ }
 {

@@ -1,0 +1,5 @@
+pub mod Splitting
+pub mod Digits
+pub mod Values
+pub mod Parts
+pub mod Unique

@@ -1,0 +1,89 @@
+-- `report::report_queries` meets its contract: the line of a refusal, or the report on the composed query. Assumes nothing.
+use mathlib.Core.Path.{_≡_, sym, _∙_, ap}
+use lib.ListN.{replicate}
+use denote.Ref.{now}
+use Rattle.paper.specs.Items.{decode}
+use Rattle.paper.specs.Answers.{value, composeAnswer, composedGot}
+use Rattle.paper.specs.Told.{told}
+use Rattle.paper.specs.Program.{queriesPrint}
+use Rattle.report.proofs.Values.{Gives, compose-gives}
+use Rattle.report.proofs.Parts.{refused-part, given-part}
+use borrow.Author.Needs.{needs}
+use Rattle.report.proofs.report_queries.Statement.{statement}
+use Rattle.report.proofs.report_queries.Tie as tie
+
+slice-aggregate-compose : tie.Need-slice-aggregate-compose
+slice-aggregate-compose c = search needs
+
+compose-requires : tie.Need-compose-requires
+compose-requires c κs = search needs
+
+enum-known-answer : tie.Need-enum-known-answer
+enum-known-answer c = search needs
+
+slice-aggregate-put-refusal : tie.Need-slice-aggregate-put-refusal
+slice-aggregate-put-refusal c = search needs
+
+put-refusal-requires : tie.Need-put-refusal-requires
+put-refusal-requires c κs = search needs
+
+same-length : tie.Need-same-length
+same-length c = search needs
+
+returns : tie.Need-returns
+unfolding queriesPrint
+returns c =
+    let asked = c .before .before .before .before .before .before .before in
+    refused-part "compose" _ _ _ _ _ (asked .compose .result) (c .before .before .before .before .before .match .keys2) (asked .compose .ensures .0) (c .before .before .put-refusal .ensures)
+
+-- The queries are composed, and the composition stands at the start of the room.
+says : (c : tie.After-known-told) →
+    let start = c .before .before .before .before .before .before .before .before .before .before in
+    value (c .before .answer .given .0 .0) ≡ composeAnswer (now (start .args .outer)) (now (start .args .inner)) 4096
+says c = ap told (sym (c .before .answer .given .1)) ∙ c .before .before .before .before .compose .ensures .0
+
+gives : (c : tie.After-known-told) →
+    let start = c .before .before .before .before .before .before .before .before .before .before in
+    Gives (composedGot (decode (now (start .args .outer))) (decode (now (start .args .inner)))) (c .before .answer .given .0 .0) 4096 (c .before .before .before .before .compose .last .1 .1 .0)
+gives c =
+    let start = c .before .before .before .before .before .before .before .before .before .before in
+    compose-gives (c .before .answer .given .0 .0) (replicate 4096 0) _ (now (start .args .outer)) (now (start .args .inner)) (says c) (c .before .before .before .before .compose .ensures .1)
+
+array-share-prefix-room : tie.Need-array-share-prefix-room
+array-share-prefix-room c = gives c .inside
+
+slice-aggregate-query : tie.Need-slice-aggregate-query
+slice-aggregate-query c = gives (c .before) .counts
+
+nesting-of-requires : tie.Need-nesting-of-requires
+nesting-of-requires c κs = search needs
+
+report-query-requires : tie.Need-report-query-requires
+report-query-requires c κs = search needs
+
+same-length-2 : tie.Need-same-length-2
+same-length-2 c = search needs
+
+returns-2 : tie.Need-returns-2
+unfolding queriesPrint
+returns-2 c =
+    given-part "compose" _ _ _ _ _ _ (says (c .before .before .before .before .before .before))
+    (rw (gives (c .before .before .before .before .before .before) .starts) at (c .before .before .report-query .ensures))
+
+pub report-queries-spec : {M : Type 1} → statement M
+report-queries-spec =
+    tie.close
+    (tie.spec
+    slice-aggregate-compose
+    compose-requires
+    enum-known-answer
+    slice-aggregate-put-refusal
+    put-refusal-requires
+    same-length
+    returns
+    array-share-prefix-room
+    slice-aggregate-query
+    nesting-of-requires
+    report-query-requires
+    same-length-2
+    returns-2)
