@@ -1,0 +1,3 @@
+pub mod Uniqueness
+pub mod UniqueEntries
+pub mod UniqueParts
