@@ -4,7 +4,6 @@ use Prim.Native.Nat.{ℕ, _≤_}
 use native.Mathlib.Omega.{arith}
 use mathlib.Core.Path.{_≡_, refl, sym, _∙_, ap}
 use mathlib.Core.List.{List, []}
-use mathlib.Core.Option.{none, some}
 use lib.ListN.{length, drop, length-drop}
 use denote.Ref.{now}
 use Rattle.paper.specs.Items.{Taken}
@@ -13,7 +12,7 @@ use Rattle.names.proofs.Unique as names
 use Rattle.token.proofs.Unique as token
 use Rattle.shape.specs.declared.Walked.{Walked}
 use Rattle.shape.specs.declared.Walked.the-variants.{Done, Malformed}
-use Rattle.shape.specs.Walks.{Walk, Walks}
+use Rattle.shape.specs.Walks.{Walks}
 use Rattle.table.specs.declared.Fault.{Fault}
 use Rattle.table.specs.declared.Fault.the-variants.{Nothing, At}
 use Rattle.table.specs.Faults.{faultOf}
