@@ -10,7 +10,7 @@ use lib.ListN.{length, take, drop, drop-of-length-le}
 use lib.Seq.{take-append-seam}
 use borrow.Author.Tests.{ltb-false}
 use Rattle.paper.specs.Tools.{when, written}
-use Rattle.paper.specs.Limits.{itemLimit, bracketLimit}
+use Rattle.paper.specs.Limits.{itemLimit, nodeLimit, bracketLimit}
 use Rattle.paper.specs.Query.{Query}
 use Rattle.paper.specs.Items.{encode, decode}
 use Rattle.paper.specs.Measures.{size, nesting}
@@ -18,7 +18,7 @@ use Rattle.paper.specs.Document.{Table, nodes, parentOf, kindOf, tableFault, ma
 use Rattle.paper.specs.Selection.{kept}
 use Rattle.paper.specs.Extraction.{rank, extracted}
 use Rattle.paper.specs.Composition.{composed}
-use Rattle.paper.specs.Answers.{value, refusal, line, lineQuery, tooLong, short, shortOfItems, markedCount, composeAnswer, composeOut, runAnswer, runMarks, extractAnswer}
+use Rattle.paper.specs.Answers.{value, refusal, line, lineQuery, tooLong, short, shortOfItems, scratchOf, markedCount, composeAnswer, composeOut, runAnswer, runMarks, extractAnswer}
 use Rattle.paper.specs.Answers.{Answer as Told}
 use Rattle.paper.proofs.Tests.{some-inj}
 use Rattle.paper.proofs.Refusing.{line-value, when-none, or-none}
@@ -70,15 +70,16 @@ module _ (outer inner out : List ℕ) (n : ℕ) (h : composeAnswer outer inner (
   unfolding composeOut
   items-left o i d e l = rw (h, d, e) (first-written (encode (composed o i)) out n (sym (size-items (composed o i) ∙ l)))
 
-  is-composition : (o i : Query) → decode outer ≡ some o → decode inner ≡ some i → rest (length out) (composed o i) ≡ value n
+  is-composition : length outer ≤ itemLimit → (o i : Query) → decode outer ≡ some o → decode inner ≡ some i → rest (length out) (composed o i) ≡ value n
       → IsComposition outer inner (take n (composeOut outer inner out)) × (length (take n (composeOut outer inner out)) ≡ n)
-  is-composition o i d e k =
+  is-composition few o i d e k =
       let f = fits (length out) n (composed o i) k in
       let left = items-left o i d e (f .0) in
       let long : length (take n (composeOut outer inner out)) ≡ n = ap length left ∙ size-items (composed o i) ∙ f .0 in (
         record {
           outer-is = o;
           inner-is = i;
+          outer-few = few;
           outer-decodes = d;
           inner-decodes = e;
           decodes = ap decode left ∙ read-back o i (encode-decode outer o d .fine) (encode-decode inner i e .fine) (f .1) (f .2);
@@ -92,8 +93,9 @@ module _ (outer inner out : List ℕ) (n : ℕ) (h : composeAnswer outer inner (
   composition =
       let later : Query → Query → Told = λ o i. rest (length out) (composed o i) in
       let one = line-value 1 n (when (tooLong outer itemLimit || tooLong inner itemLimit) 0) (lineQuery 6 0 (decode outer) (λ o. lineQuery 6 1 (decode inner) (later o))) h in
+      let few = or-none (tooLong outer itemLimit) (tooLong inner itemLimit) (when-none (tooLong outer itemLimit || tooLong inner itemLimit) 0 (one .0)) .0 in
       query-value n 6 0 (decode outer) (λ o. lineQuery 6 1 (decode inner) (later o)) (one .1)
-      (λ o d g. query-value n 6 1 (decode inner) (later o) g (λ i e k. is-composition o i d e k))
+      (λ o d g. query-value n 6 1 (decode inner) (later o) g (λ i e k. is-composition (ltb-false itemLimit (length outer) few) o i d e k))
 
 -- RUN. What an accepted run has, and what it leaves.
 pub record Ran (query : List ℕ) (t : Table) (given marks : List ℕ) (room a : ℕ) : Type 0 where
@@ -101,6 +103,7 @@ pub record Ran (query : List ℕ) (t : Table) (given marks : List ℕ) (room a :
   pub decodes : decode query ≡ some is
   pub table-good : tableFault t ≡ none
   pub marks-good : marksFault t given ≡ none
+  pub lengths : run.Agree query t given (length marks) room
   pub left : runMarks query t given marks room ≡ kept t given is
   pub counted : a ≡ markedCount t (runMarks query t given marks room)
 
@@ -126,6 +129,7 @@ module _ (query : List ℕ) (t : Table) (given marks : List ℕ) (room a : ℕ) 
             decodes = w .decodes;
             table-good = w .table-good;
             marks-good = w .marks-good;
+            lengths = w .agree;
             left = left;
             counted = value-same (sym h ∙ run.runs query t given (length marks) room needed w) ∙ ap (markedCount t) (sym left);
           }
@@ -134,6 +138,22 @@ module _ (query : List ℕ) (t : Table) (given marks : List ℕ) (room a : ℕ) 
 pub left-by : {query : List ℕ} {t : Table} {given marks : List ℕ} {room a : ℕ} (q : Query) → decode query ≡ some q → Ran query t given marks room a
     → runMarks query t given marks room ≡ kept t given q
 left-by {query} {t} {given} {marks} {room} {a} q d r = r .left ∙ ap (kept t given) (some-inj (sym (r .decodes) ∙ d))
+
+-- A run that no line refuses is accepted.
+pub runs : (query : List ℕ) (t : Table) (given : List ℕ) (room : ℕ) (q : Query) → length query ≤ itemLimit → nodes t ≤ nodeLimit → length (t .kinds) ≡ nodes t
+    → length given ≡ nodes t → decode query ≡ some q → tableFault t ≡ none → marksFault t given ≡ none → scratchOf t q ≤ room
+    → runAnswer query t given (nodes t) room ≡ value (markedCount t (kept t given q))
+runs query t given room q few nodes-few kinds-all given-all d ft fm enough =
+    run.runs query t given (nodes t) room (scratchOf t q)
+    (record {
+      agree = record { items-few = few; nodes-few = nodes-few; kinds-all = kinds-all; given-all = given-all; marks-all = refl };
+      query-is = q;
+      decodes = d;
+      table-good = ft;
+      marks-good = fm;
+      room-is = refl;
+      room-enough = enough;
+    })
 
 -- EXTRACT. What an accepted extract has, and the table that it leaves.
 pub record Took (t : Table) (marks : List ℕ) (n : ℕ) (parents kinds : List ℕ) : Type 0 where

@@ -1,7 +1,7 @@
 -- The demands over the entry points: what accepted calls left is what the definitions give (`Accepting`), and of the definitions the demands are theorems. Assumes nothing.
 use Prim.Native.Nat.{ℕ}
 use native.Mathlib.Omega.{arith}
-use mathlib.Core.Path.{_≡_, refl, sym, _∙_, ap}
+use mathlib.Core.Path.{_≡_, refl, sym, _∙_, ap, ap₂}
 use mathlib.Core.Bool.{cond}
 use mathlib.Core.List.{List}
 use mathlib.Core.Option.{Option, none, some}
@@ -9,13 +9,14 @@ use lib.ListN.{length, getD, take}
 use Rattle.paper.specs.Tools.{when}
 use Rattle.paper.specs.Query.{Query}
 use Rattle.paper.specs.Items.{decode}
-use Rattle.paper.specs.Document.{Table, tableFault, marksFault}
+use Rattle.paper.specs.Document.{Table, tableFault, marksFault, tableOf}
 use Rattle.paper.specs.Selection.{kept}
 use Rattle.paper.specs.Extraction.{rank, extracted}
 use Rattle.paper.specs.Composition.{composed}
 use Rattle.paper.specs.Answers.{value, refusal, line, short, scratchOf, markedCount, composeOut, runAnswer, readOut}
 use Rattle.paper.specs.Answers.{Answer as Told}
-use Rattle.paper.proofs.Keeping.{kept-at}
+use Rattle.paper.proofs.Tests.{some-inj}
+use Rattle.paper.proofs.Keeping.{length-kept, kept-at, kept-good}
 use Rattle.run.proofs.Answering.{Long}
 use Rattle.theorems.specs.Demands.{allMarked}
 use Rattle.theorems.proofs.Renumber.{extracted-inside}
@@ -23,8 +24,8 @@ use Rattle.theorems.proofs.Exact as exact
 use Rattle.theorems.proofs.Extract as extract
 use Rattle.theorems.proofs.Secrecy as secret
 use Rattle.theorems.proofs.RoundTrip as trip
-use Rattle.promises.specs.Entries.{Acceptance, NeverMalformed, Exactness, Secrecy, Extraction, SameNodes, RoundTrip}
-use Rattle.promises.proofs.Accepting.{first-written, composition, ran, left-by, took, shown, shown-alike}
+use Rattle.promises.specs.Entries.{Acceptance, NeverMalformed, Exactness, Together, Secrecy, Extraction, SameNodes, RoundTrip}
+use Rattle.promises.proofs.Accepting.{first-written, composition, ran, left-by, runs, took, shown, shown-alike}
 
 -- AN ACCEPTED COMPOSITION LEAVES A QUERY,
 pub acceptance : Acceptance
@@ -54,44 +55,63 @@ never-malformed outer inner out n t given marksRoom scratchRoom place h =
 
 -- EXACTNESS.
 pub exactness : Exactness
-exactness outer inner out t given marks first second n a b c room room₁ room₂ h run-both run-inner run-outer =
-    let w = composition outer inner out n h .0 in
-    let both = ran _ t given marks room a run-both in
-    let inside = ran inner t given first room₁ b run-inner in
-    let after = ran outer t _ second room₂ c run-outer in
+exactness outer inner out t given marks first second n a b c room room₁ room₂ h run-both run-first run-second =
+    let w = composition _ _ out n h .0 in
     let o = w .outer-is in
     let i = w .inner-is in
-    let alike = left-by (composed o i) (w .decodes) both ∙ exact.exactness t given o i (both .table-good) (both .marks-good)
-    ∙ ap (λ m. kept t m o) (sym (left-by i (w .inner-decodes) inside)) ∙ sym (left-by o (w .outer-decodes) after) in
+    let both = ran _ t given marks room a run-both in
+    let before = ran _ t given first room₁ b run-first in
+    let after = ran _ t _ second room₂ c run-second in
+    let alike =
+    left-by (composed o i) (w .decodes) both ∙ exact.exactness t given o i (both .table-good) (both .marks-good)
+    ∙ ap (λ m. kept t m o) (sym (left-by i (w .inner-decodes) before)) ∙ sym (left-by o (w .outer-decodes) after) in
     (both .counted ∙ ap (markedCount t) alike ∙ sym (after .counted), alike)
+
+-- ITS PREMISES CAN BE MET.
+pub together : Together
+together outer inner out t given first o q n b room room₁ room₂ h run-first d e enough enough₂ =
+    let w = composition outer inner out n h .0 in
+    let i = w .inner-is in
+    let r = ran inner t given first room₁ b run-first in
+    let g = r .lengths in
+    let left = left-by i (w .inner-decodes) r in
+    let is-both : composed o i ≡ q = ap (λ o. composed o i) (some-inj (sym e ∙ w .outer-decodes)) ∙ some-inj (sym (w .decodes) ∙ d) in
+    let alike = ap (kept t given) (sym is-both) ∙ exact.exactness t given o i (r .table-good) (r .marks-good) ∙ ap (λ m. kept t m o) (sym left) in (
+      markedCount t (kept t given q),
+      runs _ t given room q (w .few) (g .nodes-few) (g .kinds-all) (g .given-all) d (r .table-good) (r .marks-good) enough,
+      runs outer t _ room₂ o (w .outer-few) (g .nodes-few) (g .kinds-all) (ap length left ∙ length-kept t given i) e (r .table-good)
+          (ap (marksFault t) left ∙ kept-good t given i (r .table-good) (r .marks-good)) enough₂ ∙
+          ap (λ m. value (markedCount t m)) (sym alike),
+    )
 
 -- SECRECY.
 pub secrecy : Secrecy
-secrecy outer inner out t u n a b c d count countₜ countᵤ parents kinds parentsₜ kindsₜ parentsᵤ kindsᵤ h in-t in-u both-t both-u =
+secrecy outer inner out t u n a b l m parentsₜ kindsₜ parentsᵤ kindsᵤ h in-t in-u e₁ e₂ a′ b′ l′ m′ newₜ newKindsₜ newᵤ newKindsᵤ both-t both-u =
     let w = composition outer inner out n h .0 in
     let o = w .outer-is in
     let i = w .inner-is in
-    let inₜ = shown inner t (allMarked t) a count parents kinds i (w .inner-decodes) in-t in
-    let inᵤ = shown inner u (allMarked u) b count parents kinds i (w .inner-decodes) in-u in
-    let bothₜ = shown _ t (allMarked t) c countₜ parentsₜ kindsₜ (composed o i) (w .decodes) both-t in
-    let bothᵤ = shown _ u (allMarked u) d countᵤ parentsᵤ kindsᵤ (composed o i) (w .decodes) both-u in
-    shown-alike bothₜ bothᵤ (secret.secrecy t u o i (inₜ .table-good) (inᵤ .table-good) (sym (inₜ .view) ∙ inᵤ .view))
+    let same-parents : parentsₜ ≡ parentsᵤ = cc in
+    let same-kinds : kindsₜ ≡ kindsᵤ = cc in
+    let inₜ = shown inner t (allMarked t) a l parentsₜ kindsₜ i (w .inner-decodes) in-t in
+    let inᵤ = shown inner u (allMarked u) b m parentsᵤ kindsᵤ i (w .inner-decodes) in-u in
+    let bothₜ = shown _ t (allMarked t) a′ l′ newₜ newKindsₜ (composed o i) (w .decodes) both-t in
+    let bothᵤ = shown _ u (allMarked u) b′ m′ newᵤ newKindsᵤ (composed o i) (w .decodes) both-u in
+    shown-alike bothₜ bothᵤ
+    (secret.secrecy t u o i (inₜ .table-good) (inᵤ .table-good) (sym (inₜ .view) ∙ ap₂ tableOf same-parents same-kinds ∙ inᵤ .view))
 
 -- EXTRACTION.
 pub extraction : Extraction
-extraction query t given outParents outKinds n a b count countᵤ parents kinds parentsᵤ kindsᵤ h run-t run-u =
-    let x = took t given n outParents outKinds h in
-    let r = ran query t given (run-t .oldMarks) (run-t .scratchRoom) a (run-t .ran) in
+extraction query t given parents kinds n h a b l m parentsₜ kindsₜ parentsᵤ kindsᵤ in-t in-u =
+    let x = took t given n parents kinds h in
+    let r = ran query t given (in-t .oldMarks) (in-t .scratchRoom) a (in-t .ran) in
     let q = r .is in
-    let sₜ = shown query t given a count parents kinds q (r .decodes) run-t in
-    let sᵤ = shown query _ _ b countᵤ parentsᵤ kindsᵤ q (r .decodes) run-u in
-    shown-alike sₜ sᵤ
+    shown-alike (shown query t given a l parentsₜ kindsₜ q (r .decodes) in-t) (shown query _ _ b m parentsᵤ kindsᵤ q (r .decodes) in-u)
     (extract.extraction t given q (x .table-good) (x .marks-good) ∙ ap (λ v. extracted v (kept v (allMarked v) q)) (sym (x .left)))
 
 -- SAME NODES.
 pub same-nodes : SameNodes
-same-nodes query t given outParents outKinds marks again n a b room room₁ i h run-t run-u l m =
-    let x = took t given n outParents outKinds h in
+same-nodes query t given parents kinds marks again n a b room room₁ i h run-t run-u l m =
+    let x = took t given n parents kinds h in
     let r = ran query t given marks room a run-t in
     let q = r .is in
     let v = extracted t given in

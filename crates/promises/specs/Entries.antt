@@ -11,13 +11,14 @@ use Rattle.paper.specs.Items.{decode}
 use Rattle.paper.specs.Document.{Table, nodes, marked, tableOf}
 use Rattle.paper.specs.Extraction.{rank}
 use Rattle.paper.specs.Composition.{composed}
-use Rattle.paper.specs.Answers.{value, refusal, readAnswer, readOut, printAnswer, printOut, composeAnswer, composeOut, runAnswer, runMarks, extractAnswer, extractParents, extractKinds}
+use Rattle.paper.specs.Answers.{value, refusal, scratchOf, readAnswer, readOut, printAnswer, printOut, composeAnswer, composeOut, runAnswer, runMarks, extractAnswer, extractParents, extractKinds}
 use Rattle.theorems.specs.Demands.{allMarked}
 
 -- ACCEPTANCE. The items are those of the composition of two queries in memory, and can stand in memory themselves.
 pub record IsComposition (outer inner both : List ℕ) : Type 0 where
   pub outer-is : Query
   pub inner-is : Query
+  pub outer-few : length outer ≤ itemLimit
   pub outer-decodes : decode outer ≡ some outer-is
   pub inner-decodes : decode inner ≡ some inner-is
   pub decodes : decode both ≡ some (composed outer-is inner-is)
@@ -45,6 +46,14 @@ Exactness =
     runAnswer both t given (length marks) room ≡ value a → runAnswer inner t given (length first) room₁ ≡ value b → runAnswer outer t shown (length second) room₂ ≡ value c
     → (a ≡ c) × (runMarks both t given marks room ≡ runMarks outer t shown second room₂)
 
+-- The premises can be met: where the composition and the run of the inner items are accepted, the other two runs are too, with marks as long as the table and scratch enough.
+abbrev pub Together : Type 0
+Together =
+    (outer inner out : List ℕ) (t : Table) (given first : List ℕ) (o q : Query) (n b room room₁ room₂ : ℕ) → composeAnswer outer inner (length out) ≡ value n →
+    let both = take n (composeOut outer inner out) in
+    runAnswer inner t given (length first) room₁ ≡ value b → decode both ≡ some q → decode outer ≡ some o → scratchOf t q ≤ room → scratchOf t o ≤ room₂
+    → (a : ℕ) × (runAnswer both t given (nodes t) room ≡ value a) × (runAnswer outer t (runMarks inner t given first room₁) (nodes t) room₂ ≡ value a)
+
 -- A run of the items inside marks was accepted with `kept`, and an extract of the marks that it wrote with `count`, which left these columns.
 pub record Shows (query : List ℕ) (t : Table) (given : List ℕ) (kept count : ℕ) (parents kinds : List ℕ) : Type 0 where
   pub oldMarks : List ℕ
@@ -58,15 +67,19 @@ pub record Shows (query : List ℕ) (t : Table) (given : List ℕ) (kept count :
   pub parents-left : parents ≡ take count (extractParents t marks oldParents (length oldKinds))
   pub kinds-left : kinds ≡ take count (extractKinds t marks (length oldParents) oldKinds)
 
--- SECRECY: where the inner items show the same of two documents, with every mark 1, the composed items show the same of both, whatever the outer items are.
+-- Whatever two runs of the items with their extracts answer and leave, one inside marks of t and one inside marks of u, is the same.
+abbrev pub AlikeAfter : List ℕ → Table → List ℕ → Table → List ℕ → Type 0
+AlikeAfter query t given u given′ =
+    (a b l m : ℕ) (parentsₜ kindsₜ parentsᵤ kindsᵤ : List ℕ) → Shows query t given a l parentsₜ kindsₜ → Shows query u given′ b m parentsᵤ kindsᵤ
+    → (a ≡ b) × (l ≡ m) × (parentsₜ ≡ parentsᵤ) × (kindsₜ ≡ kindsᵤ)
+
+-- SECRECY: where the inner items show the same columns of two documents, with every mark 1, the composed items show the same of both, whatever the outer items are.
 abbrev pub Secrecy : Type 0
 Secrecy =
-    (outer inner out : List ℕ) (t u : Table) (n a b c d count countₜ countᵤ : ℕ) (parents kinds parentsₜ kindsₜ parentsᵤ kindsᵤ : List ℕ)
-    → composeAnswer outer inner (length out) ≡ value n
-    → Shows inner t (allMarked t) a count parents kinds → Shows inner u (allMarked u) b count parents kinds →
-    let both = take n (composeOut outer inner out) in
-    Shows both t (allMarked t) c countₜ parentsₜ kindsₜ → Shows both u (allMarked u) d countᵤ parentsᵤ kindsᵤ
-    → (c ≡ d) × (countₜ ≡ countᵤ) × (parentsₜ ≡ parentsᵤ) × (kindsₜ ≡ kindsᵤ)
+    (outer inner out : List ℕ) (t u : Table) (n a b l m : ℕ) (parentsₜ kindsₜ parentsᵤ kindsᵤ : List ℕ) → composeAnswer outer inner (length out) ≡ value n
+    → Shows inner t (allMarked t) a l parentsₜ kindsₜ → Shows inner u (allMarked u) b m parentsᵤ kindsᵤ
+    → parentsₜ ≡ parentsᵤ → kindsₜ ≡ kindsᵤ
+    → AlikeAfter (take n (composeOut outer inner out)) t (allMarked t) u (allMarked u)
 
 -- The table that an extract left.
 abbrev pub tableLeft : Table → List ℕ → ℕ → List ℕ → List ℕ → Table
@@ -75,18 +88,15 @@ tableLeft t marks n parents kinds = tableOf (take n (extractParents t marks pare
 -- EXTRACTION: items run inside marks show the same as run on the table that an extract of those marks left, with every mark 1.
 abbrev pub Extraction : Type 0
 Extraction =
-    (query : List ℕ) (t : Table) (given outParents outKinds : List ℕ) (n a b count countᵤ : ℕ) (parents kinds parentsᵤ kindsᵤ : List ℕ)
-    → extractAnswer t given (length outParents) (length outKinds) ≡ value n →
-    let u = tableLeft t given n outParents outKinds in
-    Shows query t given a count parents kinds → Shows query u (allMarked u) b countᵤ parentsᵤ kindsᵤ
-    → (a ≡ b) × (count ≡ countᵤ) × (parents ≡ parentsᵤ) × (kinds ≡ kindsᵤ)
+    (query : List ℕ) (t : Table) (given parents kinds : List ℕ) (n : ℕ) → extractAnswer t given (length parents) (length kinds) ≡ value n →
+    let u = tableLeft t given n parents kinds in
+    AlikeAfter query t given u (allMarked u)
 
 -- SAME NODES: a given node has the same mark in both runs, under its new number in the second.
 abbrev pub SameNodes : Type 0
 SameNodes =
-    (query : List ℕ) (t : Table) (given outParents outKinds marks again : List ℕ) (n a b room room₁ i : ℕ)
-    → extractAnswer t given (length outParents) (length outKinds) ≡ value n →
-    let u = tableLeft t given n outParents outKinds in
+    (query : List ℕ) (t : Table) (given parents kinds marks again : List ℕ) (n a b room room₁ i : ℕ) → extractAnswer t given (length parents) (length kinds) ≡ value n →
+    let u = tableLeft t given n parents kinds in
     runAnswer query t given (length marks) room ≡ value a → runAnswer query u (allMarked u) (length again) room₁ ≡ value b → i < nodes t → marked given i ≡ true
     → getD (runMarks query u (allMarked u) again room₁) (rank given i) 0 ≡ getD (runMarks query t given marks room) i 0
 
