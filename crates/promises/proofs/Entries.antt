@@ -1,0 +1,128 @@
+-- The demands over the entry points: what accepted calls left is what the definitions give (`Accepting`), and of the definitions the demands are theorems. Assumes nothing.
+use Prim.Native.Nat.{ℕ}
+use native.Mathlib.Omega.{arith}
+use mathlib.Core.Path.{_≡_, refl, sym, _∙_, ap, ap₂}
+use mathlib.Core.Bool.{cond}
+use mathlib.Core.List.{List}
+use mathlib.Core.Option.{Option, none, some}
+use lib.ListN.{length, getD, take}
+use Rattle.paper.specs.Tools.{when}
+use Rattle.paper.specs.Query.{Query}
+use Rattle.paper.specs.Items.{decode}
+use Rattle.paper.specs.Document.{Table, tableFault, marksFault, tableOf}
+use Rattle.paper.specs.Selection.{kept}
+use Rattle.paper.specs.Extraction.{rank, extracted}
+use Rattle.paper.specs.Composition.{composed}
+use Rattle.paper.specs.Answers.{value, refusal, line, short, scratchOf, markedCount, composeOut, runAnswer, readOut}
+use Rattle.paper.specs.Answers.{Answer as Told}
+use Rattle.paper.proofs.Tests.{some-inj}
+use Rattle.paper.proofs.Keeping.{length-kept, kept-at, kept-good}
+use Rattle.run.proofs.Answering.{Long}
+use Rattle.theorems.specs.Demands.{allMarked}
+use Rattle.theorems.proofs.Renumber.{extracted-inside}
+use Rattle.theorems.proofs.Exact as exact
+use Rattle.theorems.proofs.Extract as extract
+use Rattle.theorems.proofs.Secrecy as secret
+use Rattle.theorems.proofs.RoundTrip as trip
+use Rattle.promises.specs.Entries.{Acceptance, NeverMalformed, Exactness, Together, Secrecy, Extraction, SameNodes, RoundTrip}
+use Rattle.promises.proofs.Accepting.{first-written, composition, ran, left-by, runs, took, shown, shown-alike}
+
+-- AN ACCEPTED COMPOSITION LEAVES A QUERY,
+pub acceptance : Acceptance
+acceptance outer inner out n h = composition outer inner out n h
+
+-- A line of another number gives no refusal 6,
+not-six : (number place : ℕ) (o : Option ℕ) (later : Told) → (number ≡ 6 → ⊥) → (later ≡ refusal 6 place → ⊥) → line number o later ≡ refusal 6 place → ⊥
+not-six number place none later other more h = more h
+not-six number place (some p) later other more h = other (cc)
+
+-- so a run of items that are a query does not,
+well-formed : (query : List ℕ) (q : Query) (t : Table) (given : List ℕ) (marksRoom scratchRoom place : ℕ) → decode query ≡ some q
+    → runAnswer query t given marksRoom scratchRoom ≡ refusal 6 place → ⊥
+unfolding runAnswer
+well-formed query q t given marksRoom scratchRoom place d r =
+    let none-left : value (markedCount t (kept t given q)) ≡ refusal 6 place → ⊥ = λ e. let z : _≡_ {A = ℕ} 0 1 = cc in omega arith in
+    let ten = not-six 10 place (short scratchRoom (scratchOf t q)) _ (λ e. omega arith) none-left in
+    let eight = not-six 8 place (marksFault t given) _ (λ e. omega arith) ten in
+    let seven = not-six 7 place (tableFault t) _ (λ e. omega arith) eight in
+    not-six 1 place (when (Long query t given marksRoom scratchRoom) 0) _ (λ e. omega arith) seven (rw d at r)
+
+-- and a composition is a query.
+pub never-malformed : NeverMalformed
+never-malformed outer inner out n t given marksRoom scratchRoom place h =
+    let w = composition outer inner out n h .0 in
+    well-formed (take n (composeOut outer inner out)) (composed (w .outer-is) (w .inner-is)) t given marksRoom scratchRoom place (w .decodes)
+
+-- EXACTNESS.
+pub exactness : Exactness
+exactness outer inner out t given marks first second n a b c room room₁ room₂ h run-both run-first run-second =
+    let w = composition _ _ out n h .0 in
+    let o = w .outer-is in
+    let i = w .inner-is in
+    let both = ran _ t given marks room a run-both in
+    let before = ran _ t given first room₁ b run-first in
+    let after = ran _ t _ second room₂ c run-second in
+    let alike =
+    left-by (composed o i) (w .decodes) both ∙ exact.exactness t given o i (both .table-good) (both .marks-good)
+    ∙ ap (λ m. kept t m o) (sym (left-by i (w .inner-decodes) before)) ∙ sym (left-by o (w .outer-decodes) after) in
+    (both .counted ∙ ap (markedCount t) alike ∙ sym (after .counted), alike)
+
+-- ITS PREMISES CAN BE MET.
+pub together : Together
+together outer inner out t given first o q n b room room₁ room₂ h run-first d e enough enough₂ =
+    let w = composition outer inner out n h .0 in
+    let i = w .inner-is in
+    let r = ran inner t given first room₁ b run-first in
+    let g = r .lengths in
+    let left = left-by i (w .inner-decodes) r in
+    let is-both : composed o i ≡ q = ap (λ o. composed o i) (some-inj (sym e ∙ w .outer-decodes)) ∙ some-inj (sym (w .decodes) ∙ d) in
+    let alike = ap (kept t given) (sym is-both) ∙ exact.exactness t given o i (r .table-good) (r .marks-good) ∙ ap (λ m. kept t m o) (sym left) in (
+      markedCount t (kept t given q),
+      runs _ t given room q (w .few) (g .nodes-few) (g .kinds-all) (g .given-all) d (r .table-good) (r .marks-good) enough,
+      runs outer t _ room₂ o (w .outer-few) (g .nodes-few) (g .kinds-all) (ap length left ∙ length-kept t given i) e (r .table-good)
+          (ap (marksFault t) left ∙ kept-good t given i (r .table-good) (r .marks-good)) enough₂ ∙
+          ap (λ m. value (markedCount t m)) (sym alike),
+    )
+
+-- SECRECY.
+pub secrecy : Secrecy
+secrecy outer inner out t u n a b l m parentsₜ kindsₜ parentsᵤ kindsᵤ h in-t in-u e₁ e₂ a′ b′ l′ m′ newₜ newKindsₜ newᵤ newKindsᵤ both-t both-u =
+    let w = composition outer inner out n h .0 in
+    let o = w .outer-is in
+    let i = w .inner-is in
+    let same-parents : parentsₜ ≡ parentsᵤ = cc in
+    let same-kinds : kindsₜ ≡ kindsᵤ = cc in
+    let inₜ = shown inner t (allMarked t) a l parentsₜ kindsₜ i (w .inner-decodes) in-t in
+    let inᵤ = shown inner u (allMarked u) b m parentsᵤ kindsᵤ i (w .inner-decodes) in-u in
+    let bothₜ = shown _ t (allMarked t) a′ l′ newₜ newKindsₜ (composed o i) (w .decodes) both-t in
+    let bothᵤ = shown _ u (allMarked u) b′ m′ newᵤ newKindsᵤ (composed o i) (w .decodes) both-u in
+    shown-alike bothₜ bothᵤ
+    (secret.secrecy t u o i (inₜ .table-good) (inᵤ .table-good) (sym (inₜ .view) ∙ ap₂ tableOf same-parents same-kinds ∙ inᵤ .view))
+
+-- EXTRACTION.
+pub extraction : Extraction
+extraction query t given parents kinds n h a b l m parentsₜ kindsₜ parentsᵤ kindsᵤ in-t in-u =
+    let x = took t given n parents kinds h in
+    let r = ran query t given (in-t .oldMarks) (in-t .scratchRoom) a (in-t .ran) in
+    let q = r .is in
+    shown-alike (shown query t given a l parentsₜ kindsₜ q (r .decodes) in-t) (shown query _ _ b m parentsᵤ kindsᵤ q (r .decodes) in-u)
+    (extract.extraction t given q (x .table-good) (x .marks-good) ∙ ap (λ v. extracted v (kept v (allMarked v) q)) (sym (x .left)))
+
+-- SAME NODES.
+pub same-nodes : SameNodes
+same-nodes query t given parents kinds marks again n a b room room₁ i h run-t run-u l m =
+    let x = took t given n parents kinds h in
+    let r = ran query t given marks room a run-t in
+    let q = r .is in
+    let v = extracted t given in
+    let s = ran query _ _ again room₁ b run-u in
+    let new = left-by q (r .decodes) s ∙ ap (λ v. kept v (allMarked v) q) (x .left) in
+    ap (λ k. getD k (rank given i) 0) new ∙ kept-at v (allMarked v) q (rank given i) (extracted-inside t given i l m)
+    ∙ ap (λ k. cond k 1 0) (extract.same-nodes t given q i (x .table-good) (x .marks-good) l m) ∙ sym (ap (λ k. getD k i 0) (r .left) ∙ kept-at t given q i l)
+
+-- ROUND TRIP.
+pub round-trip : RoundTrip
+unfolding readOut
+round-trip query list out again n h most room =
+    let back = trip.round-trip query list out n (length again) h most room in
+    (back .0, rw (back .0, back .1) (first-written query again (length query) refl))

@@ -1,0 +1,5 @@
+pub mod Telling
+pub mod UniqueEntries
+pub mod UniqueParts
+pub mod Accepting
+pub mod Entries

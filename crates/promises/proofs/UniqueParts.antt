@@ -1,0 +1,137 @@
+-- The contracts of the public functions below the entry points leave one answer and one content of each slice. Most say what the answer is by one definition;
+-- an enum is given back by what its cases stand for, and the end of a walk by what is left of the items there. Assumes nothing.
+use Prim.Native.Nat.{ℕ, _≤_}
+use native.Mathlib.Omega.{arith}
+use mathlib.Core.Path.{_≡_, refl, sym, _∙_, ap}
+use mathlib.Core.List.{List, []}
+use lib.ListN.{length, drop, length-drop}
+use denote.Ref.{now}
+use Rattle.paper.specs.Items.{Taken}
+use Rattle.paper.proofs.Tests.{none-some, some-inj}
+use Rattle.names.proofs.Unique as names
+use Rattle.token.proofs.Unique as token
+use Rattle.shape.specs.declared.Walked.{Walked}
+use Rattle.shape.specs.declared.Walked.the-variants.{Done, Malformed}
+use Rattle.shape.specs.Walks.{Walks}
+use Rattle.table.specs.declared.Fault.{Fault}
+use Rattle.table.specs.declared.Fault.the-variants.{Nothing, At}
+use Rattle.table.specs.Faults.{faultOf}
+use Rattle.promises.specs.UniqueParts.{UnpackUnique, PackPathUnique, PackStepUnique, TurnUnique, MeetsUnique}
+use Rattle.promises.specs.UniqueParts.{NameStartUnique, NamePartUnique, IndexUnique, FindUnique, SpellUnique, WhiteSpaceUnique, TakeUnique}
+use Rattle.promises.specs.UniqueParts.{RunOfUnique, StepsUnique, MeasureUnique, TableFaultUnique, MarksFaultUnique, CountUnique}
+use Rattle.promises.specs.UniqueParts.{FillUnique, CopyUnique, KeepUnique, AddUnique, FlipUnique, KeepSecondUnique, AddSecondUnique, KeepMetUnique, AlongUnique}
+use Rattle.promises.proofs.Telling.{same, same-slice}
+
+-- ITEMS.
+pub unpack-unique : UnpackUnique
+unpack-unique κs a u v x y g p q = same p q
+
+pub pack-path-unique : PackPathUnique
+pack-path-unique κs a u v x y g p q = same p q
+
+pub pack-step-unique : PackStepUnique
+pack-step-unique κs a u v x y g p q = same p q
+
+pub turn-unique : TurnUnique
+turn-unique κs a u v x y g p q = same (p (g .0) (g .1)) (q (g .0) (g .1))
+
+pub meets-unique : MeetsUnique
+meets-unique κs a u v x y g p q = same (p (g .0) (g .1 .0) (g .1 .1)) (q (g .0) (g .1 .0) (g .1 .1))
+
+-- NAMES AND TOKENS.
+pub name-start-unique : NameStartUnique
+name-start-unique κs a u v x y g p q = same p q
+
+pub name-part-unique : NamePartUnique
+name-part-unique κs a u v x y g p q = same p q
+
+pub index-unique : IndexUnique
+index-unique κs a u v x y g p q =
+    let both = names.index-unique (now (a .0)) (now (a .1 .0)) (now (x .1 .0)) (now (y .1 .0)) u v p q in
+    (both .0, same-slice (both .1) refl)
+
+pub find-unique : FindUnique
+find-unique κs a u v x y g p q = names.find-unique u v (same p q)
+
+pub spell-unique : SpellUnique
+spell-unique κs a u v x y g p q = names.spell-unique (now (a .0)) (now (a .1 .0)) (a .1 .1 .1 .0) u v p q
+
+pub white-space-unique : WhiteSpaceUnique
+white-space-unique κs a u v x y g p q = same p q
+
+pub take-unique : TakeUnique
+take-unique κs a u v x y g p q = token.take-unique (now (a .1 .0)) (a .0 .at) u v p q
+
+-- SHAPES. What is left of the items from a place on tells the place.
+place-left : (items : List ℕ) (m n : ℕ) → m ≤ length items → n ≤ length items → drop m items ≡ drop n items → m ≡ n
+place-left items m n a b h = omega (arith, length-drop m items, length-drop n items, ap length h)
+
+-- Two walks that took the same end at one place with the same measures.
+module _ {A : Type 0} (items : List ℕ) (at counted depth : ℕ) (taken : Taken A) (nestOf heightOf : A → ℕ) where
+  walk-unique : (r s : Walked) → Walks items at counted depth taken nestOf heightOf r → Walks items at counted depth taken nestOf heightOf s → r ≡ s
+  walk-unique (Done m nest high) (Done n nest′ high′) p q =
+      let e = some-inj (same (sym (p .reads)) (sym (q .reads))) in
+      let what = ap (λ w. w .0) e in
+      let place : m ≡ n = place-left items m n (p .inside) (q .inside) (ap (λ w. w .1) e) in
+      let nests : nest ≡ nest′ = p .nests ∙ ap nestOf what ∙ sym (q .nests) in
+      let heights : high ≡ high′ = p .heights ∙ ap heightOf what ∙ sym (q .heights) in
+      cc
+  walk-unique (Done m nest high) Malformed p q = none-some (same (sym q) (sym (p .reads)))
+  walk-unique Malformed (Done n nest high) p q = none-some (same (sym p) (sym (q .reads)))
+  walk-unique Malformed Malformed p q = refl
+
+pub run-of-unique : RunOfUnique
+run-of-unique κs a u v x y g p q = same (p .0) (q .0)
+
+pub steps-unique : StepsUnique
+steps-unique κs a u v x y g p q = walk-unique (now (a .0)) _ _ _ _ _ _ u v p q
+
+pub measure-unique : MeasureUnique
+measure-unique κs a u v x y g p q = same p q
+
+-- TABLES.
+fault-same : (r s : Fault) → faultOf r ≡ faultOf s → r ≡ s
+fault-same Nothing Nothing h = refl
+fault-same Nothing (At j) h = none-some h
+fault-same (At i) Nothing h = none-some (sym h)
+fault-same (At i) (At j) h = ap At (some-inj h)
+
+pub table-fault-unique : TableFaultUnique
+table-fault-unique κs a u v x y g p q = fault-same u v (same p q)
+
+pub marks-fault-unique : MarksFaultUnique
+marks-fault-unique κs a u v x y g p q = fault-same u v (same (p []) (q []))
+
+pub count-unique : CountUnique
+count-unique κs a u v x y g p q = same p q
+
+-- SETS.
+pub fill-unique : FillUnique
+fill-unique κs a u v x y g p q = (refl, same-slice p q)
+
+pub copy-unique : CopyUnique
+copy-unique κs a u v x y g p q = (refl, same-slice p q)
+
+pub keep-unique : KeepUnique
+keep-unique κs a u v x y g p q = let f = g .1 in let h = g .0 in (refl, same-slice (p (f .0) (h .0) (f .1) (h .1)) (q (f .0) (h .0) (f .1) (h .1)))
+
+pub add-unique : AddUnique
+add-unique κs a u v x y g p q = let f = g .1 in let h = g .0 in (refl, same-slice (p (f .0) (h .0) (f .1) (h .1)) (q (f .0) (h .0) (f .1) (h .1)))
+
+pub flip-unique : FlipUnique
+flip-unique κs a u v x y g p q = (refl, same-slice (p (g .0) (g .1)) (q (g .0) (g .1)))
+
+pub keep-second-unique : KeepSecondUnique
+keep-second-unique κs a u v x y g p q = let f = g .0 in let h = g .1 in (refl, same-slice (p (f .0) (h .0) (f .1) (h .1)) (q (f .0) (h .0) (f .1) (h .1)))
+
+pub add-second-unique : AddSecondUnique
+add-second-unique κs a u v x y g p q = let f = g .0 in let h = g .1 in (refl, same-slice (p (f .0) (h .0) (f .1) (h .1)) (q (f .0) (h .0) (f .1) (h .1)))
+
+pub keep-met-unique : KeepMetUnique
+keep-met-unique κs a u v x y g p q =
+    let t = g .0 in let f = g .1 in
+    (refl, same-slice (p (t .0) (f .0) (t .1 .0) (t .1 .1) (f .1)) (q (t .0) (f .0) (t .1 .0) (t .1 .1) (f .1)))
+
+pub along-unique : AlongUnique
+along-unique κs a u v x y g p q =
+    let b = g .0 in let f = g .1 in (refl, same-slice (p [] (b .0) (f .0) (b .1) (f .1)) (q [] (b .0) (f .0) (b .1) (f .1)))

@@ -1,0 +1,4 @@
+pub mod Uniqueness
+pub mod UniqueEntries
+pub mod UniqueParts
+pub mod Entries

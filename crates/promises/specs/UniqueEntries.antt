@@ -1,0 +1,49 @@
+-- The contract of each entry point, and of its form for C, leaves one answer and one content of each slice, whatever the arguments are.
+use mathlib.Core.List.{[], _∷_}
+use denote.Ref.{now}
+use Rattle.read.proofs.read
+use Rattle.print.proofs.print
+use Rattle.compose.proofs.compose
+use Rattle.run.proofs.run
+use Rattle.table.proofs.extract
+use Rattle.halyardfig.proofs.halyardfig_read
+use Rattle.halyardfig.proofs.halyardfig_print
+use Rattle.halyardfig.proofs.halyardfig_compose
+use Rattle.halyardfig.proofs.halyardfig_run
+use Rattle.halyardfig.proofs.halyardfig_extract
+use Rattle.promises.specs.Uniqueness.{Unique}
+
+abbrev pub ReadUnique : Type 0
+ReadUnique = Unique read.Kinds.ps read.Kinds.r read.Reads.Pre read.Reads.Post (λ κs x. now (x .1 .1 .0) ∷ [])
+
+abbrev pub PrintUnique : Type 0
+PrintUnique = Unique print.Kinds.ps print.Kinds.r print.Reads.Pre print.Reads.Post (λ κs x. now (x .1 .1 .0) ∷ [])
+
+abbrev pub ComposeUnique : Type 0
+ComposeUnique = Unique compose.Kinds.ps compose.Kinds.r compose.Reads.Pre compose.Reads.Post (λ κs x. now (x .1 .1 .0) ∷ [])
+
+abbrev pub RunUnique : Type 0
+RunUnique = Unique run.Kinds.ps run.Kinds.r run.Reads.Pre run.Reads.Post (λ κs x. now (x .1 .1 .1 .1 .0) ∷ now (x .1 .1 .1 .1 .1 .0) ∷ [])
+
+abbrev pub ExtractUnique : Type 0
+ExtractUnique = Unique extract.Kinds.ps extract.Kinds.r extract.Reads.Pre extract.Reads.Post (λ κs x. now (x .1 .1 .1 .0) ∷ now (x .1 .1 .1 .1 .0) ∷ [])
+
+abbrev pub ReadForCUnique : Type 0
+ReadForCUnique = Unique halyardfig_read.Kinds.ps halyardfig_read.Kinds.r halyardfig_read.Reads.Pre halyardfig_read.Reads.Post (λ κs x. now (x .1 .1 .0) ∷ [])
+
+abbrev pub PrintForCUnique : Type 0
+PrintForCUnique = Unique halyardfig_print.Kinds.ps halyardfig_print.Kinds.r halyardfig_print.Reads.Pre halyardfig_print.Reads.Post (λ κs x. now (x .1 .1 .0) ∷ [])
+
+abbrev pub ComposeForCUnique : Type 0
+ComposeForCUnique =
+    Unique halyardfig_compose.Kinds.ps halyardfig_compose.Kinds.r halyardfig_compose.Reads.Pre halyardfig_compose.Reads.Post (λ κs x. now (x .1 .1 .0) ∷ [])
+
+abbrev pub RunForCUnique : Type 0
+RunForCUnique =
+    Unique halyardfig_run.Kinds.ps halyardfig_run.Kinds.r halyardfig_run.Reads.Pre halyardfig_run.Reads.Post
+    (λ κs x. now (x .1 .1 .1 .1 .0) ∷ now (x .1 .1 .1 .1 .1 .0) ∷ [])
+
+abbrev pub ExtractForCUnique : Type 0
+ExtractForCUnique =
+    Unique halyardfig_extract.Kinds.ps halyardfig_extract.Kinds.r halyardfig_extract.Reads.Pre halyardfig_extract.Reads.Post
+    (λ κs x. now (x .1 .1 .1 .0) ∷ now (x .1 .1 .1 .1 .0) ∷ [])

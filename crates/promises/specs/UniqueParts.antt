@@ -1,0 +1,152 @@
+-- The contract of each public function below the entry points leaves one answer and one content of each slice.
+-- Four of the contracts speak of some arguments only: `turn` and `along` of the numbers of axes, `meets` and `keep_met` of those of tests; and `sets` speaks of bytes that are 0 or 1.
+use Prim.Native.Nat.{ℕ}
+use mathlib.Core.Path.{_≡_}
+use mathlib.Core.Bool.{Bool, true}
+use mathlib.Core.List.{List, [], _∷_}
+use lib.ListN.{length, take, drop}
+use denote.Ref.{now}
+use Rattle.paper.specs.Query.{Axis, Test}
+use Rattle.paper.specs.Items.{axisNumber, testNumber, goodTest}
+use Rattle.sets.specs.Sets.{bits}
+use Rattle.item.proofs.unpack
+use Rattle.item.proofs.pack_path
+use Rattle.item.proofs.pack_step
+use Rattle.item.proofs.turn
+use Rattle.item.proofs.meets
+use Rattle.names.proofs.name_start
+use Rattle.names.proofs.name_part
+use Rattle.names.proofs.index
+use Rattle.names.proofs.find
+use Rattle.names.proofs.spell
+use Rattle.token.proofs.white_space
+use Rattle.token.proofs.Cursor.take as take_token
+use Rattle.shape.proofs.run_of
+use Rattle.shape.proofs.steps
+use Rattle.shape.proofs.measure
+use Rattle.table.proofs.table_fault
+use Rattle.table.proofs.marks_fault
+use Rattle.table.proofs.count
+use Rattle.sets.proofs.fill
+use Rattle.sets.proofs.copy
+use Rattle.sets.proofs.keep
+use Rattle.sets.proofs.add
+use Rattle.sets.proofs.flip
+use Rattle.sets.proofs.keep_second
+use Rattle.sets.proofs.add_second
+use Rattle.sets.proofs.keep_met
+use Rattle.sets.proofs.along
+use Rattle.promises.specs.Uniqueness.{Unique, UniqueAnswer}
+
+-- The number is that of an axis.
+abbrev pub IsAxis : ℕ → Type 0
+IsAxis number = (a : Axis) × (number ≡ axisNumber a)
+
+-- The number is that of a test, whose name is one of 256 if it has one.
+abbrev pub IsTest : ℕ → Type 0
+IsTest number = (t : Test) × ((goodTest t ≡ true) × (number ≡ testNumber t))
+
+-- The bytes are a set of n nodes: each is 0 or 1.
+abbrev pub IsSet : ℕ → List ℕ → Type 0
+IsSet n bytes = (f : ℕ → Bool) × (bytes ≡ bits n f)
+
+-- ITEMS.
+abbrev pub UnpackUnique : Type 0
+UnpackUnique = UniqueAnswer unpack.Kinds.ps unpack.Kinds.r unpack.Reads.Pre unpack.Reads.Post
+
+abbrev pub PackPathUnique : Type 0
+PackPathUnique = UniqueAnswer pack_path.Kinds.ps pack_path.Kinds.r pack_path.Reads.Pre pack_path.Reads.Post
+
+abbrev pub PackStepUnique : Type 0
+PackStepUnique = UniqueAnswer pack_step.Kinds.ps pack_step.Kinds.r pack_step.Reads.Pre pack_step.Reads.Post
+
+abbrev pub TurnUnique : Type 0
+TurnUnique = UniqueAnswer turn.Kinds.ps turn.Kinds.r (λ κs a. IsAxis (a .0)) turn.Reads.Post
+
+abbrev pub MeetsUnique : Type 0
+MeetsUnique = UniqueAnswer meets.Kinds.ps meets.Kinds.r (λ κs a. IsTest (a .0)) meets.Reads.Post
+
+-- NAMES.
+abbrev pub NameStartUnique : Type 0
+NameStartUnique = UniqueAnswer name_start.Kinds.ps name_start.Kinds.r name_start.Reads.Pre name_start.Reads.Post
+
+abbrev pub NamePartUnique : Type 0
+NamePartUnique = UniqueAnswer name_part.Kinds.ps name_part.Kinds.r name_part.Reads.Pre name_part.Reads.Post
+
+abbrev pub IndexUnique : Type 0
+IndexUnique = Unique index.Kinds.ps index.Kinds.r index.Reads.Pre index.Reads.Post (λ κs x. now (x .1 .0) ∷ [])
+
+abbrev pub FindUnique : Type 0
+FindUnique = UniqueAnswer find.Kinds.ps find.Kinds.r find.Reads.Pre find.Reads.Post
+
+abbrev pub SpellUnique : Type 0
+SpellUnique = UniqueAnswer spell.Kinds.ps spell.Kinds.r spell.Reads.Pre spell.Reads.Post
+
+-- TOKENS.
+abbrev pub WhiteSpaceUnique : Type 0
+WhiteSpaceUnique = UniqueAnswer white_space.Kinds.ps white_space.Kinds.r white_space.Reads.Pre white_space.Reads.Post
+
+abbrev pub TakeUnique : Type 0
+TakeUnique = UniqueAnswer take_token.Kinds.ps take_token.Kinds.r take_token.Reads.Pre take_token.Reads.Post
+
+-- SHAPES.
+abbrev pub RunOfUnique : Type 0
+RunOfUnique = UniqueAnswer run_of.Kinds.ps run_of.Kinds.r run_of.Reads.Pre run_of.Reads.Post
+
+abbrev pub StepsUnique : Type 0
+StepsUnique = UniqueAnswer steps.Kinds.ps steps.Kinds.r steps.Reads.Pre steps.Reads.Post
+
+abbrev pub MeasureUnique : Type 0
+MeasureUnique = UniqueAnswer measure.Kinds.ps measure.Kinds.r measure.Reads.Pre measure.Reads.Post
+
+-- TABLES.
+abbrev pub TableFaultUnique : Type 0
+TableFaultUnique = UniqueAnswer table_fault.Kinds.ps table_fault.Kinds.r table_fault.Reads.Pre table_fault.Reads.Post
+
+abbrev pub MarksFaultUnique : Type 0
+MarksFaultUnique = UniqueAnswer marks_fault.Kinds.ps marks_fault.Kinds.r marks_fault.Reads.Pre marks_fault.Reads.Post
+
+abbrev pub CountUnique : Type 0
+CountUnique = UniqueAnswer count.Kinds.ps count.Kinds.r count.Reads.Pre count.Reads.Post
+
+-- SETS.
+abbrev pub FillUnique : Type 0
+FillUnique = Unique fill.Kinds.ps fill.Kinds.r fill.Reads.Pre fill.Reads.Post (λ κs x. now (x .0) ∷ [])
+
+abbrev pub CopyUnique : Type 0
+CopyUnique = Unique copy.Kinds.ps copy.Kinds.r copy.Reads.Pre copy.Reads.Post (λ κs x. now (x .1 .0) ∷ [])
+
+abbrev pub KeepUnique : Type 0
+KeepUnique =
+    Unique keep.Kinds.ps keep.Kinds.r (λ κs a. let n = length (now (a .1 .0)) in IsSet n (now (a .0)) × IsSet n (now (a .1 .0))) keep.Reads.Post
+    (λ κs x. now (x .1 .0) ∷ [])
+
+abbrev pub AddUnique : Type 0
+AddUnique =
+    Unique add.Kinds.ps add.Kinds.r (λ κs a. let n = length (now (a .1 .0)) in IsSet n (now (a .0)) × IsSet n (now (a .1 .0))) add.Reads.Post
+    (λ κs x. now (x .1 .0) ∷ [])
+
+abbrev pub FlipUnique : Type 0
+FlipUnique = Unique flip.Kinds.ps flip.Kinds.r (λ κs a. IsSet (length (now (a .0))) (now (a .0))) flip.Reads.Post (λ κs x. now (x .0) ∷ [])
+
+abbrev pub KeepSecondUnique : Type 0
+KeepSecondUnique =
+    Unique keep_second.Kinds.ps keep_second.Kinds.r
+    (λ κs a. IsSet (a .1 .0) (take (a .1 .0) (now (a .0))) × IsSet (a .1 .0) (take (a .1 .0) (drop (a .1 .0) (now (a .0))))) keep_second.Reads.Post
+    (λ κs x. now (x .0) ∷ [])
+
+abbrev pub AddSecondUnique : Type 0
+AddSecondUnique =
+    Unique add_second.Kinds.ps add_second.Kinds.r
+    (λ κs a. IsSet (a .1 .0) (take (a .1 .0) (now (a .0))) × IsSet (a .1 .0) (take (a .1 .0) (drop (a .1 .0) (now (a .0))))) add_second.Reads.Post
+    (λ κs x. now (x .0) ∷ [])
+
+abbrev pub KeepMetUnique : Type 0
+KeepMetUnique =
+    Unique keep_met.Kinds.ps keep_met.Kinds.r (λ κs a. IsTest (a .1 .0) × IsSet (length (now (a .1 .1 .0))) (now (a .1 .1 .0))) keep_met.Reads.Post
+    (λ κs x. now (x .1 .1 .0) ∷ [])
+
+abbrev pub AlongUnique : Type 0
+AlongUnique =
+    Unique along.Kinds.ps along.Kinds.r (λ κs a. IsAxis (a .1 .0) × IsSet (length (now (a .1 .1 .0))) (now (a .1 .1 .0))) along.Reads.Post
+    (λ κs x. now (x .1 .1 .0) ∷ [])

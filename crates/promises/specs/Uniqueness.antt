@@ -1,0 +1,18 @@
+-- What it is for a contract to leave one answer: calls with the same arguments that meet it answer the same, and leave the same in the slices that are lent for writing.
+-- `given` is what is asked of the arguments, mostly the contract's `requires`; `left` lists the contents of those slices at exit.
+use Prim.Native.Nat.{ℕ}
+use mathlib.Core.Path.{_≡_}
+use mathlib.Core.List.{List}
+use contract.Lifetimes.{Lfts}
+use denote.Triple.Clauses.{AtExit}
+use borrow.Fn.Kinds.{PK, RK, In, Out, Dens, endedOf, resT}
+
+abbrev pub Unique : {n : ℕ} (ps : List (PK n)) (r : RK n) → In n ps → Out n ps r → ((κs : Lfts n) → AtExit (endedOf n ps r) κs → List (List ℕ)) → Type 0
+Unique {n} ps r given post left =
+    (κs : Lfts n) (a : Dens κs ps) (u v : resT r κs .Denot) (x y : AtExit (endedOf n ps r) κs) → given κs a → post κs a u x → post κs a v y
+    → (u ≡ v) × (left κs x ≡ left κs y)
+
+-- The same of a function that writes nothing.
+abbrev pub UniqueAnswer : {n : ℕ} (ps : List (PK n)) (r : RK n) → In n ps → Out n ps r → Type 0
+UniqueAnswer {n} ps r given post =
+    (κs : Lfts n) (a : Dens κs ps) (u v : resT r κs .Denot) (x y : AtExit (endedOf n ps r) κs) → given κs a → post κs a u x → post κs a v y → u ≡ v
