@@ -27,30 +27,28 @@ times() {
 
 seen='self::b/parent::node()[not(parent::node())]'
 visible="descendant-or-self::node()[$seen] or ancestor-or-self::node()[$seen]"
-sample="/child::a[$visible]/descendant-or-self::node()[ancestor-or-self::node()[$seen]]"
+step="/child::a[$visible]"
+last="/descendant-or-self::node()[ancestor-or-self::node()[$seen]]"
 
-printf '/a\n/b\na\nb\n' | prints "01's sample" "$sample"$'\nsize 28 nesting 4'
-printf '/a\n/b\na\nb\na\n' | prints 'a line twice' 'refused outer 2 4'
-printf '/a\n/b\na\nb' | prints 'a line without LF' 'refused outer 2 2'
-printf '/a[b|c]\n/b\na\nb\nc\n' | prints 'a bar in a predicate' 'refused outer 3 4'
-printf '//\n/b\na\nb\n' | prints 'two slashes alone' 'refused outer 3 2'
-printf '/.[a]\n/b\na\nb\n' | prints 'a predicate after a dot' 'refused outer 3 2'
-printf '/a/preceding::b\n/b\na\nb\n' | prints 'an axis left out' 'refused outer 3 12'
-printf '/a[@b]\n/b\na\nb\n' | prints 'an attribute' 'refused outer 3 3'
-printf '/a[%sb%s]\n/b\na\nb\n' "$(times 64 '(')" "$(times 64 ')')" | prints '65 brackets' 'refused outer 4 66'
-printf '/e\n/b\na\nb\n' | prints 'an unknown name' 'refused outer 5 1'
-printf '/a\n/e\na\nb\n' | prints 'an unknown name in the view' 'refused inner 5 1'
-printf '/e\n/[\na\nb\n' | prints 'the outer query first' 'refused outer 5 1'
-printf '/a%s%s\n/b\na\nb\n' "$(times 61 '[a')" "$(times 61 ']')" | prints 'a nesting of 65' 'refused compose 9 65'
-printf '%s\n/b\na\nb\n' "$(times 228 /a)" | prints '4,114 items' 'refused compose 10 4114'
-printf '%s\n/b\n%s\n' "$(times 227 /b)" "$(printf 'a\nb')" | bin/compose 2>/dev/null | tail -n 1 | grep -q '^refused print 10 ' && passed=$((passed + 1)) || {
-    failed=$((failed + 1))
-    echo "program: a text of over 32,768 bytes is not refused by print"
-}
+prints "01's sample" "$step$last"$'\nsize 28 nesting 4' < <(printf '/a\n/b\na\nb\n')
+prints 'a line twice' 'refused outer 2 4' < <(printf '/a\n/b\na\nb\na\n')
+prints 'a line without LF' 'refused outer 2 2' < <(printf '/a\n/b\na\nb')
+prints 'a bar in a predicate' 'refused outer 3 4' < <(printf '/a[b|c]\n/b\na\nb\nc\n')
+prints 'two slashes alone' 'refused outer 3 2' < <(printf '//\n/b\na\nb\n')
+prints 'a predicate after a dot' 'refused outer 3 2' < <(printf '/.[a]\n/b\na\nb\n')
+prints 'an axis left out' 'refused outer 3 12' < <(printf '/a/preceding::b\n/b\na\nb\n')
+prints 'an attribute' 'refused outer 3 3' < <(printf '/a[@b]\n/b\na\nb\n')
+prints '65 brackets' 'refused outer 4 66' < <(printf '/a[%sb%s]\n/b\na\nb\n' "$(times 64 '(')" "$(times 64 ')')")
+prints 'an unknown name' 'refused outer 5 1' < <(printf '/e\n/b\na\nb\n')
+prints 'an unknown name in the view' 'refused inner 5 1' < <(printf '/a\n/e\na\nb\n')
+prints 'the outer query first' 'refused outer 5 1' < <(printf '/e\n/[\na\nb\n')
+prints 'a nesting of 65' 'refused compose 9 65' < <(printf '/a%s%s\n/b\na\nb\n' "$(times 61 '[a')" "$(times 61 ']')")
+prints '4,114 items' 'refused compose 10 4114' < <(printf '%s\n/b\na\nb\n' "$(times 228 /a)")
+prints 'a text too long' "refused print 10 $((227 * ${#step} + ${#last}))" < <(printf '%s\n/b\na\nb\n' "$(times 227 /a)")
 prints 'no input' 'refused outer 3 0' </dev/null
-printf '/' | prints 'one line without LF' 'refused inner 3 0'
-printf '/\n/' | prints 'no name list' "/descendant-or-self::node()[ancestor-or-self::node()[self::node()[not(parent::node())]]]"$'\nsize 9 nesting 3'
-times 49153 / | prints '49,153 bytes' 'refused input 1 0'
-times 49152 / | prints '49,152 bytes in one line' 'refused outer 1 0'
+prints 'one line without LF' 'refused inner 3 0' < <(printf '/')
+prints 'no name list' "/descendant-or-self::node()[ancestor-or-self::node()[self::node()[not(parent::node())]]]"$'\nsize 9 nesting 4' < <(printf '/\n/')
+prints '49,153 bytes' 'refused input 1 0' < <(times 49153 /)
+prints '49,152 bytes in one line' 'refused outer 1 0' < <(times 49152 /)
 
 echo "program: $passed passed, $failed failed"
