@@ -3,3 +3,4 @@ pub mod UniqueEntries
 pub mod UniqueParts
 pub mod Accepting
 pub mod Entries
+pub mod Calls

@@ -2,3 +2,4 @@ pub mod Uniqueness
 pub mod UniqueEntries
 pub mod UniqueParts
 pub mod Entries
+pub mod Calls

@@ -9,8 +9,8 @@ use borrow.Fn.Kinds.{PK, RK, In, Out, Dens, endedOf, resT}
 
 abbrev pub Unique : {n : ℕ} (ps : List (PK n)) (r : RK n) → In n ps → Out n ps r → ((κs : Lfts n) → AtExit (endedOf n ps r) κs → List (List ℕ)) → Type 0
 Unique {n} ps r given post left =
-    (κs : Lfts n) (a : Dens κs ps) (u v : resT r κs .Denot) (x y : AtExit (endedOf n ps r) κs) → given κs a → post κs a u x → post κs a v y
-    → (u ≡ v) × (left κs x ≡ left κs y)
+    (κs : Lfts n) (a : Dens κs ps) (u v : resT r κs .Denot) (x y : AtExit (endedOf n ps r) κs) → given κs a
+    → post κs a u x → post κs a v y → (u ≡ v) × (left κs x ≡ left κs y)
 
 -- The same of a function that writes nothing.
 abbrev pub UniqueAnswer : {n : ℕ} (ps : List (PK n)) (r : RK n) → In n ps → Out n ps r → Type 0

@@ -1,0 +1,114 @@
+-- The demands over calls, from the demands over the entry points' definitions: a call's contract says what it answered and left by those. Assumes nothing.
+use Prim.Native.Nat.{ℕ}
+use mathlib.Core.Path.{_≡_, sym, _∙_, ap}
+use mathlib.Core.List.{List}
+use lib.ListN.{length, take}
+use denote.Ref.{now}
+use Rattle.paper.specs.Document.{tableOf}
+use Rattle.paper.specs.Answers.{value, readAnswer, readOut, printAnswer, printOut, composeAnswer, composeOut, runAnswer, runMarks, extractAnswer, extractParents, extractKinds}
+use Rattle.paper.specs.Told.{told}
+use Rattle.paper.specs.declared.Answer.the-variants.{Value}
+use Rattle.promises.specs.Calls.{ComposeCall, RunCall, ExtractCall, Exactness, View, Secrecy, Extraction, RoundTrip}
+use Rattle.promises.specs.Entries.{Shows}
+use Rattle.promises.proofs.Telling.{told-same}
+use Rattle.promises.proofs.Entries as entries
+
+-- COMPOSE. What the contract says of an accepted call, of the slices by the names they have in the statements.
+module _ {outer inner both : List ℕ} {n : ℕ} (c : ComposeCall outer inner (Value n) both) where
+  abbrev old-items : List ℕ
+  old-items = now (c .args .1 .1 .0)
+
+  composed-value : composeAnswer outer inner (length old-items) ≡ value n
+  composed-value = rw (c .outer-lent, c .inner-lent) at (sym (c .met .0))
+
+  composed-left : both ≡ composeOut outer inner old-items
+  composed-left = sym (c .out-left) ∙ (rw (c .outer-lent, c .inner-lent) at (c .met .1))
+
+-- RUN.
+module _ {query parents kinds given marks : List ℕ} {a : ℕ} (c : RunCall query parents kinds given (Value a) marks) where
+  abbrev old-marks : List ℕ
+  old-marks = now (c .args .1 .1 .1 .1 .0)
+
+  abbrev scratch-room : ℕ
+  scratch-room = length (now (c .args .1 .1 .1 .1 .1 .0))
+
+  run-value : runAnswer query (tableOf parents kinds) given (length old-marks) scratch-room ≡ value a
+  run-value = rw (c .query-lent, c .parents-lent, c .kinds-lent, c .given-lent) at (sym (c .met .0))
+
+  run-left : marks ≡ runMarks query (tableOf parents kinds) given old-marks scratch-room
+  run-left = sym (c .marks-left) ∙ (rw (c .query-lent, c .parents-lent, c .kinds-lent, c .given-lent) at (c .met .1 .0))
+
+-- EXTRACT.
+module _ {parents kinds marks newParents newKinds : List ℕ} {n : ℕ} (c : ExtractCall parents kinds marks (Value n) newParents newKinds) where
+  abbrev old-parents : List ℕ
+  old-parents = now (c .args .1 .1 .1 .0)
+
+  abbrev old-kinds : List ℕ
+  old-kinds = now (c .args .1 .1 .1 .1 .0)
+
+  extract-value : extractAnswer (tableOf parents kinds) marks (length old-parents) (length old-kinds) ≡ value n
+  extract-value = rw (c .parents-lent, c .kinds-lent, c .marks-lent) at (sym (c .met .0))
+
+  parents-left : newParents ≡ extractParents (tableOf parents kinds) marks old-parents (length old-kinds)
+  parents-left = sym (c .parents-left) ∙ (rw (c .parents-lent, c .kinds-lent, c .marks-lent) at (c .met .1 .0))
+
+  kinds-left : newKinds ≡ extractKinds (tableOf parents kinds) marks (length old-parents) old-kinds
+  kinds-left = sym (c .kinds-left) ∙ (rw (c .parents-lent, c .kinds-lent, c .marks-lent) at (c .met .1 .1))
+
+-- A view is what such a run and extract show.
+shows : {query parents kinds given ps ks : List ℕ} (v : View query parents kinds given ps ks) → Shows query (tableOf parents kinds) given (v .kept) (v .count) ps ks
+shows v =
+    record {
+      oldMarks = old-marks (v .ran);
+      scratchRoom = scratch-room (v .ran);
+      oldParents = old-parents (v .took);
+      oldKinds = old-kinds (v .took);
+      marks = v .marks;
+      ran = run-value (v .ran);
+      wrote = run-left (v .ran);
+      extracted = extract-value (v .took);
+      parents-left = v .parents-first ∙ ap (take (v .count)) (parents-left (v .took));
+      kinds-left = v .kinds-first ∙ ap (take (v .count)) (kinds-left (v .took));
+    }
+
+-- EXACTNESS.
+pub exactness : Exactness
+exactness outer inner both parents kinds given marks shown last n a b c composing run-both run-first run-second =
+    let t = tableOf parents kinds in
+    let said = rw (composed-left composing) at (run-value run-both) in
+    let second = rw (run-left run-first) at (run-value run-second) in
+    let alike = entries.exactness outer inner (old-items composing) t given (old-marks run-both) (old-marks run-first) (old-marks run-second) n a b c
+    (scratch-room run-both) (scratch-room run-first) (scratch-room run-second) (composed-value composing) said (run-value run-first) second in (
+      alike .0,
+      run-left run-both ∙ ap (λ ws. runMarks (take n ws) t given (old-marks run-both) (scratch-room run-both)) (composed-left composing)
+          ∙ alike .1
+          ∙ ap (λ m. runMarks outer t m (old-marks run-second) (scratch-room run-second)) (sym (run-left run-first)) ∙ sym (run-left run-second),
+    )
+
+-- SECRECY.
+pub secrecy : Secrecy
+secrecy outer inner both parents kinds parents′ kinds′ ps ks ps′ ks′ n composing v v′ same-parents same-kinds qs ls qs′ ls′ w w′ =
+    let x = rw (composed-left composing) at (shows w) in
+    let x′ = rw (composed-left composing) at (shows w′) in
+    let alike = entries.secrecy outer inner (old-items composing) (tableOf parents kinds) (tableOf parents′ kinds′) n (v .kept) (v′ .kept) (v .count) (v′ .count) ps ks ps′ ks′
+    (composed-value composing) (shows v) (shows v′) same-parents same-kinds (w .kept) (w′ .kept) (w .count) (w′ .count) qs ls qs′ ls′ x x′ in
+    (alike .2, alike .3)
+
+-- EXTRACTION.
+pub extraction : Extraction
+extraction query parents kinds given outParents outKinds ps ks qs ls n c v w =
+    let x = rw (parents-left c, kinds-left c) at (shows w) in
+    let alike = entries.extraction query (tableOf parents kinds) given (old-parents c) (old-kinds c) n (extract-value c) (v .kept) (w .kept) (v .count) (w .count) ps ks qs ls (shows v) x in
+    (alike .2, alike .3)
+
+-- ROUND TRIP.
+pub round-trip : RoundTrip
+round-trip query list text old out n answer p most room r =
+    let print-value : printAnswer query list (length (now (p .args .1 .1 .0))) ≡ value n = rw (p .query-lent, p .list-lent) at (sym (p .met .0)) in
+    let print-left : text ≡ printOut query list (now (p .args .1 .1 .0)) = sym (p .out-left) ∙ (rw (p .query-lent, p .list-lent) at (p .met .1)) in
+    let read-said : told answer ≡ readAnswer (take n text) list (length old) = rw (r .text-lent, r .list-lent, r .out-lent) at (r .met .0) in
+    let read-left : out ≡ readOut (take n text) list old = sym (r .out-left) ∙ (rw (r .text-lent, r .list-lent, r .out-lent) at (r .met .1)) in
+    let back = entries.round-trip query list (now (p .args .1 .1 .0)) old n print-value most room in (
+      told-same answer (Value (length query)) (read-said ∙ ap (λ ws. readAnswer (take n ws) list (length old)) print-left ∙ back .0),
+      ap (take (length query)) (read-left ∙ ap (λ ws. readOut (take n ws) list old) print-left) ∙ back .1,
+    )

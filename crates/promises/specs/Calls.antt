@@ -1,0 +1,117 @@
+-- The demands over calls. Each record `..Call` is a call of an entry point that met its contract, by what it was lent, what it answered and what it left.
+use Prim.Native.Nat.{ℕ, _≤_}
+use mathlib.Core.Path.{_≡_}
+use mathlib.Core.List.{List}
+use lib.ListN.{length, take, replicate}
+use contract.Lifetimes.{Lfts}
+use denote.Ref.{now}
+use denote.Triple.Clauses.{AtExit}
+use borrow.Fn.Kinds.{Dens, endedOf}
+use Rattle.paper.specs.Limits.{textLimit}
+use Rattle.paper.specs.declared.Answer.{Answer}
+use Rattle.paper.specs.declared.Answer.the-variants.{Value}
+use Rattle.read.proofs.read
+use Rattle.print.proofs.print
+use Rattle.compose.proofs.compose
+use Rattle.run.proofs.run
+use Rattle.table.proofs.extract
+
+-- A call of `read::read`, which held `old` in the slice for items.
+pub record ReadCall (text list old : List ℕ) (answer : Answer) (out : List ℕ) : Type 0 where
+  pub κs : Lfts 3
+  pub args : Dens κs read.Kinds.ps
+  pub exit : AtExit (endedOf 3 read.Kinds.ps read.Kinds.r) κs
+  pub met : read.Reads.Post κs args answer exit
+  pub text-lent : now (args .0) ≡ text
+  pub list-lent : now (args .1 .0) ≡ list
+  pub out-lent : now (args .1 .1 .0) ≡ old
+  pub out-left : now (exit .1 .1 .0) ≡ out
+
+-- A call of `print::print`.
+pub record PrintCall (query list : List ℕ) (answer : Answer) (out : List ℕ) : Type 0 where
+  pub κs : Lfts 3
+  pub args : Dens κs print.Kinds.ps
+  pub exit : AtExit (endedOf 3 print.Kinds.ps print.Kinds.r) κs
+  pub met : print.Reads.Post κs args answer exit
+  pub query-lent : now (args .0) ≡ query
+  pub list-lent : now (args .1 .0) ≡ list
+  pub out-left : now (exit .1 .1 .0) ≡ out
+
+-- A call of `compose::compose`.
+pub record ComposeCall (outer inner : List ℕ) (answer : Answer) (out : List ℕ) : Type 0 where
+  pub κs : Lfts 3
+  pub args : Dens κs compose.Kinds.ps
+  pub exit : AtExit (endedOf 3 compose.Kinds.ps compose.Kinds.r) κs
+  pub met : compose.Reads.Post κs args answer exit
+  pub outer-lent : now (args .0) ≡ outer
+  pub inner-lent : now (args .1 .0) ≡ inner
+  pub out-left : now (exit .1 .1 .0) ≡ out
+
+-- A call of `run::run`, which left these marks.
+pub record RunCall (query parents kinds given : List ℕ) (answer : Answer) (marks : List ℕ) : Type 0 where
+  pub κs : Lfts 6
+  pub args : Dens κs run.Kinds.ps
+  pub exit : AtExit (endedOf 6 run.Kinds.ps run.Kinds.r) κs
+  pub met : run.Reads.Post κs args answer exit
+  pub query-lent : now (args .0) ≡ query
+  pub parents-lent : now (args .1 .0) ≡ parents
+  pub kinds-lent : now (args .1 .1 .0) ≡ kinds
+  pub given-lent : now (args .1 .1 .1 .0) ≡ given
+  pub marks-left : now (exit .1 .1 .1 .1 .0) ≡ marks
+
+-- A call of `table::extract`, which left these columns.
+pub record ExtractCall (parents kinds marks : List ℕ) (answer : Answer) (newParents newKinds : List ℕ) : Type 0 where
+  pub κs : Lfts 5
+  pub args : Dens κs extract.Kinds.ps
+  pub exit : AtExit (endedOf 5 extract.Kinds.ps extract.Kinds.r) κs
+  pub met : extract.Reads.Post κs args answer exit
+  pub parents-lent : now (args .0) ≡ parents
+  pub kinds-lent : now (args .1 .0) ≡ kinds
+  pub marks-lent : now (args .1 .1 .0) ≡ marks
+  pub parents-left : now (exit .1 .1 .1 .0) ≡ newParents
+  pub kinds-left : now (exit .1 .1 .1 .1 .0) ≡ newKinds
+
+-- EXACTNESS: a run of the composed items answers and writes the same as a run of the inner items and, inside the marks that this wrote, a run of the outer items.
+abbrev pub Exactness : Type 0
+Exactness =
+    (outer inner both parents kinds given marks shown last : List ℕ) (n a b c : ℕ) → ComposeCall outer inner (Value n) both
+    → RunCall (take n both) parents kinds given (Value a) marks → RunCall inner parents kinds given (Value b) shown → RunCall outer parents kinds shown (Value c) last
+    → (a ≡ c) × (marks ≡ last)
+
+-- A run of the items inside marks and an extract of the marks that it wrote, both accepted: the columns of the sub-document.
+pub record View (query parents kinds given : List ℕ) (newParents newKinds : List ℕ) : Type 0 where
+  pub kept : ℕ
+  pub count : ℕ
+  pub marks : List ℕ
+  pub outParents : List ℕ
+  pub outKinds : List ℕ
+  pub ran : RunCall query parents kinds given (Value kept) marks
+  pub took : ExtractCall parents kinds marks (Value count) outParents outKinds
+  pub parents-first : newParents ≡ take count outParents
+  pub kinds-first : newKinds ≡ take count outKinds
+
+-- Every mark 1.
+abbrev pub ones : List ℕ → List ℕ
+ones parents = replicate (length parents) 1
+
+-- SECRECY: of two documents that the inner items show alike, the composed items show the same, whatever the outer items are.
+abbrev pub Secrecy : Type 0
+Secrecy =
+    (outer inner both parents kinds parents′ kinds′ ps ks ps′ ks′ : List ℕ) (n : ℕ) → ComposeCall outer inner (Value n) both
+    → View inner parents kinds (ones parents) ps ks → View inner parents′ kinds′ (ones parents′) ps′ ks′ → ps ≡ ps′ → ks ≡ ks′
+    → (qs ls qs′ ls′ : List ℕ) → View (take n both) parents kinds (ones parents) qs ls → View (take n both) parents′ kinds′ (ones parents′) qs′ ls′
+    → (qs ≡ qs′) × (ls ≡ ls′)
+
+-- EXTRACTION: items run inside marks show the same as run on the table that an extract of those marks left, with every mark 1.
+abbrev pub Extraction : Type 0
+Extraction =
+    (query parents kinds given outParents outKinds ps ks qs ls : List ℕ) (n : ℕ) → ExtractCall parents kinds given (Value n) outParents outKinds
+    → View query parents kinds given ps ks → View query (take n outParents) (take n outKinds) (ones (take n outParents)) qs ls
+    → (ps ≡ qs) × (ks ≡ ls)
+
+-- ROUND TRIP: reading what was printed, at most 32,768 bytes, with the same list and room enough, is accepted and leaves the items that were printed.
+abbrev pub RoundTrip : Type 0
+RoundTrip =
+    (query list text old out : List ℕ) (n : ℕ) (answer : Answer) → PrintCall query list (Value n) text → n ≤ textLimit → length query ≤ length old
+    → ReadCall (take n text) list old answer out
+    → (answer ≡ Value (length query)) × (take (length query) out ≡ query)
