@@ -18,7 +18,7 @@ use Rattle.table.specs.declared.Fault.the-variants.{Nothing, At}
 use Rattle.table.specs.Faults.{faultOf}
 use Rattle.promises.specs.UniqueParts.{UnpackUnique, PackPathUnique, PackStepUnique, TurnUnique, MeetsUnique}
 use Rattle.promises.specs.UniqueParts.{NameStartUnique, NamePartUnique, IndexUnique, FindUnique, SpellUnique, WhiteSpaceUnique, TakeUnique}
-use Rattle.promises.specs.UniqueParts.{RunOfUnique, StepsUnique, MeasureUnique, TableFaultUnique, MarksFaultUnique, CountUnique}
+use Rattle.promises.specs.UniqueParts.{RunOfUnique, StepsUnique, MeasureUnique, PutUnique, TableFaultUnique, MarksFaultUnique, CountUnique}
 use Rattle.promises.specs.UniqueParts.{FillUnique, CopyUnique, KeepUnique, AddUnique, FlipUnique, KeepSecondUnique, AddSecondUnique, KeepMetUnique, AlongUnique}
 use Rattle.promises.proofs.Telling.{same, same-slice}
 
@@ -88,6 +88,10 @@ steps-unique κs a u v x y g p q = walk-unique (now (a .0)) _ _ _ _ _ _ u v p q
 
 pub measure-unique : MeasureUnique
 measure-unique κs a u v x y g p q = same p q
+
+-- BYTES.
+pub put-unique : PutUnique
+put-unique κs a u v x y g p q = (same (p .moved) (q .moved), same-slice (p .wrote) (q .wrote))
 
 -- TABLES.
 fault-same : (r s : Fault) → faultOf r ≡ faultOf s → r ≡ s

@@ -1,4 +1,4 @@
--- The contract of each entry point, and of its form for C, leaves one answer and one content of each slice, whatever the arguments are.
+-- The contract of each entry point, of its form for C, and of what the program prints, leaves one answer and one content of each slice, whatever the arguments are.
 use mathlib.Core.List.{[], _∷_}
 use denote.Ref.{now}
 use Rattle.read.proofs.read
@@ -6,6 +6,7 @@ use Rattle.print.proofs.print
 use Rattle.compose.proofs.compose
 use Rattle.run.proofs.run
 use Rattle.table.proofs.extract
+use Rattle.report.proofs.report
 use Rattle.halyardfig.proofs.halyardfig_read
 use Rattle.halyardfig.proofs.halyardfig_print
 use Rattle.halyardfig.proofs.halyardfig_compose
@@ -47,3 +48,6 @@ abbrev pub ExtractForCUnique : Type 0
 ExtractForCUnique =
     Unique halyardfig_extract.Kinds.ps halyardfig_extract.Kinds.r halyardfig_extract.Reads.Pre halyardfig_extract.Reads.Post
     (λ κs x. now (x .1 .1 .1 .0) ∷ now (x .1 .1 .1 .1 .0) ∷ [])
+
+abbrev pub ReportUnique : Type 0
+ReportUnique = Unique report.Kinds.ps report.Kinds.r report.Reads.Pre report.Reads.Post (λ κs x. now (x .1 .0) ∷ [])

@@ -24,6 +24,7 @@ use Rattle.token.proofs.Cursor.take as take_token
 use Rattle.shape.proofs.run_of
 use Rattle.shape.proofs.steps
 use Rattle.shape.proofs.measure
+use Rattle.print.proofs.put
 use Rattle.table.proofs.table_fault
 use Rattle.table.proofs.marks_fault
 use Rattle.table.proofs.count
@@ -98,6 +99,10 @@ StepsUnique = UniqueAnswer steps.Kinds.ps steps.Kinds.r steps.Reads.Pre steps.Re
 
 abbrev pub MeasureUnique : Type 0
 MeasureUnique = UniqueAnswer measure.Kinds.ps measure.Kinds.r measure.Reads.Pre measure.Reads.Post
+
+-- BYTES.
+abbrev pub PutUnique : Type 0
+PutUnique = Unique put.Kinds.ps put.Kinds.r put.Reads.Pre put.Reads.Post (λ κs x. now (x .0) ∷ [])
 
 -- TABLES.
 abbrev pub TableFaultUnique : Type 0

@@ -2,4 +2,3 @@ pub mod Splitting
 pub mod Digits
 pub mod Values
 pub mod Parts
-pub mod Unique
