@@ -1,1 +1,1 @@
-// No code: what the contracts of the library promise together stands in specs/Entries.antt, the proofs in proofs/.
+// No code: the theorems stand in specs/UniqueEntries.antt, specs/UniqueParts.antt, specs/Entries.antt and specs/Calls.antt, their proofs in proofs/.
