@@ -35,10 +35,6 @@ pub owes-as : (w : ℕ) (i j : Item) → i ≡ unpacked w → i ≡ j → (owedB
 unfolding owing
 owes-as w i j e f = (ap owedBy (sym f ∙ e), few w j (said w j (sym f ∙ e)))
 
-pub owing-few : (w : ℕ) → owing w ≤ 8191
-unfolding owing
-owing-few w = few w (unpacked w) (said w (unpacked w) refl)
-
 -- A step counts as one, another item as none.
 pub step-as : (w : ℕ) (i j : Item) → i ≡ unpacked w → i ≡ j → isStep j ≡ stepItem w
 unfolding stepItem

@@ -109,9 +109,6 @@ write-next new old r v e l =
     ap (λ l. set (new ++ l) r v) rest ∙ set-at new (getD old (length new) 0) (drop (suc (length new)) old) v r e
     ∙ sym (append-assoc new (v ∷ []) (drop (suc (length new)) old)) ∙ ap (λ k. (new ++ v ∷ []) ++ drop k old) (sym n)
 
-pub length-written : (new old : List ℕ) → length new ≤ length old → length (written new old) ≡ length old
-length-written new old h = omega (arith, length-append new (drop (length new) old), length-drop (length new) old)
-
 -- DOCUMENT ORDER. The parent of a node is the node before it or over that.
 abbrev pub InOrder : Table → Type 0
 InOrder t = (i : ℕ) → suc i < nodes t → over t i (parentOf t (suc i)) ≡ true

@@ -82,12 +82,7 @@ module _ (t : Table) (w : Tree t) where
       go zero i h l = absurd (omega arith)
       go (suc b) i h l = one i l (λ z. go b (parentOf t i) (omega (arith, w .falls i z l)) (omega (arith, w .falls i z l)))
 
-  -- The nodes over i are no greater than i, and the root is one of them.
-  pub over-le : (j i : ℕ) → i < nodes t → over t i j ≡ true → j ≤ i
-  over-le j =
-      climb (λ i. over t i j ≡ true → j ≤ i)
-      (λ i l up h. over-cases i j l h (λ e. omega arith) (λ z p. omega (arith, up z p, parent-le t w i l)))
-
+  -- The root is over every node.
   pub over-root : (i : ℕ) → i < nodes t → over t i 0 ≡ true
   over-root =
       climb (λ i. over t i 0 ≡ true)

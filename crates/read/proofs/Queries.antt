@@ -25,6 +25,7 @@ use Rattle.paper.specs.declared.Answer.{Answer}
 use Rattle.paper.specs.declared.Answer.the-variants.{Value, TooLong, BadName, Short}
 use Rattle.paper.proofs.Sizes.{size-items}
 use Rattle.paper.proofs.Refusing.{line-value, when-none, or-none, Refuses, refused-keeps}
+use Rattle.theorems.proofs.Exactly.{read-any-names}
 use Rattle.token.specs.declared.Cursor.{Cursor}
 use Rattle.read.specs.declared.Part.{Part}
 use Rattle.read.specs.declared.Part.the-variants.{Done, NoQuery, TooDeep, UnknownName}
@@ -197,6 +198,10 @@ last-line room q = line 10 (shortOfItems room (size q)) (value (size q))
 
 pub goes-later : (o : Got Query) (end : ℕ) (later : Told) → Sized o end → later ≡ lineGot o (λ q. later)
 goes-later o end later m = rw (m .reads)
+
+-- What is read with the names of a list is read with any names.
+pub any-later : (look : List ℕ → Option ℕ) (text : List ℕ) (end : ℕ) (later : Told) → Sized (readText look text) end → later ≡ lineGot (readText anyName text) (λ q. later)
+any-later look text end later m = sym (ap (λ o. lineGot o (λ q. later)) (read-any-names look text (m .what) (m .left) (m .reads) .1))
 
 module _ (o : Got Query) (room end : ℕ) (m : Sized o end) where
   pub short-room : room < end → told (Short end) ≡ lineGot o (last-line room)

@@ -966,16 +966,17 @@ fn refusal(part: Part) -> Answer
 }
 
 // What `read` answers to a text and a list that are good by themselves: 3 or 4 by place, then 5, then 10.
+// A text that is read with the list's names has no fault of syntax, so only one that is not is judged with any names.
 fn answer(text: &[u8], list: &[u8], starts: &[u16; 257], count: usize, room: usize) -> Answer
     requires { ⌜ Ready (now text) (now list) (now starts) count 0 bracketLimit ⌝ }
     ensures { λ r. ⌜ told r ≡ lineGot (readText (lookOf false (now (list .entry))) (now (text .entry))) (λ q. readLast (now (text .entry)) (now (list .entry)) room) ⌝ }
 {
-    let syntax = measure(text, list, starts, count, false);
-    let Part::Done { next: _, end: _ } = syntax else {
-        return refusal(syntax);
-    };
     let whole = measure(text, list, starts, count, true);
     let Part::Done { next: _, end } = whole else {
+        let syntax = measure(text, list, starts, count, false);
+        let Part::Done { next: _, end: _ } = syntax else {
+            return refusal(syntax);
+        };
         return refusal(whole);
     };
     if room < end {

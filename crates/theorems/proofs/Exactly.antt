@@ -12,7 +12,7 @@ use Rattle.paper.specs.Answers.{anyName}
 use Rattle.paper.specs.Tokens.{Placed, tokens}
 use Rattle.paper.specs.Query.{Query}
 use Rattle.paper.specs.Reading.{Got, got, refused, readText}
-use Rattle.theorems.specs.Grammar.{Derives, ended, Rising, reading, AllKnown, Wrong, Reached, TooDeep, WrongRefused, DeepRefused, ExactText, Settled}
+use Rattle.theorems.specs.Grammar.{Derives, ended, Rising, reading, AllKnown, Wrong, Reached, TooDeep, WrongRefused, DeepRefused, ExactText, Settled, ReadAnyNames}
 use Rattle.theorems.proofs.Accepted.{derived-if, read-if, tokens-ended, all-read}
 use Rattle.theorems.proofs.Refusals.{same-head, append-cancel, same-place, tokens-rising, refused-never, StopsAt, stops-at, refused-wrong-text, refused-deep, refused-deep-text}
 
@@ -143,3 +143,23 @@ settled text = go (readText anyName text) refl
           ⊎-elim (λ three. inl (h ∙ ap (λ m. refused m p) three)) (λ four. inr (h ∙ ap (λ m. refused m p) four))
               (stops-at anyName bracketLimit (tokens text) n p (λ w. (0, refl)) (tokens-ended text) h .number),
         )
+
+-- What some names derive is refused by none.
+pub read-any-names : ReadAnyNames
+unfolding readText
+read-any-names look text q left h =
+    let ts = tokens text in
+    let i = derived-if look bracketLimit ts q left (tokens-ended text) h .0 in
+    ⊎-elim (λ r. r)
+    (λ r.
+    absurd
+    (⊎-elim
+    (λ e.
+    let w = refused-wrong-text text (r .0) e in
+    w .never look bracketLimit (w .after) q (subst (λ l. Derives look bracketLimit l q) (w .split) i))
+    (λ e.
+    let w = refused-deep-text text (r .0) e in
+    let y = w .reached in
+    w .never look (y .after) q (subst (λ l. Derives look bracketLimit l q) (y .split) i))
+    (r .1)))
+    (settled text)

@@ -238,6 +238,10 @@ abbrev pub Settled : Type 0
 Settled =
     (text : List ℕ) → ((q : Query) × (readText anyName text ≡ got q [])) ⊎ ((p : ℕ) × ((readText anyName text ≡ refused 3 p) ⊎ (readText anyName text ≡ refused 4 p)))
 
+-- ANY NAMES: a text that is read with some names is read where every name is known.
+abbrev pub ReadAnyNames : Type 0
+ReadAnyNames = (look : List ℕ → Option ℕ) (text : List ℕ) (q : Query) (left : List Placed) → readText look text ≡ got q left → (r : Query) × (readText anyName text ≡ got r [])
+
 -- A token at a place written out: `//` as `/descendant-or-self::node()/`, `.` as `self::node()`, `..` as `parent::node()`.
 abbrev pub nodesAlong : ℕ → List ℕ → List Placed → List Placed
 nodesAlong p axis rest = tok p (word axis) ∷ tok p colons ∷ tok p (word (ascii "node")) ∷ tok p openRound ∷ tok p closeRound ∷ rest
