@@ -1,6 +1,6 @@
 -- A case of the enum in one number: what `code` gives is the code of what the case tells. Assumes nothing.
 use Prim.Native.Nat.{ℕ, _+_, _*_, _<_}
-use mathlib.Core.Path.{_≡_, refl, sym, _∙_, ap, subst}
+use mathlib.Core.Path.{_≡_, sym, _∙_, ap, subst}
 use Rattle.paper.specs.Answers.{Answer, value, refusal}
 use Rattle.theorems.specs.Bounds.{Small}
 use Rattle.halyardfig.specs.Codes.{high, codeOf}

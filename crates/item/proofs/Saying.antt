@@ -1,9 +1,9 @@
 -- What an unpacked item tells of its number, case by case; and that packing and unpacking undo each other.
 -- Exactly the numbers whose item is not `Bad` are good items. Assumes nothing.
-use Prim.Native.Nat.{ℕ, zero, suc, _+_, _*_, _%_, _/_, _≤_, _<_}
+use Prim.Native.Nat.{ℕ, _<_}
 use native.Mathlib.Omega.{arith}
-use mathlib.Core.Path.{_≡_, refl, sym, _∙_, ap, subst}
-use mathlib.Core.Bool.{Bool, true, false, cond}
+use mathlib.Core.Path.{_≡_, refl, sym, subst}
+use mathlib.Core.Bool.{Bool, true, false}
 use mathlib.Core.Option.{Option, none, some}
 use lib.Dec.{eqb}
 use borrow.Author.Tests.{eqb-true, eqb-false}
@@ -13,8 +13,8 @@ use Rattle.paper.proofs.Fields.{path-at, step-at, path-found, step-found}
 use Rattle.item.specs.declared.Step.{Step}
 use Rattle.item.specs.declared.Item.{Item}
 use Rattle.item.specs.declared.Item.the-variants.{Path, Step as StepItem, And, Or, Not, Bad}
-use Rattle.item.specs.Unpacked.{operatorOf, stepOf, pathOf, unpacked, packed}
-use Rattle.item.proofs.Unpacking.{no-path, no-step}
+use Rattle.item.specs.Unpacked.{pathOf, unpacked, packed}
+use Rattle.item.proofs.Unpacking.{no-path}
 
 -- A step in numbers says the same as a head.
 abbrev pub numbered : Head → Step

@@ -1,9 +1,9 @@
 -- Turning an axis and meeting a test, by their numbers. Assumes nothing.
-use Prim.Native.Nat.{ℕ, zero, suc, _+_, _≤_}
+use Prim.Native.Nat.{ℕ, zero, suc}
 use native.Mathlib.Omega.{arith}
 use mathlib.Core.Path.{_≡_, refl, sym, _∙_, ap}
-use mathlib.Core.Bool.{Bool, true, false}
-use lib.Dec.{eqb, leb, ltb}
+use mathlib.Core.Bool.{true}
+use lib.Dec.{eqb, leb}
 use borrow.Author.Tests.{ltb-true}
 use Rattle.paper.specs.Query.{Axis, self, child, parent, descendantOrSelf, ancestorOrSelf, Test, anyNode, textNode, named, anyElement}
 use Rattle.paper.specs.Items.{axisNumber, testNumber, goodTest}

@@ -1,22 +1,21 @@
 -- What `unpacked` makes of a number, by its kind; and the number that shifted fields make together.
 -- A mask is a remainder and a shift a quotient by a power of two. Assumes nothing.
-use Prim.Native.Nat.{ℕ, zero, suc, _+_, _*_, _/_, _%_, _^_, _-_, _≤_, _<_}
+use Prim.Native.Nat.{ℕ, zero, suc, _+_, _*_, _/_, _%_, _-_, _≤_, _<_}
 use native.Mathlib.Omega.{arith}
-use mathlib.Core.Path.{_≡_, refl, sym, _∙_, ap, ap₂}
-use mathlib.Core.Bool.{Bool, true, false, cond}
+use mathlib.Core.Path.{_≡_, refl, sym, _∙_, ap₂}
+use mathlib.Core.Bool.{Bool, true, false}
 use mathlib.Core.Option.{Option, none, some}
 use mathlib.Core.Logic.{by-cases}
 use native.Mathlib.Decide.{decLt}
-use lib.Dec.{eqb, ltb}
+use lib.Dec.{ltb}
 use lib.Bits.{bitAnd, bitOr, and-mask, or-shifted}
 use borrow.Author.Tests.{lt-ltb, le-ltb, eq-eqb, ne-eqb}
 use Rattle.paper.specs.Query.{Axis, self, child, parent, descendantOrSelf, ancestorOrSelf, Test, anyNode, textNode, named, anyElement}
-use Rattle.paper.specs.Items.{axisNumber, axisOf, testNumber, testOf, pathAt, Head, stepAt, packStep}
+use Rattle.paper.specs.Items.{axisOf, testOf, pathAt, stepAt}
 use Rattle.paper.proofs.Fields.{axis-found, test-found}
 use Rattle.item.specs.declared.Step.{Step}
-use Rattle.item.specs.declared.Item.{Item}
-use Rattle.item.specs.declared.Item.the-variants.{Path, Step as StepItem, And, Or, Not, Bad}
-use Rattle.item.specs.Unpacked.{operatorOf, stepOf, pathOf, unpacked, packed}
+use Rattle.item.specs.declared.Item.the-variants.{Path, Step as StepItem, Bad}
+use Rattle.item.specs.Unpacked.{operatorOf, unpacked, packed}
 
 -- A number of another kind is no path, or no step.
 pub no-path : (w : ℕ) → (w % 8 ≡ 0 → ⊥) → pathAt w ≡ none

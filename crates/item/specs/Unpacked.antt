@@ -1,6 +1,6 @@
 -- What a number says as an item, and the number of a step, by document 01's layout.
 use Prim.Native.Nat.{ℕ, _+_, _*_}
-use mathlib.Core.Bool.{Bool, true, false, cond}
+use mathlib.Core.Bool.{cond}
 use mathlib.Core.Option.{Option, none, some}
 use lib.Dec.{eqb}
 use Rattle.paper.specs.Items.{axisNumber, testNumber, pathAt, Head, stepAt, andItem, orItem, notItem}

@@ -2,23 +2,23 @@
 -- By induction over the query. An expression is read on three levels, as the printed text has them: as a whole (`or`), as a term of `or`
 -- (`and`), and as an operand of `and`. On each level the items of a left-grouped run are counted first, so the law says what is read where
 -- some were counted already. Assumes nothing.
-use Prim.Native.Nat.{ℕ, zero, suc, _+_, _*_, _≤_, _<_, max}
+use Prim.Native.Nat.{ℕ, zero, suc, _+_, _*_, _≤_, _<_}
 use native.Mathlib.Omega.{arith}
 use native.Mathlib.Nat.{add-zero, zero-add}
-use mathlib.Core.Path.{_≡_, refl, sym, _∙_, ap}
-use mathlib.Core.Bool.{Bool, true, false, _&&_, _||_, cond}
-use mathlib.Core.List.{List, [], _∷_, _++_, append-assoc, append-nil}
-use mathlib.Core.Option.{Option, none, some}
+use mathlib.Core.Path.{_≡_, refl, _∙_, ap}
+use mathlib.Core.Bool.{true, false, _&&_, _||_}
+use mathlib.Core.List.{List, [], _∷_, _++_, append-assoc}
+use mathlib.Core.Option.{none, some}
 use lib.Dec.{eqb, ltb, leb}
 use lib.ListN.{length, drop, length-append}
 use borrow.Author.Tests.{ne-eqb, ltb-true, leb-true, le-leb}
-use Rattle.paper.specs.Tools.{found, begins}
+use Rattle.paper.specs.Tools.{found}
 use Rattle.paper.specs.Limits.{bracketLimit}
 use Rattle.paper.specs.Query.{Axis, Test, Expr, path, both, either, negated, Steps, stop, step, Preds, bare, pred, Query, paths}
-use Rattle.paper.specs.Items.{andItem, orItem, notItem, packPath, packStep, pathAt, stepAt, stepCount, predCount}
+use Rattle.paper.specs.Items.{andItem, orItem, stepCount, predCount}
 use Rattle.paper.specs.Items.{encodeExpr, encodeSteps, encodePreds, encodePaths, encode, goodTest, goodExpr, goodSteps, goodPreds, goodPaths, good}
-use Rattle.paper.specs.Items.{leading, Taken, takePreds, takeSteps, takePath, takeOperand, takeAnds, takeTerm, takeOrs, takeExpr, takeWithin, takePaths, asQuery, decode}
-use Rattle.paper.specs.Measures.{isAnd, isOr, roundLeftOfAnd, roundRightOfAnd, roundRightOfOr, inBrackets, nestExpr, nestSteps, nestPreds, nestPaths, nesting}
+use Rattle.paper.specs.Items.{leading, Taken, takePreds, takeSteps, takeOperand, takeAnds, takeTerm, takeOrs, takeExpr, takeWithin, takePaths, decode}
+use Rattle.paper.specs.Measures.{isAnd, isOr, inBrackets, nestExpr, nestSteps, nestPreds, nestPaths, nesting}
 use Rattle.paper.proofs.Tests.{and-true, or-right}
 use Rattle.paper.proofs.Fields.{path-at, step-at}
 

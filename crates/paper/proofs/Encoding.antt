@@ -1,22 +1,22 @@
 -- What decoding finds has these very items: it is a query that can stand in memory, nested at most 64 deep.
 -- By induction over the brackets that may still be opened, and over each count. Assumes nothing.
-use Prim.Native.Nat.{ℕ, zero, suc, _+_, _*_, _≤_, _<_, max}
+use Prim.Native.Nat.{ℕ, zero, suc, _+_, _≤_, _<_}
 use native.Mathlib.Omega.{arith}
 use mathlib.Core.Path.{_≡_, refl, sym, _∙_, ap, ap₂, subst}
-use mathlib.Core.Bool.{Bool, true, false, _&&_, _||_, cond, false≢true}
-use mathlib.Core.List.{List, [], _∷_, _++_, append-assoc, append-nil}
-use mathlib.Core.Option.{Option, none, some}
-use lib.Dec.{eqb, ltb, leb}
+use mathlib.Core.Bool.{Bool, true, false, _||_, cond, false≢true}
+use mathlib.Core.List.{List, [], _∷_, _++_, append-assoc}
+use mathlib.Core.Option.{none, some}
+use lib.Dec.{eqb, leb}
 use lib.ListN.{length, drop, replicate}
-use borrow.Author.Tests.{eqb-true, lt-ltb, le-leb, leb-true}
+use borrow.Author.Tests.{eqb-true, lt-ltb}
 use Rattle.paper.specs.Tools.{found, begins}
 use Rattle.paper.specs.Limits.{bracketLimit}
-use Rattle.paper.specs.Query.{Axis, Test, Expr, path, both, either, negated, Steps, stop, step, Preds, bare, pred, Query, paths}
-use Rattle.paper.specs.Items.{andItem, orItem, notItem, packPath, packStep, pathAt, Head, stepAt, stepCount, predCount}
-use Rattle.paper.specs.Items.{encodeExpr, encodeSteps, encodePreds, encodePaths, encode, goodTest, goodExpr, goodSteps, goodPreds, goodPaths, good}
+use Rattle.paper.specs.Query.{Expr, path, both, either, negated, Steps, step, Preds, bare, Query, paths}
+use Rattle.paper.specs.Items.{andItem, orItem, notItem, packPath, packStep, pathAt, stepAt, stepCount, predCount}
+use Rattle.paper.specs.Items.{encodeExpr, encodeSteps, encodePreds, encodePaths, encode, goodExpr, goodSteps, goodPreds, goodPaths, good}
 use Rattle.paper.specs.Items.{leading, Taken, takePreds, takeSteps, takePath, takeOperand, takeAnds, takeTerm, takeOrs, takeExpr, takeWithin, takePaths, asQuery, decode}
 use Rattle.paper.specs.Measures.{isAnd, isOr, inBrackets, nestExpr, nestSteps, nestPreds, nestPaths, nesting}
-use Rattle.paper.proofs.Tests.{and-true, true-and, none-some, some-inj, found-some, or-false}
+use Rattle.paper.proofs.Tests.{true-and, none-some, some-inj, found-some, or-false}
 use Rattle.paper.proofs.Fields.{path-found, step-found}
 
 -- What was taken from items: they are its own, then those left; it can stand in memory; and its nesting, with what its place adds, is at most d.

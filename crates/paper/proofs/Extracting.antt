@@ -10,7 +10,7 @@ use mathlib.Core.List.{List, [], _∷_, _++_, append-assoc, append-nil}
 use mathlib.Core.Logic.{⊎-elim, by-cases}
 use mathlib.Core.Option.{none}
 use lib.Dec.{eqb, leb}
-use lib.ListN.{length, getD, set, drop, replicate, length-append, length-drop, getD-replicate, List·getD-append}
+use lib.ListN.{length, getD, set, drop, replicate, length-append, getD-replicate, List·getD-append}
 use lib.Seq.{set-at, getD-at, drop-cons, ext-getD}
 use borrow.Author.Tests.{eqb-true, eq-eqb, ne-eqb}
 use Rattle.paper.specs.Tools.{written}

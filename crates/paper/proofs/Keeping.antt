@@ -1,14 +1,14 @@
 -- What a run writes: a mark for each node kept, 0 or 1, and closed. A kept node's parent is over or under the same selected node. Assumes nothing.
-use Prim.Native.Nat.{ℕ, zero, suc, _+_, _≤_, _<_}
+use Prim.Native.Nat.{ℕ, _<_}
 use native.Mathlib.Omega.{arith}
-use mathlib.Core.Path.{_≡_, refl, sym, _∙_, ap, ap₂, subst}
-use mathlib.Core.Bool.{Bool, true, false, not, _&&_, _||_, cond, false≢true}
-use mathlib.Core.List.{List, [], _∷_}
-use mathlib.Core.Logic.{_⊎_, inl, inr, ⊎-elim}
-use mathlib.Core.Option.{Option, none, some}
+use mathlib.Core.Path.{_≡_, refl, sym, _∙_, ap}
+use mathlib.Core.Bool.{Bool, true, false, not, _&&_, _||_, cond}
+use mathlib.Core.List.{List}
+use mathlib.Core.Logic.{_⊎_, ⊎-elim}
+use mathlib.Core.Option.{none}
 use lib.Dec.{eqb}
 use lib.ListN.{length, getD}
-use Rattle.paper.specs.Tools.{someBelow, firstBelow, column}
+use Rattle.paper.specs.Tools.{someBelow}
 use Rattle.paper.specs.Query.{Query}
 use Rattle.paper.specs.Document.{Table, nodes, parentOf, over, tableFault, marked, goodMark, marksFault}
 use Rattle.paper.specs.Selection.{selects, keeps, kept}

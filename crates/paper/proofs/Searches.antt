@@ -4,12 +4,12 @@ use native.Mathlib.Omega.{arith}
 use native.Mathlib.Nat.{add-zero, zero-add}
 use native.Mathlib.Decide.{ℕ-discrete}
 use mathlib.Core.Path.{_≡_, refl, sym, _∙_, ap, ap₂, subst}
-use mathlib.Core.Bool.{Bool, true, false, _&&_, _||_, cond, false≢true}
-use mathlib.Core.List.{List, [], _∷_}
-use mathlib.Core.Logic.{_⊎_, inl, inr, ⊎-elim, by-cases}
-use mathlib.Core.Option.{Option, none, some}
+use mathlib.Core.Bool.{Bool, true, false, _||_, false≢true}
+use mathlib.Core.List.{_∷_}
+use mathlib.Core.Logic.{_⊎_, ⊎-elim, by-cases}
+use mathlib.Core.Option.{none}
 use lib.ListN.{length, getD}
-use Rattle.paper.specs.Tools.{someBelow, someOf, firstFrom, firstBelow, columnFrom, column}
+use Rattle.paper.specs.Tools.{someBelow, firstFrom, columnFrom, column}
 use Rattle.paper.proofs.Tests.{or-true, or-left, or-right, agree, decide, none-some}
 
 -- What passes the test below n is found.

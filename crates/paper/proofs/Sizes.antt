@@ -1,11 +1,11 @@
 -- Size, height and nesting, which are defined on the query, are what its items and its printed text say.
 -- Size is the number of items, height is no more than that, and nesting is the most brackets open at once. Each by induction over the query. Assumes nothing.
-use Prim.Native.Nat.{ℕ, zero, suc, _+_, _-_, _≤_, max}
+use Prim.Native.Nat.{ℕ, _+_, _-_, _≤_, max}
 use native.Mathlib.Omega.{arith}
 use mathlib.Core.Path.{_≡_, refl, sym, _∙_, ap}
-use mathlib.Core.Bool.{Bool, true, false, _||_}
+use mathlib.Core.Bool.{Bool, true, false}
 use mathlib.Core.List.{List, [], _∷_, _++_, append-assoc, append-nil}
-use mathlib.Core.Option.{Option, none, some}
+use mathlib.Core.Option.{some}
 use lib.ListN.{length, length-append}
 use Rattle.paper.specs.Query.{Axis, Test, Expr, path, both, either, negated, Steps, stop, step, Preds, bare, pred, Query, paths}
 use Rattle.paper.specs.Items.{encodeExpr, encodeSteps, encodePreds, encodePaths, encode, decode}

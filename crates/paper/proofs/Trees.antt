@@ -1,19 +1,19 @@
 -- A table with no fault is a tree: parents come before their children, and `over` is the order from a node up to the root.
 -- The way up from a node is no longer than the node's number, so more steps than the table has nodes find nothing new. Assumes nothing.
-use Prim.Native.Nat.{ℕ, zero, suc, _+_, _-_, _≤_, _<_}
+use Prim.Native.Nat.{ℕ, zero, suc, _-_, _≤_, _<_}
 use native.Mathlib.Omega.{arith}
 use native.Mathlib.Decide.{ℕ-discrete}
-use mathlib.Core.Path.{_≡_, refl, sym, _∙_, ap, ap₂, subst}
-use mathlib.Core.Bool.{Bool, true, false, not, _&&_, _||_, cond, false≢true}
-use mathlib.Core.List.{List, [], _∷_}
+use mathlib.Core.Path.{_≡_, refl, sym, _∙_, ap, subst}
+use mathlib.Core.Bool.{Bool, true, false, not, _&&_, _||_}
+use mathlib.Core.List.{List}
 use mathlib.Core.Logic.{_⊎_, inl, inr, ⊎-elim, by-cases}
-use mathlib.Core.Option.{Option, none, some}
+use mathlib.Core.Option.{none}
 use lib.Dec.{eqb, leb}
-use lib.ListN.{length, getD}
-use borrow.Author.Tests.{eqb-true, eqb-false, eq-eqb, ne-eqb, leb-true, not-false, not-true}
-use Rattle.paper.specs.Tools.{firstFrom, firstBelow}
+use lib.ListN.{getD}
+use borrow.Author.Tests.{eqb-true, eq-eqb, ne-eqb, not-false}
+use Rattle.paper.specs.Tools.{firstBelow}
 use Rattle.paper.specs.Document.{Table, nodes, parentOf, kindOf, climbs, over, goodNode, tableFault, marked, goodMark, marksFault}
-use Rattle.paper.proofs.Tests.{and-true, or-true, or-left, or-right, decide, none-some}
+use Rattle.paper.proofs.Tests.{and-true, or-true, or-left, or-right, none-some}
 use Rattle.paper.proofs.Searches.{first-none}
 
 -- A tree: there is a root, which is its own parent, and every other parent is smaller than its child.

@@ -1,9 +1,9 @@
 -- 01, "Composition": one query for an outer query run inside what an inner query keeps.
-use Prim.Native.Nat.{ℕ, zero, suc, _+_, _*_, _-_, max}
+use Prim.Native.Nat.{ℕ, _+_, _*_, _-_, max}
 use mathlib.Core.List.{List, [], _∷_, map}
 use lib.ListN.{length}
 use Rattle.paper.specs.Query.{Axis, self, child, parent, descendantOrSelf, ancestorOrSelf}
-use Rattle.paper.specs.Query.{Test, anyNode, textNode, named, anyElement}
+use Rattle.paper.specs.Query.{Test, anyNode}
 use Rattle.paper.specs.Query.{Expr, path, both, either, negated, Steps, stop, step, Preds, bare, pred, Query, paths}
 use Rattle.paper.specs.Measures.{size, nesting}
 

@@ -1,11 +1,11 @@
 -- 01, "The document": the node table and the marks, with what is wrong with bad ones.
-use Prim.Native.Nat.{ℕ, zero, suc, _-_, _≤_}
-use mathlib.Core.Bool.{Bool, true, false, not, _&&_, _||_, cond}
-use mathlib.Core.List.{List, [], _∷_}
-use mathlib.Core.Option.{Option, none, some}
+use Prim.Native.Nat.{ℕ, zero, suc, _-_}
+use mathlib.Core.Bool.{Bool, not, _&&_, _||_, cond}
+use mathlib.Core.List.{List}
+use mathlib.Core.Option.{Option, some}
 use lib.Dec.{eqb, leb}
 use lib.ListN.{length, getD}
-use Rattle.paper.specs.Tools.{firstBelow, when}
+use Rattle.paper.specs.Tools.{firstBelow}
 
 -- Two columns, parent and kind.
 pub record Table : Type 0 where

@@ -1,8 +1,7 @@
 -- 01, "Extract": the marked nodes in order, as a table of their own.
 use Prim.Native.Nat.{ℕ, zero, suc}
-use mathlib.Core.Bool.{Bool, true, false, cond}
+use mathlib.Core.Bool.{cond}
 use mathlib.Core.List.{List, [], _∷_}
-use lib.ListN.{length}
 use Rattle.paper.specs.Document.{Table, nodes, parentOf, kindOf, marked}
 
 -- How many of the first n nodes are marked: the new number of node n.

@@ -1,12 +1,12 @@
 -- 01, "Printing": the text of a query, with the axes written out.
 use Prim.Native.Nat.{ℕ, _+_, _-_, max}
-use mathlib.Core.Bool.{Bool, true, false, cond}
+use mathlib.Core.Bool.{Bool, true, false}
 use mathlib.Core.List.{List, [], _∷_, _++_}
 use lib.ListN.{getD}
 use Rattle.paper.specs.Tools.{ascii}
 use Rattle.paper.specs.Query.{Axis, self, child, parent, descendantOrSelf, ancestorOrSelf}
 use Rattle.paper.specs.Query.{Test, anyNode, textNode, named, anyElement}
-use Rattle.paper.specs.Query.{Expr, path, both, either, negated, Steps, stop, step, Preds, bare, pred, Query, paths}
+use Rattle.paper.specs.Query.{Expr, path, both, either, negated, Steps, stop, step, Preds, bare, pred, Query}
 use Rattle.paper.specs.Measures.{roundLeftOfAnd, roundRightOfAnd, roundRightOfOr}
 
 -- The pieces of a printed text: signs, the three brackets with the two that close them, the operators, an axis, a test.

@@ -1,6 +1,6 @@
 -- 01, "The part of XPath": what a query is.
 use Prim.Native.Nat.{ℕ}
-use mathlib.Core.List.{List, [], _∷_}
+use mathlib.Core.List.{List, _∷_}
 
 -- The axes.
 pub data Axis : Type 0 where

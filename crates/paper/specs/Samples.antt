@@ -2,7 +2,7 @@
 -- The tables go by the definitions of the entry points and of the program, and by texts.
 use Prim.Native.Nat.{ℕ, zero, suc, _-_}
 use Prim.Native.String.{String}
-use mathlib.Core.Bool.{Bool, true, false, _&&_}
+use mathlib.Core.Bool.{Bool, true, _&&_}
 use mathlib.Core.List.{List, [], _∷_, _++_, map}
 use lib.Dec.{T}
 use lib.ListN.{replicate, take}

@@ -1,7 +1,7 @@
 -- 01, "Run": what a query selects inside marks, as XPath 1.0 says it, and what the subtree rule keeps.
-use Prim.Native.Nat.{ℕ, zero, suc, _+_}
-use mathlib.Core.Bool.{Bool, true, false, not, _&&_, _||_, cond}
-use mathlib.Core.List.{List, [], _∷_}
+use Prim.Native.Nat.{ℕ, _+_}
+use mathlib.Core.Bool.{Bool, true, not, _&&_, _||_, cond}
+use mathlib.Core.List.{List}
 use lib.Dec.{eqb, leb}
 use Rattle.paper.specs.Tools.{someBelow, someOf, column}
 use Rattle.paper.specs.Query.{Axis, self, child, parent, descendantOrSelf, ancestorOrSelf}

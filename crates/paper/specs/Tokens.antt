@@ -1,6 +1,6 @@
 -- 01, "The part of XPath": a text read token by token, longest token first.
-use Prim.Native.Nat.{ℕ, zero, suc, pred, _+_}
-use mathlib.Core.Bool.{Bool, true, false, not, _&&_, _||_, cond}
+use Prim.Native.Nat.{ℕ, zero, suc, pred}
+use mathlib.Core.Bool.{Bool, _||_, cond}
 use mathlib.Core.List.{List, [], _∷_}
 use lib.Dec.{eqb}
 use lib.ListN.{length, take}

@@ -16,7 +16,7 @@ ghost use Rattle.paper.specs.Limits.{bracketLimit};
 ghost use Rattle.paper.specs.Tokens.{sort, letters};
 ghost use Rattle.paper.specs.Query.{Axis, child, Test};
 ghost use Rattle.paper.specs.Items.{axisNumber, testNumber, packPath, encodeExpr};
-ghost use Rattle.paper.specs.Reading.{next, at, then, got, axisNamed, startsStep, readTail, readTested, readStep, readSteps, readOperand, readTerm, readExpr, readPath, readWithin, readText};
+ghost use Rattle.paper.specs.Reading.{next, at, then, got, axisNamed, startsStep, readTail, readTested, readStep, readSteps, readOperand, readExpr, readPath, readWithin, readText};
 ghost use Rattle.paper.specs.Answers.{readAnswer, readOut, readLast, lineGot};
 ghost use Rattle.paper.specs.Told.{told};
 ghost use Rattle.item.specs.Unpacked.{packed};

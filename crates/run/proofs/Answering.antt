@@ -1,7 +1,7 @@
 -- The lines of a run, in their order: what refuses it, and what is known where nothing does. Assumes nothing.
-use Prim.Native.Nat.{ℕ, zero, suc, _+_, _-_, _*_, _≤_, _<_}
+use Prim.Native.Nat.{ℕ, _+_, _-_, _*_, _≤_, _<_}
 use native.Mathlib.Omega.{arith}
-use native.Mathlib.Nat.{mul-le-mul, mul-le-mul-left, le-trans}
+use native.Mathlib.Nat.{mul-le-mul, le-trans}
 use mathlib.Core.Path.{_≡_, refl, sym, _∙_, ap, ap₂}
 use mathlib.Core.Bool.{Bool, true, false, not, _||_, _&&_, cond}
 use mathlib.Core.List.{List, [], _++_, append-nil}
@@ -10,20 +10,19 @@ use mathlib.Core.Option.{Option, none, some}
 use lib.Dec.{eqb, ltb}
 use lib.ListN.{length, getD, take, drop, replicate, length-replicate, drop-of-length-le}
 use lib.Seq.{ext-getD, length-take-le}
-use borrow.Author.Tests.{lt-ltb, le-ltb, ltb-false, ltb-true, eq-eqb, ne-eqb, eqb-true, not-false}
-use Rattle.paper.specs.Tools.{when, written}
+use borrow.Author.Tests.{lt-ltb, le-ltb, ltb-false, eq-eqb, eqb-true, not-false}
+use Rattle.paper.specs.Tools.{when}
 use Rattle.paper.specs.Limits.{itemLimit, nodeLimit}
 use Rattle.paper.specs.Query.{Query}
 use Rattle.paper.specs.Items.{decode}
-use Rattle.paper.specs.Measures.{size, height}
+use Rattle.paper.specs.Measures.{height}
 use Rattle.paper.specs.Document.{Table, nodes, parentOf, tableFault, marked, goodMark, marksFault, tableOf}
-use Rattle.paper.specs.Extraction.{rank}
 use Rattle.paper.specs.Selection.{kept}
-use Rattle.paper.specs.Answers.{value, refusal, line, lineQuery, tooLong, short, scratchOf, markedCount, atExit, runAnswer, runMarks, runScratch, keptGot, zerosGot}
+use Rattle.paper.specs.Answers.{value, refusal, line, lineQuery, tooLong, short, scratchOf, markedCount, runAnswer, runMarks, runScratch, keptGot, zerosGot}
 use Rattle.paper.specs.Answers.{Answer as Told}
 use Rattle.paper.specs.Told.{told}
 use Rattle.paper.specs.declared.Answer.{Answer}
-use Rattle.paper.proofs.Tests.{none-some, some-inj, and-true, or-true}
+use Rattle.paper.proofs.Tests.{and-true, or-true}
 use Rattle.paper.proofs.Searches.{length-column, column-at}
 use Rattle.paper.proofs.Trees.{tree, good-marks}
 use Rattle.paper.proofs.Sizes.{size-decoded, height-size}

@@ -1,18 +1,18 @@
 -- What an operand needs of what it holds, and its set from that one's, by its first item. Assumes nothing.
-use Prim.Native.Nat.{ℕ, zero, suc, _+_, _-_, _*_, _≤_, _<_, max}
+use Prim.Native.Nat.{ℕ, suc, _+_, _-_, _≤_, _<_}
 use native.Mathlib.Omega.{arith}
-use mathlib.Core.Path.{_≡_, refl, sym, _∙_, ap, subst, fun-ext}
-use mathlib.Core.Bool.{Bool, true, false, not, _&&_}
+use mathlib.Core.Path.{_≡_, sym, _∙_, ap}
+use mathlib.Core.Bool.{Bool, not}
 use mathlib.Core.List.{List, [], _∷_}
 use mathlib.Core.Logic.{by-cases}
-use mathlib.Core.Option.{Option, none, some}
+use mathlib.Core.Option.{some}
 use native.Mathlib.Decide.{ℕ-discrete, decLt}
 use lib.ListN.{length, getD, take, drop}
 use denote.Enum.Declared.{tagOf}
 use types.Run.{OneOf, miss}
 use Rattle.paper.specs.Tools.{found}
-use Rattle.paper.specs.Query.{Expr, path, both, either, negated, Steps}
-use Rattle.paper.specs.Items.{andItem, orItem, notItem, pathAt, Head, stepAt, Taken, takeSteps, takeOperand, takeWithin}
+use Rattle.paper.specs.Query.{Expr, path, negated}
+use Rattle.paper.specs.Items.{andItem, orItem, notItem, pathAt, Taken, takeSteps, takeOperand, takeWithin}
 use Rattle.paper.specs.Measures.{heightExpr, heightSteps}
 use Rattle.paper.specs.Document.{Table}
 use Rattle.paper.specs.Selection.{holds, finds}

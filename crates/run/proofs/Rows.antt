@@ -1,29 +1,29 @@
 -- Predicates in a row, each narrowing the first set; and the steps of a path, found one by one from its start. Assumes nothing.
-use Prim.Native.Nat.{ℕ, zero, suc, _+_, _-_, _*_, _≤_, _<_, max}
+use Prim.Native.Nat.{ℕ, zero, suc, _+_, _-_, _≤_, _<_}
 use native.Mathlib.Omega.{arith}
-use native.Mathlib.Nat.{sub-zero, suc-sub-suc}
+use native.Mathlib.Nat.{sub-zero}
 use native.Mathlib.Numerals.{add-one}
-use mathlib.Core.Path.{_≡_, refl, sym, _∙_, ap, ap₂, subst, fun-ext}
+use mathlib.Core.Path.{_≡_, refl, sym, _∙_, ap, ap₂, fun-ext}
 use mathlib.Core.Bool.{Bool, true, false, cond, _&&_}
 use mathlib.Core.List.{List, [], _∷_, _++_}
 use mathlib.Core.Logic.{by-cases}
-use mathlib.Core.Option.{Option, none, some}
+use mathlib.Core.Option.{none, some}
 use native.Mathlib.Decide.{decLt}
 use lib.ListN.{length, getD, take, drop, replicate, drop-of-length-le}
-use lib.Seq.{drop-cons, ext-getD}
-use Rattle.paper.specs.Tools.{found, column, columnFrom}
+use lib.Seq.{drop-cons}
+use Rattle.paper.specs.Tools.{found, columnFrom}
 use Rattle.paper.specs.Query.{Axis, Test, Expr, Steps, stop, step, Preds, bare, pred}
-use Rattle.paper.specs.Items.{Head, stepAt, stepCount, goodTest, Taken, takePreds, takeSteps, takeWithin}
+use Rattle.paper.specs.Items.{Head, stepAt, stepCount, Taken, takePreds, takeSteps, takeWithin}
 use Rattle.paper.specs.Measures.{heightExpr, heightSteps, heightPreds}
 use Rattle.paper.specs.Document.{Table, kindOf, marked}
 use Rattle.paper.specs.Selection.{meets, holds, finds, allHold}
 use Rattle.paper.specs.Composition.{turned}
 use Rattle.paper.proofs.Tests.{found-some, none-some, some-inj}
 use Rattle.paper.proofs.Decoding.{orsFrom, whole}
-use Rattle.paper.proofs.Encoding.{FromSteps, from-steps, from-within}
+use Rattle.paper.proofs.Encoding.{from-steps, from-within}
 use Rattle.shape.proofs.Walking.{ahead, appendPreds, preds-bare, bare-preds, preds-append, height-preds, pred-row}
 use Rattle.sets.specs.Sets.{bits, image}
-use Rattle.run.specs.Evals.{Fits, Ends, Evaluates, Narrows, Readable, StepThere}
+use Rattle.run.specs.Evals.{Fits, Ends, Evaluates, Narrows, Readable}
 use Rattle.run.proofs.Slices.{front-back}
 use Rattle.run.proofs.Stepwise.{back-step}
 use Rattle.run.proofs.Running.{behind, enough, two-fit, some-height}

@@ -4,14 +4,14 @@ use Prim.Native.Nat.{ℕ, zero, suc, _+_, _-_, _*_, _≤_, _<_, max}
 use native.Mathlib.Omega.{arith}
 use native.Mathlib.Nat.{mul-le-mul-left}
 use mathlib.Core.Path.{_≡_, refl, sym, _∙_, ap, fun-ext}
-use mathlib.Core.Bool.{Bool, true, false, _&&_, _||_}
-use mathlib.Core.List.{List, [], _∷_, _++_}
-use mathlib.Core.Option.{Option, none, some}
+use mathlib.Core.Bool.{Bool, _&&_, _||_}
+use mathlib.Core.List.{List}
+use mathlib.Core.Option.{some}
 use lib.ListN.{length, take, drop}
 use lib.Seq.{drop-drop}
 use Rattle.paper.specs.Tools.{found}
 use Rattle.paper.specs.Query.{Expr, path, both, either, negated}
-use Rattle.paper.specs.Items.{andItem, orItem, leading, Taken, takeOperand, takeAnds, takeTerm, takeOrs, takeWithin}
+use Rattle.paper.specs.Items.{andItem, orItem, leading, Taken, takeOperand, takeAnds, takeOrs, takeWithin}
 use Rattle.paper.specs.Measures.{heightExpr}
 use Rattle.paper.specs.Document.{Table}
 use Rattle.paper.specs.Selection.{holds}

@@ -1,27 +1,27 @@
 -- The top-level paths of a query over all nodes at once: the set of the root alone, moved forward step by step, and what is selected spread up and down.
 -- Assumes nothing.
-use Prim.Native.Nat.{ℕ, zero, suc, _+_, _-_, _*_, _≤_, _<_, max}
+use Prim.Native.Nat.{ℕ, zero, suc, _+_, _-_, _≤_, _<_}
 use native.Mathlib.Omega.{arith}
 use native.Mathlib.Numerals.{add-one}
-use native.Mathlib.Decide.{decLt, ℕ-discrete}
+use native.Mathlib.Decide.{decLt}
 use mathlib.Core.Path.{_≡_, refl, sym, _∙_, ap, ap₂, subst, fun-ext}
 use mathlib.Core.Bool.{Bool, true, false, cond, _&&_, _||_}
 use mathlib.Core.List.{List, [], _∷_, _++_, append-assoc, append-nil}
 use mathlib.Core.Logic.{by-cases, ⊎-elim}
-use mathlib.Core.Option.{Option, none, some}
+use mathlib.Core.Option.{none, some}
 use lib.Dec.{eqb, leb}
 use lib.ListN.{length, getD, take, drop, set, replicate, drop-of-length-le}
 use lib.Seq.{drop-cons}
 use borrow.Author.Tests.{eqb-true, eq-eqb, ne-eqb}
-use Rattle.paper.specs.Tools.{someBelow, someOf, column, columnFrom, found}
+use Rattle.paper.specs.Tools.{someBelow, someOf, columnFrom}
 use Rattle.paper.specs.Limits.{bracketLimit}
-use Rattle.paper.specs.Query.{Axis, descendantOrSelf, ancestorOrSelf, Test, Steps, stop, step, Preds, Query, paths}
-use Rattle.paper.specs.Items.{Head, pathAt, stepAt, Taken, takePreds, takeSteps, takePath, takeWithin, takePaths, asQuery, decode}
+use Rattle.paper.specs.Query.{descendantOrSelf, ancestorOrSelf, Steps, stop, step, Preds, Query, paths}
+use Rattle.paper.specs.Items.{Head, pathAt, stepAt, takePreds, takeSteps, takePath, takeWithin, takePaths, asQuery, decode}
 use Rattle.paper.specs.Measures.{heightSteps, heightPreds, heightPaths, height}
 use Rattle.paper.specs.Document.{Table, nodes, kindOf, marked, over}
 use Rattle.paper.specs.Selection.{leads, meets, allHold, arrives, selects}
 use Rattle.paper.proofs.Tests.{and-true, true-and, or-true, or-left, or-right, agree, found-some, none-some, some-inj}
-use Rattle.paper.proofs.Searches.{some-intro, some-elim, some-same, some-agree, column-same}
+use Rattle.paper.proofs.Searches.{some-intro, some-elim, column-same}
 use Rattle.sets.specs.Sets.{bits, image}
 use Rattle.run.specs.Evals.{Fits, Narrows, Moves, Runs, keepsBy}
 use Rattle.run.proofs.Slices.{front-back}

@@ -1,15 +1,14 @@
 -- A slice whose part was lent and has come back: what stands in its first set and in the one behind it. Assumes nothing.
-use Prim.Native.Nat.{ℕ, zero, suc, _+_, _-_, _≤_}
+use Prim.Native.Nat.{ℕ, _+_, _-_, _≤_}
 use native.Mathlib.Omega.{arith}
-use native.Mathlib.Nat.{add-sub-cancel-left}
-use mathlib.Core.Path.{_≡_, refl, sym, _∙_, ap}
-use mathlib.Core.List.{List, [], _++_, append-nil}
+use mathlib.Core.Path.{_≡_, _∙_, ap}
+use mathlib.Core.List.{List, _++_, append-nil}
 use lib.ListN.{length, take, drop, length-take, length-drop, drop-of-length-le}
-use lib.Seq.{take-at, drop-at, take-all, length-take-le, length-front}
+use lib.Seq.{take-at, drop-at, length-take-le, length-front}
 use mathlib.Core.Bool.{Bool, cond}
 use Rattle.paper.proofs.Searches.{length-column}
 use Rattle.sets.specs.Sets.{bits}
-use borrow.Rule.Slice.PartMut.{putMid, midOf, take-put, same-len-mid}
+use borrow.Rule.Slice.PartMut.{putMid, take-put, same-len-mid}
 
 module _ (n : ℕ) (sets part : List ℕ) (l : n ≤ length sets) where
   -- The part from n on is as long as what is left.

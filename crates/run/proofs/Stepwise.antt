@@ -1,14 +1,13 @@
 -- One step of a path over all nodes at once: backward, the nodes from which it finds; forward, the nodes to which it leads.
 -- Backward goes along the turned axis, since that leads back. Assumes nothing.
-use Prim.Native.Nat.{ℕ, zero, suc, _+_, _≤_, _<_}
-use mathlib.Core.Path.{_≡_, refl, sym, _∙_, ap, ap₂}
-use mathlib.Core.Bool.{Bool, true, false, _&&_, _||_}
+use Prim.Native.Nat.{ℕ}
+use mathlib.Core.Path.{_≡_, refl, sym, _∙_, ap}
+use mathlib.Core.Bool.{Bool, true, false, _&&_}
 use mathlib.Core.List.{List}
-use mathlib.Core.Logic.{⊎-elim}
 use lib.Dec.{eqb}
 use borrow.Author.Tests.{eqb-true, eq-eqb}
 use Rattle.paper.specs.Tools.{someBelow}
-use Rattle.paper.specs.Query.{Axis, self, child, parent, descendantOrSelf, ancestorOrSelf, Test, Steps, stop, step, Preds}
+use Rattle.paper.specs.Query.{Axis, self, child, parent, descendantOrSelf, ancestorOrSelf, Test, Steps, step, Preds}
 use Rattle.paper.specs.Document.{Table, nodes, kindOf, marked}
 use Rattle.paper.specs.Selection.{leads, meets, reaches, finds, allHold, arrives}
 use Rattle.paper.specs.Composition.{turned}

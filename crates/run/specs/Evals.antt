@@ -1,5 +1,5 @@
 -- What evaluating items over all nodes at once gives: where it ends, and the set of nodes at which what stands there holds.
-use Prim.Native.Nat.{ℕ, _+_, _*_, _≤_}
+use Prim.Native.Nat.{ℕ, _*_, _≤_}
 use mathlib.Core.Path.{_≡_}
 use mathlib.Core.Bool.{Bool, not, _&&_, _||_}
 use lib.Dec.{eqb, ltb}
@@ -8,7 +8,7 @@ use mathlib.Core.Option.{some}
 use lib.ListN.{length, take, drop}
 use Rattle.paper.specs.Tools.{someBelow, when}
 use Rattle.paper.specs.Limits.{itemLimit, nodeLimit}
-use Rattle.paper.specs.Query.{Expr, Steps, Preds, Query}
+use Rattle.paper.specs.Query.{Steps, Query}
 use Rattle.paper.specs.Measures.{height}
 use Rattle.paper.specs.Selection.{arrives}
 use Rattle.paper.specs.Answers.{Answer, value, line, lineQuery, tooLong, short, scratchOf}

@@ -1,23 +1,22 @@
 -- What an operand of `and` is, by its first item. Assumes nothing.
-use Prim.Native.Nat.{ℕ, zero, suc, _+_, _-_, _*_, _^_, _≤_, _<_, max}
+use Prim.Native.Nat.{ℕ, zero, suc, _+_, _-_, _*_, _^_, _≤_, _<_}
 use native.Mathlib.Omega.{arith}
 use native.Mathlib.Numerals.{add-one}
-use mathlib.Core.Path.{_≡_, refl, sym, _∙_, ap, ap₂, subst}
-use mathlib.Core.Bool.{Bool, true, false, _||_, false≢true}
-use mathlib.Core.List.{List, [], _∷_, _++_}
-use mathlib.Core.Option.{Option, none, some}
+use mathlib.Core.Path.{_≡_, refl, sym, _∙_, ap, subst}
+use mathlib.Core.Bool.{true, false, false≢true}
+use mathlib.Core.List.{List, [], _∷_}
+use mathlib.Core.Option.{none, some}
 use lib.Dec.{eqb}
 use lib.ListN.{length, getD, drop, drop-of-length-le}
 use lib.Seq.{drop-cons}
 use borrow.Author.Tests.{ne-eqb, le-leb}
 use Rattle.paper.specs.Tools.{found, begins}
-use Rattle.paper.specs.Query.{Expr, path, both, either, negated, Steps}
-use Rattle.paper.specs.Items.{andItem, orItem, notItem, pathAt, Head, stepAt, packPath, stepCount, encodeExpr, Taken, takeSteps, takePath, takeOperand, takeTerm, takeOrs, takeExpr, takeWithin}
-use Rattle.paper.specs.Measures.{isAnd, isOr, inBrackets, nestExpr, nestSteps, heightExpr, heightSteps}
-use Rattle.paper.proofs.Tests.{some-inj}
+use Rattle.paper.specs.Query.{Expr, path, both, either, negated}
+use Rattle.paper.specs.Items.{andItem, orItem, notItem, pathAt, Head, stepAt, Taken, takeSteps, takeOperand, takeTerm, takeOrs, takeExpr, takeWithin}
+use Rattle.paper.specs.Measures.{isAnd, isOr, nestExpr, nestSteps, heightExpr, heightSteps}
 use Rattle.paper.proofs.Fields.{path-found, step-found}
 use Rattle.paper.proofs.Decoding.{orsFrom, andsFrom, whole, term, one-or, one-and}
-use Rattle.paper.proofs.Encoding.{From, from-operand, from-within}
+use Rattle.paper.proofs.Encoding.{from-operand, from-within}
 use Rattle.item.specs.declared.Item.{Item}
 use Rattle.item.specs.declared.Item.the-variants.{Path, Step as StepItem, And, Or, Not, Bad}
 use Rattle.item.proofs.Saying.{Said}
@@ -27,7 +26,7 @@ use denote.Enum.Declared.{tagOf}
 use types.Run.{OneOf, miss}
 use Rattle.shape.specs.declared.Walked.{Walked}
 use Rattle.shape.specs.declared.Walked.the-variants.{Done, Malformed}
-use Rattle.shape.specs.Walks.{nestTerm, nestOperand, Walk, Walks, raisedBy, Small}
+use Rattle.shape.specs.Walks.{nestTerm, nestOperand, Walks, raisedBy, Small}
 use Rattle.shape.proofs.Walking.{begins-and, begins-or}
 
 -- A number that is a path's is no operator's and not `not`.

@@ -3,7 +3,6 @@ use Prim.Native.Nat.{ℕ, zero, suc, _+_, _≤_, _<_, max}
 use native.Mathlib.Omega.{arith}
 use native.Mathlib.Numerals.{add-one}
 use mathlib.Core.Path.{_≡_, refl, sym, _∙_, ap, ap₂}
-use mathlib.Core.Bool.{Bool, true, false, _||_}
 use mathlib.Core.List.{List, [], _∷_, _++_, append-assoc, append-nil}
 use mathlib.Core.Option.{Option, none, some}
 use lib.Dec.{leb}
@@ -11,12 +10,11 @@ use lib.ListN.{length, getD, drop, drop-of-length-le}
 use lib.Seq.{drop-cons}
 use Rattle.paper.specs.Tools.{found}
 use Rattle.paper.specs.Limits.{bracketLimit}
-use Rattle.paper.specs.Query.{Steps, Query}
-use Rattle.paper.specs.Items.{pathAt, takeSteps, takePath, takeWithin, takePaths, asQuery, decode}
+use Rattle.paper.specs.Query.{Steps}
+use Rattle.paper.specs.Items.{pathAt, takeSteps, takeWithin, takePaths, asQuery, decode}
 use Rattle.paper.specs.Measures.{nestSteps, nestPaths, nesting, heightSteps, heightPaths, height}
 use Rattle.paper.proofs.Tests.{or-right}
 use Rattle.shape.specs.Walks.{Walk, shapeOf}
-use Rattle.shape.specs.declared.Shape.{Shape}
 use Rattle.shape.specs.declared.Shape.the-variants.{Query as IsQuery, Malformed as NoQuery}
 
 -- What has been read: these paths, and as many more as the items that are left hold.

@@ -2,10 +2,10 @@
 -- The idea is the same each time: what is left to read gives the answer of the whole. Assumes nothing.
 use Prim.Native.Nat.{ℕ, zero, suc, _+_, _-_, _*_, _≤_, _<_, max}
 use native.Mathlib.Omega.{arith}
-use mathlib.Core.Path.{_≡_, refl, sym, _∙_, ap, ap₂, subst}
-use mathlib.Core.Bool.{Bool, true, false, _||_, false≢true}
+use mathlib.Core.Path.{_≡_, refl, sym, _∙_, ap, ap₂}
+use mathlib.Core.Bool.{Bool, true, false, _||_}
 use mathlib.Core.List.{List, [], _∷_, _++_}
-use mathlib.Core.Option.{Option, none, some}
+use mathlib.Core.Option.{none, some}
 use lib.Dec.{eqb}
 use lib.ListN.{length, getD, drop, drop-of-length-le}
 use lib.Seq.{drop-cons, drop-drop}
@@ -14,13 +14,13 @@ use borrow.Author.Tests.{ne-eqb, eqb-false}
 use mathlib.Core.Logic.{⊎-elim}
 use Rattle.paper.proofs.Tests.{decide}
 use Rattle.paper.specs.Tools.{found, begins}
-use Rattle.paper.specs.Query.{Axis, Test, Expr, path, both, either, negated, Steps, stop, step, Preds, bare, pred}
-use Rattle.paper.specs.Items.{andItem, orItem, notItem, stepCount, Head, stepAt, encodeExpr, leading, Taken, takePreds, takeSteps, takeOperand, takeAnds, takeTerm, takeOrs, takeExpr, takeWithin}
+use Rattle.paper.specs.Query.{Expr, path, both, either, negated, Steps, stop, step, Preds, bare, pred}
+use Rattle.paper.specs.Items.{andItem, orItem, stepCount, Head, stepAt, encodeExpr, leading, Taken, takePreds, takeSteps, takeOperand, takeAnds, takeTerm, takeOrs, takeWithin}
 use Rattle.paper.specs.Measures.{isAnd, isOr, inBrackets, nestExpr, nestSteps, nestPreds, heightExpr, heightSteps, heightPreds}
 use Rattle.paper.specs.Composition.{append}
 use Rattle.paper.proofs.Decoding.{orsFrom, andsFrom, whole, term}
-use Rattle.paper.proofs.Encoding.{From, from-operand, from-term, from-within}
-use Rattle.shape.specs.Walks.{nestTerm, nestOperand, Walk, Walks}
+use Rattle.paper.proofs.Encoding.{from-operand, from-term, from-within}
+use Rattle.shape.specs.Walks.{nestTerm, nestOperand, Walk}
 
 -- A run of operators: `one` reads an operand, `more n e` reads n more and joins each to e.
 module _ (one : List ℕ → Taken Expr) (more : ℕ → Expr → List ℕ → Taken Expr) (join : Expr → Expr → Expr) (nestLeft nestRight : Expr → ℕ)

@@ -1,5 +1,5 @@
 -- An answer fits in 32 bits: its value, or its place.
-use Prim.Native.Nat.{ℕ, _<_}
+use Prim.Native.Nat.{_<_}
 use Rattle.paper.specs.Answers.{Answer, value, refusal}
 
 -- The value, or the place, is below 2^32.

@@ -1,6 +1,6 @@
 -- `compose::count_steps` meets its contract. The invariant: what was counted and what is left make up the whole. The measure is what is left of the items. Assumes nothing.
 use borrow.Author.Needs.{needs}
-use Prim.Native.Nat.{_+_, ℕ, _-_, _≤_}
+use Prim.Native.Nat.{_+_, _-_, _≤_}
 use native.Mathlib.Omega.{arith}
 use mathlib.Core.Path.{_≡_}
 use denote.Ref.{now}

@@ -6,10 +6,10 @@ use native.Mathlib.Numerals.{add-one}
 use mathlib.Core.Path.{_≡_, refl, sym, _∙_, ap}
 use mathlib.Core.List.{List}
 use denote.Ref.{now}
-use lib.ListN.{length, getD, set, take, drop, replicate, length-set, length-replicate, getD-replicate}
+use lib.ListN.{length, set, replicate, length-set, length-replicate, getD-replicate}
 use lib.Seq.{paste, paste-zero, paste-suc}
 use Rattle.paper.specs.Items.{orItem}
-use Rattle.compose.proofs.Placing.{copied-all, ahead, of-part, part-length}
+use Rattle.compose.proofs.Placing.{copied-all}
 use Rattle.compose.proofs.put_ors.Statement.{statement}
 use Rattle.compose.proofs.put_ors.Tie as tie
 

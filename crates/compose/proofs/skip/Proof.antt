@@ -1,11 +1,11 @@
 -- `compose::skip` meets its contract. The invariant: what was passed and what is left make up what is owed in all. The measure is what is left of the items. Assumes nothing.
 use borrow.Author.Needs.{needs}
-use Prim.Native.Nat.{_+_, _*_, ℕ, _-_, _≤_}
+use Prim.Native.Nat.{_+_, _*_, _-_, _≤_}
 use native.Mathlib.Omega.{arith}
-use mathlib.Core.Path.{_≡_, sym, _∙_}
+use mathlib.Core.Path.{_≡_}
 use denote.Ref.{now}
-use lib.ListN.{length, getD, drop}
-use Rattle.compose.specs.Pieces.{eaten, owing}
+use lib.ListN.{length, drop}
+use Rattle.compose.specs.Pieces.{eaten}
 use Rattle.compose.proofs.Reading.{eaten-more, eaten-end, eaten-none}
 use Rattle.compose.proofs.skip.Statement.{statement}
 use Rattle.compose.proofs.skip.Tie as tie

@@ -1,6 +1,6 @@
 -- `names::index` meets its contract. The loop's invariant: what is left to check from the line's start gives the answer of the whole (`Upto`).
 -- The measure is what is left of the list. Assumes nothing.
-use Prim.Native.Nat.{_+_, _-_, _<_}
+use Prim.Native.Nat.{_-_, _<_}
 use native.Mathlib.Omega.{arith}
 use native.Mathlib.Numerals.{add-one}
 use borrow.Author.Needs.{needs}

@@ -9,7 +9,7 @@ use borrow.Author.Tests.{lt-ltb, le-ltb}
 use borrow.Author.Needs.{needs}
 use denote.Ref.{now}
 use Rattle.paper.specs.Tools.{when}
-use Rattle.paper.specs.Names.{namesFault, namesOf}
+use Rattle.paper.specs.Names.{namesOf}
 use Rattle.paper.specs.Items.{decode}
 use Rattle.paper.specs.Answers.{unknownFrom, textGot}
 use Rattle.names.specs.Listing.{faultOf}

@@ -10,7 +10,7 @@ use mathlib.Core.List.{[], _++_}
 use denote.Ref.{now}
 use lib.ListN.{length, getD, take, drop, replicate}
 use lib.Seq.{length-take-le}
-use Rattle.paper.specs.Items.{Head, takePreds, takeSteps, takeOperand, takeWithin}
+use Rattle.paper.specs.Items.{Head, takePreds, takeOperand, takeWithin}
 use Rattle.paper.proofs.Decoding.{orsFrom, andsFrom}
 use Rattle.item.specs.declared.Step.{Step}
 use Rattle.item.proofs.Saying.{said, numbered}
@@ -27,7 +27,7 @@ use Rattle.run.proofs.Running.{AndSet, ands-begin, ands-first-fits, and
 use Rattle.run.proofs.Running.{OrSet, ors-begin, ors-first-fits, ors-first-set, ors-owed-fits, ors-set-more, ors-set-done}
 use Rattle.run.proofs.Operating.{operand-there, operand-room, not-deep, path-fits, path-set, opens-and, opens-or, opens-not, closes-and, closes-or, closes-not, must-be-not}
 use Rattle.run.proofs.Running.{one-fits}
-use Rattle.run.proofs.Rows.{PredSet, preds-begin, pred-fits, preds-more, preds-end, PathSet, StepHere, path-begin, path-back, path-done, first-readable, step-here}
+use Rattle.run.proofs.Rows.{PredSet, preds-begin, pred-fits, preds-more, preds-end, PathSet, path-begin, path-back, path-done, first-readable, step-here}
 use Prim.Native.Nat.{ℕ, _<_}
 use borrow.Fn.Kinds.{In}
 use borrow.Fn.PlainCycle.{Measures, is, falls, and}

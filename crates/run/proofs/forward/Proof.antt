@@ -1,9 +1,9 @@
 -- `run::forward` meets its contract. The invariant: what is left of the steps leads, from the set as it is now, where all of them lead from the set as it was.
 -- The measure is the number of steps left. Assumes nothing.
-use Prim.Native.Nat.{ℕ, suc, _+_, _-_, _*_, _≤_}
+use Prim.Native.Nat.{ℕ, _+_, _-_, _≤_}
 use native.Mathlib.Omega.{arith}
 use borrow.Author.Needs.{needs}
-use mathlib.Core.Path.{_≡_, refl, sym, _∙_, ap, subst, subst₂}
+use mathlib.Core.Path.{_≡_, sym, _∙_, ap, subst, subst₂}
 use mathlib.Core.Bool.{_&&_}
 use mathlib.Core.List.{_++_}
 use lib.ListN.{length, getD, take, drop}
@@ -21,7 +21,7 @@ use Rattle.sets.specs.Sets.{bits, image}
 use Rattle.run.specs.Evals.{Fits, Narrows}
 use Rattle.run.proofs.Slices.{front-length, front-back}
 use Rattle.run.proofs.Running.{one-fits}
-use Rattle.run.proofs.Selecting.{Going, going-start, next-step, going-on, going-done}
+use Rattle.run.proofs.Selecting.{Going, next-step, going-on, going-done}
 use Rattle.run.proofs.forward.Statement.{statement}
 use Rattle.run.proofs.forward.Tie as tie
 

@@ -1,15 +1,14 @@
 -- `run::keep` meets its contract: what is selected is spread over the document, with the first set for what lies below, and all sets are cleared. Assumes nothing.
 use Prim.Native.Nat.{ℕ, _≤_}
 use native.Mathlib.Omega.{arith}
-use mathlib.Core.Path.{_≡_, refl, sym, _∙_, ap}
+use mathlib.Core.Path.{_≡_, sym, _∙_, ap}
 use mathlib.Core.List.{_++_}
-use lib.ListN.{length, take, drop, replicate}
+use lib.ListN.{length, drop, replicate}
 use lib.Seq.{length-take-le}
 use denote.Ref.{now}
 use Rattle.paper.specs.Document.{tableOf}
 use Rattle.paper.specs.Measures.{height}
 use Rattle.paper.specs.Selection.{selects, keeps, kept}
-use Rattle.sets.specs.Sets.{bits}
 use Rattle.run.specs.Evals.{keepsBy}
 use Rattle.run.proofs.Slices.{front-length}
 use Rattle.run.proofs.Running.{one-fits}

@@ -1,8 +1,7 @@
 -- `run::run` meets its contract: a run that is refused leaves all as it was; one that is not keeps what its query keeps, clears the scratch it needed and counts. Assumes nothing.
-use Prim.Native.Nat.{ℕ, _≤_}
-use native.Mathlib.Omega.{arith}
-use mathlib.Core.Path.{_≡_, refl, sym, _∙_, ap, ap₂}
-use lib.ListN.{length, take, replicate}
+use Prim.Native.Nat.{ℕ}
+use mathlib.Core.Path.{_≡_, sym, _∙_, ap, ap₂}
+use lib.ListN.{length, replicate}
 use lib.Seq.{length-take-le}
 use denote.Ref.{now}
 use Rattle.paper.specs.Document.{tableOf}
@@ -10,7 +9,6 @@ use Rattle.paper.specs.Answers.{value}
 use Rattle.paper.specs.Told.{told}
 use Rattle.paper.specs.Extraction.{rank}
 use Rattle.paper.specs.Selection.{kept}
-use Rattle.paper.proofs.Keeping.{length-kept}
 use Rattle.run.proofs.Answering.{accepted, searchable, runnable, refused-answer, refused-marks, refused-scratch, runs, run-marks, run-scratch}
 use borrow.Author.Needs.{needs}
 use Rattle.run.proofs.run.Statement.{statement}

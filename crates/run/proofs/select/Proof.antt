@@ -7,7 +7,7 @@ use mathlib.Core.Path.{_≡_, refl, sym, _∙_, ap, subst, subst₂}
 use mathlib.Core.Bool.{_&&_, _||_}
 use mathlib.Core.List.{_++_}
 use lib.Dec.{eqb}
-use lib.ListN.{length, getD, take, drop, replicate}
+use lib.ListN.{length, take, drop, replicate}
 use lib.Seq.{length-take-le}
 use denote.Ref.{now}
 use Rattle.paper.specs.Items.{takeSteps, takeWithin}

@@ -1,8 +1,8 @@
 -- The functions of `shape` that call each other meet their contracts: path, step and expression, with falling remaining items.
 -- Each loop's invariant is that what is left to read gives the answer of the whole (`Left` of a run of operators, `Row` of steps and of predicates).
 -- The measure of a call is the number of items left, then the order predicates, expression, term, operand, steps. Assumes nothing.
-use Prim.Native.Nat.{suc, _+_, _-_, _*_}
-use mathlib.Core.Path.{_≡_, ap}
+use Prim.Native.Nat.{_+_, _-_, _*_}
+use mathlib.Core.Path.{ap}
 use native.Mathlib.Omega.{arith}
 use borrow.Author.Needs.{needs}
 use denote.Ref.{now}

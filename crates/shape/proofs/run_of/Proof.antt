@@ -1,5 +1,5 @@
 -- `shape::run_of` meets its contract. The invariant: the run is what was passed and what is left of it. The measure is what is left of the items. Assumes nothing.
-use Prim.Native.Nat.{suc, _+_, _-_, _≤_, _<_}
+use Prim.Native.Nat.{suc, _+_, _-_, _≤_}
 use native.Mathlib.Omega.{arith}
 use native.Mathlib.Numerals.{add-one}
 use mathlib.Core.Path.{_≡_}
