@@ -4,8 +4,8 @@
 
 #include <time.h>
 
-/* A turn lasts about so long; work that takes longer than SLOW has one turn more and no others. */
-enum { ROUNDS = 7, TURN_MICROS = 20000, SLOW_MICROS = 500000, GOES_LIMIT = 100000 };
+/* A turn lasts about TURN_MICROS; work that takes longer than SLOW_MICROS is done no second time. */
+enum { ROUNDS = 7, TURN_MICROS = 20000, SLOW_MICROS = 1500000, GOES_LIMIT = 100000 };
 
 static double now_micros(void)
 {
@@ -29,13 +29,17 @@ static size_t goes_of(double micros)
     return goes < 1 ? 1 : goes > GOES_LIMIT ? GOES_LIMIT : (size_t)goes;
 }
 
-void time_side_by_side(const struct work *works, size_t count, double *micros)
+void time_first(const struct work *works, size_t count, double *micros)
 {
     for (size_t i = 0; i < count; i++)
         micros[i] = time_turn(&works[i], 1);
+}
+
+void time_side_by_side(const struct work *works, size_t count, double *micros)
+{
     for (size_t round = 0; round < ROUNDS; round++)
         for (size_t i = 0; i < count; i++) {
-            if (round > 0 && micros[i] > SLOW_MICROS)
+            if (micros[i] > SLOW_MICROS)
                 continue;
             double turn = time_turn(&works[i], goes_of(micros[i]));
             micros[i] = turn < micros[i] ? turn : micros[i];

@@ -10,7 +10,10 @@ struct work {
     void *with;
 };
 
-/* Writes for each piece of work the best time of one go, in microseconds of processor time. */
+/* Does each piece of work once, and writes its time in microseconds of processor time. */
+void time_first(const struct work *works, size_t count, double *micros);
+
+/* Lowers these times to the best of several rounds; work that is slow is left as it was timed first. */
 void time_side_by_side(const struct work *works, size_t count, double *micros);
 
 #endif
