@@ -45,6 +45,18 @@ static void row_of_text(const struct document *document, const char *text)
     row_of_run(name, document, &query);
 }
 
+/* A row for a plain path that the others get in brackets, where libxml2 goes step by step
+   and does not stream the whole document. */
+static void row_in_brackets(const struct document *document, const char *text)
+{
+    static struct query query;
+    char name[128];
+    read_query(document, text, &query);
+    snprintf(query.text, sizeof query.text, "(%s)", text);
+    snprintf(name, sizeof name, "`(%s)`", text);
+    row_of_run(name, document, &query);
+}
+
 /* A row for the composition of two query texts. */
 static void row_of_two(const struct document *document, const char *outer_text, const char *inner_text)
 {
@@ -59,13 +71,17 @@ static void row_of_two(const struct document *document, const char *outer_text, 
 
 static void plain_paths(const struct document *document)
 {
+    static const char *const texts[] = {"/site/regions/europe",
+                                        "/site/regions/europe/item",
+                                        "/site/regions/europe/item/mailbox/mail/date",
+                                        "/site/people/person/name",
+                                        "/site/open_auctions/open_auction/bidder/increase",
+                                        "/site/*/*/*/*"};
     head_of_runs("Plain child paths");
-    row_of_text(document, "/site/regions/europe");
-    row_of_text(document, "/site/regions/europe/item");
-    row_of_text(document, "/site/regions/europe/item/mailbox/mail/date");
-    row_of_text(document, "/site/people/person/name");
-    row_of_text(document, "/site/open_auctions/open_auction/bidder/increase");
-    row_of_text(document, "/site/*/*/*/*");
+    for (size_t t = 0; t < sizeof texts / sizeof texts[0]; t++)
+        row_of_text(document, texts[t]);
+    for (size_t t = 0; t < sizeof texts / sizeof texts[0]; t++)
+        row_in_brackets(document, texts[t]);
 }
 
 static void compositions(const struct document *document)

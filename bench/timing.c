@@ -5,7 +5,7 @@
 #include <time.h>
 
 /* A turn lasts about TURN_MICROS; work that takes longer than SLOW_MICROS is done no second time. */
-enum { ROUNDS = 7, TURN_MICROS = 20000, SLOW_MICROS = 1500000, GOES_LIMIT = 100000 };
+enum { ROUNDS = 11, TURN_MICROS = 20000, SLOW_MICROS = 1000000, GOES_LIMIT = 100000 };
 
 static double now_micros(void)
 {
