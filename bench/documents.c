@@ -43,10 +43,7 @@ static uint16_t open_element(struct document *document, const char *name)
     return before;
 }
 
-static void close_element(struct document *document, uint16_t before)
-{
-    document->open = before;
-}
+static void close_element(struct document *document, uint16_t before) { document->open = before; }
 
 static void add_empty(struct document *document, const char *name)
 {
@@ -248,4 +245,11 @@ void make_chain(struct document *document, size_t nodes)
     start(document, nodes);
     for (size_t i = 1; i < nodes; i++)
         open_element(document, i % 2 == 1 ? "a" : "b");
+}
+
+void make_names(struct document *document, const char *const *names)
+{
+    start(document, 1);
+    for (; *names != NULL; names++)
+        kind_of(document, *names);
 }

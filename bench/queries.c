@@ -21,14 +21,13 @@ uint32_t accepted(uint64_t answer, const char *what)
 
 void read_query(const struct document *document, const char *text, struct query *query)
 {
-    query->count = accepted(halyardfig_read((const uint8_t *)text, strlen(text), document->list,
-                                            document->list_length, query->items, ITEM_ROOM),
+    query->count = accepted(halyardfig_read((const uint8_t *)text, strlen(text), document->list, document->list_length,
+                                            query->items, ITEM_ROOM),
                             text);
     snprintf(query->text, sizeof query->text, "%s", text);
 }
 
-void compose(const struct document *document, const struct query *outer, const struct query *inner,
-             struct query *query)
+void compose(const struct document *document, const struct query *outer, const struct query *inner, struct query *query)
 {
     query->count =
         accepted(halyardfig_compose(outer->items, outer->count, inner->items, inner->count, query->items, ITEM_ROOM),
