@@ -9,7 +9,10 @@ static const char q1_text[] = "/site/regions/europe";
 static const char q2_text[] = "//item[not(quantity)]|//item/location";
 static const char q3_text[] = "//item[location or desc]";
 
-static double smaller(double a, double b) { return a < b ? a : b; }
+static double smaller(double a, double b)
+{
+    return a < b ? a : b;
+}
 
 /* Tables. */
 

@@ -43,7 +43,10 @@ static uint16_t open_element(struct document *document, const char *name)
     return before;
 }
 
-static void close_element(struct document *document, uint16_t before) { document->open = before; }
+static void close_element(struct document *document, uint16_t before)
+{
+    document->open = before;
+}
 
 static void add_empty(struct document *document, const char *name)
 {

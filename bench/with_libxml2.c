@@ -34,9 +34,15 @@ static void unload(void *loaded)
     xmlXPathFreeContext(context);
 }
 
-static void *compile(const char *text) { return xmlXPathCompile(BAD_CAST text); }
+static void *compile(const char *text)
+{
+    return xmlXPathCompile(BAD_CAST text);
+}
 
-static void discard(void *query) { xmlXPathFreeCompExpr(query); }
+static void discard(void *query)
+{
+    xmlXPathFreeCompExpr(query);
+}
 
 static size_t select_nodes(void *loaded, void *query, uint16_t *selected)
 {

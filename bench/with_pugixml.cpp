@@ -20,7 +20,10 @@ struct loaded_document {
     std::vector<std::uint16_t> numbers;
 };
 
-std::uintptr_t address(const pugi::xml_node &node) { return reinterpret_cast<std::uintptr_t>(node.internal_object()); }
+std::uintptr_t address(const pugi::xml_node &node)
+{
+    return reinterpret_cast<std::uintptr_t>(node.internal_object());
+}
 
 pugi::xml_node add_node(pugi::xml_node parent, const document &document, std::size_t i)
 {
@@ -52,11 +55,20 @@ void *load(const document *document)
     return loaded;
 }
 
-void unload(void *loaded) { delete static_cast<loaded_document *>(loaded); }
+void unload(void *loaded)
+{
+    delete static_cast<loaded_document *>(loaded);
+}
 
-void *compile(const char *text) { return new pugi::xpath_query(text); }
+void *compile(const char *text)
+{
+    return new pugi::xpath_query(text);
+}
 
-void discard(void *query) { delete static_cast<pugi::xpath_query *>(query); }
+void discard(void *query)
+{
+    delete static_cast<pugi::xpath_query *>(query);
+}
 
 std::uint16_t number_of(const loaded_document &loaded, const pugi::xml_node &node)
 {
