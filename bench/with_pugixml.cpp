@@ -2,7 +2,8 @@
 #include "engines.h"
 
 #include <algorithm>
-#include <cstdlib>
+#include <cstddef>
+#include <cstdint>
 #include <pugixml.hpp>
 #include <vector>
 
