@@ -1,0 +1,239 @@
+/* Runs and reads the same queries with the library, libxml2 and pugixml, and prints tables of times and ratios. */
+#include "sides.h"
+
+#include <stdio.h>
+#include <string.h>
+
+/* The queries of source document 000, as far as the library's part of XPath says them. */
+static const char q1_text[] = "/site/regions/europe";
+static const char q2_text[] = "//item[not(quantity)]|//item/location";
+static const char q3_text[] = "//item[location or desc]";
+
+static double smaller(double a, double b)
+{
+    return a < b ? a : b;
+}
+
+/* Tables. */
+
+static void head_of_runs(const char *title)
+{
+    printf("\n### %s\n\n", title);
+    printf("| query | items | nodes | kept | ours, us | libxml2, us | pugixml, us | libxml2 / ours | pugixml / ours | "
+           "faster / ours |\n");
+    printf("|---|---|---|---|---|---|---|---|---|---|\n");
+}
+
+static void row_of_run(const char *name, const struct document *document, const struct query *query)
+{
+    double micros[SIDES];
+    size_t kept = time_run(document, query, micros);
+    double first = micros[LIBXML2] / micros[OURS], second = micros[PUGIXML] / micros[OURS];
+    printf("| %s | %zu | %zu | %zu | %.1f | %.1f | %.1f | %.2f | %.2f | %.2f |\n", name, query->count, document->nodes,
+           kept, micros[OURS], micros[LIBXML2], micros[PUGIXML], first, second, smaller(first, second));
+    fflush(stdout);
+}
+
+/* A row for a query that runs as it is written. */
+static void row_of_text(const struct document *document, const char *text)
+{
+    static struct query query;
+    char name[128];
+    read_query(document, text, &query);
+    snprintf(name, sizeof name, "`%s`", text);
+    row_of_run(name, document, &query);
+}
+
+/* A row for a plain path that the others get in brackets, where libxml2 goes step by step
+   and does not stream the whole document. */
+static void row_in_brackets(const struct document *document, const char *text)
+{
+    static struct query query;
+    char name[128];
+    read_query(document, text, &query);
+    snprintf(query.text, sizeof query.text, "(%s)", text);
+    snprintf(name, sizeof name, "`(%s)`", text);
+    row_of_run(name, document, &query);
+}
+
+/* A row for the composition of two query texts. */
+static void row_of_two(const struct document *document, const char *outer_text, const char *inner_text)
+{
+    static struct query outer, inner, both;
+    char name[128];
+    read_query(document, outer_text, &outer);
+    read_query(document, inner_text, &inner);
+    compose(document, &outer, &inner, &both);
+    snprintf(name, sizeof name, "`%s` on `%s`", outer_text, inner_text);
+    row_of_run(name, document, &both);
+}
+
+static void plain_paths(const struct document *document)
+{
+    static const char *const texts[] = {"/site/regions/europe",
+                                        "/site/regions/europe/item",
+                                        "/site/regions/europe/item/mailbox/mail/date",
+                                        "/site/people/person/name",
+                                        "/site/open_auctions/open_auction/bidder/increase",
+                                        "/site/*/*/*/*"};
+    head_of_runs("Plain child paths");
+    for (size_t t = 0; t < sizeof texts / sizeof texts[0]; t++)
+        row_of_text(document, texts[t]);
+    for (size_t t = 0; t < sizeof texts / sizeof texts[0]; t++)
+        row_in_brackets(document, texts[t]);
+}
+
+static void compositions(const struct document *document)
+{
+    static struct query q1, q2, q3, on_one, on_two, both;
+    read_query(document, q1_text, &q1);
+    read_query(document, q2_text, &q2);
+    read_query(document, q3_text, &q3);
+    head_of_runs("The queries of document 000, alone and composed");
+    row_of_run("Q1", document, &q1);
+    row_of_run("Q2", document, &q2);
+    row_of_run("Q3", document, &q3);
+    compose(document, &q3, &q1, &both);
+    row_of_run("Q3 on Q1", document, &both);
+    compose(document, &q2, &q1, &on_one);
+    row_of_run("Q2 on Q1", document, &on_one);
+    compose(document, &q3, &q2, &on_two);
+    row_of_run("Q3 on Q2", document, &on_two);
+    compose(document, &q3, &on_one, &both);
+    row_of_run("Q3 on (Q2 on Q1)", document, &both);
+    compose(document, &on_two, &q1, &both);
+    row_of_run("(Q3 on Q2) on Q1", document, &both);
+}
+
+/* Doubling. */
+
+enum { LEAST_NODES = 512, LEAST_ITEMS = 256 };
+
+static void doubled_nodes(void)
+{
+    static struct document document;
+    static struct query q2, q3, both;
+    head_of_runs("Nodes doubled: Q3 on Q2, documents like XMark");
+    for (size_t nodes = LEAST_NODES; nodes <= NODE_ROOM; nodes *= 2) {
+        make_xmark(&document, nodes);
+        read_query(&document, q2_text, &q2);
+        read_query(&document, q3_text, &q3);
+        compose(&document, &q3, &q2, &both);
+        row_of_run("Q3 on Q2", &document, &both);
+    }
+}
+
+static void chains(void)
+{
+    static struct document document;
+    head_of_runs("Chains, their nodes doubled");
+    for (size_t nodes = LEAST_NODES; nodes <= NODE_ROOM; nodes *= 2) {
+        make_chain(&document, nodes);
+        row_of_two(&document, "/", "/a");
+    }
+    row_of_two(&document, "/a/b", "/a/b");
+}
+
+/* A text that begins and ends like this and repeats a part between. */
+static void repeat(char *text, const char *begin, const char *part, size_t times, const char *end)
+{
+    char *at = text + sprintf(text, "%s", begin);
+    for (; times > 0; times--)
+        at += sprintf(at, "%s", part);
+    sprintf(at, "%s", end);
+}
+
+/* A query that grows by a part; so many items its beginning has, and so many each part. */
+struct growing {
+    const char *name, *begin, *part, *end;
+    size_t begin_items, part_items;
+};
+
+static void rows_of_growing(const struct document *document, const struct growing *growing)
+{
+    static struct query query;
+    static char text[TEXT_ROOM + 1];
+    double before = 0;
+    for (size_t items = LEAST_ITEMS; items <= ITEM_ROOM; items *= 2) {
+        repeat(text, growing->begin, growing->part, (items - growing->begin_items) / growing->part_items, growing->end);
+        read_query(document, text, &query);
+        double micros = time_own_run(document, &query);
+        printf("| %s | %zu | %zu | %.0f | ", growing->name, query.count, document->nodes, micros);
+        if (before > 0)
+            printf("%.2f", micros / before);
+        printf(" |\n");
+        before = micros;
+    }
+    fflush(stdout);
+}
+
+static void doubled_items(const struct document *document, const struct document *small)
+{
+    static const struct growing all[] = {
+        {"steps of a path, `/*/..`", "/site", "/*/..", "", 2, 2},
+        {"predicates, `[*]`", "/site", "[*]", "", 2, 2},
+        {"operands, ` or *`", "/site[*", " or *", "]", 4, 3},
+        {"steps of a path in a predicate, `/*/..`", "/site[.", "/*/..", "]", 4, 2},
+    };
+    printf("\n### Items doubled, ours alone\n\n");
+    printf("| what grows | items | nodes | us | times the row before |\n|---|---|---|---|---|\n");
+    for (size_t g = 0; g < sizeof all / sizeof all[0]; g++)
+        rows_of_growing(document, &all[g]);
+    rows_of_growing(small, &all[sizeof all / sizeof all[0] - 1]);
+}
+
+/* Reading. */
+
+static void row_of_reading(const char *name, const struct document *document, const struct query *query)
+{
+    double micros[SIDES];
+    time_reading(document, query, micros);
+    printf("| %s | %zu | %zu | %zu | %.1f | %.1f | %.1f | %.2f | %.2f |\n", name, strlen(query->text), query->count,
+           document->names, micros[OURS], micros[LIBXML2], micros[PUGIXML], micros[LIBXML2] / micros[OURS],
+           micros[PUGIXML] / micros[OURS]);
+    fflush(stdout);
+}
+
+/* Rows for the queries and two compositions of them, read with the names of one document. */
+static void rows_of_readings(const struct document *document)
+{
+    static struct query q1, q2, q3, on_one, both;
+    read_query(document, q1_text, &q1);
+    read_query(document, q2_text, &q2);
+    read_query(document, q3_text, &q3);
+    compose(document, &q2, &q1, &on_one);
+    compose(document, &q3, &on_one, &both);
+    row_of_reading("Q1", document, &q1);
+    row_of_reading("Q2", document, &q2);
+    row_of_reading("Q3", document, &q3);
+    row_of_reading("Q2 on Q1, printed", document, &on_one);
+    row_of_reading("Q3 on (Q2 on Q1), printed", document, &both);
+}
+
+/* The library checks the whole name list at each call; so the texts are read with a long list and with a short one. */
+static void readings(const struct document *document)
+{
+    static const char *const names[] = {"site", "regions", "europe", "item", "quantity", "location", "desc", NULL};
+    static struct document few;
+    make_names(&few, names);
+    printf("\n### Reading a text\n\n");
+    printf("| text | bytes | items | names | ours, us | libxml2, us | pugixml, us | libxml2 / ours | pugixml / ours "
+           "|\n|---|---|---|---|---|---|---|---|---|\n");
+    rows_of_readings(document);
+    rows_of_readings(&few);
+}
+
+int main(void)
+{
+    static struct document document, small;
+    make_xmark(&document, NODE_ROOM);
+    make_xmark(&small, LEAST_NODES / 8);
+    printf("%s\n", versions());
+    plain_paths(&document);
+    compositions(&document);
+    doubled_nodes();
+    doubled_items(&document, &small);
+    readings(&document);
+    chains();
+    return 0;
+}

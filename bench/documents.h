@@ -1,0 +1,39 @@
+/* The documents of the benchmark, as node tables with a name list. */
+#ifndef DOCUMENTS_H
+#define DOCUMENTS_H
+
+#include <stddef.h>
+#include <stdint.h>
+
+enum { NODE_ROOM = 4096, NAME_ROOM = 256, LIST_ROOM = 8192, TEXT_KIND = 1, FIRST_NAME = 2 };
+
+struct document {
+    size_t nodes;
+    size_t limit;
+    uint16_t open;
+    uint16_t parent[NODE_ROOM];
+    uint16_t kind[NODE_ROOM];
+    size_t names;
+    char name[NAME_ROOM][16];
+    size_t list_length;
+    uint8_t list[LIST_ROOM];
+};
+
+#ifdef __cplusplus
+extern "C" {
+#endif
+
+/* Makes a document like those of XMark, of at most so many nodes and of about as many. */
+void make_xmark(struct document *document, size_t nodes);
+
+/* Makes a document of so many nodes in which every element but the last has one child; `a` and `b` take turns. */
+void make_chain(struct document *document, size_t nodes);
+
+/* Makes a document of the root alone, whose list has these names; a null pointer ends them. */
+void make_names(struct document *document, const char *const *names);
+
+#ifdef __cplusplus
+}
+#endif
+
+#endif

@@ -1,0 +1,31 @@
+/* The other engines, behind one set of calls. */
+#ifndef ENGINES_H
+#define ENGINES_H
+
+#include "documents.h"
+
+struct engine {
+    const char *name;
+    const char *version;
+    /* Makes the engine's own form of a document. */
+    void *(*load)(const struct document *document);
+    void (*unload)(void *loaded);
+    /* Reads a query text; a null pointer if the engine does not take it. */
+    void *(*compile)(const char *text);
+    void (*discard)(void *query);
+    /* Writes the numbers of the nodes that the query selects from the root, and answers how many they are. */
+    size_t (*select)(void *loaded, void *query, uint16_t *selected);
+};
+
+#ifdef __cplusplus
+extern "C" {
+#endif
+
+extern const struct engine libxml2_engine;
+extern const struct engine pugixml_engine;
+
+#ifdef __cplusplus
+}
+#endif
+
+#endif

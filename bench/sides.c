@@ -1,0 +1,165 @@
+/* The library and the other engines, side by side at the same work. */
+#include "sides.h"
+
+#include "engines.h"
+#include "timing.h"
+
+#include <halyardfig.h>
+#include <stdio.h>
+#include <string.h>
+
+/* The height of a query is at most a third of its items and a little. */
+enum { SCRATCH_ROOM = NODE_ROOM * 2 * (ITEM_ROOM / 3 + 4) };
+
+/* One side with its document and its query, and the marks that it makes; the library has no engine. */
+struct side {
+    const struct engine *engine;
+    const struct document *document;
+    const struct query *query;
+    void *loaded;
+    void *compiled;
+    uint8_t marks[NODE_ROOM];
+};
+
+static const struct engine *const engines[SIDES] = {NULL, &libxml2_engine, &pugixml_engine};
+static struct side sides[SIDES];
+static uint8_t scratch[SCRATCH_ROOM], given[NODE_ROOM];
+
+/* Running. */
+
+static void run_own(void *with)
+{
+    struct side *side = with;
+    const struct document *document = side->document;
+    size_t n = document->nodes;
+    accepted(halyardfig_run(side->query->items, side->query->count, document->parent, n, document->kind, n, given, n,
+                            side->marks, n, scratch, SCRATCH_ROOM),
+             side->query->text);
+}
+
+/* Marks the selected nodes, all above them and all below them: each way up ends at a marked node,
+   and what is below a node follows it in the table, where it is noted as whole. */
+static void mark_subtrees(const struct document *document, const uint16_t *selected, size_t count, uint8_t *marks)
+{
+    static uint8_t whole[NODE_ROOM];
+    memset(marks, 0, document->nodes);
+    memset(whole, 0, document->nodes);
+    for (size_t s = 0; s < count; s++) {
+        size_t i = selected[s];
+        for (size_t up = i; marks[up] == 0; up = document->parent[up])
+            marks[up] = 1;
+        if (whole[i] == 1)
+            continue;
+        for (size_t j = i + 1; j < document->nodes && document->parent[j] >= i; j++)
+            marks[j] = whole[j] = 1;
+    }
+}
+
+static void run_engine(void *with)
+{
+    static uint16_t selected[NODE_ROOM];
+    struct side *side = with;
+    size_t count = side->engine->select(side->loaded, side->compiled, selected);
+    mark_subtrees(side->document, selected, count, side->marks);
+}
+
+/* Gives every side its document and its query, and empty marks. */
+static void set_up(const struct document *document, const struct query *query)
+{
+    memset(given, 1, sizeof given);
+    for (size_t s = 0; s < SIDES; s++)
+        sides[s] = (struct side){.engine = engines[s], .document = document, .query = query};
+}
+
+static void load_engines(void)
+{
+    for (size_t s = OURS + 1; s < SIDES; s++) {
+        sides[s].loaded = engines[s]->load(sides[s].document);
+        sides[s].compiled = engines[s]->compile(sides[s].query->text);
+        if (sides[s].compiled == NULL)
+            fail(engines[s]->name, sides[s].query->text);
+    }
+}
+
+static void unload_engines(void)
+{
+    for (size_t s = OURS + 1; s < SIDES; s++) {
+        engines[s]->discard(sides[s].compiled);
+        engines[s]->unload(sides[s].loaded);
+    }
+}
+
+static void check_marks(void)
+{
+    for (size_t s = OURS + 1; s < SIDES; s++)
+        if (memcmp(sides[OURS].marks, sides[s].marks, sizeof sides[s].marks) != 0)
+            fail("other marks than ours", engines[s]->name);
+}
+
+static size_t count_marks(const struct side *side)
+{
+    size_t kept = 0;
+    for (size_t i = 0; i < side->document->nodes; i++)
+        kept += side->marks[i];
+    return kept;
+}
+
+size_t time_run(const struct document *document, const struct query *query, double micros[SIDES])
+{
+    struct work works[SIDES];
+    for (size_t s = 0; s < SIDES; s++)
+        works[s] = (struct work){s == OURS ? run_own : run_engine, &sides[s]};
+    set_up(document, query);
+    load_engines();
+    time_first(works, SIDES, micros);
+    check_marks();
+    time_side_by_side(works, SIDES, micros);
+    unload_engines();
+    return count_marks(&sides[OURS]);
+}
+
+double time_own_run(const struct document *document, const struct query *query)
+{
+    double micros;
+    struct work work = {run_own, &sides[OURS]};
+    set_up(document, query);
+    time_first(&work, 1, &micros);
+    time_side_by_side(&work, 1, &micros);
+    return micros;
+}
+
+/* Reading. */
+
+static void read_own(void *with)
+{
+    static uint32_t items[ITEM_ROOM];
+    const struct side *side = with;
+    const struct document *document = side->document;
+    accepted(halyardfig_read((const uint8_t *)side->query->text, strlen(side->query->text), document->list,
+                             document->list_length, items, ITEM_ROOM),
+             side->query->text);
+}
+
+static void read_engine(void *with)
+{
+    const struct side *side = with;
+    side->engine->discard(side->engine->compile(side->query->text));
+}
+
+void time_reading(const struct document *document, const struct query *query, double micros[SIDES])
+{
+    struct work works[SIDES];
+    for (size_t s = 0; s < SIDES; s++)
+        works[s] = (struct work){s == OURS ? read_own : read_engine, &sides[s]};
+    set_up(document, query);
+    time_first(works, SIDES, micros);
+    time_side_by_side(works, SIDES, micros);
+}
+
+const char *versions(void)
+{
+    static char words[64];
+    snprintf(words, sizeof words, "%s %s, %s %s", engines[LIBXML2]->name, engines[LIBXML2]->version,
+             engines[PUGIXML]->name, engines[PUGIXML]->version);
+    return words;
+}

@@ -1,0 +1,22 @@
+/* The library and the other engines, side by side at the same work. */
+#ifndef SIDES_H
+#define SIDES_H
+
+#include "queries.h"
+
+enum { OURS, LIBXML2, PUGIXML, SIDES };
+
+/* Times a query on a document: selecting, then marking what is selected, above it and below it.
+   All sides have to make the same marks. Answers how many nodes are kept; times are in microseconds. */
+size_t time_run(const struct document *document, const struct query *query, double micros[SIDES]);
+
+/* Times a query on a document for the library alone. */
+double time_own_run(const struct document *document, const struct query *query);
+
+/* Times the reading of a query's text. */
+void time_reading(const struct document *document, const struct query *query, double micros[SIDES]);
+
+/* The versions of the other engines, in words. */
+const char *versions(void);
+
+#endif
