@@ -2,16 +2,20 @@
 use Prim.Native.Nat.{ℕ, _+_, _≤_, _<_}
 use native.Mathlib.Omega.{arith}
 use mathlib.Core.Path.{_≡_, refl, sym, _∙_, ap, subst}
-use mathlib.Core.Bool.{Bool, true, false, _&&_}
+use mathlib.Core.Bool.{Bool, true, false, _&&_, _||_, false≢true}
+use mathlib.Core.Logic.{⊎-elim}
 use mathlib.Core.List.{List, [], _∷_}
 use lib.Dec.{eqb}
-use lib.ListN.{length, take, drop}
+use lib.ListN.{length, getD, take, drop}
+use lib.Seq.{drop-cons}
 use borrow.Author.Tests.{eq-eqb, ne-eqb, eqb-true}
 use denote.Enum.Declared.{tagOf}
 use types.Run.{OneOf, miss}
 use Rattle.paper.specs.Tools.{same}
 use Rattle.paper.specs.Tokens as paper
-use Rattle.paper.specs.Tokens.{sort, letters, tokensFrom}
+use Rattle.paper.specs.Names.{nameStart}
+use Rattle.paper.specs.Tokens.{sort, letters, white, tokenAt, tokensFrom}
+use Rattle.paper.proofs.Tests.{or-true, decide}
 use Rattle.paper.specs.Reading.{next, at, sees, says, startsStep}
 use Rattle.token.specs.declared.Token.{Token}
 use Rattle.token.specs.declared.Token.the-variants.{Slash, Slashes, Dot, Dots, Colons, Bar, OpenSquare, CloseSquare, OpenRound, CloseRound, Star, Finish, Stray, Word}
@@ -103,6 +107,26 @@ mark-letters paper.star h = refl
 mark-letters paper.finish h = refl
 mark-letters paper.stray h = refl
 mark-letters (paper.word w) h = absurd (h refl)
+
+-- A byte that starts a name is no white space.
+name-not-white : (b : ℕ) → nameStart b ≡ true → white b ≡ false
+name-not-white b h =
+    ⊎-elim
+    (λ w.
+    absurd
+    (⊎-elim (λ e. ⊎-elim (λ e. not-name 32 b (eqb-true b 32 e) h refl) (λ e. not-name 9 b (eqb-true b 9 e) h refl) (or-true (eqb b 32) (eqb b 9) e))
+    (λ e. not-name 10 b (eqb-true b 10 e) h refl) (or-true (eqb b 32 || eqb b 9) (eqb b 10) w)))
+    (λ w. w) (decide (white b))
+  where
+    not-name : (n b : ℕ) → b ≡ n → nameStart b ≡ true → nameStart n ≡ false → ⊥
+    not-name n b e h f = false≢true (sym f ∙ ap nameStart (sym e) ∙ h)
+
+-- Where a word starts, no mark comes next.
+pub word-here : (text : List ℕ) (from wanted : ℕ) → from < length text → nameStart (getD text from 0) ≡ true → wanted < 11
+    → (eqb wanted (sort (next (tokensAt text from))) ≡ false) × (from ≡ at (tokensAt text from))
+unfolding tokensAt tokenAt
+word-here text from wanted inside h few =
+    rw (drop-cons text from 0 inside, name-not-white (getD text from 0) h, h) (ne-eqb wanted 13 (λ e. omega arith), refl)
 
 module _ (text : List ℕ) (from : ℕ) (r : Taken) (t : Takes text from r) where
   -- The token that comes next, and its place.

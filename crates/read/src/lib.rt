@@ -10,9 +10,10 @@ ghost use mathlib.Core.Path.{_≡_};
 ghost use mathlib.Core.Bool.{true, false};
 ghost use mathlib.Core.List.{[], _∷_};
 ghost use lib.Dec.{eqb};
-ghost use lib.ListN.{length, take, drop};
+ghost use lib.ListN.{length, getD, take, drop};
 ghost use Rattle.paper.specs.Tools.{same};
 ghost use Rattle.paper.specs.Limits.{bracketLimit};
+ghost use Rattle.paper.specs.Names.{nameStart};
 ghost use Rattle.paper.specs.Tokens.{sort, letters};
 ghost use Rattle.paper.specs.Query.{Axis, child, Test};
 ghost use Rattle.paper.specs.Items.{axisNumber, testNumber, packPath, encodeExpr};
@@ -131,11 +132,26 @@ fn sort_of(t: Token) -> usize
     }
 }
 
-// Is the next token of this sort?
+// Does a word start at this very byte?
+fn word_starts(text: &[u8], at: usize) -> bool
+    ensures { λ r. ⌜ (r ≡ true → (at < length (now (text .entry))) × (nameStart (getD (now (text .entry)) at 0) ≡ true)) ⌝ }
+{
+    if at < text.len() {
+        names::name_start(text[at])
+    } else {
+        false
+    }
+}
+
+// Is the next token of this sort? Where a word starts, it is not, and the word's bytes are not looked at.
 fn mark(text: &[u8], cursor: Cursor, wanted: usize) -> Ahead
     requires { ⌜ (cursor .at ≤ length (now text)) × (wanted < 11) ⌝ }
     ensures { λ r. ⌜ Looks (now (text .entry)) (cursor .at) (eqb wanted (sort (next (tokensAt (now (text .entry)) (cursor .at))))) r ⌝ }
 {
+    let at = cursor.at;
+    if word_starts(text, at) {
+        return Ahead::Other(at);
+    }
     let taken = cursor.take(text);
     let place = taken.place;
     let past = taken.next;
