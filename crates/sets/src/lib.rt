@@ -95,13 +95,13 @@ pub fn add_second(sets: &mut [u8], n: usize)
 }
 
 // Keeps the nodes of one kind.
-fn keep_equal(kind: &[u16], wanted: u32, set: &mut [u8])
+fn keep_equal(kind: &[u16], wanted: u16, set: &mut [u8])
     requires { ⌜ length (now kind) ≡ length (now set) ⌝ }
     ensures { λ _. ⌜ ((f : ℕ → Bool) → now (set .entry) ≡ bits (length (now (set .entry))) f → now (set .exit) ≡ bits (length (now (set .entry))) (λ i. f i && eqb (getD (now (kind .entry)) i 0) wanted)) ⌝ }
 {
     let mut i = 0;
     while i < set.len() {
-        set[i] = set[i] & ((kind[i] as u32 == wanted) as u8);
+        set[i] = set[i] & ((kind[i] == wanted) as u8);
         i += 1;
     }
 }
@@ -126,7 +126,7 @@ pub fn keep_met(kind: &[u16], test: u32, set: &mut [u8])
     match test {
         0 => {}
         258 => keep_at_least(kind, 2, set),
-        _ => keep_equal(kind, test, set),
+        _ => keep_equal(kind, (test % 65536) as u16, set),
     }
 }
 

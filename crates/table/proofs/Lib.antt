@@ -1,3 +1,4 @@
+pub mod Nodes
 pub mod Firsts
 pub mod Ways
 pub mod Writes

@@ -14,6 +14,7 @@ use Rattle.paper.specs.Answers.{value, refusal, tooLong}
 use Rattle.paper.proofs.Tests.{or-left, or-right}
 use Rattle.paper.proofs.Sizes.{size-decoded, height-size}
 use Rattle.table.specs.Faults.{faultOf}
+use Rattle.table.proofs.Nodes.{inside}
 use Rattle.run.proofs.Answering.{Agree, shaped-none, shaped-some, room-long, room-six, room-seven, room-eight, room-ten, room-value, scratch-small}
 use borrow.Author.Needs.{needs}
 use Rattle.run.proofs.room.Statement.{statement}
@@ -104,7 +105,9 @@ enum-told-2 : tie.Need-enum-told-2
 enum-told-2 c = search needs
 
 marks-fault-requires : tie.Need-marks-fault-requires
-marks-fault-requires c κs = search needs
+marks-fault-requires c κs =
+    let a = c .before .before .before .before .before .before .before .before .before .before .before .before .before .before .before .before .args in
+    (agree (c .before .before .before .before .before .before .before) .given-all, inside (now (a .parent)) (now (a .kind)) (sym (c .before .before .table-fault .ensures) ∙ ap faultOf (c .enum-told2 .given .1)))
 
 enum-known-i-2 : tie.Need-enum-known-i-2
 enum-known-i-2 c = search needs

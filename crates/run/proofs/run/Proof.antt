@@ -1,5 +1,6 @@
 -- `run::run` meets its contract: a run that is refused leaves all as it was; one that is not keeps what its query keeps, clears the scratch it needed and counts. Assumes nothing.
 use Prim.Native.Nat.{ℕ}
+use native.Mathlib.Omega.{arith}
 use mathlib.Core.Path.{_≡_, sym, _∙_, ap, ap₂}
 use lib.ListN.{length, replicate}
 use lib.Seq.{length-take-le}
@@ -66,7 +67,12 @@ keep-requires c κs =
     )
 
 count-requires : tie.Need-count-requires
-count-requires c κs = search needs
+count-requires c κs =
+    let a = c .before .before .before .before .before .before .before .before .before .before .before .before .before .before .before .before .before .before .args in
+    let t = tableOf (now (a .parent)) (now (a .kind)) in
+    let needed = c .before .before .before .before .before .before .before .before .before .said .given .0 .0 in
+    let agreed = accepted (now (a .query)) t (now (a .given)) (length (now (a .marks))) (length (now (a .scratch))) needed (sym (c .before .before .before .before .before .before .before .before .before .before .before .room .ensures) ∙ ap told (c .before .before .before .before .before .before .before .before .before .said .given .1)) in
+    omega (arith, c .before .before .before .before .before .keep .kept .1 .1 .1 .1 .0, agreed .agree .marks-all, agreed .agree .nodes-few)
 
 same-length : tie.Need-same-length
 same-length c = search needs

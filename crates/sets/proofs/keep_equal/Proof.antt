@@ -32,10 +32,7 @@ shared-slice-read-set : tie.Need-shared-slice-read-set Inv-loop μ-loop
 shared-slice-read-set c = omega arith
 
 cast-set : tie.Need-cast-set Inv-loop μ-loop
-cast-set c = omega (arith, c .shared-slice-known .given (c .before .before .before .loop .i))
-
-cast-set-2 : tie.Need-cast-set-2 Inv-loop μ-loop
-cast-set-2 c = omega arith
+cast-set c = omega arith
 
 slice-write-set : tie.Need-slice-write-set Inv-loop μ-loop
 slice-write-set c = omega arith
@@ -75,7 +72,6 @@ keep-equal-spec =
     mul-set
     shared-slice-read-set
     cast-set
-    cast-set-2
     slice-write-set
     add-i
     loop-less

@@ -1,5 +1,5 @@
 -- `sets::keep_met` meets its contract: a test is known by its number, and what the pass for it ensures is what is asked. Assumes nothing.
-use Prim.Native.Nat.{ℕ}
+use Prim.Native.Nat.{ℕ, _%_}
 use native.Mathlib.Omega.{arith}
 use native.Mathlib.Decide.{ℕ-discrete}
 use mathlib.Core.Path.{_≡_, sym, _∙_, ap}
@@ -12,6 +12,7 @@ use borrow.Author.Needs.{needs}
 use Rattle.paper.specs.Query.{Test}
 use Rattle.paper.specs.Items.{testNumber}
 use Rattle.paper.specs.Selection.{meets}
+use Rattle.paper.proofs.Fields.{test-small}
 use Rattle.item.proofs.Turning.{meets-node, meets-text, meets-element, meets-name}
 use Rattle.sets.specs.Sets.{bits}
 use Rattle.sets.proofs.Bits.{bits-same, and-all}
@@ -24,6 +25,9 @@ meets-kind t kind n e a b = by-cases (ℕ-discrete n 1) (λ q. ap (eqb kind) q �
 
 keep-at-least-requires : tie.Need-keep-at-least-requires
 keep-at-least-requires c κs = search needs
+
+cast-keep-equal : tie.Need-cast-keep-equal
+cast-keep-equal c = omega arith
 
 keep-equal-requires : tie.Need-keep-equal-requires
 keep-equal-requires c κs = search needs
@@ -55,15 +59,17 @@ returns-3 c = λ t f g e s.
     let d = c .before .before .before .before .before .before .before .args in
     let other = c .before .before .before .before .match .rest in
     let kind : ℕ → ℕ = λ k. getD (now (d .kind)) k 0 in
+    let whole : d .test % 65536 ≡ d .test = omega (arith, e, test-small t g) in
     c .before .before .keep-equal .ensures f s
-    ∙ bits-same (length (now (d .set))) (λ k. f k && eqb (kind k) (d .test)) (λ k. f k && meets t (kind k))
-    (λ k l. ap (λ x. f k && x) (meets-kind t (kind k) (d .test) e (other .0 .1) (other .1)))
+    ∙ bits-same (length (now (d .set))) (λ k. f k && eqb (kind k) (d .test % 65536)) (λ k. f k && meets t (kind k))
+    (λ k l. ap (λ x. f k && x) (ap (eqb (kind k)) whole ∙ meets-kind t (kind k) (d .test) e (other .0 .1) (other .1)))
 
 pub keep-met-spec : {M : Type 1} → statement M
 keep-met-spec =
     tie.close
     (tie.spec
     keep-at-least-requires
+    cast-keep-equal
     keep-equal-requires
     returns
     same-length

@@ -14,6 +14,7 @@ use Rattle.paper.specs.Extraction.{rank}
 use Rattle.paper.specs.Answers.{value, line, short, markedCount, extractAnswer}
 use Rattle.paper.proofs.Tests.{or-left, or-right}
 use Rattle.table.specs.Faults.{faultOf}
+use Rattle.table.proofs.Nodes.{inside}
 use Rattle.table.proofs.Lines.{too-long, Agree, right-lengths}
 use Rattle.table.proofs.answer.Statement.{statement}
 use Rattle.table.proofs.answer.Tie as tie
@@ -110,7 +111,9 @@ enum-told : tie.Need-enum-told
 enum-told c = search needs
 
 marks-fault-requires : tie.Need-marks-fault-requires
-marks-fault-requires c κs = search needs
+marks-fault-requires c κs =
+    let start = begun (c .before .before .before) in
+    (agree (c .before .before .before) .marks-long, inside (now (start .args .parent)) (now (start .args .kind)) (sym (sound c)))
 
 enum-known-i-2 : tie.Need-enum-known-i-2
 enum-known-i-2 c = search needs
