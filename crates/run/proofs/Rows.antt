@@ -186,6 +186,29 @@ split within (suc k) (suc count) (w ∷ ws) s rest l h next =
     (ap (λ (n : ℕ). takeSteps within n mid) (let e : suc count - suc k ≡ count - k = omega arith in e) ∙ g ∙
     ap₂ (λ (z : Steps) (r : List ℕ). some (z, r)) (ap (λ (z : Steps × List ℕ). later (suc k) (z .0)) (some-inj y)) (ap (λ (z : Steps × List ℕ). z .1) (some-inj y)))))))
 
+-- Where so many steps can be read, so can fewer.
+pub fewer-readable : (items : List ℕ) (at depth k to : ℕ) → k ≤ to → Readable (takeSteps (takeWithin depth) to (drop at items)) → Readable (takeSteps (takeWithin depth) k (drop at items))
+fewer-readable items at depth k to l r = split (takeWithin depth) k to (drop at items) (r .0 .0) (r .0 .1) l (r .1) (λ p mid u v. ((p, mid), u))
+
+-- From where k steps end, the others up to `to` can be read, and where those end, `to` steps end.
+module _ (items : List ℕ) (at depth k to place : ℕ) (e : Ends items at (takeSteps (takeWithin depth) k (drop at items)) place) (r : Readable (takeSteps (takeWithin depth) to (drop at items))) (l : k ≤ to) where
+  rest-read : takeSteps (takeWithin depth) (to - k) (drop place items) ≡ some (later k (r .0 .0), r .0 .1)
+  rest-read =
+      split (takeWithin depth) k to (drop at items) (r .0 .0) (r .0 .1) l (r .1)
+      (λ p mid u v. ap (takeSteps (takeWithin depth) (to - k)) (ap (λ (z : Steps × List ℕ). z .1) (some-inj (sym (e .reads) ∙ u))) ∙ v)
+
+  pub further-readable : Readable (takeSteps (takeWithin depth) (to - k) (drop place items))
+  further-readable = ((later k (r .0 .0), r .0 .1), rest-read)
+
+  pub further : (next : ℕ) → Ends items place (takeSteps (takeWithin depth) (to - k) (drop place items)) next → Ends items at (takeSteps (takeWithin depth) to (drop at items)) next
+  further next f =
+      record {
+        what = r .0 .0;
+        reads = r .1 ∙ ap (λ (z : Steps × List ℕ). some (r .0 .0, z .1)) (some-inj (sym rest-read ∙ f .reads));
+        onward = omega (arith, e .onward, f .onward);
+        inside = f .inside;
+      }
+
 -- Where step k of a readable path stands: its item, its predicates, and what the steps from there on are.
 pub record StepHere (items : List ℕ) (place nodes room depth : ℕ) (s : Steps) (k : ℕ) (h : Head) : Type 0 where
   pub preds : Fits items (place + 1) nodes room (takePreds (takeWithin depth) (h .count) (drop (place + 1) items)) (λ ps. 1 + heightPreds ps)
@@ -193,7 +216,7 @@ pub record StepHere (items : List ℕ) (place nodes room depth : ℕ) (s : Steps
 
 module _ (items : List ℕ) (at nodes room depth count : ℕ) (f : Fits items at nodes room (takeSteps (takeWithin depth) count (drop at items)) (λ s. 1 + heightSteps s)) where
   pub first-readable : (k : ℕ) → k ≤ count → Readable (takeSteps (takeWithin depth) k (drop at items))
-  first-readable k l = split (takeWithin depth) k count (drop at items) (f .what) (f .rest) l (f .reads) (λ p mid u v. ((p, mid), u))
+  first-readable k l = fewer-readable items at depth k count l ((f .what, f .rest), f .reads)
 
   pub count-steps : stepCount (f .what) ≡ count
   count-steps = from-steps depth (takeWithin depth) (from-within depth) count (drop at items) (f .what, f .rest) (f .reads) .count

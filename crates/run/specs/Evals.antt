@@ -12,9 +12,11 @@ use Rattle.paper.specs.Query.{Steps, Query}
 use Rattle.paper.specs.Measures.{height}
 use Rattle.paper.specs.Selection.{arrives}
 use Rattle.paper.specs.Answers.{Answer, value, line, lineQuery, tooLong, short, scratchOf}
-use Rattle.paper.specs.Items.{Taken, Head, stepAt, pathAt, decode}
+use Rattle.paper.specs.Items.{Taken, Head, stepAt, pathAt, takeSteps, takeWithin, decode}
 use Rattle.paper.specs.Document.{Table, nodes, marked, over, tableFault, marksFault, tableOf}
 use Rattle.paper.proofs.Trees.{Tree}
+use Rattle.run.specs.declared.Reached.{Reached}
+use Rattle.run.specs.declared.Places.{Places}
 use Rattle.item.specs.declared.Step.{Step}
 use Rattle.item.proofs.Saying.{numbered}
 use Rattle.sets.specs.Sets.{bits}
@@ -48,6 +50,14 @@ pub record Ends {A : Type 0} (items : List ℕ) (at : ℕ) (taken : Taken A) (ne
   pub reads : taken ≡ some (what, drop next items)
   pub onward : at ≤ next
   pub inside : next ≤ length items
+
+-- The first steps of the path from `at` on, as many as were passed, end at the place reached.
+abbrev pub StepsTo : List ℕ → ℕ → ℕ → Reached → Type 0
+StepsTo items at depth reached = Ends items at (takeSteps (takeWithin depth) (reached .steps) (drop at items)) (reached .place)
+
+-- What was reached last are places of the path's steps.
+abbrev pub Known : List ℕ → ℕ → ℕ → Places → Type 0
+Known items at depth places = (StepsTo items at depth (places .far)) × (StepsTo items at depth (places .near))
 
 -- Something can be read.
 abbrev pub Readable : {A : Type 0} → Taken A → Type 0

@@ -8,6 +8,7 @@ use table::Fault;
 ghost use Prim.Native.Nat.{ℕ, _+_, _≤_, _<_};
 ghost use mathlib.Core.Path.{_≡_};
 ghost use mathlib.Core.Bool.{Bool, true, _&&_};
+ghost use mathlib.Core.List.{List};
 ghost use mathlib.Core.Option.{some};
 ghost use lib.Dec.{eqb};
 ghost use lib.ListN.{length, getD, drop, replicate};
@@ -20,7 +21,7 @@ ghost use Rattle.paper.specs.Measures.{heightExpr, heightSteps, heightPreds};
 ghost use Rattle.paper.specs.Selection.{meets, holds, finds, allHold, selects, kept};
 ghost use Rattle.paper.proofs.Decoding.{orsFrom, andsFrom};
 ghost use Rattle.sets.specs.Sets.{bits};
-ghost use Rattle.run.specs.Evals.{Ready, Readable, Fits, Ends, StepThere, StepSaid, Evaluates, Narrows, Moves, PathThere, Runs, keepsBy, roomAnswer};
+ghost use Rattle.run.specs.Evals.{Ready, Readable, Fits, Ends, StepsTo, Known, StepThere, StepSaid, Evaluates, Narrows, Moves, PathThere, Runs, keepsBy, roomAnswer};
 
 // Where so many steps end.
 fn past_steps(items: &[u32], at: usize, count: usize, depth: usize) -> usize
@@ -37,6 +38,76 @@ fn past_steps(items: &[u32], at: usize, count: usize, depth: usize) -> usize
         return at;
     };
     next
+}
+
+// The place of a step of a path, after so many others.
+pub struct Reached {
+    pub steps: usize,
+    pub place: usize,
+}
+
+// The places that were reached last: of a multiple of 256 steps, of a multiple of 16, and of the step looked for.
+pub struct Places {
+    pub far: Reached,
+    pub near: Reached,
+    pub place: usize,
+}
+
+// Where step `to` of the path stands: as known, or found from an earlier one.
+fn reach(
+    items: &[u32],
+    at: usize,
+    from: Reached,
+    known: Reached,
+    to: usize,
+    depth: usize,
+) -> Reached
+    requires { ⌜ (from .steps ≤ to) × (depth ≤ 64) ⌝ }
+    requires { ⌜ (StepsTo (now items) at depth from) × (StepsTo (now items) at depth known) ⌝ }
+    requires { ⌜ Readable (takeSteps (takeWithin depth) to (drop at (now items))) ⌝ }
+    ensures { λ r. ⌜ (r .steps ≡ to) × (StepsTo (now (items .entry)) at depth r) ⌝ }
+{
+    if known.steps == to {
+        return known;
+    }
+    let place = past_steps(items, from.place, to - from.steps, depth);
+    Reached { steps: to, place }
+}
+
+// Looks for step `to` of the path: from the last multiple of 16 steps before it, and for that from the last of 256.
+fn look(items: &[u32], at: usize, known: Places, to: usize, depth: usize) -> Places
+    requires { ⌜ (at ≤ length (now items)) × (depth ≤ 64) ⌝ }
+    requires { ⌜ Known (now items) at depth known ⌝ }
+    requires { ⌜ Readable (takeSteps (takeWithin depth) to (drop at (now items))) ⌝ }
+    ensures { λ r. ⌜ (Known (now (items .entry)) at depth r) × (Ends (now (items .entry)) at (takeSteps (takeWithin depth) to (drop at (now (items .entry)))) (r .place)) ⌝ }
+{
+    let start = Reached {
+        steps: 0,
+        place: at,
+    };
+    let far = reach(items, at, start, known.far, to - to % 256, depth);
+    let near = reach(items, at, far, known.near, to - to % 16, depth);
+    let here = reach(items, at, near, near, to, depth);
+    Places {
+        far,
+        near,
+        place: here.place,
+    }
+}
+
+// No place is reached yet but the path's own.
+fn unlooked(at: usize) -> Places
+    ensures { λ r. ⌜ ((items : List ℕ) (depth : ℕ) → at ≤ length items → Known items at depth r) ⌝ }
+{
+    let start = Reached {
+        steps: 0,
+        place: at,
+    };
+    Places {
+        far: start,
+        near: start,
+        place: at,
+    }
 }
 
 // The step at a place where one stands.
@@ -169,10 +240,12 @@ fn path(
 {
     let n = parent.len();
     sets::fill(&mut sets[..n], 1);
+    let mut places = unlooked(at);
     let mut left = count;
     while 0 < left {
         left -= 1;
-        let place = past_steps(items, at, left, depth);
+        places = look(items, at, places, left, depth);
+        let place = places.place;
         let step = step_at(items, place);
         restrict(kind, given, step.test, &mut sets[..n]);
         predicates(

@@ -21,7 +21,7 @@ use Rattle.paper.specs.Composition.{turned}
 use Rattle.paper.specs.Document.{marked, tableOf}
 use Rattle.sets.specs.Sets.{bits, image}
 use Rattle.paper.specs.Measures.{heightExpr, heightPreds}
-use Rattle.run.specs.Evals.{Fits, Narrows}
+use Rattle.run.specs.Evals.{Fits, Known, Narrows}
 use Rattle.run.proofs.Slices.{part-length, first-stays, second-comes, length-stays, front-is, front-back, front-length}
 use Rattle.run.proofs.Running.{AndSet, ands-begin, ands-first-fits, ands-first-set, ands-owed-fits, ands-set-more, ands-set-done}
 use Rattle.run.proofs.Running.{OrSet, ors-begin, ors-first-fits, ors-first-set, ors-owed-fits, ors-set-more, ors-set-done}
@@ -48,9 +48,11 @@ use Rattle.run.proofs.term.Kinds as term-kinds
 use Rattle.run.proofs.+expression+operand+path+predicates+term.Lts-term as term-lts
 use Rattle.item.proofs.turn.Reads as turn-reads
 use Rattle.item.proofs.unpack.Reads as unpack-reads
+use Rattle.run.proofs.look.Reads as look-reads
 use Rattle.run.proofs.past_steps.Reads as past-steps-reads
 use Rattle.run.proofs.restrict.Reads as restrict-reads
 use Rattle.run.proofs.step_at.Reads as step-at-reads
+use Rattle.run.proofs.unlooked.Reads as unlooked-reads
 use Rattle.sets.proofs.add_second.Reads as add-second-reads
 use Rattle.sets.proofs.along.Reads as along-reads
 use Rattle.sets.proofs.fill.Reads as fill-reads
@@ -109,6 +111,17 @@ term-at t = and 5 term-kinds.ps (is 5 term-kinds.ps μ-term t) term.Pre
 abbrev term-below : ℕ → In 5 term-kinds.ps
 term-below t = and 5 term-kinds.ps (falls 5 term-kinds.ps _<_ μ-term t) term.Pre
 
+-- What `expression` knows of the functions it calls.
+abbrev expression-claims : ℕ → expression-lts.Claims
+expression-claims t = (
+  run-of-reads.Asked,
+  run-of-reads.Learnt,
+  term-below t,
+  term.Post,
+  add-second-reads.Asked,
+  add-second-reads.Learnt,
+)
+
 abbrev expression-Inv-loop : expression-lts.InvT-loop
 expression-Inv-loop items at counted depth parent kind given sets₀ n run place₀ owed₀ sets place owed =
     (length sets ≡ length sets₀) × OrSet (tableOf parent kind) given depth items at (length parent) (orsFrom (takeWithin depth) counted (drop at items)) place owed sets
@@ -116,34 +129,13 @@ expression-Inv-loop items at counted depth parent kind given sets₀ n run place
 abbrev expression-μ-loop : expression-lts.MeasureT-loop
 expression-μ-loop items at counted depth parent kind given sets₀ n run place₀ owed₀ sets place owed = owed
 
-expression-run-of-requires : (t : ℕ) → expression-lts.Need-run-of-requires (
-  run-of-reads.Asked,
-  run-of-reads.Learnt,
-  term-below t,
-  term.Post,
-  add-second-reads.Asked,
-  add-second-reads.Learnt,
-) (expression-at t) expression.Post expression-Inv-loop expression-μ-loop
+expression-run-of-requires : (t : ℕ) → expression-lts.Need-run-of-requires (expression-claims t) (expression-at t) expression.Post expression-Inv-loop expression-μ-loop
 expression-run-of-requires t c κs = search needs
 
-expression-add-term : (t : ℕ) → expression-lts.Need-add-term (
-  run-of-reads.Asked,
-  run-of-reads.Learnt,
-  term-below t,
-  term.Post,
-  add-second-reads.Asked,
-  add-second-reads.Learnt,
-) (expression-at t) expression.Post expression-Inv-loop expression-μ-loop
+expression-add-term : (t : ℕ) → expression-lts.Need-add-term (expression-claims t) (expression-at t) expression.Post expression-Inv-loop expression-μ-loop
 expression-add-term t c = search needs
 
-expression-term-requires : (t : ℕ) → expression-lts.Need-term-requires (
-  run-of-reads.Asked,
-  run-of-reads.Learnt,
-  term-below t,
-  term.Post,
-  add-second-reads.Asked,
-  add-second-reads.Learnt,
-) (expression-at t) expression.Post expression-Inv-loop expression-μ-loop
+expression-term-requires : (t : ℕ) → expression-lts.Need-term-requires (expression-claims t) (expression-at t) expression.Post expression-Inv-loop expression-μ-loop
 expression-term-requires t c κs =
     let start = c .before .before .before .before .before .before .before in
     let a = start .args in
@@ -160,24 +152,10 @@ expression-term-requires t c κs =
       ),
     )
 
-expression-add-owed : (t : ℕ) → expression-lts.Need-add-owed (
-  run-of-reads.Asked,
-  run-of-reads.Learnt,
-  term-below t,
-  term.Post,
-  add-second-reads.Asked,
-  add-second-reads.Learnt,
-) (expression-at t) expression.Post expression-Inv-loop expression-μ-loop
+expression-add-owed : (t : ℕ) → expression-lts.Need-add-owed (expression-claims t) (expression-at t) expression.Post expression-Inv-loop expression-μ-loop
 expression-add-owed t c = search needs
 
-expression-loop-holds : (t : ℕ) → expression-lts.Need-loop-holds (
-  run-of-reads.Asked,
-  run-of-reads.Learnt,
-  term-below t,
-  term.Post,
-  add-second-reads.Asked,
-  add-second-reads.Learnt,
-) (expression-at t) expression.Post expression-Inv-loop expression-μ-loop
+expression-loop-holds : (t : ℕ) → expression-lts.Need-loop-holds (expression-claims t) (expression-at t) expression.Post expression-Inv-loop expression-μ-loop
 expression-loop-holds t c =
     let a = c .before .before .before .before .before .before .before .before .before .before .args in
     let r = c .before .before .before .before .run-of in (
@@ -186,14 +164,7 @@ expression-loop-holds t c =
           (ors-begin (a .depth) (now (a .items)) (a .at) (a .counted) (r .result) (r .ensures .0)) (c .before .before .term .ensures),
     )
 
-expression-sub-term : (t : ℕ) → expression-lts.Need-sub-term (
-  run-of-reads.Asked,
-  run-of-reads.Learnt,
-  term-below t,
-  term.Post,
-  add-second-reads.Asked,
-  add-second-reads.Learnt,
-) (expression-at t) expression.Post expression-Inv-loop expression-μ-loop
+expression-sub-term : (t : ℕ) → expression-lts.Need-sub-term (expression-claims t) (expression-at t) expression.Post expression-Inv-loop expression-μ-loop
 expression-sub-term t c =
     let start = c .before .before .before .before .before .before .before .before .before .before .before .before in
     let a = start .args in
@@ -201,14 +172,7 @@ expression-sub-term t c =
     let len : length (l .sets) ≡ length (now (a .sets)) = l .inv .0 ∙ c .before .before .before .before .term .kept .1 .1 .1 .1 .1 .1 .1 .0 in
     ors-owed-fits (tableOf (now (a .parent)) (now (a .kind))) (now (a .given)) (a .depth) (now (a .items)) (a .at) (length (now (a .parent))) _ _ (l .place) (l .owed) (l .sets) (c .loop-test .taken) (start .pre .1 .1 .1) (l .inv .1) (λ f two. omega arith)
 
-expression-part-term-start : (t : ℕ) → expression-lts.Need-part-term-start (
-  run-of-reads.Asked,
-  run-of-reads.Learnt,
-  term-below t,
-  term.Post,
-  add-second-reads.Asked,
-  add-second-reads.Learnt,
-) (expression-at t) expression.Post expression-Inv-loop expression-μ-loop
+expression-part-term-start : (t : ℕ) → expression-lts.Need-part-term-start (expression-claims t) (expression-at t) expression.Post expression-Inv-loop expression-μ-loop
 expression-part-term-start t c =
     let start = c .before .before .before .before .before .before .before .before .before .before .before .before in
     let a = start .args in
@@ -216,24 +180,10 @@ expression-part-term-start t c =
     let len : length (l .sets) ≡ length (now (a .sets)) = l .inv .0 ∙ c .before .before .before .before .term .kept .1 .1 .1 .1 .1 .1 .1 .0 in
     ors-owed-fits (tableOf (now (a .parent)) (now (a .kind))) (now (a .given)) (a .depth) (now (a .items)) (a .at) (length (now (a .parent))) _ _ (l .place) (l .owed) (l .sets) (c .loop-test .taken) (start .pre .1 .1 .1) (l .inv .1) (λ f two. omega arith)
 
-expression-part-term-end : (t : ℕ) → expression-lts.Need-part-term-end (
-  run-of-reads.Asked,
-  run-of-reads.Learnt,
-  term-below t,
-  term.Post,
-  add-second-reads.Asked,
-  add-second-reads.Learnt,
-) (expression-at t) expression.Post expression-Inv-loop expression-μ-loop
+expression-part-term-end : (t : ℕ) → expression-lts.Need-part-term-end (expression-claims t) (expression-at t) expression.Post expression-Inv-loop expression-μ-loop
 expression-part-term-end t c = search needs
 
-expression-term-requires-2 : (t : ℕ) → expression-lts.Need-term-requires-2 (
-  run-of-reads.Asked,
-  run-of-reads.Learnt,
-  term-below t,
-  term.Post,
-  add-second-reads.Asked,
-  add-second-reads.Learnt,
-) (expression-at t) expression.Post expression-Inv-loop expression-μ-loop
+expression-term-requires-2 : (t : ℕ) → expression-lts.Need-term-requires-2 (expression-claims t) (expression-at t) expression.Post expression-Inv-loop expression-μ-loop
 expression-term-requires-2 t c κs =
     let start = c .before .before .before .before .before .before .before .before .before .before .before .before .before in
     let a = start .args in
@@ -252,14 +202,7 @@ expression-term-requires-2 t c κs =
       ),
     ))
 
-expression-add-second-requires : (t : ℕ) → expression-lts.Need-add-second-requires (
-  run-of-reads.Asked,
-  run-of-reads.Learnt,
-  term-below t,
-  term.Post,
-  add-second-reads.Asked,
-  add-second-reads.Learnt,
-) (expression-at t) expression.Post expression-Inv-loop expression-μ-loop
+expression-add-second-requires : (t : ℕ) → expression-lts.Need-add-second-requires (expression-claims t) (expression-at t) expression.Post expression-Inv-loop expression-μ-loop
 expression-add-second-requires t c κs =
     let start = c .before .before .before .before .before .before .before .before .before .before .before .before .before .before .before .before .before in
     let a = start .args in
@@ -269,34 +212,13 @@ expression-add-second-requires t c κs =
     ors-owed-fits (tableOf (now (a .parent)) (now (a .kind))) (now (a .given)) (a .depth) (now (a .items)) (a .at) (length (now (a .parent))) _ _ (l .place) (l .owed) (l .sets) (c .before .before .before .before .before .loop-test .taken) (start .pre .1 .1 .1) (l .inv .1)
     (λ f two. omega (arith, length-stays n (l .sets) (c .before .before .before .term2 .last .1 .1 .1 .1 .1 .1 .1 .0) (omega arith) (c .before .before .before .term2 .kept .1 .1 .1 .1 .1 .1 .1 .0)))
 
-expression-sub-owed : (t : ℕ) → expression-lts.Need-sub-owed (
-  run-of-reads.Asked,
-  run-of-reads.Learnt,
-  term-below t,
-  term.Post,
-  add-second-reads.Asked,
-  add-second-reads.Learnt,
-) (expression-at t) expression.Post expression-Inv-loop expression-μ-loop
+expression-sub-owed : (t : ℕ) → expression-lts.Need-sub-owed (expression-claims t) (expression-at t) expression.Post expression-Inv-loop expression-μ-loop
 expression-sub-owed t c = search needs
 
-expression-loop-less : (t : ℕ) → expression-lts.Need-loop-less (
-  run-of-reads.Asked,
-  run-of-reads.Learnt,
-  term-below t,
-  term.Post,
-  add-second-reads.Asked,
-  add-second-reads.Learnt,
-) (expression-at t) expression.Post expression-Inv-loop expression-μ-loop
+expression-loop-less : (t : ℕ) → expression-lts.Need-loop-less (expression-claims t) (expression-at t) expression.Post expression-Inv-loop expression-μ-loop
 expression-loop-less t c = search needs
 
-expression-loop-again : (t : ℕ) → expression-lts.Need-loop-again (
-  run-of-reads.Asked,
-  run-of-reads.Learnt,
-  term-below t,
-  term.Post,
-  add-second-reads.Asked,
-  add-second-reads.Learnt,
-) (expression-at t) expression.Post expression-Inv-loop expression-μ-loop
+expression-loop-again : (t : ℕ) → expression-lts.Need-loop-again (expression-claims t) (expression-at t) expression.Post expression-Inv-loop expression-μ-loop
 expression-loop-again t c =
     let start = c .before .before .before .before .before .before .before .before .before .before .before .before .before .before .before .before .before .before .before .before in
     let a = start .args in
@@ -314,30 +236,18 @@ expression-loop-again t c =
           (λ f g p q. front-is n (λ i. f i || g i) _ _ (joined .ensures f g (first-stays n (l .sets) part on ∙ p) (second-comes n (l .sets) part on ∙ q))),
     ))
 
-expression-same-length : (t : ℕ) → expression-lts.Need-same-length (
-  run-of-reads.Asked,
-  run-of-reads.Learnt,
-  term-below t,
-  term.Post,
-  add-second-reads.Asked,
-  add-second-reads.Learnt,
-) (expression-at t) expression.Post expression-Inv-loop expression-μ-loop
+expression-same-length : (t : ℕ) → expression-lts.Need-same-length (expression-claims t) (expression-at t) expression.Post expression-Inv-loop expression-μ-loop
 expression-same-length t c = search needs
 
-expression-returns : (t : ℕ) → expression-lts.Need-returns (
-  run-of-reads.Asked,
-  run-of-reads.Learnt,
-  term-below t,
-  term.Post,
-  add-second-reads.Asked,
-  add-second-reads.Learnt,
-) (expression-at t) expression.Post expression-Inv-loop expression-μ-loop
+expression-returns : (t : ℕ) → expression-lts.Need-returns (expression-claims t) (expression-at t) expression.Post expression-Inv-loop expression-μ-loop
 expression-returns t c =
     let a = c .before .before .before .before .before .before .before .before .before .before .before .before .args in
     let l = c .before .loop in
     ors-set-done (tableOf (now (a .parent)) (now (a .kind))) (now (a .given)) (a .depth) (now (a .items)) (a .at) (length (now (a .parent))) _ (l .place) (l .owed) (l .sets) (c .loop-test .left) (l .inv .1)
 
-operand-mul-unpack : (t : ℕ) → operand-lts.Need-mul-unpack (
+-- What `operand` knows of the functions it calls.
+abbrev operand-claims : ℕ → operand-lts.Claims
+operand-claims t = (
   unpack-reads.Asked,
   unpack-reads.Learnt,
   path-below t,
@@ -348,79 +258,26 @@ operand-mul-unpack : (t : ℕ) → operand-lts.Need-mul-unpack (
   expression.Post,
   flip-reads.Asked,
   flip-reads.Learnt,
-) (operand-at t) operand.Post
+)
+
+operand-mul-unpack : (t : ℕ) → operand-lts.Need-mul-unpack (operand-claims t) (operand-at t) operand.Post
 operand-mul-unpack t c = search needs
 
-operand-shared-slice-read-unpack : (t : ℕ) → operand-lts.Need-shared-slice-read-unpack (
-  unpack-reads.Asked,
-  unpack-reads.Learnt,
-  path-below t,
-  path.Post,
-  term-below t,
-  term.Post,
-  expression-below t,
-  expression.Post,
-  flip-reads.Asked,
-  flip-reads.Learnt,
-) (operand-at t) operand.Post
+operand-shared-slice-read-unpack : (t : ℕ) → operand-lts.Need-shared-slice-read-unpack (operand-claims t) (operand-at t) operand.Post
 operand-shared-slice-read-unpack t c =
     let a = c .before .before .before .before .before .before .args in
     operand-there (now (a .items)) (a .at) _ _ (a .depth) (c .before .before .before .before .before .before .pre .1 .1 .1)
 
-operand-unpack-requires : (t : ℕ) → operand-lts.Need-unpack-requires (
-  unpack-reads.Asked,
-  unpack-reads.Learnt,
-  path-below t,
-  path.Post,
-  term-below t,
-  term.Post,
-  expression-below t,
-  expression.Post,
-  flip-reads.Asked,
-  flip-reads.Learnt,
-) (operand-at t) operand.Post
+operand-unpack-requires : (t : ℕ) → operand-lts.Need-unpack-requires (operand-claims t) (operand-at t) operand.Post
 operand-unpack-requires t c κs = search needs
 
-operand-enum-known-item : (t : ℕ) → operand-lts.Need-enum-known-item (
-  unpack-reads.Asked,
-  unpack-reads.Learnt,
-  path-below t,
-  path.Post,
-  term-below t,
-  term.Post,
-  expression-below t,
-  expression.Post,
-  flip-reads.Asked,
-  flip-reads.Learnt,
-) (operand-at t) operand.Post
+operand-enum-known-item : (t : ℕ) → operand-lts.Need-enum-known-item (operand-claims t) (operand-at t) operand.Post
 operand-enum-known-item t c = search needs
 
-operand-add-path : (t : ℕ) → operand-lts.Need-add-path (
-  unpack-reads.Asked,
-  unpack-reads.Learnt,
-  path-below t,
-  path.Post,
-  term-below t,
-  term.Post,
-  expression-below t,
-  expression.Post,
-  flip-reads.Asked,
-  flip-reads.Learnt,
-) (operand-at t) operand.Post
+operand-add-path : (t : ℕ) → operand-lts.Need-add-path (operand-claims t) (operand-at t) operand.Post
 operand-add-path t c = search needs
 
-operand-path-requires : (t : ℕ) → operand-lts.Need-path-requires (
-  unpack-reads.Asked,
-  unpack-reads.Learnt,
-  path-below t,
-  path.Post,
-  term-below t,
-  term.Post,
-  expression-below t,
-  expression.Post,
-  flip-reads.Asked,
-  flip-reads.Learnt,
-) (operand-at t) operand.Post
+operand-path-requires : (t : ℕ) → operand-lts.Need-path-requires (operand-claims t) (operand-at t) operand.Post
 operand-path-requires t c κs =
     let start = c .before .before .before .before .before .before .before .before .before .before .before in
     let a = start .args in
@@ -430,32 +287,10 @@ operand-path-requires t c κs =
     let s = said w (u .result) (u .ensures) in
     (omega (arith, operand-there (now (a .items)) (a .at) _ _ (a .depth) f, start .pre .0), (omega (arith, start .pre .1 .0), (start .pre .1 .1 .0, path-fits (tableOf (now (a .parent)) (now (a .kind))) (now (a .given)) (now (a .items)) (a .at) (length (now (a .parent))) _ (a .depth) f _ (rw (c .before .before .item .given .1) at s))))
 
-operand-same-length : (t : ℕ) → operand-lts.Need-same-length (
-  unpack-reads.Asked,
-  unpack-reads.Learnt,
-  path-below t,
-  path.Post,
-  term-below t,
-  term.Post,
-  expression-below t,
-  expression.Post,
-  flip-reads.Asked,
-  flip-reads.Learnt,
-) (operand-at t) operand.Post
+operand-same-length : (t : ℕ) → operand-lts.Need-same-length (operand-claims t) (operand-at t) operand.Post
 operand-same-length t c = search needs
 
-operand-returns : (t : ℕ) → operand-lts.Need-returns (
-  unpack-reads.Asked,
-  unpack-reads.Learnt,
-  path-below t,
-  path.Post,
-  term-below t,
-  term.Post,
-  expression-below t,
-  expression.Post,
-  flip-reads.Asked,
-  flip-reads.Learnt,
-) (operand-at t) operand.Post
+operand-returns : (t : ℕ) → operand-lts.Need-returns (operand-claims t) (operand-at t) operand.Post
 operand-returns t c =
     let start = c .before .before .before .before .before .before .before .before .before .before .before .before .before .before in
     let a = start .args in
@@ -465,46 +300,13 @@ operand-returns t c =
     let s = said w (u .result) (u .ensures) in
     path-set (tableOf (now (a .parent)) (now (a .kind))) (now (a .given)) (now (a .items)) (a .at) (length (now (a .parent))) _ (a .depth) f _ _ _ (rw (c .before .before .before .before .before .item .given .1) at s) (c .before .before .path .ensures)
 
-operand-enum-told : (t : ℕ) → operand-lts.Need-enum-told (
-  unpack-reads.Asked,
-  unpack-reads.Learnt,
-  path-below t,
-  path.Post,
-  term-below t,
-  term.Post,
-  expression-below t,
-  expression.Post,
-  flip-reads.Asked,
-  flip-reads.Learnt,
-) (operand-at t) operand.Post
+operand-enum-told : (t : ℕ) → operand-lts.Need-enum-told (operand-claims t) (operand-at t) operand.Post
 operand-enum-told t c = search needs
 
-operand-add-term : (t : ℕ) → operand-lts.Need-add-term (
-  unpack-reads.Asked,
-  unpack-reads.Learnt,
-  path-below t,
-  path.Post,
-  term-below t,
-  term.Post,
-  expression-below t,
-  expression.Post,
-  flip-reads.Asked,
-  flip-reads.Learnt,
-) (operand-at t) operand.Post
+operand-add-term : (t : ℕ) → operand-lts.Need-add-term (operand-claims t) (operand-at t) operand.Post
 operand-add-term t c = search needs
 
-operand-sub-term : (t : ℕ) → operand-lts.Need-sub-term (
-  unpack-reads.Asked,
-  unpack-reads.Learnt,
-  path-below t,
-  path.Post,
-  term-below t,
-  term.Post,
-  expression-below t,
-  expression.Post,
-  flip-reads.Asked,
-  flip-reads.Learnt,
-) (operand-at t) operand.Post
+operand-sub-term : (t : ℕ) → operand-lts.Need-sub-term (operand-claims t) (operand-at t) operand.Post
 operand-sub-term t c =
     let start = c .before .before .before .before .before .before .before .before .before .before in
     let a = start .args in
@@ -515,18 +317,7 @@ operand-sub-term t c =
     let deep = not-deep (tableOf (now (a .parent)) (now (a .kind))) (now (a .given)) (now (a .items)) (a .at) (length (now (a .parent))) _ (a .depth) f (u .result) s (c .before .before .match .keys2) in
     omega (arith, deep)
 
-operand-term-requires : (t : ℕ) → operand-lts.Need-term-requires (
-  unpack-reads.Asked,
-  unpack-reads.Learnt,
-  path-below t,
-  path.Post,
-  term-below t,
-  term.Post,
-  expression-below t,
-  expression.Post,
-  flip-reads.Asked,
-  flip-reads.Learnt,
-) (operand-at t) operand.Post
+operand-term-requires : (t : ℕ) → operand-lts.Need-term-requires (operand-claims t) (operand-at t) operand.Post
 operand-term-requires t c κs =
     let start = c .before .before .before .before .before .before .before .before .before .before .before in
     let a = start .args in
@@ -537,32 +328,10 @@ operand-term-requires t c κs =
     let deep = not-deep (tableOf (now (a .parent)) (now (a .kind))) (now (a .given)) (now (a .items)) (a .at) (length (now (a .parent))) _ (a .depth) f (u .result) s (c .before .before .before .match .keys2) in
     (omega (arith, operand-there (now (a .items)) (a .at) _ _ (a .depth) f, start .pre .0), ((omega arith, omega (arith, start .pre .1 .0)), (start .pre .1 .1 .0, opens-and (tableOf (now (a .parent)) (now (a .kind))) (now (a .given)) (now (a .items)) (a .at) (length (now (a .parent))) _ (a .depth) deep f (rw (c .before .enum-told .given .1) at s))))
 
-operand-same-length-2 : (t : ℕ) → operand-lts.Need-same-length-2 (
-  unpack-reads.Asked,
-  unpack-reads.Learnt,
-  path-below t,
-  path.Post,
-  term-below t,
-  term.Post,
-  expression-below t,
-  expression.Post,
-  flip-reads.Asked,
-  flip-reads.Learnt,
-) (operand-at t) operand.Post
+operand-same-length-2 : (t : ℕ) → operand-lts.Need-same-length-2 (operand-claims t) (operand-at t) operand.Post
 operand-same-length-2 t c = search needs
 
-operand-returns-2 : (t : ℕ) → operand-lts.Need-returns-2 (
-  unpack-reads.Asked,
-  unpack-reads.Learnt,
-  path-below t,
-  path.Post,
-  term-below t,
-  term.Post,
-  expression-below t,
-  expression.Post,
-  flip-reads.Asked,
-  flip-reads.Learnt,
-) (operand-at t) operand.Post
+operand-returns-2 : (t : ℕ) → operand-lts.Need-returns-2 (operand-claims t) (operand-at t) operand.Post
 operand-returns-2 t c =
     let start = c .before .before .before .before .before .before .before .before .before .before .before .before .before .before in
     let a = start .args in
@@ -573,46 +342,13 @@ operand-returns-2 t c =
     let deep = not-deep (tableOf (now (a .parent)) (now (a .kind))) (now (a .given)) (now (a .items)) (a .at) (length (now (a .parent))) _ (a .depth) f (u .result) s (c .before .before .before .before .before .before .match .keys2) in
     closes-and (tableOf (now (a .parent)) (now (a .kind))) (now (a .given)) (now (a .items)) (a .at) (length (now (a .parent))) _ (a .depth) deep f _ _ (rw (c .before .before .before .before .enum-told .given .1) at s) (c .before .before .term .ensures)
 
-operand-enum-told-2 : (t : ℕ) → operand-lts.Need-enum-told-2 (
-  unpack-reads.Asked,
-  unpack-reads.Learnt,
-  path-below t,
-  path.Post,
-  term-below t,
-  term.Post,
-  expression-below t,
-  expression.Post,
-  flip-reads.Asked,
-  flip-reads.Learnt,
-) (operand-at t) operand.Post
+operand-enum-told-2 : (t : ℕ) → operand-lts.Need-enum-told-2 (operand-claims t) (operand-at t) operand.Post
 operand-enum-told-2 t c = search needs
 
-operand-add-expression : (t : ℕ) → operand-lts.Need-add-expression (
-  unpack-reads.Asked,
-  unpack-reads.Learnt,
-  path-below t,
-  path.Post,
-  term-below t,
-  term.Post,
-  expression-below t,
-  expression.Post,
-  flip-reads.Asked,
-  flip-reads.Learnt,
-) (operand-at t) operand.Post
+operand-add-expression : (t : ℕ) → operand-lts.Need-add-expression (operand-claims t) (operand-at t) operand.Post
 operand-add-expression t c = search needs
 
-operand-sub-expression : (t : ℕ) → operand-lts.Need-sub-expression (
-  unpack-reads.Asked,
-  unpack-reads.Learnt,
-  path-below t,
-  path.Post,
-  term-below t,
-  term.Post,
-  expression-below t,
-  expression.Post,
-  flip-reads.Asked,
-  flip-reads.Learnt,
-) (operand-at t) operand.Post
+operand-sub-expression : (t : ℕ) → operand-lts.Need-sub-expression (operand-claims t) (operand-at t) operand.Post
 operand-sub-expression t c =
     let start = c .before .before .before .before .before .before .before .before .before .before .before in
     let a = start .args in
@@ -623,18 +359,7 @@ operand-sub-expression t c =
     let deep = not-deep (tableOf (now (a .parent)) (now (a .kind))) (now (a .given)) (now (a .items)) (a .at) (length (now (a .parent))) _ (a .depth) f (u .result) s (c .before .before .before .match .keys2) in
     omega (arith, deep)
 
-operand-expression-requires : (t : ℕ) → operand-lts.Need-expression-requires (
-  unpack-reads.Asked,
-  unpack-reads.Learnt,
-  path-below t,
-  path.Post,
-  term-below t,
-  term.Post,
-  expression-below t,
-  expression.Post,
-  flip-reads.Asked,
-  flip-reads.Learnt,
-) (operand-at t) operand.Post
+operand-expression-requires : (t : ℕ) → operand-lts.Need-expression-requires (operand-claims t) (operand-at t) operand.Post
 operand-expression-requires t c κs =
     let start = c .before .before .before .before .before .before .before .before .before .before .before .before in
     let a = start .args in
@@ -645,32 +370,10 @@ operand-expression-requires t c κs =
     let deep = not-deep (tableOf (now (a .parent)) (now (a .kind))) (now (a .given)) (now (a .items)) (a .at) (length (now (a .parent))) _ (a .depth) f (u .result) s (c .before .before .before .before .match .keys2) in
     (omega (arith, operand-there (now (a .items)) (a .at) _ _ (a .depth) f, start .pre .0), ((omega arith, omega (arith, start .pre .1 .0)), (start .pre .1 .1 .0, opens-or (tableOf (now (a .parent)) (now (a .kind))) (now (a .given)) (now (a .items)) (a .at) (length (now (a .parent))) _ (a .depth) deep f (rw (c .before .enum-told2 .given .1) at s))))
 
-operand-same-length-3 : (t : ℕ) → operand-lts.Need-same-length-3 (
-  unpack-reads.Asked,
-  unpack-reads.Learnt,
-  path-below t,
-  path.Post,
-  term-below t,
-  term.Post,
-  expression-below t,
-  expression.Post,
-  flip-reads.Asked,
-  flip-reads.Learnt,
-) (operand-at t) operand.Post
+operand-same-length-3 : (t : ℕ) → operand-lts.Need-same-length-3 (operand-claims t) (operand-at t) operand.Post
 operand-same-length-3 t c = search needs
 
-operand-returns-3 : (t : ℕ) → operand-lts.Need-returns-3 (
-  unpack-reads.Asked,
-  unpack-reads.Learnt,
-  path-below t,
-  path.Post,
-  term-below t,
-  term.Post,
-  expression-below t,
-  expression.Post,
-  flip-reads.Asked,
-  flip-reads.Learnt,
-) (operand-at t) operand.Post
+operand-returns-3 : (t : ℕ) → operand-lts.Need-returns-3 (operand-claims t) (operand-at t) operand.Post
 operand-returns-3 t c =
     let start = c .before .before .before .before .before .before .before .before .before .before .before .before .before .before .before in
     let a = start .args in
@@ -681,32 +384,10 @@ operand-returns-3 t c =
     let deep = not-deep (tableOf (now (a .parent)) (now (a .kind))) (now (a .given)) (now (a .items)) (a .at) (length (now (a .parent))) _ (a .depth) f (u .result) s (c .before .before .before .before .before .before .before .match .keys2) in
     closes-or (tableOf (now (a .parent)) (now (a .kind))) (now (a .given)) (now (a .items)) (a .at) (length (now (a .parent))) _ (a .depth) deep f _ _ (rw (c .before .before .before .before .enum-told2 .given .1) at s) (c .before .before .expression .ensures)
 
-operand-add-expression-2 : (t : ℕ) → operand-lts.Need-add-expression-2 (
-  unpack-reads.Asked,
-  unpack-reads.Learnt,
-  path-below t,
-  path.Post,
-  term-below t,
-  term.Post,
-  expression-below t,
-  expression.Post,
-  flip-reads.Asked,
-  flip-reads.Learnt,
-) (operand-at t) operand.Post
+operand-add-expression-2 : (t : ℕ) → operand-lts.Need-add-expression-2 (operand-claims t) (operand-at t) operand.Post
 operand-add-expression-2 t c = search needs
 
-operand-sub-expression-2 : (t : ℕ) → operand-lts.Need-sub-expression-2 (
-  unpack-reads.Asked,
-  unpack-reads.Learnt,
-  path-below t,
-  path.Post,
-  term-below t,
-  term.Post,
-  expression-below t,
-  expression.Post,
-  flip-reads.Asked,
-  flip-reads.Learnt,
-) (operand-at t) operand.Post
+operand-sub-expression-2 : (t : ℕ) → operand-lts.Need-sub-expression-2 (operand-claims t) (operand-at t) operand.Post
 operand-sub-expression-2 t c =
     let start = c .before .before .before .before .before .before .before .before .before .before in
     let a = start .args in
@@ -717,18 +398,7 @@ operand-sub-expression-2 t c =
     let deep = not-deep (tableOf (now (a .parent)) (now (a .kind))) (now (a .given)) (now (a .items)) (a .at) (length (now (a .parent))) _ (a .depth) f (u .result) s (c .before .before .match .keys2) in
     omega (arith, deep)
 
-operand-expression-requires-2 : (t : ℕ) → operand-lts.Need-expression-requires-2 (
-  unpack-reads.Asked,
-  unpack-reads.Learnt,
-  path-below t,
-  path.Post,
-  term-below t,
-  term.Post,
-  expression-below t,
-  expression.Post,
-  flip-reads.Asked,
-  flip-reads.Learnt,
-) (operand-at t) operand.Post
+operand-expression-requires-2 : (t : ℕ) → operand-lts.Need-expression-requires-2 (operand-claims t) (operand-at t) operand.Post
 operand-expression-requires-2 t c κs =
     let start = c .before .before .before .before .before .before .before .before .before .before .before in
     let a = start .args in
@@ -740,82 +410,27 @@ operand-expression-requires-2 t c κs =
     let is = must-be-not (now (a .items)) (a .at) _ _ (a .depth) f (u .result) s (c .before .before .before .match .keys2) (c .before .before .match2 .keys2) (c .before .match3 .keys2) in
     (omega (arith, operand-there (now (a .items)) (a .at) _ _ (a .depth) f, start .pre .0), ((omega arith, omega (arith, start .pre .1 .0)), (start .pre .1 .1 .0, opens-not (tableOf (now (a .parent)) (now (a .kind))) (now (a .given)) (now (a .items)) (a .at) (length (now (a .parent))) _ (a .depth) deep f is)))
 
-operand-slice-relend-prefix-flip : (t : ℕ) → operand-lts.Need-slice-relend-prefix-flip (
-  unpack-reads.Asked,
-  unpack-reads.Learnt,
-  path-below t,
-  path.Post,
-  term-below t,
-  term.Post,
-  expression-below t,
-  expression.Post,
-  flip-reads.Asked,
-  flip-reads.Learnt,
-) (operand-at t) operand.Post
+operand-slice-relend-prefix-flip : (t : ℕ) → operand-lts.Need-slice-relend-prefix-flip (operand-claims t) (operand-at t) operand.Post
 operand-slice-relend-prefix-flip t c =
     let start = c .before .before .before .before .before .before .before .before .before .before .before .before .before .before in
     let a = start .args in
     let f = start .pre .1 .1 .1 in
     omega (arith, operand-room (now (a .items)) (a .at) _ _ (a .depth) f, c .before .before .expression2 .kept .1 .1 .1 .1 .1 .1 .1 .0)
 
-operand-slice-aggregate-flip : (t : ℕ) → operand-lts.Need-slice-aggregate-flip (
-  unpack-reads.Asked,
-  unpack-reads.Learnt,
-  path-below t,
-  path.Post,
-  term-below t,
-  term.Post,
-  expression-below t,
-  expression.Post,
-  flip-reads.Asked,
-  flip-reads.Learnt,
-) (operand-at t) operand.Post
+operand-slice-aggregate-flip : (t : ℕ) → operand-lts.Need-slice-aggregate-flip (operand-claims t) (operand-at t) operand.Post
 operand-slice-aggregate-flip t c =
     let start = c .before .before .before .before .before .before .before .before .before .before .before .before .before .before .before in
     let a = start .args in
     let f = start .pre .1 .1 .1 in
     sym (length-take-le (length (now (a .parent))) _ (omega (arith, operand-room (now (a .items)) (a .at) _ _ (a .depth) f, c .before .before .before .expression2 .kept .1 .1 .1 .1 .1 .1 .1 .0)))
 
-operand-flip-requires : (t : ℕ) → operand-lts.Need-flip-requires (
-  unpack-reads.Asked,
-  unpack-reads.Learnt,
-  path-below t,
-  path.Post,
-  term-below t,
-  term.Post,
-  expression-below t,
-  expression.Post,
-  flip-reads.Asked,
-  flip-reads.Learnt,
-) (operand-at t) operand.Post
+operand-flip-requires : (t : ℕ) → operand-lts.Need-flip-requires (operand-claims t) (operand-at t) operand.Post
 operand-flip-requires t c κs = search needs
 
-operand-same-length-4 : (t : ℕ) → operand-lts.Need-same-length-4 (
-  unpack-reads.Asked,
-  unpack-reads.Learnt,
-  path-below t,
-  path.Post,
-  term-below t,
-  term.Post,
-  expression-below t,
-  expression.Post,
-  flip-reads.Asked,
-  flip-reads.Learnt,
-) (operand-at t) operand.Post
+operand-same-length-4 : (t : ℕ) → operand-lts.Need-same-length-4 (operand-claims t) (operand-at t) operand.Post
 operand-same-length-4 t c = search needs
 
-operand-returns-4 : (t : ℕ) → operand-lts.Need-returns-4 (
-  unpack-reads.Asked,
-  unpack-reads.Learnt,
-  path-below t,
-  path.Post,
-  term-below t,
-  term.Post,
-  expression-below t,
-  expression.Post,
-  flip-reads.Asked,
-  flip-reads.Learnt,
-) (operand-at t) operand.Post
+operand-returns-4 : (t : ℕ) → operand-lts.Need-returns-4 (operand-claims t) (operand-at t) operand.Post
 operand-returns-4 t c =
     let start = c .before .before .before .before .before .before .before .before .before .before .before .before .before .before .before .before .before .before in
     let a = start .args in
@@ -834,422 +449,185 @@ operand-returns-4 t c =
     front-back n (λ i. not (g i)) (flipped .last .0) _
     (flipped .ensures g (p ∙ ap (λ (k : ℕ). bits k g) (sym len)) ∙ ap (λ (k : ℕ). bits k (λ i. not (g i))) len))
 
+-- What `path` knows of the functions it calls.
+abbrev path-claims : ℕ → path-lts.Claims
+path-claims t = (
+  fill-reads.Asked,
+  fill-reads.Learnt,
+  unlooked-reads.Asked,
+  unlooked-reads.Learnt,
+  look-reads.Asked,
+  look-reads.Learnt,
+  step-at-reads.Asked,
+  step-at-reads.Learnt,
+  restrict-reads.Asked,
+  restrict-reads.Learnt,
+  predicates-below t,
+  predicates.Post,
+  turn-reads.Asked,
+  turn-reads.Learnt,
+  along-reads.Asked,
+  along-reads.Learnt,
+  past-steps-reads.Asked,
+  past-steps-reads.Learnt,
+)
+
 abbrev path-Inv-loop : path-lts.InvT-loop
-path-Inv-loop items at count depth parent kind given sets₀ n left₀ sets left =
-    (length sets ≡ length sets₀) × PathSet (tableOf parent kind) given items at (length parent) depth count left sets
+path-Inv-loop items at count depth parent kind given sets₀ n places₀ left₀ sets places left =
+    (length sets ≡ length sets₀) × PathSet (tableOf parent kind) given items at (length parent) depth count left sets × Known items at depth places
 
 abbrev path-μ-loop : path-lts.MeasureT-loop
-path-μ-loop items at count depth parent kind given sets₀ n left₀ sets left = left
+path-μ-loop items at count depth parent kind given sets₀ n places₀ left₀ sets places left = left
 
-path-slice-relend-prefix-fill : (t : ℕ) → path-lts.Need-slice-relend-prefix-fill (
-  fill-reads.Asked,
-  fill-reads.Learnt,
-  past-steps-reads.Asked,
-  past-steps-reads.Learnt,
-  step-at-reads.Asked,
-  step-at-reads.Learnt,
-  restrict-reads.Asked,
-  restrict-reads.Learnt,
-  predicates-below t,
-  predicates.Post,
-  turn-reads.Asked,
-  turn-reads.Learnt,
-  along-reads.Asked,
-  along-reads.Learnt,
-) (path-at t) path.Post path-Inv-loop path-μ-loop
+path-slice-relend-prefix-fill : (t : ℕ) → path-lts.Need-slice-relend-prefix-fill (path-claims t) (path-at t) path.Post path-Inv-loop path-μ-loop
 path-slice-relend-prefix-fill t c = search needs
 
-path-slice-aggregate-fill : (t : ℕ) → path-lts.Need-slice-aggregate-fill (
-  fill-reads.Asked,
-  fill-reads.Learnt,
-  past-steps-reads.Asked,
-  past-steps-reads.Learnt,
-  step-at-reads.Asked,
-  step-at-reads.Learnt,
-  restrict-reads.Asked,
-  restrict-reads.Learnt,
-  predicates-below t,
-  predicates.Post,
-  turn-reads.Asked,
-  turn-reads.Learnt,
-  along-reads.Asked,
-  along-reads.Learnt,
-) (path-at t) path.Post path-Inv-loop path-μ-loop
+path-slice-aggregate-fill : (t : ℕ) → path-lts.Need-slice-aggregate-fill (path-claims t) (path-at t) path.Post path-Inv-loop path-μ-loop
 path-slice-aggregate-fill t c =
     let start = c .before .before .before .before .before .before in
     let a = start .args in
     let n = length (now (a .parent)) in
     sym (length-take-le n (now (a .sets)) (one-fits (length (now (a .parent))) _ (length (now (a .sets))) (start .pre .1 .1 .1 .room-for) (omega arith)))
 
-path-fill-requires : (t : ℕ) → path-lts.Need-fill-requires (
-  fill-reads.Asked,
-  fill-reads.Learnt,
-  past-steps-reads.Asked,
-  past-steps-reads.Learnt,
-  step-at-reads.Asked,
-  step-at-reads.Learnt,
-  restrict-reads.Asked,
-  restrict-reads.Learnt,
-  predicates-below t,
-  predicates.Post,
-  turn-reads.Asked,
-  turn-reads.Learnt,
-  along-reads.Asked,
-  along-reads.Learnt,
-) (path-at t) path.Post path-Inv-loop path-μ-loop
+path-fill-requires : (t : ℕ) → path-lts.Need-fill-requires (path-claims t) (path-at t) path.Post path-Inv-loop path-μ-loop
 path-fill-requires t c κs = search needs
 
-path-loop-holds : (t : ℕ) → path-lts.Need-loop-holds (
-  fill-reads.Asked,
-  fill-reads.Learnt,
-  past-steps-reads.Asked,
-  past-steps-reads.Learnt,
-  step-at-reads.Asked,
-  step-at-reads.Learnt,
-  restrict-reads.Asked,
-  restrict-reads.Learnt,
-  predicates-below t,
-  predicates.Post,
-  turn-reads.Asked,
-  turn-reads.Learnt,
-  along-reads.Asked,
-  along-reads.Learnt,
-) (path-at t) path.Post path-Inv-loop path-μ-loop
+path-unlooked-requires : (t : ℕ) → path-lts.Need-unlooked-requires (path-claims t) (path-at t) path.Post path-Inv-loop path-μ-loop
+path-unlooked-requires t c κs = search needs
+
+path-loop-holds : (t : ℕ) → path-lts.Need-loop-holds (path-claims t) (path-at t) path.Post path-Inv-loop path-μ-loop
 path-loop-holds t c =
-    let start = c .before .before .before .before .before .before .before .before .before in
+    let start = c .before .before .before .before .before .before .before .before .before .before in
     let a = start .args in
     let n = length (now (a .parent)) in (
       refl,
-      path-begin (tableOf (now (a .parent)) (now (a .kind))) (now (a .given)) (now (a .items)) (a .at) (length (now (a .parent))) (length (now (a .sets))) (a .depth) (a .count) (start .pre .1 .1 .1) (c .before .before .fill .last .0) _
-          (c .before .before .fill .ensures ∙ ap (λ (k : ℕ). replicate k 1) (length-take-le n (now (a .sets)) (one-fits (length (now (a .parent))) _ (length (now (a .sets))) (start .pre .1 .1 .1 .room-for) (omega arith)))),
+      path-begin (tableOf (now (a .parent)) (now (a .kind))) (now (a .given)) (now (a .items)) (a .at) (length (now (a .parent))) (length (now (a .sets))) (a .depth) (a .count) (start .pre .1 .1 .1) (c .before .before .before .fill .last .0) _
+          (c .before .before .before .fill .ensures ∙ ap (λ (k : ℕ). replicate k 1) (length-take-le n (now (a .sets)) (one-fits (length (now (a .parent))) _ (length (now (a .sets))) (start .pre .1 .1 .1 .room-for) (omega arith)))),
+      c .unlooked .ensures (now (a .items)) (a .depth) (start .pre .1 .1 .1 .inside),
     )
 
-path-sub-left : (t : ℕ) → path-lts.Need-sub-left (
-  fill-reads.Asked,
-  fill-reads.Learnt,
-  past-steps-reads.Asked,
-  past-steps-reads.Learnt,
-  step-at-reads.Asked,
-  step-at-reads.Learnt,
-  restrict-reads.Asked,
-  restrict-reads.Learnt,
-  predicates-below t,
-  predicates.Post,
-  turn-reads.Asked,
-  turn-reads.Learnt,
-  along-reads.Asked,
-  along-reads.Learnt,
-) (path-at t) path.Post path-Inv-loop path-μ-loop
+path-sub-left : (t : ℕ) → path-lts.Need-sub-left (path-claims t) (path-at t) path.Post path-Inv-loop path-μ-loop
 path-sub-left t c = search needs
 
-path-past-steps-requires : (t : ℕ) → path-lts.Need-past-steps-requires (
-  fill-reads.Asked,
-  fill-reads.Learnt,
-  past-steps-reads.Asked,
-  past-steps-reads.Learnt,
-  step-at-reads.Asked,
-  step-at-reads.Learnt,
-  restrict-reads.Asked,
-  restrict-reads.Learnt,
-  predicates-below t,
-  predicates.Post,
-  turn-reads.Asked,
-  turn-reads.Learnt,
-  along-reads.Asked,
-  along-reads.Learnt,
-) (path-at t) path.Post path-Inv-loop path-μ-loop
-path-past-steps-requires t c κs =
-    let start = c .before .before .before .before .before .before .before .before .before .before .before in
-    let a = start .args in
-    let n = length (now (a .parent)) in
-    let l = c .before .loop in
-    (start .pre .1 .1 .1 .inside, start .pre .1 .0, first-readable (now (a .items)) (a .at) (length (now (a .parent))) (length (now (a .sets))) (a .depth) (a .count) (start .pre .1 .1 .1) (l .left - 1) (omega (arith, l .inv .1 .fewer)))
-
-path-step-at-requires : (t : ℕ) → path-lts.Need-step-at-requires (
-  fill-reads.Asked,
-  fill-reads.Learnt,
-  past-steps-reads.Asked,
-  past-steps-reads.Learnt,
-  step-at-reads.Asked,
-  step-at-reads.Learnt,
-  restrict-reads.Asked,
-  restrict-reads.Learnt,
-  predicates-below t,
-  predicates.Post,
-  turn-reads.Asked,
-  turn-reads.Learnt,
-  along-reads.Asked,
-  along-reads.Learnt,
-) (path-at t) path.Post path-Inv-loop path-μ-loop
-path-step-at-requires t c κs =
+path-look-requires : (t : ℕ) → path-lts.Need-look-requires (path-claims t) (path-at t) path.Post path-Inv-loop path-μ-loop
+path-look-requires t c κs =
     let start = c .before .before .before .before .before .before .before .before .before .before .before .before in
     let a = start .args in
     let n = length (now (a .parent)) in
+    let l = c .before .loop in
+    ((start .pre .1 .1 .1 .inside, start .pre .1 .0), (l .inv .2, first-readable (now (a .items)) (a .at) (length (now (a .parent))) (length (now (a .sets))) (a .depth) (a .count) (start .pre .1 .1 .1) (l .left - 1) (omega (arith, l .inv .1 .fewer))))
+
+path-step-at-requires : (t : ℕ) → path-lts.Need-step-at-requires (path-claims t) (path-at t) path.Post path-Inv-loop path-μ-loop
+path-step-at-requires t c κs =
+    let start = c .before .before .before .before .before .before .before .before .before .before .before .before .before in
+    let a = start .args in
+    let n = length (now (a .parent)) in
     let l = c .before .before .loop in
-    step-here (now (a .items)) (a .at) (length (now (a .parent))) (length (now (a .sets))) (a .depth) (a .count) (start .pre .1 .1 .1) (l .left - 1) (c .past-steps .result) (omega (arith, l .inv .1 .fewer, c .before .loop-test .taken)) (c .past-steps .ensures) (λ on h p here. (on, (h, p)))
+    step-here (now (a .items)) (a .at) (length (now (a .parent))) (length (now (a .sets))) (a .depth) (a .count) (start .pre .1 .1 .1) (l .left - 1) (c .look .result .place) (omega (arith, l .inv .1 .fewer, c .before .loop-test .taken)) (c .look .ensures .1) (λ on h p here. (on, (h, p)))
 
-path-slice-relend-prefix-restrict : (t : ℕ) → path-lts.Need-slice-relend-prefix-restrict (
-  fill-reads.Asked,
-  fill-reads.Learnt,
-  past-steps-reads.Asked,
-  past-steps-reads.Learnt,
-  step-at-reads.Asked,
-  step-at-reads.Learnt,
-  restrict-reads.Asked,
-  restrict-reads.Learnt,
-  predicates-below t,
-  predicates.Post,
-  turn-reads.Asked,
-  turn-reads.Learnt,
-  along-reads.Asked,
-  along-reads.Learnt,
-) (path-at t) path.Post path-Inv-loop path-μ-loop
-path-slice-relend-prefix-restrict t c = search needs
-
-path-slice-aggregate-restrict : (t : ℕ) → path-lts.Need-slice-aggregate-restrict (
-  fill-reads.Asked,
-  fill-reads.Learnt,
-  past-steps-reads.Asked,
-  past-steps-reads.Learnt,
-  step-at-reads.Asked,
-  step-at-reads.Learnt,
-  restrict-reads.Asked,
-  restrict-reads.Learnt,
-  predicates-below t,
-  predicates.Post,
-  turn-reads.Asked,
-  turn-reads.Learnt,
-  along-reads.Asked,
-  along-reads.Learnt,
-) (path-at t) path.Post path-Inv-loop path-μ-loop
-path-slice-aggregate-restrict t c =
+path-slice-relend-prefix-restrict : (t : ℕ) → path-lts.Need-slice-relend-prefix-restrict (path-claims t) (path-at t) path.Post path-Inv-loop path-μ-loop
+path-slice-relend-prefix-restrict t c =
     let start = c .before .before .before .before .before .before .before .before .before .before .before .before .before .before in
     let a = start .args in
     let n = length (now (a .parent)) in
-    let l = c .before .before .before .before .loop in
+    let l = c .before .before .before .loop in
     let len : length (l .sets) ≡ length (now (a .sets)) = l .inv .0 ∙ front-length n (now (a .sets)) (c .before .before .before .before .before .before .before .fill .last .0) (one-fits n _ (length (now (a .sets))) (start .pre .1 .1 .1 .room-for) (omega arith)) (c .before .before .before .before .before .before .before .fill .kept .0) in
+    omega (arith, one-fits n _ (length (now (a .sets))) (start .pre .1 .1 .1 .room-for) (omega arith))
+
+path-slice-aggregate-restrict : (t : ℕ) → path-lts.Need-slice-aggregate-restrict (path-claims t) (path-at t) path.Post path-Inv-loop path-μ-loop
+path-slice-aggregate-restrict t c =
+    let start = c .before .before .before .before .before .before .before .before .before .before .before .before .before .before .before in
+    let a = start .args in
+    let n = length (now (a .parent)) in
+    let l = c .before .before .before .before .loop in
+    let len : length (l .sets) ≡ length (now (a .sets)) = l .inv .0 ∙ front-length n (now (a .sets)) (c .before .before .before .before .before .before .before .before .fill .last .0) (one-fits n _ (length (now (a .sets))) (start .pre .1 .1 .1 .room-for) (omega arith)) (c .before .before .before .before .before .before .before .before .fill .kept .0) in
     sym (length-take-le n (l .sets) (omega (arith, one-fits (length (now (a .parent))) _ (length (now (a .sets))) (start .pre .1 .1 .1 .room-for) (omega arith))))
 
-path-restrict-requires : (t : ℕ) → path-lts.Need-restrict-requires (
-  fill-reads.Asked,
-  fill-reads.Learnt,
-  past-steps-reads.Asked,
-  past-steps-reads.Learnt,
-  step-at-reads.Asked,
-  step-at-reads.Learnt,
-  restrict-reads.Asked,
-  restrict-reads.Learnt,
-  predicates-below t,
-  predicates.Post,
-  turn-reads.Asked,
-  turn-reads.Learnt,
-  along-reads.Asked,
-  along-reads.Learnt,
-) (path-at t) path.Post path-Inv-loop path-μ-loop
+path-restrict-requires : (t : ℕ) → path-lts.Need-restrict-requires (path-claims t) (path-at t) path.Post path-Inv-loop path-μ-loop
 path-restrict-requires t c κs =
-    let start = c .before .before .before .before .before .before .before .before .before .before .before .before .before .before in
+    let start = c .before .before .before .before .before .before .before .before .before .before .before .before .before .before .before in
     let a = start .args in
     let n = length (now (a .parent)) in
     let l = c .before .before .before .before .loop in
-    let len : length (l .sets) ≡ length (now (a .sets)) = l .inv .0 ∙ front-length n (now (a .sets)) (c .before .before .before .before .before .before .before .fill .last .0) (one-fits n _ (length (now (a .sets))) (start .pre .1 .1 .1 .room-for) (omega arith)) (c .before .before .before .before .before .before .before .fill .kept .0) in
+    let len : length (l .sets) ≡ length (now (a .sets)) = l .inv .0 ∙ front-length n (now (a .sets)) (c .before .before .before .before .before .before .before .before .fill .last .0) (one-fits n _ (length (now (a .sets))) (start .pre .1 .1 .1 .room-for) (omega arith)) (c .before .before .before .before .before .before .before .before .fill .kept .0) in
     let front : length (take n (l .sets)) ≡ n = length-take-le n (l .sets) (omega (arith, one-fits (length (now (a .parent))) _ (length (now (a .sets))) (start .pre .1 .1 .1 .room-for) (omega arith))) in
     let ready = start .pre .1 .1 .0 in
     (ready .kinds-all ∙ sym front, ready .marks-all ∙ sym front, ready .marks-bits ∙ ap (λ (k : ℕ). bits k (marked (now (a .given)))) (sym front))
 
-path-add-predicates : (t : ℕ) → path-lts.Need-add-predicates (
-  fill-reads.Asked,
-  fill-reads.Learnt,
-  past-steps-reads.Asked,
-  past-steps-reads.Learnt,
-  step-at-reads.Asked,
-  step-at-reads.Learnt,
-  restrict-reads.Asked,
-  restrict-reads.Learnt,
-  predicates-below t,
-  predicates.Post,
-  turn-reads.Asked,
-  turn-reads.Learnt,
-  along-reads.Asked,
-  along-reads.Learnt,
-) (path-at t) path.Post path-Inv-loop path-μ-loop
-path-add-predicates t c = search needs
+path-add-predicates : (t : ℕ) → path-lts.Need-add-predicates (path-claims t) (path-at t) path.Post path-Inv-loop path-μ-loop
+path-add-predicates t c = omega (arith, c .before .before .before .before .before .look .ensures .1 .inside, c .before .before .before .before .before .before .before .before .before .before .before .before .before .before .before .before .before .before .good .0 .1)
 
-path-predicates-requires : (t : ℕ) → path-lts.Need-predicates-requires (
-  fill-reads.Asked,
-  fill-reads.Learnt,
-  past-steps-reads.Asked,
-  past-steps-reads.Learnt,
-  step-at-reads.Asked,
-  step-at-reads.Learnt,
-  restrict-reads.Asked,
-  restrict-reads.Learnt,
-  predicates-below t,
-  predicates.Post,
-  turn-reads.Asked,
-  turn-reads.Learnt,
-  along-reads.Asked,
-  along-reads.Learnt,
-) (path-at t) path.Post path-Inv-loop path-μ-loop
+path-predicates-requires : (t : ℕ) → path-lts.Need-predicates-requires (path-claims t) (path-at t) path.Post path-Inv-loop path-μ-loop
 path-predicates-requires t c κs =
-    let start = c .before .before .before .before .before .before .before .before .before .before .before .before .before .before .before .before .before .before in
+    let start = c .before .before .before .before .before .before .before .before .before .before .before .before .before .before .before .before .before .before .before in
     let a = start .args in
     let n = length (now (a .parent)) in
     let l = c .before .before .before .before .before .before .before .before .loop in
     let said-step = c .before .before .before .before .before .step-at .ensures in
-    let len : length (l .sets) ≡ length (now (a .sets)) = l .inv .0 ∙ front-length n (now (a .sets)) (c .before .before .before .before .before .before .before .before .before .before .before .fill .last .0) (one-fits n _ (length (now (a .sets))) (start .pre .1 .1 .1 .room-for) (omega arith)) (c .before .before .before .before .before .before .before .before .before .before .before .fill .kept .0) in
+    let len : length (l .sets) ≡ length (now (a .sets)) = l .inv .0 ∙ front-length n (now (a .sets)) (c .before .before .before .before .before .before .before .before .before .before .before .before .fill .last .0) (one-fits n _ (length (now (a .sets))) (start .pre .1 .1 .1 .room-for) (omega arith)) (c .before .before .before .before .before .before .before .before .before .before .before .before .fill .kept .0) in
     let len1 : length (c .before .before .before .restrict .last .1 .1 .1 .0 ++ drop n (l .sets)) ≡ length (now (a .sets)) =
     front-length n (l .sets) (c .before .before .before .restrict .last .1 .1 .1 .0) (omega (arith, one-fits n _ (length (now (a .sets))) (start .pre .1 .1 .1 .room-for) (omega arith))) (c .before .before .before .restrict .kept .1 .1 .1 .0) ∙ len in
-    step-here (now (a .items)) (a .at) (length (now (a .parent))) (length (now (a .sets))) (a .depth) (a .count) (start .pre .1 .1 .1) (l .left - 1) (c .before .before .before .before .before .before .past-steps .result) (omega (arith, l .inv .1 .fewer, c .before .before .before .before .before .before .before .loop-test .taken)) (c .before .before .before .before .before .before .past-steps .ensures)
+    step-here (now (a .items)) (a .at) (length (now (a .parent))) (length (now (a .sets))) (a .depth) (a .count) (start .pre .1 .1 .1) (l .left - 1) (c .before .before .before .before .before .before .look .result .place) (omega (arith, l .inv .1 .fewer, c .before .before .before .before .before .before .before .loop-test .taken)) (c .before .before .before .before .before .before .look .ensures .1)
     (λ on h p here.
     let same : said-step .0 ≡ h = some-inj (sym (said-step .1) ∙ p) in
     let count : c .before .before .before .before .before .step-at .result .count ≡ h .count = ap (λ (x : Step). x .count) (said-step .2) ∙ ap (λ (x : Head). x .count) same in (
-      omega (arith, c .before .before .before .before .before .before .past-steps .ensures .onward, start .pre .0),
+      omega (arith, c .before .before .before .before .before .before .look .ensures .1 .onward, start .pre .0),
       (
         start .pre .1 .0,
         (
           start .pre .1 .1 .0,
-          subst₂ (λ (k r : ℕ). Fits (now (a .items)) (c .before .before .before .before .before .before .past-steps .result + 1) n r (takePreds (takeWithin (a .depth)) k (drop (c .before .before .before .before .before .before .past-steps .result + 1) (now (a .items)))) (λ ps. 1 + heightPreds ps))
+          subst₂ (λ (k r : ℕ). Fits (now (a .items)) (c .before .before .before .before .before .before .look .result .place + 1) n r (takePreds (takeWithin (a .depth)) k (drop (c .before .before .before .before .before .before .look .result .place + 1) (now (a .items)))) (λ ps. 1 + heightPreds ps))
               (sym count) (sym len1) (here .preds),
         ),
       ),
     ))
 
-path-turn-requires : (t : ℕ) → path-lts.Need-turn-requires (
-  fill-reads.Asked,
-  fill-reads.Learnt,
-  past-steps-reads.Asked,
-  past-steps-reads.Learnt,
-  step-at-reads.Asked,
-  step-at-reads.Learnt,
-  restrict-reads.Asked,
-  restrict-reads.Learnt,
-  predicates-below t,
-  predicates.Post,
-  turn-reads.Asked,
-  turn-reads.Learnt,
-  along-reads.Asked,
-  along-reads.Learnt,
-) (path-at t) path.Post path-Inv-loop path-μ-loop
+path-turn-requires : (t : ℕ) → path-lts.Need-turn-requires (path-claims t) (path-at t) path.Post path-Inv-loop path-μ-loop
 path-turn-requires t c κs = search needs
 
-path-slice-relend-prefix-along : (t : ℕ) → path-lts.Need-slice-relend-prefix-along (
-  fill-reads.Asked,
-  fill-reads.Learnt,
-  past-steps-reads.Asked,
-  past-steps-reads.Learnt,
-  step-at-reads.Asked,
-  step-at-reads.Learnt,
-  restrict-reads.Asked,
-  restrict-reads.Learnt,
-  predicates-below t,
-  predicates.Post,
-  turn-reads.Asked,
-  turn-reads.Learnt,
-  along-reads.Asked,
-  along-reads.Learnt,
-) (path-at t) path.Post path-Inv-loop path-μ-loop
+path-slice-relend-prefix-along : (t : ℕ) → path-lts.Need-slice-relend-prefix-along (path-claims t) (path-at t) path.Post path-Inv-loop path-μ-loop
 path-slice-relend-prefix-along t c =
-    let start = c .before .before .before .before .before .before .before .before .before .before .before .before .before .before .before .before .before .before .before .before .before .before in
+    let start = c .before .before .before .before .before .before .before .before .before .before .before .before .before .before .before .before .before .before .before .before .before .before .before in
     let a = start .args in
     let n = length (now (a .parent)) in
     let l = c .before .before .before .before .before .before .before .before .before .before .before .before .loop in
-    let len : length (l .sets) ≡ length (now (a .sets)) = l .inv .0 ∙ front-length n (now (a .sets)) (c .before .before .before .before .before .before .before .before .before .before .before .before .before .before .before .fill .last .0) (one-fits n _ (length (now (a .sets))) (start .pre .1 .1 .1 .room-for) (omega arith)) (c .before .before .before .before .before .before .before .before .before .before .before .before .before .before .before .fill .kept .0) in
+    let len : length (l .sets) ≡ length (now (a .sets)) = l .inv .0 ∙ front-length n (now (a .sets)) (c .before .before .before .before .before .before .before .before .before .before .before .before .before .before .before .before .fill .last .0) (one-fits n _ (length (now (a .sets))) (start .pre .1 .1 .1 .room-for) (omega arith)) (c .before .before .before .before .before .before .before .before .before .before .before .before .before .before .before .before .fill .kept .0) in
     let len1 : length (c .before .before .before .before .before .before .before .restrict .last .1 .1 .1 .0 ++ drop n (l .sets)) ≡ length (now (a .sets)) =
     front-length n (l .sets) (c .before .before .before .before .before .before .before .restrict .last .1 .1 .1 .0) (omega (arith, one-fits n _ (length (now (a .sets))) (start .pre .1 .1 .1 .room-for) (omega arith))) (c .before .before .before .before .before .before .before .restrict .kept .1 .1 .1 .0) ∙ len in
     let len2 : length (c .before .before .before .predicates .last .1 .1 .1 .1 .1 .1 .1 .0) ≡ length (now (a .sets)) = c .before .before .before .predicates .kept .1 .1 .1 .1 .1 .1 .1 .0 ∙ len1 in
     omega (arith, one-fits n _ (length (now (a .sets))) (start .pre .1 .1 .1 .room-for) (omega arith))
 
-path-slice-aggregate-along : (t : ℕ) → path-lts.Need-slice-aggregate-along (
-  fill-reads.Asked,
-  fill-reads.Learnt,
-  past-steps-reads.Asked,
-  past-steps-reads.Learnt,
-  step-at-reads.Asked,
-  step-at-reads.Learnt,
-  restrict-reads.Asked,
-  restrict-reads.Learnt,
-  predicates-below t,
-  predicates.Post,
-  turn-reads.Asked,
-  turn-reads.Learnt,
-  along-reads.Asked,
-  along-reads.Learnt,
-) (path-at t) path.Post path-Inv-loop path-μ-loop
+path-slice-aggregate-along : (t : ℕ) → path-lts.Need-slice-aggregate-along (path-claims t) (path-at t) path.Post path-Inv-loop path-μ-loop
 path-slice-aggregate-along t c =
-    let start = c .before .before .before .before .before .before .before .before .before .before .before .before .before .before .before .before .before .before .before .before .before .before .before in
+    let start = c .before .before .before .before .before .before .before .before .before .before .before .before .before .before .before .before .before .before .before .before .before .before .before .before in
     let a = start .args in
     let n = length (now (a .parent)) in
     let l = c .before .before .before .before .before .before .before .before .before .before .before .before .before .loop in
-    let len : length (l .sets) ≡ length (now (a .sets)) = l .inv .0 ∙ front-length n (now (a .sets)) (c .before .before .before .before .before .before .before .before .before .before .before .before .before .before .before .before .fill .last .0) (one-fits n _ (length (now (a .sets))) (start .pre .1 .1 .1 .room-for) (omega arith)) (c .before .before .before .before .before .before .before .before .before .before .before .before .before .before .before .before .fill .kept .0) in
+    let len : length (l .sets) ≡ length (now (a .sets)) = l .inv .0 ∙ front-length n (now (a .sets)) (c .before .before .before .before .before .before .before .before .before .before .before .before .before .before .before .before .before .fill .last .0) (one-fits n _ (length (now (a .sets))) (start .pre .1 .1 .1 .room-for) (omega arith)) (c .before .before .before .before .before .before .before .before .before .before .before .before .before .before .before .before .before .fill .kept .0) in
     let len1 : length (c .before .before .before .before .before .before .before .before .restrict .last .1 .1 .1 .0 ++ drop n (l .sets)) ≡ length (now (a .sets)) =
     front-length n (l .sets) (c .before .before .before .before .before .before .before .before .restrict .last .1 .1 .1 .0) (omega (arith, one-fits n _ (length (now (a .sets))) (start .pre .1 .1 .1 .room-for) (omega arith))) (c .before .before .before .before .before .before .before .before .restrict .kept .1 .1 .1 .0) ∙ len in
     let len2 : length (c .before .before .before .before .predicates .last .1 .1 .1 .1 .1 .1 .1 .0) ≡ length (now (a .sets)) = c .before .before .before .before .predicates .kept .1 .1 .1 .1 .1 .1 .1 .0 ∙ len1 in
     sym (length-take-le n (c .before .before .before .before .predicates .last .1 .1 .1 .1 .1 .1 .1 .0) (omega (arith, one-fits n _ (length (now (a .sets))) (start .pre .1 .1 .1 .room-for) (omega arith))))
 
-path-along-requires : (t : ℕ) → path-lts.Need-along-requires (
-  fill-reads.Asked,
-  fill-reads.Learnt,
-  past-steps-reads.Asked,
-  past-steps-reads.Learnt,
-  step-at-reads.Asked,
-  step-at-reads.Learnt,
-  restrict-reads.Asked,
-  restrict-reads.Learnt,
-  predicates-below t,
-  predicates.Post,
-  turn-reads.Asked,
-  turn-reads.Learnt,
-  along-reads.Asked,
-  along-reads.Learnt,
-) (path-at t) path.Post path-Inv-loop path-μ-loop
+path-along-requires : (t : ℕ) → path-lts.Need-along-requires (path-claims t) (path-at t) path.Post path-Inv-loop path-μ-loop
 path-along-requires t c κs =
-    let start = c .before .before .before .before .before .before .before .before .before .before .before .before .before .before .before .before .before .before .before .before .before .before .before in
+    let start = c .before .before .before .before .before .before .before .before .before .before .before .before .before .before .before .before .before .before .before .before .before .before .before .before in
     let a = start .args in
     let n = length (now (a .parent)) in
     let l = c .before .before .before .before .before .before .before .before .before .before .before .before .before .loop in
-    let len : length (l .sets) ≡ length (now (a .sets)) = l .inv .0 ∙ front-length n (now (a .sets)) (c .before .before .before .before .before .before .before .before .before .before .before .before .before .before .before .before .fill .last .0) (one-fits n _ (length (now (a .sets))) (start .pre .1 .1 .1 .room-for) (omega arith)) (c .before .before .before .before .before .before .before .before .before .before .before .before .before .before .before .before .fill .kept .0) in
+    let len : length (l .sets) ≡ length (now (a .sets)) = l .inv .0 ∙ front-length n (now (a .sets)) (c .before .before .before .before .before .before .before .before .before .before .before .before .before .before .before .before .before .fill .last .0) (one-fits n _ (length (now (a .sets))) (start .pre .1 .1 .1 .room-for) (omega arith)) (c .before .before .before .before .before .before .before .before .before .before .before .before .before .before .before .before .before .fill .kept .0) in
     let len1 : length (c .before .before .before .before .before .before .before .before .restrict .last .1 .1 .1 .0 ++ drop n (l .sets)) ≡ length (now (a .sets)) =
     front-length n (l .sets) (c .before .before .before .before .before .before .before .before .restrict .last .1 .1 .1 .0) (omega (arith, one-fits n _ (length (now (a .sets))) (start .pre .1 .1 .1 .room-for) (omega arith))) (c .before .before .before .before .before .before .before .before .restrict .kept .1 .1 .1 .0) ∙ len in
     let len2 : length (c .before .before .before .before .predicates .last .1 .1 .1 .1 .1 .1 .1 .0) ≡ length (now (a .sets)) = c .before .before .before .before .predicates .kept .1 .1 .1 .1 .1 .1 .1 .0 ∙ len1 in
     let w = start .pre .1 .1 .0 .tree in
     (sym (length-take-le n (c .before .before .before .before .predicates .last .1 .1 .1 .1 .1 .1 .1 .0) (omega (arith, one-fits n _ (length (now (a .sets))) (start .pre .1 .1 .1 .room-for) (omega arith)))), λ kinds. record { rooted = w .rooted; root = w .root; falls = w .falls })
 
-path-loop-less : (t : ℕ) → path-lts.Need-loop-less (
-  fill-reads.Asked,
-  fill-reads.Learnt,
-  past-steps-reads.Asked,
-  past-steps-reads.Learnt,
-  step-at-reads.Asked,
-  step-at-reads.Learnt,
-  restrict-reads.Asked,
-  restrict-reads.Learnt,
-  predicates-below t,
-  predicates.Post,
-  turn-reads.Asked,
-  turn-reads.Learnt,
-  along-reads.Asked,
-  along-reads.Learnt,
-) (path-at t) path.Post path-Inv-loop path-μ-loop
+path-loop-less : (t : ℕ) → path-lts.Need-loop-less (path-claims t) (path-at t) path.Post path-Inv-loop path-μ-loop
 path-loop-less t c = search needs
 
-path-loop-again : (t : ℕ) → path-lts.Need-loop-again (
-  fill-reads.Asked,
-  fill-reads.Learnt,
-  past-steps-reads.Asked,
-  past-steps-reads.Learnt,
-  step-at-reads.Asked,
-  step-at-reads.Learnt,
-  restrict-reads.Asked,
-  restrict-reads.Learnt,
-  predicates-below t,
-  predicates.Post,
-  turn-reads.Asked,
-  turn-reads.Learnt,
-  along-reads.Asked,
-  along-reads.Learnt,
-) (path-at t) path.Post path-Inv-loop path-μ-loop
+path-loop-again : (t : ℕ) → path-lts.Need-loop-again (path-claims t) (path-at t) path.Post path-Inv-loop path-μ-loop
 path-loop-again t c =
-    let start = c .before .before .before .before .before .before .before .before .before .before .before .before .before .before .before .before .before .before .before .before .before .before .before .before .before .before in
+    let start = c .before .before .before .before .before .before .before .before .before .before .before .before .before .before .before .before .before .before .before .before .before .before .before .before .before .before .before in
     let a = start .args in
     let n = length (now (a .parent)) in
     let l = c .before .before .before .before .before .before .before .before .before .before .before .before .before .before .before .before .loop in
@@ -1259,96 +637,61 @@ path-loop-again t c =
     let moved = c .before .before .along in
     let said-step = c .before .before .before .before .before .before .before .before .before .before .before .before .before .step-at .ensures in
     let kinds = now (a .kind) in
-    let len : length (l .sets) ≡ length (now (a .sets)) = l .inv .0 ∙ front-length n (now (a .sets)) (c .before .before .before .before .before .before .before .before .before .before .before .before .before .before .before .before .before .before .before .fill .last .0) (one-fits n _ (length (now (a .sets))) (start .pre .1 .1 .1 .room-for) (omega arith)) (c .before .before .before .before .before .before .before .before .before .before .before .before .before .before .before .before .before .before .before .fill .kept .0) in
+    let len : length (l .sets) ≡ length (now (a .sets)) = l .inv .0 ∙ front-length n (now (a .sets)) (c .before .before .before .before .before .before .before .before .before .before .before .before .before .before .before .before .before .before .before .before .fill .last .0) (one-fits n _ (length (now (a .sets))) (start .pre .1 .1 .1 .room-for) (omega arith)) (c .before .before .before .before .before .before .before .before .before .before .before .before .before .before .before .before .before .before .before .before .fill .kept .0) in
     let len1 : length (c .before .before .before .before .before .before .before .before .before .before .before .restrict .last .1 .1 .1 .0 ++ drop n (l .sets)) ≡ length (now (a .sets)) =
     front-length n (l .sets) (c .before .before .before .before .before .before .before .before .before .before .before .restrict .last .1 .1 .1 .0) (omega (arith, one-fits n _ (length (now (a .sets))) (start .pre .1 .1 .1 .room-for) (omega arith))) (c .before .before .before .before .before .before .before .before .before .before .before .restrict .kept .1 .1 .1 .0) ∙ len in
     let len2 : length (c .before .before .before .before .before .before .before .predicates .last .1 .1 .1 .1 .1 .1 .1 .0) ≡ length (now (a .sets)) = c .before .before .before .before .before .before .before .predicates .kept .1 .1 .1 .1 .1 .1 .1 .0 ∙ len1 in
     let front : length (take n sets) ≡ n = length-take-le n sets (omega (arith, one-fits n _ (length (now (a .sets))) (start .pre .1 .1 .1 .room-for) (omega arith))) in
     let front2 : length (take n (narrowed .last .1 .1 .1 .1 .1 .1 .1 .0)) ≡ n = length-take-le n (narrowed .last .1 .1 .1 .1 .1 .1 .1 .0) (omega (arith, one-fits n _ (length (now (a .sets))) (start .pre .1 .1 .1 .room-for) (omega arith))) in
-    step-here (now (a .items)) (a .at) (length (now (a .parent))) (length (now (a .sets))) (a .depth) (a .count) (start .pre .1 .1 .1) (l .left - 1) (c .before .before .before .before .before .before .before .before .before .before .before .before .before .before .past-steps .result) (omega (arith, l .inv .1 .fewer, c .before .before .before .before .before .before .before .before .before .before .before .before .before .before .before .loop-test .taken)) (c .before .before .before .before .before .before .before .before .before .before .before .before .before .before .past-steps .ensures)
+    step-here (now (a .items)) (a .at) (length (now (a .parent))) (length (now (a .sets))) (a .depth) (a .count) (start .pre .1 .1 .1) (l .left - 1) (c .before .before .before .before .before .before .before .before .before .before .before .before .before .before .look .result .place) (omega (arith, l .inv .1 .fewer, c .before .before .before .before .before .before .before .before .before .before .before .before .before .before .before .loop-test .taken)) (c .before .before .before .before .before .before .before .before .before .before .before .before .before .before .look .ensures .1)
     (λ on h p here.
     let same : said-step .0 ≡ h = some-inj (sym (said-step .1) ∙ p) in
     let step-is = said-step .2 ∙ ap numbered same in
     let count : c .before .before .before .before .before .before .before .before .before .before .before .before .before .step-at .result .count ≡ h .count = ap (λ (x : Step). x .count) step-is in (
       front-length n (narrowed .last .1 .1 .1 .1 .1 .1 .1 .0) (moved .last .1 .1 .0) (omega (arith, one-fits n _ (length (now (a .sets))) (start .pre .1 .1 .1 .room-for) (omega arith))) (moved .kept .1 .1 .0) ∙ len2 ∙ sym len ∙ l .inv .0,
-      path-back (tableOf (now (a .parent)) (now (a .kind))) (now (a .given)) (now (a .items)) (a .at) (length (now (a .parent))) (length (now (a .sets))) (a .depth) (a .count) (start .pre .1 .1 .1) (l .left - 1) (c .before .before .before .before .before .before .before .before .before .before .before .before .before .before .past-steps .result) h sets (restricted .last .1 .1 .1 .0) (drop n sets) (narrowed .last .1 .1 .1 .1 .1 .1 .1 .0) (moved .last .1 .1 .0) _
+      path-back (tableOf (now (a .parent)) (now (a .kind))) (now (a .given)) (now (a .items)) (a .at) (length (now (a .parent))) (length (now (a .sets))) (a .depth) (a .count) (start .pre .1 .1 .1) (l .left - 1) (c .before .before .before .before .before .before .before .before .before .before .before .before .before .before .look .result .place) h sets (restricted .last .1 .1 .1 .0) (drop n sets) (narrowed .last .1 .1 .1 .1 .1 .1 .1 .0) (moved .last .1 .1 .0) _
           (omega (arith, l .inv .1 .fewer, c .before .before .before .before .before .before .before .before .before .before .before .before .before .before .before .loop-test .taken)) here
           (subst (λ (k : ℕ). PathSet (tableOf (now (a .parent)) (now (a .kind))) (now (a .given)) (now (a .items)) (a .at) n (a .depth) (a .count) k sets) (let e : l .left ≡ suc (l .left - 1) = omega (arith, c .before .before .before .before .before .before .before .before .before .before .before .before .before .before .before .loop-test .taken) in e) (l .inv .1))
           (λ g q.
           restricted .ensures (h .test) g (step-found _ h p .1) (ap (λ (x : Step). x .test) step-is) (q ∙ ap (λ (k : ℕ). bits k g) (sym front)) ∙
           ap (λ (k : ℕ). bits k (λ i. (g i && marked (now (a .given)) i) && meets (h .test) (getD kinds i 0))) front)
           _
-          (subst (λ (k : ℕ). Narrows (now (a .items)) (c .before .before .before .before .before .before .before .before .before .before .before .before .before .before .past-steps .result + 1) n (takePreds (takeWithin (a .depth)) k (drop (c .before .before .before .before .before .before .before .before .before .before .before .before .before .before .past-steps .result + 1) (now (a .items)))) (allHold (tableOf (now (a .parent)) (now (a .kind))) (now (a .given))) (narrowed .result) (restricted .last .1 .1 .1 .0 ++ drop n sets) (narrowed .last .1 .1 .1 .1 .1 .1 .1 .0))
+          (subst (λ (k : ℕ). Narrows (now (a .items)) (c .before .before .before .before .before .before .before .before .before .before .before .before .before .before .look .result .place + 1) n (takePreds (takeWithin (a .depth)) k (drop (c .before .before .before .before .before .before .before .before .before .before .before .before .before .before .look .result .place + 1) (now (a .items)))) (allHold (tableOf (now (a .parent)) (now (a .kind))) (now (a .given))) (narrowed .result) (restricted .last .1 .1 .1 .0 ++ drop n sets) (narrowed .last .1 .1 .1 .1 .1 .1 .1 .0))
           count (narrowed .ensures))
           (λ g q.
           moved .ensures kinds (turned (h .axis)) g (c .before .before .before .before .turn .ensures (h .axis) (ap (λ (x : Step). x .axis) step-is)) (q ∙ ap (λ (k : ℕ). bits k g) (sym front2)) ∙
           ap (λ (k : ℕ). bits k (image (tableOf (now (a .parent)) kinds) (turned (h .axis)) g)) front2),
+      c .before .before .before .before .before .before .before .before .before .before .before .before .before .before .look .ensures .0,
     ))
 
-path-past-steps-requires-2 : (t : ℕ) → path-lts.Need-past-steps-requires-2 (
-  fill-reads.Asked,
-  fill-reads.Learnt,
-  past-steps-reads.Asked,
-  past-steps-reads.Learnt,
-  step-at-reads.Asked,
-  step-at-reads.Learnt,
-  restrict-reads.Asked,
-  restrict-reads.Learnt,
-  predicates-below t,
-  predicates.Post,
-  turn-reads.Asked,
-  turn-reads.Learnt,
-  along-reads.Asked,
-  along-reads.Learnt,
-) (path-at t) path.Post path-Inv-loop path-μ-loop
-path-past-steps-requires-2 t c κs =
-    let start = c .before .before .before .before .before .before .before .before .before .before .before in
+path-past-steps-requires : (t : ℕ) → path-lts.Need-past-steps-requires (path-claims t) (path-at t) path.Post path-Inv-loop path-μ-loop
+path-past-steps-requires t c κs =
+    let start = c .before .before .before .before .before .before .before .before .before .before .before .before in
     let a = start .args in
     let n = length (now (a .parent)) in
     (start .pre .1 .1 .1 .inside, start .pre .1 .0, ((start .pre .1 .1 .1 .what, start .pre .1 .1 .1 .rest), start .pre .1 .1 .1 .reads))
 
-path-same-length : (t : ℕ) → path-lts.Need-same-length (
-  fill-reads.Asked,
-  fill-reads.Learnt,
-  past-steps-reads.Asked,
-  past-steps-reads.Learnt,
-  step-at-reads.Asked,
-  step-at-reads.Learnt,
-  restrict-reads.Asked,
-  restrict-reads.Learnt,
-  predicates-below t,
-  predicates.Post,
-  turn-reads.Asked,
-  turn-reads.Learnt,
-  along-reads.Asked,
-  along-reads.Learnt,
-) (path-at t) path.Post path-Inv-loop path-μ-loop
+path-same-length : (t : ℕ) → path-lts.Need-same-length (path-claims t) (path-at t) path.Post path-Inv-loop path-μ-loop
 path-same-length t c = search needs
 
-path-returns : (t : ℕ) → path-lts.Need-returns (
-  fill-reads.Asked,
-  fill-reads.Learnt,
-  past-steps-reads.Asked,
-  past-steps-reads.Learnt,
-  step-at-reads.Asked,
-  step-at-reads.Learnt,
-  restrict-reads.Asked,
-  restrict-reads.Learnt,
-  predicates-below t,
-  predicates.Post,
-  turn-reads.Asked,
-  turn-reads.Learnt,
-  along-reads.Asked,
-  along-reads.Learnt,
-) (path-at t) path.Post path-Inv-loop path-μ-loop
+path-returns : (t : ℕ) → path-lts.Need-returns (path-claims t) (path-at t) path.Post path-Inv-loop path-μ-loop
 path-returns t c =
-    let start = c .before .before .before .before .before .before .before .before .before .before .before .before in
+    let start = c .before .before .before .before .before .before .before .before .before .before .before .before .before in
     let a = start .args in
     let n = length (now (a .parent)) in
     let l = c .before .before .loop in
     path-done (tableOf (now (a .parent)) (now (a .kind))) (now (a .given)) (now (a .items)) (a .at) (length (now (a .parent))) (length (now (a .sets))) (a .depth) (a .count) (start .pre .1 .1 .1) _ (l .sets)
     (subst (λ (k : ℕ). PathSet (tableOf (now (a .parent)) (now (a .kind))) (now (a .given)) (now (a .items)) (a .at) n (a .depth) (a .count) k (l .sets)) (let e : l .left ≡ 0 = omega (arith, c .before .loop-test .left) in e) (l .inv .1))
-    (c .past-steps2 .ensures)
+    (c .past-steps .ensures)
+
+-- What `predicates` knows of the functions it calls.
+abbrev predicates-claims : ℕ → predicates-lts.Claims
+predicates-claims t = (
+  expression-below t,
+  expression.Post,
+  keep-second-reads.Asked,
+  keep-second-reads.Learnt,
+)
 
 abbrev predicates-Inv-loop : predicates-lts.InvT-loop
 predicates-Inv-loop items at count depth parent kind given sets₀ n place₀ owed₀ sets place owed =
@@ -1357,22 +700,12 @@ predicates-Inv-loop items at count depth parent kind given sets₀ n place₀ ow
 abbrev predicates-μ-loop : predicates-lts.MeasureT-loop
 predicates-μ-loop items at count depth parent kind given sets₀ n place₀ owed₀ sets place owed = owed
 
-predicates-loop-holds : (t : ℕ) → predicates-lts.Need-loop-holds (
-  expression-below t,
-  expression.Post,
-  keep-second-reads.Asked,
-  keep-second-reads.Learnt,
-) (predicates-at t) predicates.Post predicates-Inv-loop predicates-μ-loop
+predicates-loop-holds : (t : ℕ) → predicates-lts.Need-loop-holds (predicates-claims t) (predicates-at t) predicates.Post predicates-Inv-loop predicates-μ-loop
 predicates-loop-holds t c =
     let a = c .before .before .before .before .before .args in
     (refl, preds-begin (tableOf (now (a .parent)) (now (a .kind))) (now (a .given)) (now (a .items)) (a .at) (length (now (a .parent))) (a .depth) (a .count) (now (a .sets)) (c .before .before .before .before .before .pre .1 .1 .1 .inside))
 
-predicates-sub-expression : (t : ℕ) → predicates-lts.Need-sub-expression (
-  expression-below t,
-  expression.Post,
-  keep-second-reads.Asked,
-  keep-second-reads.Learnt,
-) (predicates-at t) predicates.Post predicates-Inv-loop predicates-μ-loop
+predicates-sub-expression : (t : ℕ) → predicates-lts.Need-sub-expression (predicates-claims t) (predicates-at t) predicates.Post predicates-Inv-loop predicates-μ-loop
 predicates-sub-expression t c =
     let start = c .before .before .before .before .before .before .before in
     let a = start .args in
@@ -1380,36 +713,16 @@ predicates-sub-expression t c =
     let n = length (now (a .parent)) in
     pred-fits (tableOf (now (a .parent)) (now (a .kind))) (now (a .given)) (now (a .items)) (a .at) (length (now (a .parent))) (a .depth) _ _ (l .place) (l .owed) _ (l .sets) (c .loop-test .taken) (start .pre .1 .1 .1) (l .inv .1) (λ deep f two. omega (arith, deep))
 
-predicates-sub-expression-2 : (t : ℕ) → predicates-lts.Need-sub-expression-2 (
-  expression-below t,
-  expression.Post,
-  keep-second-reads.Asked,
-  keep-second-reads.Learnt,
-) (predicates-at t) predicates.Post predicates-Inv-loop predicates-μ-loop
+predicates-sub-expression-2 : (t : ℕ) → predicates-lts.Need-sub-expression-2 (predicates-claims t) (predicates-at t) predicates.Post predicates-Inv-loop predicates-μ-loop
 predicates-sub-expression-2 t c = search needs
 
-predicates-part-expression-start : (t : ℕ) → predicates-lts.Need-part-expression-start (
-  expression-below t,
-  expression.Post,
-  keep-second-reads.Asked,
-  keep-second-reads.Learnt,
-) (predicates-at t) predicates.Post predicates-Inv-loop predicates-μ-loop
+predicates-part-expression-start : (t : ℕ) → predicates-lts.Need-part-expression-start (predicates-claims t) (predicates-at t) predicates.Post predicates-Inv-loop predicates-μ-loop
 predicates-part-expression-start t c = search needs
 
-predicates-part-expression-end : (t : ℕ) → predicates-lts.Need-part-expression-end (
-  expression-below t,
-  expression.Post,
-  keep-second-reads.Asked,
-  keep-second-reads.Learnt,
-) (predicates-at t) predicates.Post predicates-Inv-loop predicates-μ-loop
+predicates-part-expression-end : (t : ℕ) → predicates-lts.Need-part-expression-end (predicates-claims t) (predicates-at t) predicates.Post predicates-Inv-loop predicates-μ-loop
 predicates-part-expression-end t c = search needs
 
-predicates-expression-requires : (t : ℕ) → predicates-lts.Need-expression-requires (
-  expression-below t,
-  expression.Post,
-  keep-second-reads.Asked,
-  keep-second-reads.Learnt,
-) (predicates-at t) predicates.Post predicates-Inv-loop predicates-μ-loop
+predicates-expression-requires : (t : ℕ) → predicates-lts.Need-expression-requires (predicates-claims t) (predicates-at t) predicates.Post predicates-Inv-loop predicates-μ-loop
 predicates-expression-requires t c κs =
     let start = c .before .before .before .before .before .before .before .before in
     let a = start .args in
@@ -1428,12 +741,7 @@ predicates-expression-requires t c κs =
       ),
     ))
 
-predicates-keep-second-requires : (t : ℕ) → predicates-lts.Need-keep-second-requires (
-  expression-below t,
-  expression.Post,
-  keep-second-reads.Asked,
-  keep-second-reads.Learnt,
-) (predicates-at t) predicates.Post predicates-Inv-loop predicates-μ-loop
+predicates-keep-second-requires : (t : ℕ) → predicates-lts.Need-keep-second-requires (predicates-claims t) (predicates-at t) predicates.Post predicates-Inv-loop predicates-μ-loop
 predicates-keep-second-requires t c κs =
     let start = c .before .before .before .before .before .before .before .before .before .before .before .before in
     let a = start .args in
@@ -1442,28 +750,13 @@ predicates-keep-second-requires t c κs =
     pred-fits (tableOf (now (a .parent)) (now (a .kind))) (now (a .given)) (now (a .items)) (a .at) (length (now (a .parent))) (a .depth) _ _ (l .place) (l .owed) _ (l .sets) (c .before .before .before .before .before .loop-test .taken) (start .pre .1 .1 .1) (l .inv .1)
     (λ deep f two. omega (arith, l .inv .0, length-stays n (l .sets) (c .before .before .before .expression .last .1 .1 .1 .1 .1 .1 .1 .0) (omega (arith, l .inv .0)) (c .before .before .before .expression .kept .1 .1 .1 .1 .1 .1 .1 .0)))
 
-predicates-sub-owed : (t : ℕ) → predicates-lts.Need-sub-owed (
-  expression-below t,
-  expression.Post,
-  keep-second-reads.Asked,
-  keep-second-reads.Learnt,
-) (predicates-at t) predicates.Post predicates-Inv-loop predicates-μ-loop
+predicates-sub-owed : (t : ℕ) → predicates-lts.Need-sub-owed (predicates-claims t) (predicates-at t) predicates.Post predicates-Inv-loop predicates-μ-loop
 predicates-sub-owed t c = search needs
 
-predicates-loop-less : (t : ℕ) → predicates-lts.Need-loop-less (
-  expression-below t,
-  expression.Post,
-  keep-second-reads.Asked,
-  keep-second-reads.Learnt,
-) (predicates-at t) predicates.Post predicates-Inv-loop predicates-μ-loop
+predicates-loop-less : (t : ℕ) → predicates-lts.Need-loop-less (predicates-claims t) (predicates-at t) predicates.Post predicates-Inv-loop predicates-μ-loop
 predicates-loop-less t c = search needs
 
-predicates-loop-again : (t : ℕ) → predicates-lts.Need-loop-again (
-  expression-below t,
-  expression.Post,
-  keep-second-reads.Asked,
-  keep-second-reads.Learnt,
-) (predicates-at t) predicates.Post predicates-Inv-loop predicates-μ-loop
+predicates-loop-again : (t : ℕ) → predicates-lts.Need-loop-again (predicates-claims t) (predicates-at t) predicates.Post predicates-Inv-loop predicates-μ-loop
 predicates-loop-again t c =
     let start = c .before .before .before .before .before .before .before .before .before .before .before .before .before .before .before in
     let a = start .args in
@@ -1481,24 +774,25 @@ predicates-loop-again t c =
           (λ f g p q. front-is n (λ i. f i && g i) _ _ (joined .ensures f g (first-stays n (l .sets) part on ∙ p) (second-comes n (l .sets) part on ∙ q))),
     ))
 
-predicates-same-length : (t : ℕ) → predicates-lts.Need-same-length (
-  expression-below t,
-  expression.Post,
-  keep-second-reads.Asked,
-  keep-second-reads.Learnt,
-) (predicates-at t) predicates.Post predicates-Inv-loop predicates-μ-loop
+predicates-same-length : (t : ℕ) → predicates-lts.Need-same-length (predicates-claims t) (predicates-at t) predicates.Post predicates-Inv-loop predicates-μ-loop
 predicates-same-length t c = search needs
 
-predicates-returns : (t : ℕ) → predicates-lts.Need-returns (
-  expression-below t,
-  expression.Post,
-  keep-second-reads.Asked,
-  keep-second-reads.Learnt,
-) (predicates-at t) predicates.Post predicates-Inv-loop predicates-μ-loop
+predicates-returns : (t : ℕ) → predicates-lts.Need-returns (predicates-claims t) (predicates-at t) predicates.Post predicates-Inv-loop predicates-μ-loop
 predicates-returns t c =
     let a = c .before .before .before .before .before .before .before .args in
     let l = c .before .loop in
     preds-end (tableOf (now (a .parent)) (now (a .kind))) (now (a .given)) (now (a .items)) (a .at) (length (now (a .parent))) (a .depth) _ (l .place) (l .owed) _ (l .sets) (c .loop-test .left) (l .inv .1)
+
+-- What `term` knows of the functions it calls.
+abbrev term-claims : ℕ → term-lts.Claims
+term-claims t = (
+  run-of-reads.Asked,
+  run-of-reads.Learnt,
+  operand-below t,
+  operand.Post,
+  keep-second-reads.Asked,
+  keep-second-reads.Learnt,
+)
 
 abbrev term-Inv-loop : term-lts.InvT-loop
 term-Inv-loop items at counted depth parent kind given sets₀ n run place₀ owed₀ sets place owed =
@@ -1507,34 +801,13 @@ term-Inv-loop items at counted depth parent kind given sets₀ n run place₀ ow
 abbrev term-μ-loop : term-lts.MeasureT-loop
 term-μ-loop items at counted depth parent kind given sets₀ n run place₀ owed₀ sets place owed = owed
 
-term-run-of-requires : (t : ℕ) → term-lts.Need-run-of-requires (
-  run-of-reads.Asked,
-  run-of-reads.Learnt,
-  operand-below t,
-  operand.Post,
-  keep-second-reads.Asked,
-  keep-second-reads.Learnt,
-) (term-at t) term.Post term-Inv-loop term-μ-loop
+term-run-of-requires : (t : ℕ) → term-lts.Need-run-of-requires (term-claims t) (term-at t) term.Post term-Inv-loop term-μ-loop
 term-run-of-requires t c κs = search needs
 
-term-add-operand : (t : ℕ) → term-lts.Need-add-operand (
-  run-of-reads.Asked,
-  run-of-reads.Learnt,
-  operand-below t,
-  operand.Post,
-  keep-second-reads.Asked,
-  keep-second-reads.Learnt,
-) (term-at t) term.Post term-Inv-loop term-μ-loop
+term-add-operand : (t : ℕ) → term-lts.Need-add-operand (term-claims t) (term-at t) term.Post term-Inv-loop term-μ-loop
 term-add-operand t c = search needs
 
-term-operand-requires : (t : ℕ) → term-lts.Need-operand-requires (
-  run-of-reads.Asked,
-  run-of-reads.Learnt,
-  operand-below t,
-  operand.Post,
-  keep-second-reads.Asked,
-  keep-second-reads.Learnt,
-) (term-at t) term.Post term-Inv-loop term-μ-loop
+term-operand-requires : (t : ℕ) → term-lts.Need-operand-requires (term-claims t) (term-at t) term.Post term-Inv-loop term-μ-loop
 term-operand-requires t c κs =
     let start = c .before .before .before .before .before .before .before in
     let a = start .args in
@@ -1551,24 +824,10 @@ term-operand-requires t c κs =
       ),
     )
 
-term-add-owed : (t : ℕ) → term-lts.Need-add-owed (
-  run-of-reads.Asked,
-  run-of-reads.Learnt,
-  operand-below t,
-  operand.Post,
-  keep-second-reads.Asked,
-  keep-second-reads.Learnt,
-) (term-at t) term.Post term-Inv-loop term-μ-loop
+term-add-owed : (t : ℕ) → term-lts.Need-add-owed (term-claims t) (term-at t) term.Post term-Inv-loop term-μ-loop
 term-add-owed t c = search needs
 
-term-loop-holds : (t : ℕ) → term-lts.Need-loop-holds (
-  run-of-reads.Asked,
-  run-of-reads.Learnt,
-  operand-below t,
-  operand.Post,
-  keep-second-reads.Asked,
-  keep-second-reads.Learnt,
-) (term-at t) term.Post term-Inv-loop term-μ-loop
+term-loop-holds : (t : ℕ) → term-lts.Need-loop-holds (term-claims t) (term-at t) term.Post term-Inv-loop term-μ-loop
 term-loop-holds t c =
     let a = c .before .before .before .before .before .before .before .before .before .before .args in
     let r = c .before .before .before .before .run-of in (
@@ -1577,14 +836,7 @@ term-loop-holds t c =
           (ands-begin (a .depth) (now (a .items)) (a .at) (a .counted) (r .result) (r .ensures .0)) (c .before .before .operand .ensures),
     )
 
-term-sub-operand : (t : ℕ) → term-lts.Need-sub-operand (
-  run-of-reads.Asked,
-  run-of-reads.Learnt,
-  operand-below t,
-  operand.Post,
-  keep-second-reads.Asked,
-  keep-second-reads.Learnt,
-) (term-at t) term.Post term-Inv-loop term-μ-loop
+term-sub-operand : (t : ℕ) → term-lts.Need-sub-operand (term-claims t) (term-at t) term.Post term-Inv-loop term-μ-loop
 term-sub-operand t c =
     let start = c .before .before .before .before .before .before .before .before .before .before .before .before in
     let a = start .args in
@@ -1592,14 +844,7 @@ term-sub-operand t c =
     let len : length (l .sets) ≡ length (now (a .sets)) = l .inv .0 ∙ c .before .before .before .before .operand .kept .1 .1 .1 .1 .1 .1 .0 in
     ands-owed-fits (tableOf (now (a .parent)) (now (a .kind))) (now (a .given)) (a .depth) (now (a .items)) (a .at) (length (now (a .parent))) _ _ (l .place) (l .owed) (l .sets) (c .loop-test .taken) (start .pre .1 .1 .1) (l .inv .1) (λ f two. omega arith)
 
-term-part-operand-start : (t : ℕ) → term-lts.Need-part-operand-start (
-  run-of-reads.Asked,
-  run-of-reads.Learnt,
-  operand-below t,
-  operand.Post,
-  keep-second-reads.Asked,
-  keep-second-reads.Learnt,
-) (term-at t) term.Post term-Inv-loop term-μ-loop
+term-part-operand-start : (t : ℕ) → term-lts.Need-part-operand-start (term-claims t) (term-at t) term.Post term-Inv-loop term-μ-loop
 term-part-operand-start t c =
     let start = c .before .before .before .before .before .before .before .before .before .before .before .before in
     let a = start .args in
@@ -1607,24 +852,10 @@ term-part-operand-start t c =
     let len : length (l .sets) ≡ length (now (a .sets)) = l .inv .0 ∙ c .before .before .before .before .operand .kept .1 .1 .1 .1 .1 .1 .0 in
     ands-owed-fits (tableOf (now (a .parent)) (now (a .kind))) (now (a .given)) (a .depth) (now (a .items)) (a .at) (length (now (a .parent))) _ _ (l .place) (l .owed) (l .sets) (c .loop-test .taken) (start .pre .1 .1 .1) (l .inv .1) (λ f two. omega arith)
 
-term-part-operand-end : (t : ℕ) → term-lts.Need-part-operand-end (
-  run-of-reads.Asked,
-  run-of-reads.Learnt,
-  operand-below t,
-  operand.Post,
-  keep-second-reads.Asked,
-  keep-second-reads.Learnt,
-) (term-at t) term.Post term-Inv-loop term-μ-loop
+term-part-operand-end : (t : ℕ) → term-lts.Need-part-operand-end (term-claims t) (term-at t) term.Post term-Inv-loop term-μ-loop
 term-part-operand-end t c = search needs
 
-term-operand-requires-2 : (t : ℕ) → term-lts.Need-operand-requires-2 (
-  run-of-reads.Asked,
-  run-of-reads.Learnt,
-  operand-below t,
-  operand.Post,
-  keep-second-reads.Asked,
-  keep-second-reads.Learnt,
-) (term-at t) term.Post term-Inv-loop term-μ-loop
+term-operand-requires-2 : (t : ℕ) → term-lts.Need-operand-requires-2 (term-claims t) (term-at t) term.Post term-Inv-loop term-μ-loop
 term-operand-requires-2 t c κs =
     let start = c .before .before .before .before .before .before .before .before .before .before .before .before .before in
     let a = start .args in
@@ -1643,14 +874,7 @@ term-operand-requires-2 t c κs =
       ),
     ))
 
-term-keep-second-requires : (t : ℕ) → term-lts.Need-keep-second-requires (
-  run-of-reads.Asked,
-  run-of-reads.Learnt,
-  operand-below t,
-  operand.Post,
-  keep-second-reads.Asked,
-  keep-second-reads.Learnt,
-) (term-at t) term.Post term-Inv-loop term-μ-loop
+term-keep-second-requires : (t : ℕ) → term-lts.Need-keep-second-requires (term-claims t) (term-at t) term.Post term-Inv-loop term-μ-loop
 term-keep-second-requires t c κs =
     let start = c .before .before .before .before .before .before .before .before .before .before .before .before .before .before .before .before .before in
     let a = start .args in
@@ -1660,34 +884,13 @@ term-keep-second-requires t c κs =
     ands-owed-fits (tableOf (now (a .parent)) (now (a .kind))) (now (a .given)) (a .depth) (now (a .items)) (a .at) (length (now (a .parent))) _ _ (l .place) (l .owed) (l .sets) (c .before .before .before .before .before .loop-test .taken) (start .pre .1 .1 .1) (l .inv .1)
     (λ f two. omega (arith, length-stays n (l .sets) (c .before .before .before .operand2 .last .1 .1 .1 .1 .1 .1 .0) (omega arith) (c .before .before .before .operand2 .kept .1 .1 .1 .1 .1 .1 .0)))
 
-term-sub-owed : (t : ℕ) → term-lts.Need-sub-owed (
-  run-of-reads.Asked,
-  run-of-reads.Learnt,
-  operand-below t,
-  operand.Post,
-  keep-second-reads.Asked,
-  keep-second-reads.Learnt,
-) (term-at t) term.Post term-Inv-loop term-μ-loop
+term-sub-owed : (t : ℕ) → term-lts.Need-sub-owed (term-claims t) (term-at t) term.Post term-Inv-loop term-μ-loop
 term-sub-owed t c = search needs
 
-term-loop-less : (t : ℕ) → term-lts.Need-loop-less (
-  run-of-reads.Asked,
-  run-of-reads.Learnt,
-  operand-below t,
-  operand.Post,
-  keep-second-reads.Asked,
-  keep-second-reads.Learnt,
-) (term-at t) term.Post term-Inv-loop term-μ-loop
+term-loop-less : (t : ℕ) → term-lts.Need-loop-less (term-claims t) (term-at t) term.Post term-Inv-loop term-μ-loop
 term-loop-less t c = search needs
 
-term-loop-again : (t : ℕ) → term-lts.Need-loop-again (
-  run-of-reads.Asked,
-  run-of-reads.Learnt,
-  operand-below t,
-  operand.Post,
-  keep-second-reads.Asked,
-  keep-second-reads.Learnt,
-) (term-at t) term.Post term-Inv-loop term-μ-loop
+term-loop-again : (t : ℕ) → term-lts.Need-loop-again (term-claims t) (term-at t) term.Post term-Inv-loop term-μ-loop
 term-loop-again t c =
     let start = c .before .before .before .before .before .before .before .before .before .before .before .before .before .before .before .before .before .before .before .before in
     let a = start .args in
@@ -1705,24 +908,10 @@ term-loop-again t c =
           (λ f g p q. front-is n (λ i. f i && g i) _ _ (joined .ensures f g (first-stays n (l .sets) part on ∙ p) (second-comes n (l .sets) part on ∙ q))),
     ))
 
-term-same-length : (t : ℕ) → term-lts.Need-same-length (
-  run-of-reads.Asked,
-  run-of-reads.Learnt,
-  operand-below t,
-  operand.Post,
-  keep-second-reads.Asked,
-  keep-second-reads.Learnt,
-) (term-at t) term.Post term-Inv-loop term-μ-loop
+term-same-length : (t : ℕ) → term-lts.Need-same-length (term-claims t) (term-at t) term.Post term-Inv-loop term-μ-loop
 term-same-length t c = search needs
 
-term-returns : (t : ℕ) → term-lts.Need-returns (
-  run-of-reads.Asked,
-  run-of-reads.Learnt,
-  operand-below t,
-  operand.Post,
-  keep-second-reads.Asked,
-  keep-second-reads.Learnt,
-) (term-at t) term.Post term-Inv-loop term-μ-loop
+term-returns : (t : ℕ) → term-lts.Need-returns (term-claims t) (term-at t) term.Post term-Inv-loop term-μ-loop
 term-returns t c =
     let a = c .before .before .before .before .before .before .before .before .before .before .before .before .args in
     let l = c .before .loop in
@@ -1730,14 +919,7 @@ term-returns t c =
 
 pub +expression+operand+path+predicates+term-spec : {M : Type 1} → statement M
 +expression+operand+path+predicates+term-spec =
-    close μ-expression μ-operand μ-path μ-predicates μ-term (λ t. expression-lts.spec (
-      run-of-reads.Asked,
-      run-of-reads.Learnt,
-      term-below t,
-      term.Post,
-      add-second-reads.Asked,
-      add-second-reads.Learnt,
-    )
+    close μ-expression μ-operand μ-path μ-predicates μ-term (λ t. expression-lts.spec (expression-claims t)
     (expression-at t)
     expression.Post
     expression-Inv-loop
@@ -1757,18 +939,7 @@ pub +expression+operand+path+predicates+term-spec : {M : Type 1} → statement M
     (expression-loop-again t)
     (expression-same-length t)
     (expression-returns t))
-    (λ t. operand-lts.spec (
-      unpack-reads.Asked,
-      unpack-reads.Learnt,
-      path-below t,
-      path.Post,
-      term-below t,
-      term.Post,
-      expression-below t,
-      expression.Post,
-      flip-reads.Asked,
-      flip-reads.Learnt,
-    )
+    (λ t. operand-lts.spec (operand-claims t)
     (operand-at t)
     operand.Post
     (operand-mul-unpack t)
@@ -1799,22 +970,7 @@ pub +expression+operand+path+predicates+term-spec : {M : Type 1} → statement M
     (operand-flip-requires t)
     (operand-same-length-4 t)
     (operand-returns-4 t))
-    (λ t. path-lts.spec (
-      fill-reads.Asked,
-      fill-reads.Learnt,
-      past-steps-reads.Asked,
-      past-steps-reads.Learnt,
-      step-at-reads.Asked,
-      step-at-reads.Learnt,
-      restrict-reads.Asked,
-      restrict-reads.Learnt,
-      predicates-below t,
-      predicates.Post,
-      turn-reads.Asked,
-      turn-reads.Learnt,
-      along-reads.Asked,
-      along-reads.Learnt,
-    )
+    (λ t. path-lts.spec (path-claims t)
     (path-at t)
     path.Post
     path-Inv-loop
@@ -1822,9 +978,10 @@ pub +expression+operand+path+predicates+term-spec : {M : Type 1} → statement M
     (path-slice-relend-prefix-fill t)
     (path-slice-aggregate-fill t)
     (path-fill-requires t)
+    (path-unlooked-requires t)
     (path-loop-holds t)
     (path-sub-left t)
-    (path-past-steps-requires t)
+    (path-look-requires t)
     (path-step-at-requires t)
     (path-slice-relend-prefix-restrict t)
     (path-slice-aggregate-restrict t)
@@ -1837,15 +994,10 @@ pub +expression+operand+path+predicates+term-spec : {M : Type 1} → statement M
     (path-along-requires t)
     (path-loop-less t)
     (path-loop-again t)
-    (path-past-steps-requires-2 t)
+    (path-past-steps-requires t)
     (path-same-length t)
     (path-returns t))
-    (λ t. predicates-lts.spec (
-      expression-below t,
-      expression.Post,
-      keep-second-reads.Asked,
-      keep-second-reads.Learnt,
-    )
+    (λ t. predicates-lts.spec (predicates-claims t)
     (predicates-at t)
     predicates.Post
     predicates-Inv-loop
@@ -1862,14 +1014,7 @@ pub +expression+operand+path+predicates+term-spec : {M : Type 1} → statement M
     (predicates-loop-again t)
     (predicates-same-length t)
     (predicates-returns t))
-    λ t. term-lts.spec (
-      run-of-reads.Asked,
-      run-of-reads.Learnt,
-      operand-below t,
-      operand.Post,
-      keep-second-reads.Asked,
-      keep-second-reads.Learnt,
-    )
+    λ t. term-lts.spec (term-claims t)
     (term-at t)
     term.Post
     term-Inv-loop
