@@ -38,7 +38,10 @@ pub fn name_start(b: u8) -> bool
 pub fn name_part(b: u8) -> bool
     ensures { λ r. ⌜ r ≡ namePart b ⌝ }
 {
-    name_start(b) | (b'0' <= b) & (b <= b'9') | (b == b'.') | (b == b'-')
+    if name_start(b) {
+        return true;
+    }
+    (b'0' <= b) & (b <= b'9') | (b == b'.') | (b == b'-')
 }
 
 // May a name go on with all bytes from `from` on?

@@ -7,7 +7,7 @@ use mathlib.Core.List.{List, [], _∷_, _++_, append-assoc, append-nil}
 use mathlib.Core.Option.{Option, none, some}
 use lib.Dec.{ltb}
 use lib.ListN.{length, take, drop, length-append, take-append-drop}
-use lib.Seq.{length-take-le}
+use lib.Seq.{length-take-le, take-at}
 use borrow.Author.Tests.{lt-ltb, le-ltb, ltb-false}
 use Rattle.paper.specs.Tools.{written}
 use Rattle.paper.specs.Tokens as paper
@@ -30,7 +30,7 @@ use Rattle.token.specs.declared.Cursor.{Cursor}
 use Rattle.read.specs.declared.Part.{Part}
 use Rattle.read.specs.declared.Part.the-variants.{Done, NoQuery, TooDeep, UnknownName}
 use Rattle.read.specs.declared.Lead.the-variants.{Alone, Before, NoPath}
-use Rattle.read.specs.Parts.{tokensAt, Past, Wrote, Gives, Reads, deepIf, pathItems, Leads, Finishes, ReadsAll, Sized, Measures, Refusal}
+use Rattle.read.specs.Parts.{tokensAt, Past, Wrote, Gives, Reads, deepIf, pathItems, Leads, Finishes, ReadsAll, Sized, Measures, Refusal, Whole, Kept}
 use types.Run.{miss}
 use Rattle.read.proofs.Writing.{wrote-nothing, wrote-more}
 use Rattle.read.proofs.Runs.{some-token, some-fuel, Refused}
@@ -180,8 +180,11 @@ all-refused text old new old′ new′ from place low high o items o′ (TooDeep
 all-refused text old new old′ new′ from place low high o items o′ (UnknownName spot) n h k = k 5 spot h
 
 -- MEASURING: size is the number of items.
+pub whole-sized : (old new : List ℕ) (o : Got Query) (end : ℕ) → Whole old new o end → Sized o end
+whole-sized old new o end w = record { what = w .what; left = w .left; reads = w .reads; ends = w .ends ∙ size-items (w .what) }
+
 pub measured : (old new : List ℕ) (o : Got Query) (r : Part) → ReadsAll old new o r → Measures o r
-measured old new o (Done past end) w = record { what = w .what; left = w .left; reads = w .reads; ends = w .ends ∙ size-items (w .what) }
+measured old new o (Done past end) w = whole-sized old new o end w
 measured old new o (NoQuery spot) w = w
 measured old new o (TooDeep spot) w = w
 measured old new o (UnknownName spot) w = w
@@ -241,24 +244,13 @@ pub kept-refusal : (text list old : List ℕ) (number spot : ℕ) → refusal nu
 unfolding readOut
 kept-refusal text list old number spot h = ap (λ x. atExit x (readItems text list) old) h
 
--- An accepted call finds a query that fits.
+-- A query was read that fits.
 record Fits (o : Got Query) (room : ℕ) : Type 0 where
   pub what : Query
   pub left : List Placed
   pub reads : o ≡ got what left
   pub room-enough : size what ≤ room
   pub few : size what ≤ itemLimit
-
-fits : (o : Got Query) (room n : ℕ) → lineGot o (last-line room) ≡ value n → Fits o room
-fits (got q left) room n h =
-    let (none-short, valued) = line-value 10 n (shortOfItems room (size q)) (value (size q)) h in
-    let (a, b) = or-none (ltb room (size q)) (ltb itemLimit (size q)) (when-none (ltb room (size q) || ltb itemLimit (size q)) (size q) none-short) in
-    record { what = q; left = left; reads = refl; room-enough = ltb-false room (size q) a; few = ltb-false itemLimit (size q) b }
-fits (refused number spot) room n h = absurd (let z : _≡_ {A = ℕ} 0 1 = cc in omega arith)
-
-later-value : (o : Got Query) (later : Told) (n : ℕ) → lineGot o (λ q. later) ≡ value n → later ≡ value n
-later-value (got q left) later n h = h
-later-value (refused number spot) later n h = absurd (let z : _≡_ {A = ℕ} 0 1 = cc in omega arith)
 
 never-refused : (o : Got Query) (room : ℕ) (number spot : ℕ) → Fits o room → o ≡ refused number spot → ⊥
 never-refused o room number spot f h = let e : got (f .what) (f .left) ≡ refused number spot = sym (f .reads) ∙ h in let z : _≡_ {A = ℕ} 0 1 = cc in omega arith
@@ -277,10 +269,53 @@ wrote-all o old new (NoQuery spot) f w itemsOf is = absurd (never-refused o (len
 wrote-all o old new (TooDeep spot) f w itemsOf is = absurd (never-refused o (length old) 4 spot f w)
 wrote-all o old new (UnknownName spot) f w itemsOf is = absurd (never-refused o (length old) 5 spot f w)
 
-pub accepted : (text list old new : List ℕ) (n : ℕ) (r : Part) → lineGot (readText anyName text) (λ q. readLast text list (length old)) ≡ value n
-    → readAnswer text list (length old) ≡ value n → ReadsAll old new (readText (numberOf (namesOf list)) text) r → new ≡ readOut text list old
+-- What was kept fits where there is room for so many items.
+kept-fits : (few : List ℕ) (o : Got Query) (end room : ℕ) → Kept few o end → end ≤ room → Fits o room
+kept-fits few o end room k l =
+    let sized = size-items (k .what) in
+    record { what = k .what; left = k .left; reads = k .reads; room-enough = omega (arith, k .ends); few = omega (arith, k .ends, k .limited) }
+
+-- The items that were kept are those of the text,
+pub copied : (few old new : List ℕ) (o : Got Query) (end : ℕ) → Kept few o end → end ≤ length few → new ≡ written (take end few) old → new ≡ written (itemsGot o) old
+copied few old new o end k l w = w ∙ ap (λ x. written x old) (k .stands l ∙ sym (ap itemsGot (k .reads)))
+
+-- and so are those that are read again.
+pub reread : (few old new : List ℕ) (o : Got Query) (end : ℕ) (r : Part) → Kept few o end → end ≤ length old → ReadsAll old new o r → new ≡ written (itemsGot o) old
+reread few old new o end r k l w = wrote-all o old new r (kept-fits few o end (length old) k l) w itemsGot (λ q left. refl)
+
+-- What was read into the room is kept there.
+pub kept-few : (old few : List ℕ) (o : Got Query) (end : ℕ) → length few ≡ length old → Whole old few o end → end ≤ itemLimit → Kept few o end
+kept-few old few o end e w l =
+    let code = encode (w .what) in
+    record {
+      what = w .what;
+      left = w .left;
+      reads = w .reads;
+      ends = w .ends;
+      limited = l;
+      stands =
+          λ room.
+          let puts : few ≡ code ++ drop end old =
+          w .wrote .puts [] (take end old) (drop end old) (sym (take-append-drop end old)) refl (length-take-le end old (omega arith) ∙ w .ends) (omega (arith, w .ends)) in
+          ap (take end) puts ∙ take-at code (drop end old) end (sym (w .ends));
+    }
+
+-- A refusal is no value.
+refusal-value {ℓ} : {X : Type ℓ} (number spot n : ℕ) → refusal number spot ≡ value n → X
+refusal-value number spot n h = absurd (let z : _≡_ {A = ℕ} 0 1 = cc in omega arith)
+
+pub short-value {ℓ} : {X : Type ℓ} (m n : ℕ) → Short m ≡ Value n → X
+short-value m n e = refusal-value 10 m n (ap told e)
+
+pub refused-value {ℓ} : {X : Type ℓ} (r : Part) (a : Answer) → Refused r → Refusal r a → (n : ℕ) → a ≡ Value n → X
+refused-value (Done past end) a m h n e = absurd (miss (1 ∷ 2 ∷ 3 ∷ []) 0 tt m)
+refused-value (NoQuery spot) a m h n e = refusal-value 3 spot n (sym h ∙ ap told e)
+refused-value (TooDeep spot) a m h n e = refusal-value 4 spot n (sym h ∙ ap told e)
+refused-value (UnknownName spot) a m h n e = refusal-value 5 spot n (sym h ∙ ap told e)
+
+pub value-same : (m n : ℕ) → Value m ≡ Value n → m ≡ n
+value-same m n e = cc
+
+pub accepted : (text list old new : List ℕ) (n : ℕ) → readAnswer text list (length old) ≡ value n → new ≡ written (itemsGot (readText (numberOf (namesOf list)) text)) old → new ≡ readOut text list old
 unfolding readOut readItems
-accepted text list old new n r h a w =
-    let o = readText (numberOf (namesOf list)) text in
-    let f = fits o (length old) n (later-value (readText anyName text) (readLast text list (length old)) n h) in
-    wrote-all o old new r f w itemsGot (λ q left. refl) ∙ sym (ap (λ x. atExit x (itemsGot o) old) a)
+accepted text list old new n a w = w ∙ sym (ap (λ x. atExit x (itemsGot (readText (numberOf (namesOf list)) text)) old) a)

@@ -6,7 +6,7 @@ use mathlib.Core.List.{List, [], _∷_, _++_}
 use mathlib.Core.Option.{Option, none, some}
 use mathlib.Core.Logic.{_⊎_}
 use lib.Dec.{eqb}
-use lib.ListN.{length, drop, replicate}
+use lib.ListN.{length, take, drop, replicate}
 use Rattle.paper.specs.Tools.{ascii, same}
 use Rattle.paper.specs.Limits.{textLimit, itemLimit, bracketLimit}
 use Rattle.paper.specs.Names.{namesOf, numberOf}
@@ -270,6 +270,15 @@ ReadsAll old new outcome (Done past end) = Whole old new outcome end
 ReadsAll old new outcome (NoQuery spot) = outcome ≡ refused 3 spot
 ReadsAll old new outcome (TooDeep spot) = outcome ≡ refused 4 spot
 ReadsAll old new outcome (UnknownName spot) = outcome ≡ refused 5 spot
+
+-- What was read of a whole text, with its items at the start of what was kept, if there was room for them.
+pub record Kept (few : List ℕ) (outcome : Got Query) (end : ℕ) : Type 0 where
+  pub what : Query
+  pub left : List Placed
+  pub reads : outcome ≡ got what left
+  pub ends : end ≡ length (encode what)
+  pub limited : end ≤ itemLimit
+  pub stands : end ≤ length few → take end few ≡ encode what
 
 -- What was measured of a whole text.
 pub record Sized (outcome : Got Query) (end : ℕ) : Type 0 where

@@ -5,24 +5,25 @@ use names::Listed;
 use paper::Answer;
 use token::Cursor;
 use token::Token;
-ghost use Prim.Native.Nat.{_+_, _*_, _≤_, _<_};
+ghost use Prim.Native.Nat.{ℕ, _+_, _*_, _≤_, _<_};
 ghost use mathlib.Core.Path.{_≡_};
 ghost use mathlib.Core.Bool.{true, false};
 ghost use mathlib.Core.List.{[], _∷_};
 ghost use lib.Dec.{eqb};
 ghost use lib.ListN.{length, getD, take, drop};
-ghost use Rattle.paper.specs.Tools.{same};
+ghost use Rattle.paper.specs.Tools.{same, written};
 ghost use Rattle.paper.specs.Limits.{bracketLimit};
 ghost use Rattle.paper.specs.Names.{nameStart};
 ghost use Rattle.paper.specs.Tokens.{sort, letters};
 ghost use Rattle.paper.specs.Query.{Axis, child, Test};
 ghost use Rattle.paper.specs.Items.{axisNumber, testNumber, packPath, encodeExpr};
 ghost use Rattle.paper.specs.Reading.{next, at, then, got, axisNamed, startsStep, readTail, readTested, readStep, readSteps, readOperand, readExpr, readPath, readWithin, readText};
-ghost use Rattle.paper.specs.Answers.{readAnswer, readOut, readLast, lineGot};
+ghost use Rattle.paper.specs.Answers.{readAnswer, readOut, readLast, lineGot, itemsGot};
 ghost use Rattle.paper.specs.Told.{told};
+ghost use Rattle.paper.specs.declared.Answer.the-variants.{Value};
 ghost use Rattle.item.specs.Unpacked.{packed};
 ghost use Rattle.names.specs.Listing.{Indexed};
-ghost use Rattle.read.specs.Parts.{tokensAt, sortOf, Looks, lookOf, Wrote, Grouped, deepItems, deepIf, stepItems, Reads, passSort, Heads, axisCode, callCode, Joins, Leads, Begins, Axes, Calls, Closes, Numbered, Moved, Filled, Ready, pathItems, Finishes, ReadsAll, Measures, Refusal};
+ghost use Rattle.read.specs.Parts.{tokensAt, sortOf, Looks, lookOf, Wrote, Grouped, deepItems, deepIf, stepItems, Reads, passSort, Heads, axisCode, callCode, Joins, Leads, Begins, Axes, Calls, Closes, Numbered, Moved, Filled, Ready, pathItems, Finishes, ReadsAll, Kept, Measures, Refusal};
 
 // What reading a part of a query comes to: the cursor past it and the place past its items, or a refusal with its place.
 pub enum Part {
@@ -107,6 +108,9 @@ const WORD: usize = 13;
 const NO_AXIS: u32 = item::AXES;
 
 const NO_CALL: u32 = item::NAMED;
+
+// How many items are kept while a text is measured.
+const FEW: usize = 64;
 
 // TOKENS.
 
@@ -981,13 +985,21 @@ fn refusal(part: Part) -> Answer
     }
 }
 
-// What `read` answers to a text and a list that are good by themselves: 3 or 4 by place, then 5, then 10.
+// What `read` answers to a text and a list that are good by themselves: 3 or 4 by place, then 5, then 10. Keeps the items in `few`, if they are few.
 // A text that is read with the list's names has no fault of syntax, so only one that is not is judged with any names.
-fn answer(text: &[u8], list: &[u8], starts: &[u16; 257], count: usize, room: usize) -> Answer
+fn answer(
+    text: &[u8],
+    list: &[u8],
+    starts: &[u16; 257],
+    count: usize,
+    few: &mut [u32],
+    room: usize,
+) -> Answer
     requires { ⌜ Ready (now text) (now list) (now starts) count 0 bracketLimit ⌝ }
     ensures { λ r. ⌜ told r ≡ lineGot (readText (lookOf false (now (list .entry))) (now (text .entry))) (λ q. readLast (now (text .entry)) (now (list .entry)) room) ⌝ }
+    ensures { λ r. ⌜ ((n : ℕ) → r ≡ Value n → (n ≤ room) × (Kept (now (few .exit)) (readText (lookOf true (now (list .entry))) (now (text .entry))) n)) ⌝ }
 {
-    let whole = measure(text, list, starts, count, true);
+    let whole = paths(text, list, starts, count, true, few);
     let Part::Done { next: _, end } = whole else {
         let syntax = measure(text, list, starts, count, false);
         let Part::Done { next: _, end: _ } = syntax else {
@@ -1002,6 +1014,39 @@ fn answer(text: &[u8], list: &[u8], starts: &[u16; 257], count: usize, room: usi
         return Answer::Short(end);
     }
     Answer::Value(end)
+}
+
+// Copies items to the start of the output.
+fn copy(from: &[u32], out: &mut [u32])
+    requires { ⌜ length (now from) ≤ length (now out) ⌝ }
+    ensures { λ _. ⌜ now (out .exit) ≡ written (now (from .entry)) (now (out .entry)) ⌝ }
+{
+    let mut i = 0;
+    while i < from.len() {
+        out[i] = from[i];
+        i += 1;
+    }
+}
+
+// Writes the items of a text that can be read: those kept, where all are there, else by reading again.
+fn write(
+    text: &[u8],
+    list: &[u8],
+    starts: &[u16; 257],
+    count: usize,
+    few: &[u32],
+    end: usize,
+    out: &mut [u32],
+)
+    requires { ⌜ Ready (now text) (now list) (now starts) count 0 bracketLimit ⌝ }
+    requires { ⌜ (end ≤ length (now out)) × (Kept (now few) (readText (lookOf true (now list)) (now text)) end) ⌝ }
+    ensures { λ _. ⌜ now (out .exit) ≡ written (itemsGot (readText (lookOf true (now (list .entry))) (now (text .entry)))) (now (out .entry)) ⌝ }
+{
+    if end <= few.len() {
+        copy(&few[..end], out);
+    } else {
+        paths(text, list, starts, count, true, out);
+    }
 }
 
 // Reads a query: writes its items and answers their number, or refuses and writes nothing.
@@ -1020,9 +1065,10 @@ pub fn read(text: &[u8], list: &[u8], out: &mut [u32]) -> Answer
     match listed {
         Listed::Bad(start) => Answer::BadName(start),
         Listed::Good(count) => {
-            let said = answer(text, list, &starts, count, out.len());
-            if let Answer::Value(_) = said {
-                paths(text, list, &starts, count, true, out);
+            let mut few = [0u32; FEW];
+            let said = answer(text, list, &starts, count, &mut few, out.len());
+            if let Answer::Value(end) = said {
+                write(text, list, &starts, count, &few, end, out);
             }
             said
         }

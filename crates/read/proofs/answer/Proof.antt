@@ -1,23 +1,24 @@
 -- `read::answer` meets its contract: with the list's names first; where that is refused, the syntax with any names; then room.
 -- What the list's names read, any names read (`any-later`). Assumes nothing.
-use mathlib.Core.Path.{_∙_}
+use Prim.Native.Nat.{ℕ, _≤_}
+use mathlib.Core.Path.{_∙_, subst}
+use mathlib.Core.Bool.{true}
 use borrow.Author.Needs.{needs}
 use denote.Ref.{now}
-use Rattle.read.specs.Parts.{lookOf, Sized}
 use Rattle.paper.specs.Reading.{readText}
-use mathlib.Core.Bool.{true}
-use Rattle.read.proofs.Queries.{refused-told, goes-later, any-later, short-room, over-items, enough-room}
+use Rattle.read.specs.Parts.{lookOf, Sized, Whole, Kept}
+use Rattle.read.proofs.Queries.{measured, whole-sized, refused-told, refused-value, goes-later, any-later, short-room, short-value, over-items, enough-room, value-same, kept-few}
 use Rattle.read.proofs.answer.Statement.{statement}
 use Rattle.read.proofs.answer.Tie as tie
 
-measure-requires : tie.Need-measure-requires
-measure-requires c κs = search needs
+paths-requires : tie.Need-paths-requires
+paths-requires c κs = search needs
 
 enum-known-whole : tie.Need-enum-known-whole
 enum-known-whole c = search needs
 
-measure-requires-2 : tie.Need-measure-requires-2
-measure-requires-2 c κs = search needs
+measure-requires : tie.Need-measure-requires
+measure-requires c κs = search needs
 
 enum-told : tie.Need-enum-told
 enum-told c = search needs
@@ -25,42 +26,78 @@ enum-told c = search needs
 refusal-requires : tie.Need-refusal-requires
 refusal-requires c κs = search needs
 
+same-length : tie.Need-same-length
+same-length c = search needs
+
 returns : tie.Need-returns
-returns c = refused-told _ (c .before .before .measure2 .result) _ _ (c .before .match2 .keys2) (c .before .before .measure2 .ensures) (c .refusal .ensures)
+returns c = (
+  refused-told _ (c .before .before .measure .result) _ _ (c .before .match2 .keys2) (c .before .before .measure .ensures) (c .refusal .ensures),
+  λ n e. refused-value (c .before .before .measure .result) _ (c .before .match2 .keys2) (c .refusal .ensures) n e,
+)
 
 refusal-requires-2 : tie.Need-refusal-requires-2
 refusal-requires-2 c κs = search needs
 
+same-length-2 : tie.Need-same-length-2
+same-length-2 c = search needs
+
 returns-2 : tie.Need-returns-2
 returns-2 c =
-    refused-told _ (c .before .before .before .before .before .measure .result) _ _ (c .before .before .before .before .match .keys2) (c .before .before .before .before .before .measure .ensures) (c .refusal2 .ensures) ∙
-    goes-later _ _ _ (rw (c .before .enum-told .given .1) at (c .before .before .before .measure2 .ensures))
+    let first = c .before .before .before .before .before .before .before .paths in (
+      refused-told _ (first .result) _ _ (c .before .before .before .before .match .keys2) (measured _ _ _ (first .result) (first .ensures)) (c .refusal2 .ensures) ∙
+          goes-later _ _ _ (rw (c .before .enum-told .given .1) at (c .before .before .before .measure .ensures)),
+      λ n e. refused-value (first .result) _ (c .before .before .before .before .match .keys2) (c .refusal2 .ensures) n e,
+    )
 
 -- The text was read with the list's names.
-sized : (c : tie.After-known-told) → Sized (readText (lookOf true (now (c .before .before .before .before .before .before .args .list))) (now (c .before .before .before .before .before .before .args .text))) (c .before .whole .given .0 .1 .0)
-sized c = rw (c .before .whole .given .1) at (c .before .before .before .measure .ensures)
+whole : (c : tie.After-known-told) → Whole (now (c .before .before .before .before .before .before .before .before .before .before .args .few)) (c .before .before .before .before .before .paths .last .1 .1 .1 .1 .1 .0) (readText (lookOf true (now (c .before .before .before .before .before .before .before .before .before .before .args .list))) (now (c .before .before .before .before .before .before .before .before .before .before .args .text))) (c .before .whole .given .0 .1 .0)
+whole c = rw (c .before .whole .given .1) at (c .before .before .before .before .before .paths .ensures)
+
+sized : (c : tie.After-known-told) → Sized (readText (lookOf true (now (c .before .before .before .before .before .before .before .before .before .before .args .list))) (now (c .before .before .before .before .before .before .before .before .before .before .args .text))) (c .before .whole .given .0 .1 .0)
+sized c = whole-sized _ _ _ _ (whole c)
+
+same-length-3 : tie.Need-same-length-3
+same-length-3 c = search needs
 
 returns-3 : tie.Need-returns-3
-returns-3 c = short-room _ _ _ (sized (c .before)) (c .if1 .taken) ∙ any-later _ _ _ _ (sized (c .before))
+returns-3 c = (short-room _ _ _ (sized (c .before)) (c .if1 .taken) ∙ any-later _ _ _ _ (sized (c .before)), λ n e. short-value _ n e)
+
+same-length-4 : tie.Need-same-length-4
+same-length-4 c = search needs
 
 returns-4 : tie.Need-returns-4
-returns-4 c = over-items _ _ _ (sized (c .before .before)) (c .before .if1 .left) (c .if2 .taken) ∙ any-later _ _ _ _ (sized (c .before .before))
+returns-4 c = (over-items _ _ _ (sized (c .before .before)) (c .before .if1 .left) (c .if2 .taken) ∙ any-later _ _ _ _ (sized (c .before .before)), λ n e. short-value _ n e)
+
+same-length-5 : tie.Need-same-length-5
+same-length-5 c = search needs
 
 returns-5 : tie.Need-returns-5
-returns-5 c = enough-room _ _ _ (sized (c .before .before)) (c .before .if1 .left) (c .if2 .left) ∙ any-later _ _ _ _ (sized (c .before .before))
+returns-5 c =
+    let few = c .before .before .before .before .before .before .before .paths .last .1 .1 .1 .1 .1 .0 in
+    let o = readText (lookOf true (now (c .before .before .before .before .before .before .before .before .before .before .before .before .args .list))) (now (c .before .before .before .before .before .before .before .before .before .before .before .before .args .text)) in (
+      enough-room _ _ _ (sized (c .before .before)) (c .before .if1 .left) (c .if2 .left) ∙ any-later _ _ _ _ (sized (c .before .before)),
+      λ n e.
+          subst (λ (m : ℕ). (m ≤ c .before .before .before .before .before .before .before .before .before .before .before .before .args .room) × Kept few o m) (value-same _ n e)
+          (c .before .if1 .left, kept-few _ _ _ _ (c .before .before .before .before .before .before .before .paths .kept .1 .1 .1 .1 .1 .0) (whole (c .before .before)) (c .if2 .left)),
+    )
 
 pub answer-spec : {M : Type 1} → statement M
 answer-spec =
     tie.close
     (tie.spec
-    measure-requires
+    paths-requires
     enum-known-whole
-    measure-requires-2
+    measure-requires
     enum-told
     refusal-requires
+    same-length
     returns
     refusal-requires-2
+    same-length-2
     returns-2
+    same-length-3
     returns-3
+    same-length-4
     returns-4
+    same-length-5
     returns-5)

@@ -31,14 +31,23 @@ enum-known-listed c = search needs
 enum-known-listed-2 : tie.Need-enum-known-listed-2
 enum-known-listed-2 c = search needs
 
+slice-aggregate-answer : tie.Need-slice-aggregate-answer
+slice-aggregate-answer c = search needs
+
 answer-requires : tie.Need-answer-requires
-answer-requires c κs = record { short = c .before .before .before .before .before .before .before .if1 .left; names = c .before .before .before .before .index .ensures .good _ (c .before .before .listed2 .given .1); inside = omega arith; shallow = omega arith }
+answer-requires c κs = record { short = c .before .before .before .before .before .before .before .before .if1 .left; names = c .before .before .before .before .before .index .ensures .good _ (c .before .before .before .listed2 .given .1); inside = omega arith; shallow = omega arith }
 
-enum-told : tie.Need-enum-told
-enum-told c = search needs
+enum-known-said : tie.Need-enum-known-said
+enum-known-said c = search needs
 
-paths-requires : tie.Need-paths-requires
-paths-requires c κs = record { short = c .before .before .before .before .before .before .before .before .before .before .before .before .if1 .left; names = c .before .before .before .before .before .before .before .before .before .index .ensures .good _ (c .before .before .before .before .before .before .before .listed2 .given .1); inside = omega arith; shallow = omega arith }
+slice-aggregate-write : tie.Need-slice-aggregate-write
+slice-aggregate-write c = search needs
+
+write-requires : tie.Need-write-requires
+write-requires c κs = (
+  record { short = c .before .before .before .before .before .before .before .before .before .before .before .before .before .before .before .before .if1 .left; names = c .before .before .before .before .before .before .before .before .before .before .before .before .before .index .ensures .good _ (c .before .before .before .before .before .before .before .before .before .before .before .listed2 .given .1); inside = omega arith; shallow = omega arith },
+  c .before .before .before .before .before .before .before .answer .ensures .1 _ (c .before .before .before .before .said .given .1),
+)
 
 returns-3 : tie.Need-returns-3
 returns-3 c =
@@ -51,18 +60,17 @@ same-length c = search needs
 
 returns-4 : tie.Need-returns-4
 returns-4 c =
-    let a = c .before .before .before .before .before .before .before .before .before .before .before .before .before .before .before .before .before .before .before .args in
-    let fine = good-list (now (a .text)) (now (a .list)) (length (now (a .out))) (c .before .before .before .before .before .before .before .before .before .before .before .before .before .before .before .if1 .left) (c .before .before .before .before .before .before .before .before .before .before .before .before .before .before .if2 .left) (ap faultOf (sym (c .before .before .before .before .before .before .before .before .before .before .listed2 .given .1)) ∙ c .before .before .before .before .before .before .before .before .before .before .before .before .index .ensures .fault) in
-    let said = c .before .before .before .before .before .before .before .answer .ensures in
-    let is = c .before .before .before .before .before .enum-told .given .1 in
-    (said ∙ fine, accepted (now (a .text)) (now (a .list)) (now (a .out)) _ _ (c .before .before .paths .result) (sym said ∙ ap told is) (sym (said ∙ fine) ∙ ap told is) (c .before .before .paths .ensures))
+    let a = c .before .before .before .before .before .before .before .before .before .before .before .before .before .before .before .before .before .before .before .before .before .before .before .args in
+    let fine = good-list (now (a .text)) (now (a .list)) (length (now (a .out))) (c .before .before .before .before .before .before .before .before .before .before .before .before .before .before .before .before .before .before .before .if1 .left) (c .before .before .before .before .before .before .before .before .before .before .before .before .before .before .before .before .before .before .if2 .left) (ap faultOf (sym (c .before .before .before .before .before .before .before .before .before .before .before .before .before .before .listed2 .given .1)) ∙ c .before .before .before .before .before .before .before .before .before .before .before .before .before .before .before .before .index .ensures .fault) in
+    let said = sym (ap told (c .before .before .before .before .before .before .before .said .given .1)) ∙ c .before .before .before .before .before .before .before .before .before .before .answer .ensures .0 ∙ fine in
+    (said, accepted (now (a .text)) (now (a .list)) (now (a .out)) _ _ (sym said) (c .before .before .write .ensures))
 
 returns-5 : tie.Need-returns-5
 returns-5 c =
-    let a = c .before .before .before .before .before .before .before .before .before .before .before .before .before .args in
-    let fine = good-list (now (a .text)) (now (a .list)) (length (now (a .out))) (c .before .before .before .before .before .before .before .before .before .if1 .left) (c .before .before .before .before .before .before .before .before .if2 .left) (ap faultOf (sym (c .before .before .before .before .listed2 .given .1)) ∙ c .before .before .before .before .before .before .index .ensures .fault) in
-    let said = c .before .answer .ensures ∙ fine in
-    (said, kept (now (a .text)) (now (a .list)) (now (a .out)) (c .before .answer .result) (c .match2 .keys2) said)
+    let a = c .before .before .before .before .before .before .before .before .before .before .before .before .before .before .before .args in
+    let fine = good-list (now (a .text)) (now (a .list)) (length (now (a .out))) (c .before .before .before .before .before .before .before .before .before .before .before .if1 .left) (c .before .before .before .before .before .before .before .before .before .before .if2 .left) (ap faultOf (sym (c .before .before .before .before .before .before .listed2 .given .1)) ∙ c .before .before .before .before .before .before .before .before .index .ensures .fault) in
+    let said = c .before .before .answer .ensures .0 ∙ fine in
+    (said, kept (now (a .text)) (now (a .list)) (now (a .out)) (c .before .before .answer .result) (c .match2 .keys2) said)
 
 pub read-spec : {M : Type 1} → statement M
 read-spec =
@@ -73,9 +81,11 @@ read-spec =
     index-requires
     enum-known-listed
     enum-known-listed-2
+    slice-aggregate-answer
     answer-requires
-    enum-told
-    paths-requires
+    enum-known-said
+    slice-aggregate-write
+    write-requires
     returns-3
     same-length
     returns-4
