@@ -18,8 +18,9 @@ use Rattle.theorems.specs.Grammar.{tok, PredsIn, no-pred, one-pred, Test
 use Rattle.theorems.specs.Grammar.{StepIn, dot-step, dots-step, child-step, axis-step, StepsIn, last-step, slash-step, slashes-step}
 use Rattle.theorems.specs.Grammar.{OperandIn, path-operand, round-operand, not-operand, TermIn, one-operand, and-operand, ExprIn, one-term, or-term}
 use Rattle.theorems.specs.Grammar.{PathIn, root-path, slash-path, slashes-path, QueryIn, one-path, bar-path, Within}
+use Rattle.theorems.proofs.Runs.{andRun, orRun}
 use Rattle.theorems.proofs.Sound.{within-got}
-use Rattle.theorems.proofs.Fuel.{within-less, allPreds, allSteps, allAnds, allOrs, allPaths, preds-on, steps-on, ands-on, ors-on, paths-on}
+use Rattle.theorems.proofs.Fuel.{within-less, allPreds, allSteps, allRun, allPaths, preds-on, steps-on, ands-on, ors-on, paths-on}
 
 -- One reading comes to another, or, where brackets may run short, to refusal 4.
 pub data Comes {A : Type 0} (Short : Type 0) (r s : Got A) : Type 0 where
@@ -153,8 +154,8 @@ module _ (Short : Type 0) (look : List ℕ → Option ℕ) (within : ℕ → Lis
   operand-read (not-operand {r = r} {rest = rest} i) c = comes-then _ (comes-then _ (inside _ _ _ _ i (round-done r rest)) (comes refl)) (comes refl)
 
   -- A term read so far comes to the run of `and` after it.
-  term-on : {ts mid : List Placed} {e : Expr} → TermIn look Inside ts e mid → Over mid → Comes Short (readTerm look within ts) (allAnds look within e mid)
-  unfolding readTerm allAnds
+  term-on : {ts mid : List Placed} {e : Expr} → TermIn look Inside ts e mid → Over mid → Comes Short (readTerm look within ts) (allRun (andRun look within) e mid)
+  unfolding readTerm allRun
   term-on (one-operand d) c = comes-then _ (operand-read d c) (comes refl)
   term-on (and-operand {p = p} {us = us} {a = a} d f) c =
       comes-to (term-on d (record { stepped = record { square = refl; round = refl; colon = refl }; one = refl; two = refl }))
@@ -164,8 +165,8 @@ module _ (Short : Type 0) (look : List ℕ → Option ℕ) (within : ℕ → Lis
   term-read {rest = rest} {e = e} d c n = comes-to (term-on d c) (comes (ands-on look within Read sound less e rest ∙ rw n))
 
   -- So an expression and the run of `or`.
-  expr-on : {ts mid : List Placed} {e : Expr} → ExprIn look Inside ts e mid → Over mid → says (ascii "and") mid ≡ false → Comes Short (readExpr look within ts) (allOrs look within e mid)
-  unfolding readExpr allOrs
+  expr-on : {ts mid : List Placed} {e : Expr} → ExprIn look Inside ts e mid → Over mid → says (ascii "and") mid ≡ false → Comes Short (readExpr look within ts) (allRun (orRun look within) e mid)
+  unfolding readExpr allRun
   expr-on (one-term d) c n = comes-then _ (term-read d c n) (comes refl)
   expr-on (or-term {p = p} {us = us} {a = a} d f) c n =
       comes-to (expr-on d (record { stepped = record { square = refl; round = refl; colon = refl }; one = refl; two = refl }) refl)

@@ -2,20 +2,20 @@
 -- A reader leaves no more tokens than it was given, since what it gets is derived from them. Assumes nothing.
 use Prim.Native.Nat.{ℕ, zero, suc, _-_, _≤_}
 use native.Mathlib.Omega.{arith}
-use mathlib.Core.Path.{_≡_, refl, _∙_, ap}
+use mathlib.Core.Path.{_≡_, refl, sym, _∙_, ap}
 use mathlib.Core.Bool.{Bool, true, false, cond}
 use mathlib.Core.List.{List, [], _∷_}
 use mathlib.Core.Option.{Option}
 use lib.ListN.{length, drop, length-drop}
-use Rattle.paper.specs.Tools.{ascii}
 use Rattle.paper.specs.Tokens.{slash, slashes, bar, openSquare, closeSquare, finish, Placed}
-use Rattle.paper.specs.Query.{Expr, both, either, Steps, stop, Preds, bare, pred, Query, paths, Test}
+use Rattle.paper.specs.Query.{Expr, Steps, stop, Preds, bare, pred, Query, paths, Test}
 use Rattle.paper.specs.Reading.{Got, got, refused, then, at, sees, says, pass, Step, before, deep}
-use Rattle.paper.specs.Reading.{readPreds, readTested, readStep, readSteps, readOperand, readAnds, readTerm, readOrs, readPath, readPaths}
+use Rattle.paper.specs.Reading.{readPreds, readTested, readStep, readSteps, readPath, readPaths}
 use Rattle.theorems.specs.Grammar.{PredsIn, no-pred, one-pred, TestIn, star-test, node-test, text-test, name-test}
 use Rattle.theorems.specs.Grammar.{StepIn, dot-step, dots-step, child-step, axis-step, StepsIn, last-step, slash-step, slashes-step}
 use Rattle.theorems.specs.Grammar.{OperandIn, path-operand, round-operand, not-operand, TermIn, one-operand, and-operand, ExprIn, one-term, or-term}
 use Rattle.theorems.specs.Grammar.{PathIn, root-path, slash-path, slashes-path, Within}
+use Rattle.theorems.proofs.Runs.{Run, spelling, andRun, orRun}
 use Rattle.theorems.proofs.Sound.{closed-got, step-got, operand-got, term-got, path-got}
 
 -- The readers with a bound of all tokens left.
@@ -26,14 +26,11 @@ module _ (look : List ℕ → Option ℕ) (within : ℕ → List Placed → Got 
   unfoldable pub allSteps : List Placed → Got Steps
   allSteps ts = readSteps look within (length ts) ts
 
-  unfoldable pub allAnds : Expr → List Placed → Got Expr
-  allAnds a ts = readAnds look within (length ts) a ts
-
-  unfoldable pub allOrs : Expr → List Placed → Got Expr
-  allOrs a ts = readOrs look within (length ts) a ts
-
   unfoldable pub allPaths : List Placed → Got Query
   allPaths ts = readPaths look within (length ts) ts
+
+unfoldable pub allRun : Run → Expr → List Placed → Got Expr
+allRun run a ts = run .more (length ts) a ts
 
 -- One turn of each, which goes on with another reader.
 module _ (look : List ℕ → Option ℕ) (within : ℕ → List Placed → Got Expr) where
@@ -48,17 +45,14 @@ module _ (look : List ℕ → Option ℕ) (within : ℕ → List Placed → Got 
       cond (sees slash left) (then (more (drop 1 left)) (λ rest. got (before s rest)))
       (cond (sees slashes left) (then (more (drop 1 left)) (λ rest. got (before s (deep rest)))) (got (before s stop) left)))
 
-  abbrev pub andsTurn : (Expr → List Placed → Got Expr) → Expr → List Placed → Got Expr
-  andsTurn more a ts = cond (says (ascii "and") ts) (then (readOperand look within (drop 1 ts)) (λ b. more (both a b))) (got a ts)
-
-  abbrev pub orsTurn : (Expr → List Placed → Got Expr) → Expr → List Placed → Got Expr
-  orsTurn more a ts = cond (says (ascii "or") ts) (then (readTerm look within (drop 1 ts)) (λ b. more (either a b))) (got a ts)
-
   abbrev pub pathsTurn : (List Placed → Got Query) → List Placed → Got Query
   pathsTurn more ts =
       then (readPath look within ts)
       (λ p left.
       cond (sees bar left) (then (more (drop 1 left)) (λ q. got (record { first = p; others = paths q }))) (pass finish (record { first = p; others = [] }) left))
+
+abbrev pub runTurn : Run → (Expr → List Placed → Got Expr) → Expr → List Placed → Got Expr
+runTurn run more a ts = cond (says (spelling run) ts) (then (run .operand (drop 1 ts)) (λ b. more (run .joined a b))) (got a ts)
 
 -- What is derived leaves no more tokens than there were.
 module _ (look : List ℕ → Option ℕ) (Inside : List Placed → Expr → List Placed → Type 0)
@@ -115,6 +109,30 @@ cond-same : {A : Type 0} (b : Bool) {x y u v : A} → x ≡ u → y ≡ v → co
 cond-same true p q = p
 cond-same false p q = q
 
+-- A run, whose operands leave no more tokens than there were: a turn goes on with fewer, so any two bounds that suffice read alike.
+module _ (run : Run) (less : (ts : List Placed) (b : Expr) (left : List Placed) → run .operand ts ≡ got b left → length left ≤ length ts) where
+  run-same : (f g : Expr → List Placed → Got Expr) (a : Expr) (ts : List Placed) → ((b : Expr) (left : List Placed) → length left ≤ length ts - 1 → f b left ≡ g b left)
+      → runTurn run f a ts ≡ runTurn run g a ts
+  run-same f g a ts same =
+      cond-same (says (spelling run) ts)
+      (then-same (run .operand (drop 1 ts)) _ _ (λ b left u. same (run .joined a b) left (omega (arith, less (drop 1 ts) b left u, length-drop 1 ts))))
+      refl
+
+  run-any : (n m : ℕ) (a : Expr) (ts : List Placed) → length ts ≤ n → length ts ≤ m → run .more n a ts ≡ run .more m a ts
+  run-any zero zero a ts h k = refl
+  run-any zero (suc m) a [] h k = run .ends a [] ∙ sym (run .goes m a [])
+  run-any zero (suc m) a (t ∷ ts) h k = absurd (omega arith)
+  run-any (suc n) zero a [] h k = run .goes n a [] ∙ sym (run .ends a [])
+  run-any (suc n) zero a (t ∷ ts) h k = absurd (omega arith)
+  run-any (suc n) (suc m) a ts h k =
+      run .goes n a ts ∙ run-same (run .more n) (run .more m) a ts (λ b left l. run-any n m b left (omega arith) (omega arith)) ∙ sym (run .goes m a ts)
+
+  run-on : (a : Expr) (ts : List Placed) → allRun run a ts ≡ runTurn run (allRun run) a ts
+  unfolding allRun
+  run-on a ts =
+      run-any (length ts) (suc (length ts)) a ts (omega arith) (omega arith) ∙ run .goes (length ts) a ts ∙
+      run-same (run .more (length ts)) (allRun run) a ts (λ b left l. run-any (length ts) (length left) b left (omega arith) (omega arith))
+
 module _ (look : List ℕ → Option ℕ) (within : ℕ → List Placed → Got Expr) (Inside : List Placed → Expr → List Placed → Type 0)
     (sound : (p : ℕ) (ts : List Placed) (e : Expr) (left : List Placed) → within p ts ≡ got e left → Inside ts e left)
     (inside : (ts : List Placed) (e : Expr) (rest : List Placed) → Inside ts e rest → length rest ≤ length ts) where
@@ -139,28 +157,6 @@ module _ (look : List ℕ → Option ℕ) (within : ℕ → List Placed → Got 
       let e = same (drop 1 left) (omega arith) in
       cond-same (sees slash left) (ap (λ r. then r (λ rest. got (before s rest))) e)
       (cond-same (sees slashes left) (ap (λ r. then r (λ rest. got (before s (deep rest)))) e) refl))
-
-  ands-same : (f g : Expr → List Placed → Got Expr) (a : Expr) (ts : List Placed) → ((b : Expr) (left : List Placed) → length left ≤ length ts - 1 → f b left ≡ g b left)
-      → andsTurn look within f a ts ≡ andsTurn look within g a ts
-  ands-same f g a ts same =
-      cond-same (says (ascii "and") ts)
-      (then-same (readOperand look within (drop 1 ts)) _ _
-      (λ b left u.
-      let less : length left ≤ length (drop 1 ts) = operand-less look Inside inside (operand-got look within Inside sound (drop 1 ts) b left u) in
-      let one : length (drop 1 ts) ≡ length ts - 1 = length-drop 1 ts in
-      same (both a b) left (omega arith)))
-      refl
-
-  ors-same : (f g : Expr → List Placed → Got Expr) (a : Expr) (ts : List Placed) → ((b : Expr) (left : List Placed) → length left ≤ length ts - 1 → f b left ≡ g b left)
-      → orsTurn look within f a ts ≡ orsTurn look within g a ts
-  ors-same f g a ts same =
-      cond-same (says (ascii "or") ts)
-      (then-same (readTerm look within (drop 1 ts)) _ _
-      (λ b left u.
-      let less : length left ≤ length (drop 1 ts) = term-less look Inside inside (term-got look within Inside sound (drop 1 ts) b left u) in
-      let one : length (drop 1 ts) ≡ length ts - 1 = length-drop 1 ts in
-      same (either a b) left (omega arith)))
-      refl
 
   paths-same : (f g : List Placed → Got Query) (ts : List Placed) → ((left : List Placed) → length left ≤ length ts - 1 → f left ≡ g left) → pathsTurn look within f ts ≡ pathsTurn look within g ts
   paths-same f g ts same =
@@ -188,22 +184,6 @@ module _ (look : List ℕ → Option ℕ) (within : ℕ → List Placed → Got 
   steps-any (suc n) zero (t ∷ ts) h k = absurd (omega arith)
   steps-any (suc n) (suc m) ts h k = steps-same (readSteps look within n) (readSteps look within m) ts (λ left l. steps-any n m left (omega arith) (omega arith))
 
-  ands-any : (n m : ℕ) (a : Expr) (ts : List Placed) → length ts ≤ n → length ts ≤ m → readAnds look within n a ts ≡ readAnds look within m a ts
-  ands-any zero zero a ts h k = refl
-  ands-any zero (suc m) a [] h k = refl
-  ands-any zero (suc m) a (t ∷ ts) h k = absurd (omega arith)
-  ands-any (suc n) zero a [] h k = refl
-  ands-any (suc n) zero a (t ∷ ts) h k = absurd (omega arith)
-  ands-any (suc n) (suc m) a ts h k = ands-same (readAnds look within n) (readAnds look within m) a ts (λ b left l. ands-any n m b left (omega arith) (omega arith))
-
-  ors-any : (n m : ℕ) (a : Expr) (ts : List Placed) → length ts ≤ n → length ts ≤ m → readOrs look within n a ts ≡ readOrs look within m a ts
-  ors-any zero zero a ts h k = refl
-  ors-any zero (suc m) a [] h k = refl
-  ors-any zero (suc m) a (t ∷ ts) h k = absurd (omega arith)
-  ors-any (suc n) zero a [] h k = refl
-  ors-any (suc n) zero a (t ∷ ts) h k = absurd (omega arith)
-  ors-any (suc n) (suc m) a ts h k = ors-same (readOrs look within n) (readOrs look within m) a ts (λ b left l. ors-any n m b left (omega arith) (omega arith))
-
   paths-any : (n m : ℕ) (ts : List Placed) → length ts ≤ n → length ts ≤ m → readPaths look within n ts ≡ readPaths look within m ts
   unfolding readPath
   paths-any zero zero ts h k = refl
@@ -226,17 +206,11 @@ module _ (look : List ℕ → Option ℕ) (within : ℕ → List Placed → Got 
       steps-any (length ts) (suc (length ts)) ts (omega arith) (omega arith) ∙
       steps-same (readSteps look within (length ts)) (allSteps look within) ts (λ left l. steps-any (length ts) (length left) left (omega arith) (omega arith))
 
-  pub ands-on : (a : Expr) (ts : List Placed) → allAnds look within a ts ≡ andsTurn look within (allAnds look within) a ts
-  unfolding allAnds
-  ands-on a ts =
-      ands-any (length ts) (suc (length ts)) a ts (omega arith) (omega arith) ∙
-      ands-same (readAnds look within (length ts)) (allAnds look within) a ts (λ b left l. ands-any (length ts) (length left) b left (omega arith) (omega arith))
+  pub ands-on : (a : Expr) (ts : List Placed) → allRun (andRun look within) a ts ≡ runTurn (andRun look within) (allRun (andRun look within)) a ts
+  ands-on = run-on (andRun look within) (λ ts b left u. operand-less look Inside inside (operand-got look within Inside sound ts b left u))
 
-  pub ors-on : (a : Expr) (ts : List Placed) → allOrs look within a ts ≡ orsTurn look within (allOrs look within) a ts
-  unfolding allOrs
-  ors-on a ts =
-      ors-any (length ts) (suc (length ts)) a ts (omega arith) (omega arith) ∙
-      ors-same (readOrs look within (length ts)) (allOrs look within) a ts (λ b left l. ors-any (length ts) (length left) b left (omega arith) (omega arith))
+  pub ors-on : (a : Expr) (ts : List Placed) → allRun (orRun look within) a ts ≡ runTurn (orRun look within) (allRun (orRun look within)) a ts
+  ors-on = run-on (orRun look within) (λ ts b left u. term-less look Inside inside (term-got look within Inside sound ts b left u))
 
   pub paths-on : (ts : List Placed) → allPaths look within ts ≡ pathsTurn look within (allPaths look within) ts
   unfolding allPaths

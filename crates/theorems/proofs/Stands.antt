@@ -11,14 +11,15 @@ use lib.ListN.{length, drop, length-append}
 use Rattle.paper.specs.Tools.{ascii, same}
 use Rattle.paper.specs.Tokens.{Token, slash, slashes, dot, dots, colons, bar, openSquare, closeSquare, openRound, closeRound, star, finish, stray, word, is, letters, Placed}
 use Rattle.paper.specs.Query.{Axis, self, child, parent, Test, anyNode, textNode, named, anyElement}
-use Rattle.paper.specs.Query.{Expr, path, both, either, negated, Steps, stop, Preds, bare, pred, Query, paths}
+use Rattle.paper.specs.Query.{Expr, path, negated, Steps, stop, Preds, bare, pred, Query, paths}
 use Rattle.paper.specs.Reading.{Got, got, refused, then, next, at, sees, says, wrong, pass, axisNamed, axisAhead, Step, before, deep, startsStep}
 use Rattle.paper.specs.Reading.{readTail, readTested, readStep, readOperand, readTerm, readExpr, readPath}
 use Rattle.paper.proofs.Tests.{and-true, none-some}
-use Rattle.paper.proofs.Same.{same-equal}
+use Rattle.paper.proofs.Same.{same-equal, same-refl}
 use Rattle.theorems.specs.Grammar.{tok, ended}
 use Rattle.theorems.proofs.Seeing.{seen, said, chosen}
-use Rattle.theorems.proofs.Fuel.{allPreds, allSteps, allAnds, allOrs, allPaths, preds-on, steps-on, ands-on, ors-on, paths-on}
+use Rattle.theorems.proofs.Runs.{Run, spelling, andRun, orRun}
+use Rattle.theorems.proofs.Fuel.{allPreds, allSteps, allRun, runTurn, allPaths, preds-on, steps-on, ands-on, ors-on, paths-on}
 use Rattle.theorems.proofs.Complete.{and-false, square-done, round-done}
 use Rattle.theorems.proofs.Local.{Alike, Shuts, Follows, like, shut, Unended, Fails, Local, takes, fails, Default}
 use Rattle.theorems.proofs.Local.{local-cons, local-same, local-when, local-got, local-then, local-map, local-pass, default-pass}
@@ -430,67 +431,39 @@ module _ (look : List ℕ → Option ℕ) (total : (w : List ℕ) → (v : ℕ) 
       go true h = steps (says (ascii "not") (t ∷ ts) && sees openRound ts) refl h
       go false h = other (is openRound (t .token)) refl h
 
-  -- A term.
-  default-ands : (a : Expr) → Default (allAnds look within a)
-  default-ands a = record { more = []; value = a; open-end = λ us. refl; shuts = λ us s. s; reads = λ us s. ands-on look within Read sound less a us ∙ rw (s .done .no-and) }
+  -- A term, and an expression: an operand and the run after it.
+  module _ (run : Run) (on : (a : Expr) (us : List Placed) → allRun run a us ≡ runTurn run (allRun run) a us) (local-one : (ts : List Placed) → Local false (run .operand) ts)
+      (no-word : (us : List Placed) → Shuts us → says (spelling run) us ≡ false) where
+    default-run : (a : Expr) → Default (allRun run a)
+    default-run a = record { more = []; value = a; open-end = λ us. refl; shuts = λ us s. s; reads = λ us s. on a us ∙ rw (no-word us s) }
 
-  ands-turn : (n : ℕ) → ((a : Expr) (us : List Placed) → length us < n → Local true (allAnds look within a) us) → (a : Expr) (ts : List Placed) → length ts < suc n
-      → Local true (allAnds look within a) ts
-  ands-turn n rec a ts l = go (says (ascii "and") ts) refl
-    where
-      go : (b : Bool) → says (ascii "and") ts ≡ b → Local true (allAnds look within a) ts
-      go true h =
-          let head = said 97 (ascii "nd") ts h in
-          let one : length ts ≡ suc (length (drop 1 ts)) = ap length head in
-          subst (λ m. Local true (allAnds look within a) m) (sym head)
-          (local-cons (λ us. then (readOperand look within us) (λ b. allAnds look within (both a b))) (tok (at ts) (word (ascii "and"))) refl
-          (λ us. ands-on look within Read sound less a (tok (at ts) (word (ascii "and")) ∷ us))
-          (local-then (λ b. allAnds look within (both a b)) (local-operand (drop 1 ts))
-          (λ b used left s. rec (both a b) left (omega (arith, shorter (drop 1 ts) used left s)))
-          (λ b. default-ands (both a b))))
-      go false h =
-          takes a [] ts refl (λ us. refl)
-          (λ us f. ands-on look within Read sound less a us ∙ rw (follow (λ x. same (ascii "and") (letters x)) f h (λ s. s .done .no-and)))
+    run-turn : (n : ℕ) → ((a : Expr) (us : List Placed) → length us < n → Local true (allRun run a) us) → (a : Expr) (ts : List Placed) → length ts < suc n → Local true (allRun run a) ts
+    run-turn n rec a ts l = go (says (spelling run) ts) refl
+      where
+        go : (b : Bool) → says (spelling run) ts ≡ b → Local true (allRun run a) ts
+        go true h =
+            let head = said (run .initial) (run .others) ts h in
+            let one : length ts ≡ suc (length (drop 1 ts)) = ap length head in
+            subst (λ m. Local true (allRun run a) m) (sym head)
+            (local-cons (λ us. then (run .operand us) (λ b. allRun run (run .joined a b))) (tok (at ts) (word (spelling run))) refl (λ us. on a (tok (at ts) (word (spelling run)) ∷ us) ∙ rw (same-refl (spelling run)))
+            (local-then (λ b. allRun run (run .joined a b)) (local-one (drop 1 ts)) (λ b used left s. rec (run .joined a b) left (omega (arith, shorter (drop 1 ts) used left s)))
+            (λ b. default-run (run .joined a b))))
+        go false h = takes a [] ts refl (λ us. refl) (λ us f. on a us ∙ rw (follow (λ x. same (spelling run) (letters x)) f h (λ s. no-word us s)))
 
-  local-ands-below : (n : ℕ) (a : Expr) (ts : List Placed) → length ts < n → Local true (allAnds look within a) ts
-  local-ands-below zero a ts l = absurd (omega arith)
-  local-ands-below (suc n) a ts l = ands-turn n (λ b us m. local-ands-below n b us m) a ts l
+    local-run-below : (n : ℕ) (a : Expr) (ts : List Placed) → length ts < n → Local true (allRun run a) ts
+    local-run-below zero a ts l = absurd (omega arith)
+    local-run-below (suc n) a ts l = run-turn n (λ b us m. local-run-below n b us m) a ts l
+
+    local-run : (ts : List Placed) → Local false (λ us. then (run .operand us) (allRun run)) ts
+    local-run ts = local-then (allRun run) (local-one ts) (λ a used left s. local-run-below (suc (length left)) a left (omega arith)) default-run
 
   local-term : (ts : List Placed) → Local false (readTerm look within) ts
-  unfolding readTerm allAnds
-  local-term ts =
-      local-then (allAnds look within) (local-operand ts) (λ a used left s. local-ands-below (suc (length left)) a left (omega arith)) (λ a. default-ands a)
-
-  -- An expression.
-  default-ors : (a : Expr) → Default (allOrs look within a)
-  default-ors a = record { more = []; value = a; open-end = λ us. refl; shuts = λ us s. s; reads = λ us s. ors-on look within Read sound less a us ∙ rw (s .done .no-or) }
-
-  ors-turn : (n : ℕ) → ((a : Expr) (us : List Placed) → length us < n → Local true (allOrs look within a) us) → (a : Expr) (ts : List Placed) → length ts < suc n
-      → Local true (allOrs look within a) ts
-  ors-turn n rec a ts l = go (says (ascii "or") ts) refl
-    where
-      go : (b : Bool) → says (ascii "or") ts ≡ b → Local true (allOrs look within a) ts
-      go true h =
-          let head = said 111 (ascii "r") ts h in
-          let one : length ts ≡ suc (length (drop 1 ts)) = ap length head in
-          subst (λ m. Local true (allOrs look within a) m) (sym head)
-          (local-cons (λ us. then (readTerm look within us) (λ b. allOrs look within (either a b))) (tok (at ts) (word (ascii "or"))) refl
-          (λ us. ors-on look within Read sound less a (tok (at ts) (word (ascii "or")) ∷ us))
-          (local-then (λ b. allOrs look within (either a b)) (local-term (drop 1 ts))
-          (λ b used left s. rec (either a b) left (omega (arith, shorter (drop 1 ts) used left s)))
-          (λ b. default-ors (either a b))))
-      go false h =
-          takes a [] ts refl (λ us. refl)
-          (λ us f. ors-on look within Read sound less a us ∙ rw (follow (λ x. same (ascii "or") (letters x)) f h (λ s. s .done .no-or)))
-
-  local-ors-below : (n : ℕ) (a : Expr) (ts : List Placed) → length ts < n → Local true (allOrs look within a) ts
-  local-ors-below zero a ts l = absurd (omega arith)
-  local-ors-below (suc n) a ts l = ors-turn n (λ b us m. local-ors-below n b us m) a ts l
+  unfolding readTerm allRun
+  local-term = local-run (andRun look within) (ands-on look within Read sound less) local-operand (λ us s. s .done .no-and)
 
   pub local-expr : (ts : List Placed) → Local false (readExpr look within) ts
-  unfolding readExpr allOrs
-  local-expr ts =
-      local-then (allOrs look within) (local-term ts) (λ a used left s. local-ors-below (suc (length left)) a left (omega arith)) (λ a. default-ors a)
+  unfolding readExpr allRun
+  local-expr = local-run (orRun look within) (ors-on look within Read sound less) local-term (λ us s. s .done .no-or)
 
   -- An absolute path.
   local-path : (ts : List Placed) → Local false (readPath look within) ts
