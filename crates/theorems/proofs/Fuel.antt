@@ -109,29 +109,36 @@ cond-same : {A : Type 0} (b : Bool) {x y u v : A} → x ≡ u → y ≡ v → co
 cond-same true p q = p
 cond-same false p q = q
 
--- A run, whose operands leave no more tokens than there were: a turn goes on with fewer, so any two bounds that suffice read alike.
-module _ (run : Run) (less : (ts : List Placed) (b : Expr) (left : List Placed) → run .operand ts ≡ got b left → length left ≤ length ts) where
-  run-same : (f g : Expr → List Placed → Got Expr) (a : Expr) (ts : List Placed) → ((b : Expr) (left : List Placed) → length left ≤ length ts - 1 → f b left ≡ g b left)
-      → runTurn run f a ts ≡ runTurn run g a ts
-  run-same f g a ts same =
-      cond-same (says (spelling run) ts)
-      (then-same (run .operand (drop 1 ts)) _ _ (λ b left u. same (run .joined a b) left (omega (arith, less (drop 1 ts) b left u, length-drop 1 ts))))
-      refl
+-- A reader with a bound, which goes on by a turn that leaves fewer tokens; beside them it may carry what was read before.
+module _ {X A : Type 0} (read : ℕ → X → List Placed → Got A) (turn : (X → List Placed → Got A) → X → List Placed → Got A)
+    (goes : (n : ℕ) (x : X) (ts : List Placed) → read (suc n) x ts ≡ turn (read n) x ts) (nothing : (n : ℕ) (x : X) → turn (read n) x [] ≡ read zero x [])
+    (same : (f g : X → List Placed → Got A) (x : X) (ts : List Placed) → ((y : X) (left : List Placed) → length left ≤ length ts - 1 → f y left ≡ g y left) → turn f x ts ≡ turn g x ts) where
+  -- Any two bounds that suffice read alike.
+  any-bound : (n m : ℕ) (x : X) (ts : List Placed) → length ts ≤ n → length ts ≤ m → read n x ts ≡ read m x ts
+  any-bound zero zero x ts h k = refl
+  any-bound zero (suc m) x [] h k = sym (goes m x [] ∙ nothing m x)
+  any-bound zero (suc m) x (t ∷ ts) h k = absurd (omega arith)
+  any-bound (suc n) zero x [] h k = goes n x [] ∙ nothing n x
+  any-bound (suc n) zero x (t ∷ ts) h k = absurd (omega arith)
+  any-bound (suc n) (suc m) x ts h k =
+      goes n x ts ∙ same (read n) (read m) x ts (λ y left l. any-bound n m y left (omega arith) (omega arith)) ∙ sym (goes m x ts)
 
-  run-any : (n m : ℕ) (a : Expr) (ts : List Placed) → length ts ≤ n → length ts ≤ m → run .more n a ts ≡ run .more m a ts
-  run-any zero zero a ts h k = refl
-  run-any zero (suc m) a [] h k = run .ends a [] ∙ sym (run .goes m a [])
-  run-any zero (suc m) a (t ∷ ts) h k = absurd (omega arith)
-  run-any (suc n) zero a [] h k = run .goes n a [] ∙ sym (run .ends a [])
-  run-any (suc n) zero a (t ∷ ts) h k = absurd (omega arith)
-  run-any (suc n) (suc m) a ts h k =
-      run .goes n a ts ∙ run-same (run .more n) (run .more m) a ts (λ b left l. run-any n m b left (omega arith) (omega arith)) ∙ sym (run .goes m a ts)
+  -- So with a bound of all tokens left it goes on as if it had none.
+  unbounded : (x : X) (ts : List Placed) → read (length ts) x ts ≡ turn (λ y left. read (length left) y left) x ts
+  unbounded x ts =
+      any-bound (length ts) (suc (length ts)) x ts (omega arith) (omega arith) ∙ goes (length ts) x ts ∙
+      same (read (length ts)) (λ y left. read (length left) y left) x ts (λ y left l. any-bound (length ts) (length left) y left (omega arith) (omega arith))
 
-  run-on : (a : Expr) (ts : List Placed) → allRun run a ts ≡ runTurn run (allRun run) a ts
-  unfolding allRun
-  run-on a ts =
-      run-any (length ts) (suc (length ts)) a ts (omega arith) (omega arith) ∙ run .goes (length ts) a ts ∙
-      run-same (run .more (length ts)) (allRun run) a ts (λ b left l. run-any (length ts) (length left) b left (omega arith) (omega arith))
+-- A run, whose operands leave no more tokens than there were.
+run-on : (run : Run) → ((ts : List Placed) (b : Expr) (left : List Placed) → run .operand ts ≡ got b left → length left ≤ length ts)
+    → (a : Expr) (ts : List Placed) → allRun run a ts ≡ runTurn run (allRun run) a ts
+unfolding allRun
+run-on run less =
+    unbounded (run .more) (runTurn run) (run .goes) (λ n a. sym (run .ends a []))
+    (λ f g a ts same.
+    cond-same (says (spelling run) ts)
+    (then-same (run .operand (drop 1 ts)) _ _ (λ b left u. same (run .joined a b) left (omega (arith, less (drop 1 ts) b left u, length-drop 1 ts))))
+    refl)
 
 module _ (look : List ℕ → Option ℕ) (within : ℕ → List Placed → Got Expr) (Inside : List Placed → Expr → List Placed → Type 0)
     (sound : (p : ℕ) (ts : List Placed) (e : Expr) (left : List Placed) → within p ts ≡ got e left → Inside ts e left)
@@ -166,45 +173,18 @@ module _ (look : List ℕ → Option ℕ) (within : ℕ → List Placed → Got 
       let one : length (drop 1 left) ≡ length left - 1 = length-drop 1 left in
       cond-same (sees bar left) (ap (λ r. then r (λ q. got (record { first = p; others = paths q }))) (same (drop 1 left) (omega arith))) refl)
 
-  -- Any two bounds that suffice read alike.
-  preds-any : (n m : ℕ) (ts : List Placed) → length ts ≤ n → length ts ≤ m → readPreds look within n ts ≡ readPreds look within m ts
-  preds-any zero zero ts h k = refl
-  preds-any zero (suc m) [] h k = refl
-  preds-any zero (suc m) (t ∷ ts) h k = absurd (omega arith)
-  preds-any (suc n) zero [] h k = refl
-  preds-any (suc n) zero (t ∷ ts) h k = absurd (omega arith)
-  preds-any (suc n) (suc m) ts h k = preds-same (readPreds look within n) (readPreds look within m) ts (λ left l. preds-any n m left (omega arith) (omega arith))
-
-  steps-any : (n m : ℕ) (ts : List Placed) → length ts ≤ n → length ts ≤ m → readSteps look within n ts ≡ readSteps look within m ts
-  unfolding readStep readTested
-  steps-any zero zero ts h k = refl
-  steps-any zero (suc m) [] h k = refl
-  steps-any zero (suc m) (t ∷ ts) h k = absurd (omega arith)
-  steps-any (suc n) zero [] h k = refl
-  steps-any (suc n) zero (t ∷ ts) h k = absurd (omega arith)
-  steps-any (suc n) (suc m) ts h k = steps-same (readSteps look within n) (readSteps look within m) ts (λ left l. steps-any n m left (omega arith) (omega arith))
-
-  paths-any : (n m : ℕ) (ts : List Placed) → length ts ≤ n → length ts ≤ m → readPaths look within n ts ≡ readPaths look within m ts
-  unfolding readPath
-  paths-any zero zero ts h k = refl
-  paths-any zero (suc m) [] h k = refl
-  paths-any zero (suc m) (t ∷ ts) h k = absurd (omega arith)
-  paths-any (suc n) zero [] h k = refl
-  paths-any (suc n) zero (t ∷ ts) h k = absurd (omega arith)
-  paths-any (suc n) (suc m) ts h k = paths-same (readPaths look within n) (readPaths look within m) ts (λ left l. paths-any n m left (omega arith) (omega arith))
-
   -- How each goes on.
   pub preds-on : (ts : List Placed) → allPreds look within ts ≡ predsTurn look within (allPreds look within) ts
   unfolding allPreds
   preds-on ts =
-      preds-any (length ts) (suc (length ts)) ts (omega arith) (omega arith) ∙
-      preds-same (readPreds look within (length ts)) (allPreds look within) ts (λ left l. preds-any (length ts) (length left) left (omega arith) (omega arith))
+      unbounded {X = Unit {0}} (λ n x us. readPreds look within n us) (λ f x us. predsTurn look within (f tt) us) (λ n x us. refl) (λ n x. refl)
+      (λ f g x us same. preds-same (f tt) (g tt) us (λ left l. same tt left l)) tt ts
 
   pub steps-on : (ts : List Placed) → allSteps look within ts ≡ stepsTurn look within (allSteps look within) ts
-  unfolding allSteps
+  unfolding allSteps readStep readTested
   steps-on ts =
-      steps-any (length ts) (suc (length ts)) ts (omega arith) (omega arith) ∙
-      steps-same (readSteps look within (length ts)) (allSteps look within) ts (λ left l. steps-any (length ts) (length left) left (omega arith) (omega arith))
+      unbounded {X = Unit {0}} (λ n x us. readSteps look within n us) (λ f x us. stepsTurn look within (f tt) us) (λ n x us. refl) (λ n x. refl)
+      (λ f g x us same. steps-same (f tt) (g tt) us (λ left l. same tt left l)) tt ts
 
   pub ands-on : (a : Expr) (ts : List Placed) → allRun (andRun look within) a ts ≡ runTurn (andRun look within) (allRun (andRun look within)) a ts
   ands-on = run-on (andRun look within) (λ ts b left u. operand-less look Inside inside (operand-got look within Inside sound ts b left u))
@@ -213,7 +193,7 @@ module _ (look : List ℕ → Option ℕ) (within : ℕ → List Placed → Got 
   ors-on = run-on (orRun look within) (λ ts b left u. term-less look Inside inside (term-got look within Inside sound ts b left u))
 
   pub paths-on : (ts : List Placed) → allPaths look within ts ≡ pathsTurn look within (allPaths look within) ts
-  unfolding allPaths
+  unfolding allPaths readPath
   paths-on ts =
-      paths-any (length ts) (suc (length ts)) ts (omega arith) (omega arith) ∙
-      paths-same (readPaths look within (length ts)) (allPaths look within) ts (λ left l. paths-any (length ts) (length left) left (omega arith) (omega arith))
+      unbounded {X = Unit {0}} (λ n x us. readPaths look within n us) (λ f x us. pathsTurn look within (f tt) us) (λ n x us. refl) (λ n x. refl)
+      (λ f g x us same. paths-same (f tt) (g tt) us (λ left l. same tt left l)) tt ts
