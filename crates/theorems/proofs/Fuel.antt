@@ -8,13 +8,10 @@ use mathlib.Core.List.{List, [], _∷_}
 use mathlib.Core.Option.{Option}
 use lib.ListN.{length, drop, length-drop}
 use Rattle.paper.specs.Tokens.{slash, slashes, bar, openSquare, closeSquare, finish, Placed}
-use Rattle.paper.specs.Query.{Expr, Steps, stop, Preds, bare, pred, Query, paths, Test}
-use Rattle.paper.specs.Reading.{Got, got, refused, then, at, sees, says, pass, Step, before, deep}
+use Rattle.paper.specs.Query.{Expr, Steps, stop, Preds, bare, pred, Query, paths}
+use Rattle.paper.specs.Reading.{Got, got, refused, then, at, sees, says, pass, before, deep}
 use Rattle.paper.specs.Reading.{readPreds, readTested, readStep, readSteps, readPath, readPaths}
-use Rattle.theorems.specs.Grammar.{PredsIn, no-pred, one-pred, TestIn, star-test, node-test, text-test, name-test}
-use Rattle.theorems.specs.Grammar.{StepIn, dot-step, dots-step, child-step, axis-step, StepsIn, last-step, slash-step, slashes-step}
-use Rattle.theorems.specs.Grammar.{OperandIn, path-operand, round-operand, not-operand, TermIn, one-operand, and-operand, ExprIn, one-term, or-term}
-use Rattle.theorems.specs.Grammar.{PathIn, root-path, slash-path, slashes-path, Within}
+use Rattle.theorems.proofs.Leaving.{Leaves, leaves-less, step-leaves, operand-leaves, term-leaves, path-leaves}
 use Rattle.theorems.proofs.Runs.{Run, spelling, andRun, orRun}
 use Rattle.theorems.proofs.Sound.{closed-got, step-got, operand-got, term-got, path-got}
 
@@ -53,52 +50,6 @@ module _ (look : List ℕ → Option ℕ) (within : ℕ → List Placed → Got 
 
 abbrev pub runTurn : Run → (Expr → List Placed → Got Expr) → Expr → List Placed → Got Expr
 runTurn run more a ts = cond (says (spelling run) ts) (then (run .operand (drop 1 ts)) (λ b. more (run .joined a b))) (got a ts)
-
--- What is derived leaves no more tokens than there were.
-module _ (look : List ℕ → Option ℕ) (Inside : List Placed → Expr → List Placed → Type 0)
-    (inside : (ts : List Placed) (e : Expr) (rest : List Placed) → Inside ts e rest → length rest ≤ length ts) where
-  preds-less : {ts rest : List Placed} {ps : Preds} → PredsIn look Inside ts ps rest → length rest ≤ length ts
-  preds-less no-pred = omega arith
-  preds-less (one-pred i d) = omega (arith, inside _ _ _ i, preds-less d)
-
-  test-less : {ts rest : List Placed} {t : Test} → TestIn look Inside ts t rest → length rest ≤ length ts
-  test-less star-test = omega arith
-  test-less node-test = omega arith
-  test-less text-test = omega arith
-  test-less (name-test h) = omega arith
-
-  step-less : {ts rest : List Placed} {s : Step} → StepIn look Inside ts s rest → length rest ≤ length ts
-  step-less dot-step = omega arith
-  step-less dots-step = omega arith
-  step-less (child-step d f) = omega (arith, test-less d, preds-less f)
-  step-less (axis-step n d f) = omega (arith, test-less d, preds-less f)
-
-  steps-less : {ts rest : List Placed} {s : Steps} → StepsIn look Inside ts s rest → length rest ≤ length ts
-  steps-less (last-step d) = step-less d
-  steps-less (slash-step d f) = omega (arith, step-less d, steps-less f)
-  steps-less (slashes-step d f) = omega (arith, step-less d, steps-less f)
-
-  operand-less : {ts rest : List Placed} {e : Expr} → OperandIn look Inside ts e rest → length rest ≤ length ts
-  operand-less (path-operand d) = steps-less d
-  operand-less (round-operand i) = omega (arith, inside _ _ _ i)
-  operand-less (not-operand i) = omega (arith, inside _ _ _ i)
-
-  term-less : {ts rest : List Placed} {e : Expr} → TermIn look Inside ts e rest → length rest ≤ length ts
-  term-less (one-operand d) = operand-less d
-  term-less (and-operand d f) = omega (arith, term-less d, operand-less f)
-
-  expr-less : {ts rest : List Placed} {e : Expr} → ExprIn look Inside ts e rest → length rest ≤ length ts
-  expr-less (one-term d) = term-less d
-  expr-less (or-term d f) = omega (arith, expr-less d, term-less f)
-
-  path-less : {ts rest : List Placed} {s : Steps} → PathIn look Inside ts s rest → length rest ≤ length ts
-  path-less root-path = omega arith
-  path-less (slash-path d) = omega (arith, steps-less d)
-  path-less (slashes-path d) = omega (arith, steps-less d)
-
-pub within-less : (look : List ℕ → Option ℕ) (d : ℕ) (ts : List Placed) (e : Expr) (rest : List Placed) → Within look d ts e rest → length rest ≤ length ts
-within-less look zero ts e rest i = absurd i
-within-less look (suc d) ts e rest i = expr-less look (Within look d) (within-less look d) i
 
 -- Readers that go on alike read alike.
 then-same : {A B : Type 0} (r : Got A) (f g : A → List Placed → Got B) → ((a : A) (left : List Placed) → r ≡ got a left → f a left ≡ g a left) → then r f ≡ then r g
@@ -142,7 +93,7 @@ run-on run less =
 
 module _ (look : List ℕ → Option ℕ) (within : ℕ → List Placed → Got Expr) (Inside : List Placed → Expr → List Placed → Type 0)
     (sound : (p : ℕ) (ts : List Placed) (e : Expr) (left : List Placed) → within p ts ≡ got e left → Inside ts e left)
-    (inside : (ts : List Placed) (e : Expr) (rest : List Placed) → Inside ts e rest → length rest ≤ length ts) where
+    (leaves : (ts : List Placed) (e : Expr) (rest : List Placed) → Inside ts e rest → Leaves ts rest) where
   -- A turn goes on with fewer tokens than it was given.
   preds-same : (f g : List Placed → Got Preds) (ts : List Placed) → ((left : List Placed) → length left ≤ length ts - 1 → f left ≡ g left) → predsTurn look within f ts ≡ predsTurn look within g ts
   preds-same f g ts same =
@@ -150,7 +101,7 @@ module _ (look : List ℕ → Option ℕ) (within : ℕ → List Placed → Got 
       (then-same (then (within (at ts) (drop 1 ts)) (pass closeSquare)) _ _
       (λ e left u.
       let i = closed-got look within Inside sound closeSquare refl (λ w. refl) (at ts) (drop 1 ts) e left u in
-      let less : suc (length left) ≤ length (drop 1 ts) = inside _ _ _ (i .1) in
+      let less : suc (length left) ≤ length (drop 1 ts) = leaves-less (leaves _ _ _ (i .1)) in
       let one : length (drop 1 ts) ≡ length ts - 1 = length-drop 1 ts in
       ap (λ r. then r (λ ps. got (pred e ps))) (same left (omega arith))))
       refl
@@ -159,7 +110,7 @@ module _ (look : List ℕ → Option ℕ) (within : ℕ → List Placed → Got 
   steps-same f g ts same =
       then-same (readStep look within ts) _ _
       (λ s left u.
-      let less : length left ≤ length ts = step-less look Inside inside (step-got look within Inside sound ts s left u) in
+      let less : length left ≤ length ts = leaves-less (step-leaves look Inside leaves (step-got look within Inside sound ts s left u)) in
       let one : length (drop 1 left) ≡ length left - 1 = length-drop 1 left in
       let e = same (drop 1 left) (omega arith) in
       cond-same (sees slash left) (ap (λ r. then r (λ rest. got (before s rest))) e)
@@ -169,7 +120,7 @@ module _ (look : List ℕ → Option ℕ) (within : ℕ → List Placed → Got 
   paths-same f g ts same =
       then-same (readPath look within ts) _ _
       (λ p left u.
-      let less : length left ≤ length ts = path-less look Inside inside (path-got look within Inside sound ts p left u) in
+      let less : length left ≤ length ts = leaves-less (path-leaves look Inside leaves (path-got look within Inside sound ts p left u)) in
       let one : length (drop 1 left) ≡ length left - 1 = length-drop 1 left in
       cond-same (sees bar left) (ap (λ r. then r (λ q. got (record { first = p; others = paths q }))) (same (drop 1 left) (omega arith))) refl)
 
@@ -187,10 +138,10 @@ module _ (look : List ℕ → Option ℕ) (within : ℕ → List Placed → Got 
       (λ f g x us same. steps-same (f tt) (g tt) us (λ left l. same tt left l)) tt ts
 
   pub ands-on : (a : Expr) (ts : List Placed) → allRun (andRun look within) a ts ≡ runTurn (andRun look within) (allRun (andRun look within)) a ts
-  ands-on = run-on (andRun look within) (λ ts b left u. operand-less look Inside inside (operand-got look within Inside sound ts b left u))
+  ands-on = run-on (andRun look within) (λ ts b left u. leaves-less (operand-leaves look Inside leaves (operand-got look within Inside sound ts b left u)))
 
   pub ors-on : (a : Expr) (ts : List Placed) → allRun (orRun look within) a ts ≡ runTurn (orRun look within) (allRun (orRun look within)) a ts
-  ors-on = run-on (orRun look within) (λ ts b left u. term-less look Inside inside (term-got look within Inside sound ts b left u))
+  ors-on = run-on (orRun look within) (λ ts b left u. leaves-less (term-leaves look Inside leaves (term-got look within Inside sound ts b left u)))
 
   pub paths-on : (ts : List Placed) → allPaths look within ts ≡ pathsTurn look within (allPaths look within) ts
   unfolding allPaths readPath

@@ -13,6 +13,7 @@ pub mod Height
 pub mod Forms
 pub mod Seeing
 pub mod Runs
+pub mod Leaving
 pub mod Sound
 pub mod Fuel
 pub mod Complete

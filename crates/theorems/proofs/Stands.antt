@@ -18,6 +18,7 @@ use Rattle.paper.proofs.Tests.{and-true, none-some}
 use Rattle.paper.proofs.Same.{same-equal, same-refl}
 use Rattle.theorems.specs.Grammar.{tok, ended}
 use Rattle.theorems.proofs.Seeing.{seen, said, chosen}
+use Rattle.theorems.proofs.Leaving.{Leaves}
 use Rattle.theorems.proofs.Runs.{Run, spelling, andRun, orRun}
 use Rattle.theorems.proofs.Fuel.{allPreds, allSteps, allRun, runTurn, allPaths, preds-on, steps-on, ands-on, ors-on, paths-on}
 use Rattle.theorems.proofs.Complete.{and-false, square-done, round-done}
@@ -148,11 +149,11 @@ local-bracket {f = f} within after p t ts n e o c (too-many h) =
 module _ (look : List ℕ → Option ℕ) (total : (w : List ℕ) → (v : ℕ) × (look w ≡ some v)) (within : ℕ → List Placed → Got Expr)
     (Read : List Placed → Expr → List Placed → Type 0)
     (sound : (p : ℕ) (ts : List Placed) (e : Expr) (left : List Placed) → within p ts ≡ got e left → Read ts e left)
-    (less : (ts : List Placed) (e : Expr) (rest : List Placed) → Read ts e rest → length rest ≤ length ts)
+    (leaves : (ts : List Placed) (e : Expr) (rest : List Placed) → Read ts e rest → Leaves ts rest)
     (inside : (p : ℕ) (ts : List Placed) → Bracket within p ts) where
   -- Predicates.
   default-preds : Default (allPreds look within)
-  default-preds = record { more = []; value = bare; open-end = λ us. refl; shuts = λ us s. s; reads = λ us s. preds-on look within Read sound less us ∙ rw (s .done .over .stepped .square) }
+  default-preds = record { more = []; value = bare; open-end = λ us. refl; shuts = λ us s. s; reads = λ us s. preds-on look within Read sound leaves us ∙ rw (s .done .over .stepped .square) }
 
   preds-turn : (n : ℕ) → ((us : List Placed) → length us < n → Local true (allPreds look within) us) → (ts : List Placed) → length ts < suc n → Local true (allPreds look within) ts
   preds-turn n rec ts l = go (sees openSquare ts) refl
@@ -165,7 +166,7 @@ module _ (look : List ℕ → Option ℕ) (total : (w : List ℕ) → (v : ℕ) 
           let head = seen openSquare ts refl h in
           let one : length ts ≡ suc (length (drop 1 ts)) = ap length head in
           subst (λ m. Local true (allPreds look within) m) (sym head)
-          (local-bracket within after (at ts) openSquare (drop 1 ts) refl (λ us. preds-on look within Read sound less (tok (at ts) openSquare ∷ us))
+          (local-bracket within after (at ts) openSquare (drop 1 ts) refl (λ us. preds-on look within Read sound leaves (tok (at ts) openSquare ∷ us))
           (λ m.
           local-then (λ e left. then (allPreds look within left) (λ ps. got (pred e ps)))
           (local-then (pass closeSquare) m (λ e used left s. local-pass closeSquare refl refl refl (λ w. refl) square-shuts e left)
@@ -176,7 +177,7 @@ module _ (look : List ℕ → Option ℕ) (total : (w : List ℕ) → (v : ℕ) 
           (inside (at ts) (drop 1 ts)))
       go false h =
           takes bare [] ts refl (λ us. refl)
-          (λ us f. preds-on look within Read sound less us ∙ rw (follow (is openSquare) f h (λ s. s .done .over .stepped .square)))
+          (λ us f. preds-on look within Read sound leaves us ∙ rw (follow (is openSquare) f h (λ s. s .done .over .stepped .square)))
 
   local-preds-below : (n : ℕ) (ts : List Placed) → length ts < n → Local true (allPreds look within) ts
   local-preds-below zero ts l = absurd (omega arith)
@@ -335,11 +336,11 @@ module _ (look : List ℕ → Option ℕ) (total : (w : List ℕ) → (v : ℕ) 
       → Local true (λ us. allSteps look within (tok p t ∷ us)) ts
   unfolding goOn
   steps-from n rec p t ts h l =
-      local-same (λ us. then (readStep look within (tok p t ∷ us)) goOn) (λ us. steps-on look within Read sound less (tok p t ∷ us))
+      local-same (λ us. then (readStep look within (tok p t ∷ us)) goOn) (λ us. steps-on look within Read sound leaves (tok p t ∷ us))
       (local-then goOn (local-step p t ts h) (λ s used left e. local-on n rec s left (omega (arith, shorter ts used left e))) (λ s. default-on s))
 
   no-steps : (us : List Placed) → startsStep (next us) ≡ false → allSteps look within us ≡ wrong us
-  no-steps us h = steps-on look within Read sound less us ∙ rw (no-step us h)
+  no-steps us h = steps-on look within Read sound leaves us ∙ rw (no-step us h)
 
   name-steps : Steps
   name-steps = before (record { axis = child; test = named (total (ascii "a") .0); preds = bare }) stop
@@ -349,7 +350,7 @@ module _ (look : List ℕ → Option ℕ) (total : (w : List ℕ) → (v : ℕ) 
   steps-name us s =
       let one : readStep look within (tok 0 (word (ascii "a")) ∷ us) ≡ got (record { axis = child; test = named (total (ascii "a") .0); preds = bare }) us =
       rw (s .done .over .stepped .colon) (name-reads child us s) in
-      steps-on look within Read sound less (tok 0 (word (ascii "a")) ∷ us) ∙ rw (one, s .done .over .one, s .done .over .two)
+      steps-on look within Read sound leaves (tok 0 (word (ascii "a")) ∷ us) ∙ rw (one, s .done .over .one, s .done .over .two)
 
   steps-turn : (n : ℕ) → ((us : List Placed) → length us < n → Local false (allSteps look within) us) → (ts : List Placed) → length ts < suc n → Local false (allSteps look within) ts
   steps-turn n rec [] l = refuses [] (λ us e. no-steps us (ap startsStep e)) (word (ascii "a")) name-steps refl (λ us s. steps-name us s)
@@ -459,11 +460,11 @@ module _ (look : List ℕ → Option ℕ) (total : (w : List ℕ) → (v : ℕ) 
 
   local-term : (ts : List Placed) → Local false (readTerm look within) ts
   unfolding readTerm allRun
-  local-term = local-run (andRun look within) (ands-on look within Read sound less) local-operand (λ us s. s .done .no-and)
+  local-term = local-run (andRun look within) (ands-on look within Read sound leaves) local-operand (λ us s. s .done .no-and)
 
   pub local-expr : (ts : List Placed) → Local false (readExpr look within) ts
   unfolding readExpr allRun
-  local-expr = local-run (orRun look within) (ors-on look within Read sound less) local-term (λ us s. s .done .no-or)
+  local-expr = local-run (orRun look within) (ors-on look within Read sound leaves) local-term (λ us s. s .done .no-or)
 
   -- An absolute path.
   local-path : (ts : List Placed) → Local false (readPath look within) ts
@@ -521,14 +522,14 @@ module _ (look : List ℕ → Option ℕ) (total : (w : List ℕ) → (v : ℕ) 
         unended = x .unended;
         number = x .number;
         there = x .there;
-        stands = λ us a. paths-on look within Read sound less (x .used ++ us) ∙ rw (x .stands us a);
+        stands = λ us a. paths-on look within Read sound leaves (x .used ++ us) ∙ rw (x .stands us a);
         completion = λ three.
             let c = x .completion three in
             let fin = tok 0 finish ∷ [] in (
               c .more,
               record { first = c .value; others = [] },
               c .open-end,
-              paths-on look within Read sound less (x .used ++ (c .more ++ fin)) ∙ rw (c .reads fin (finish-shuts 0 [])),
+              paths-on look within Read sound leaves (x .used ++ (c .more ++ fin)) ∙ rw (c .reads fin (finish-shuts 0 [])),
             );
       }
 
@@ -543,7 +544,7 @@ module _ (look : List ℕ → Option ℕ) (total : (w : List ℕ) → (v : ℕ) 
         λ us. took (t ∷ us) (subst (λ l. Follows l (t ∷ us)) (sym head) (like (record { token = refl; place = refl }))) in
         let more : (us : List Placed) → allPaths look within ((used ++ (t ∷ x .used)) ++ us) ≡ then (allPaths look within (x .used ++ us)) (λ q. got (record { first = s; others = paths q })) =
         λ us.
-        ap (allPaths look within) (append-assoc used (t ∷ x .used) us) ∙ paths-on look within Read sound less (used ++ (t ∷ (x .used ++ us))) ∙ rw (begun (x .used ++ us)) in
+        ap (allPaths look within) (append-assoc used (t ∷ x .used) us) ∙ paths-on look within Read sound leaves (used ++ (t ∷ (x .used ++ us))) ∙ rw (begun (x .used ++ us)) in
         record {
           used = used ++ (t ∷ x .used);
           left = x .left;
@@ -570,9 +571,9 @@ module _ (look : List ℕ → Option ℕ) (total : (w : List ℕ) → (v : ℕ) 
           stands = λ us a.
               let no-bar : sees bar us ≡ false = ap (is bar) (sym (a .token)) ∙ b in
               let no-end : sees finish us ≡ false = ap (is finish) (sym (a .token)) ∙ f in
-              paths-on look within Read sound less (used ++ us) ∙ rw (took us (like a), no-bar, no-end, a .place);
+              paths-on look within Read sound leaves (used ++ us) ∙ rw (took us (like a), no-bar, no-end, a .place);
           completion = λ three.
-              ([], record { first = s; others = [] }, λ us. refl, paths-on look within Read sound less (used ++ (tok 0 finish ∷ [])) ∙ rw (took (tok 0 finish ∷ []) (shut (finish-shuts 0 []))));
+              ([], record { first = s; others = [] }, λ us. refl, paths-on look within Read sound leaves (used ++ (tok 0 finish ∷ [])) ∙ rw (took (tok 0 finish ∷ []) (shut (finish-shuts 0 []))));
         }
 
     verdict-on : ((us : List Placed) → length us < length ts → Verdict us) → Verdict ts
@@ -580,7 +581,7 @@ module _ (look : List ℕ → Option ℕ) (total : (w : List ℕ) → (v : ℕ) 
       where
         begun : allPaths look within ts ≡ cond (sees bar left) (then (allPaths look within (drop 1 left)) (λ q. got (record { first = s; others = paths q }))) (pass finish (record { first = s; others = [] }) left)
         begun =
-            paths-on look within Read sound less ts ∙ rw (ap (readPath look within) split ∙ took left (like (record { token = refl; place = refl })))
+            paths-on look within Read sound leaves ts ∙ rw (ap (readPath look within) split ∙ took left (like (record { token = refl; place = refl })))
 
         again : sees bar left ≡ true → Verdict (drop 1 left) → Verdict ts
         again b (gets q l e) = gets (record { first = s; others = paths q }) l (begun ∙ rw (b, e))
