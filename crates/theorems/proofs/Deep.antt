@@ -270,41 +270,39 @@ module _ (look : List ℕ → Option ℕ) (known : AllKnown look) (within : ℕ 
       deep-on (OperandIn look Inside) (OperandIn look More) d d p ts ts (λ l. l) (λ l. l) path (λ g f. f) refl (λ us rest s y. path-operand y) (λ us rest s y. path-operand y) (steps-deep (length ts) ts p r))
       (λ s mid u v. got-refused v)))
 
-  -- A run: one of the operands that its word joins.
-  run-deep : (run : Run) (F FMore G GMore : List Placed → Expr → List Placed → Type 0) (start : List Placed) (p : ℕ)
-      → ((a : Expr) (us : List Placed) → F start a us → Piece F FMore start a us)
+  -- A run: its first operand, or one that its word joins to those before it.
+  run-deep : (run : Run) (F FMore G GMore : List Placed → Expr → List Placed → Type 0) → ((ts us : List Placed) (e : Expr) → F ts e us → Piece F FMore ts e us)
+      → ((ts rest : List Placed) (e : Expr) → G ts e rest → F ts e rest) → ((ts rest : List Placed) (e : Expr) → GMore ts e rest → FMore ts e rest)
       → ((q : ℕ) (ts us rest : List Placed) (a b : Expr) → F ts a (tok q (word (spelling run)) ∷ us) → G us b rest → F ts (run .joined a b) rest)
       → ((q : ℕ) (ts us rest : List Placed) (a b : Expr) → FMore ts a (tok q (word (spelling run)) ∷ us) → GMore us b rest → FMore ts (run .joined a b) rest)
-      → ((ts : List Placed) (b : Expr) (left : List Placed) → run .operand ts ≡ got b left → G ts b left) → ((ts : List Placed) → run .operand ts ≡ refused 4 p → Deep G GMore d ts p)
-      → (n : ℕ) (a : Expr) (ts : List Placed) → F start a ts → run .more n a ts ≡ refused 4 p → Deep F FMore d start p
-  run-deep run F FMore G GMore start p pieced joins joins′ read one =
-      run-keeps run (F start) (λ r. r ≡ refused 4 p → Deep F FMore d start p) (λ a ts t h. got-refused h)
-      (λ q a us t next k h.
+      → ((ts : List Placed) (e : Expr) (left : List Placed) → run .operand ts ≡ got e left → G ts e left) → ((ts : List Placed) (p : ℕ) → run .operand ts ≡ refused 4 p → Deep G GMore d ts p)
+      → (ts : List Placed) (p : ℕ) → then (run .operand ts) (λ a left. run .more (length left) a left) ≡ refused 4 p → Deep F FMore d ts p
+  run-deep run F FMore G GMore pieced alone alone′ joins joins′ read one ts p h =
+      then-refused (run .operand ts) _ h
+      (λ r. deep-on F FMore d d p ts ts (λ l. l) (λ l. l) (λ x. x) (λ g f. f) refl (λ us rest x y. alone us rest x y) (λ us rest x y. alone′ us rest x y) (one ts p r))
+      (λ a mid u v.
+      run-keeps run (F ts) (λ r. r ≡ refused 4 p → Deep F FMore d ts p) (λ b us t k. got-refused k)
+      (λ q b us t next k r.
       let w : Placed = tok q (word (spelling run)) in
-      then-refused (run .operand us) next h
-      (λ r.
-      deep-after F FMore d p start us w a (run .joined a) refl refl (λ vs ws rest b i j. joins q vs ws rest a b i j) (λ vs ws rest b i j. joins′ q vs ws rest a b i j) (pieced a (w ∷ us) t) (one us r))
-      (λ b mid u v. k b mid (joins q start us mid a b t (read us b mid u)) v))
+      then-refused (run .operand us) next r
+      (λ o.
+      deep-after F FMore d p ts us w b (run .joined b) refl refl (λ vs ws rest c i j. joins q vs ws rest b c i j) (λ vs ws rest c i j. joins′ q vs ws rest b c i j) (pieced ts (w ∷ us) b t) (one us p o))
+      (λ c rest i j. k c rest (joins q ts us rest b c t (read us c rest i)) j))
+      (length mid) a mid (alone ts mid a (read ts a mid u)) v)
 
   term-deep : (ts : List Placed) (p : ℕ) → readTerm look within ts ≡ refused 4 p → Deep (TermIn look Inside) (TermIn look More) d ts p
   unfolding readTerm
-  term-deep ts p h =
-      then-refused (readOperand look within ts) _ h
-      (λ r. deep-on (TermIn look Inside) (TermIn look More) d d p ts ts (λ l. l) (λ l. l) (λ x. x) (λ g f. f) refl (λ us rest x y. one-operand y) (λ us rest x y. one-operand y) (operand-deep ts p r))
-      (λ a mid u v.
-      run-deep (andRun look within) (TermIn look Inside) (TermIn look More) (OperandIn look Inside) (OperandIn look More) ts p
-      (λ b us t. term-piece look Inside More piece t) (λ q us vs rest x y t o. and-operand t o) (λ q us vs rest x y t o. and-operand t o)
-      (operand-got look within Inside sound) (λ us r. operand-deep us p r) (length mid) a mid (one-operand (operand-got look within Inside sound ts a mid u)) v)
+  term-deep =
+      run-deep (andRun look within) (TermIn look Inside) (TermIn look More) (OperandIn look Inside) (OperandIn look More) (λ ts us e t. term-piece look Inside More piece t)
+      (λ ts rest e o. one-operand o) (λ ts rest e o. one-operand o) (λ q ts us rest a b t o. and-operand t o) (λ q ts us rest a b t o. and-operand t o)
+      (operand-got look within Inside sound) operand-deep
 
   expr-deep : (ts : List Placed) (p : ℕ) → readExpr look within ts ≡ refused 4 p → Deep (ExprIn look Inside) (ExprIn look More) d ts p
   unfolding readExpr
-  expr-deep ts p h =
-      then-refused (readTerm look within ts) _ h
-      (λ r. deep-on (ExprIn look Inside) (ExprIn look More) d d p ts ts (λ l. l) (λ l. l) (λ x. x) (λ g f. f) refl (λ us rest x y. one-term y) (λ us rest x y. one-term y) (term-deep ts p r))
-      (λ a mid u v.
-      run-deep (orRun look within) (ExprIn look Inside) (ExprIn look More) (TermIn look Inside) (TermIn look More) ts p
-      (λ b us t. expr-piece look Inside More piece t) (λ q us vs rest x y t o. or-term t o) (λ q us vs rest x y t o. or-term t o)
-      (term-got look within Inside sound) (λ us r. term-deep us p r) (length mid) a mid (one-term (term-got look within Inside sound ts a mid u)) v)
+  expr-deep =
+      run-deep (orRun look within) (ExprIn look Inside) (ExprIn look More) (TermIn look Inside) (TermIn look More) (λ ts us e t. expr-piece look Inside More piece t)
+      (λ ts rest e o. one-term o) (λ ts rest e o. one-term o) (λ q ts us rest a b t o. or-term t o) (λ q ts us rest a b t o. or-term t o)
+      (term-got look within Inside sound) term-deep
 
   path-deep : (ts : List Placed) (p : ℕ) → readPath look within ts ≡ refused 4 p → Deep (PathIn look Inside) (PathIn look More) d ts p
   unfolding readPath

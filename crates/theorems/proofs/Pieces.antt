@@ -93,24 +93,22 @@ module _ (look : List ℕ → Option ℕ) (Inside More : List Placed → Expr �
         deeper = λ us. one-pred (e .deeper (tok q closeSquare ∷ f .put us)) (f .deeper us);
       }
 
+  call-piece : {rest : List Placed} {t : Test} (w : List ℕ) (p q r : ℕ) → ((us : List Placed) → TestIn look Inside (tok p (word w) ∷ tok q openRound ∷ tok r closeRound ∷ us) t us)
+      → ((us : List Placed) → TestIn look More (tok p (word w) ∷ tok q openRound ∷ tok r closeRound ∷ us) t us)
+      → Piece (TestIn look Inside) (TestIn look More) (tok p (word w) ∷ tok q openRound ∷ tok r closeRound ∷ rest) t rest
+  call-piece w p q r here deeper =
+      record {
+        put = λ us. tok p (word w) ∷ tok q openRound ∷ tok r closeRound ∷ us;
+        front = front-cons (tok p (word w)) refl refl (front-close (tok r closeRound) refl refl (front-open (tok q openRound) refl refl front-none));
+        split = refl;
+        here = here;
+        deeper = deeper;
+      }
+
   test-piece : {ts rest : List Placed} {t : Test} → TestIn look Inside ts t rest → Piece (TestIn look Inside) (TestIn look More) ts t rest
   test-piece (star-test {p = p}) = record { put = λ us. tok p star ∷ us; front = front-cons (tok p star) refl refl front-none; split = refl; here = λ us. star-test; deeper = λ us. star-test }
-  test-piece (node-test {p = p} {q = q} {r = r}) =
-      record {
-        put = λ us. tok p (word (ascii "node")) ∷ tok q openRound ∷ tok r closeRound ∷ us;
-        front = front-cons (tok p (word (ascii "node"))) refl refl (front-close (tok r closeRound) refl refl (front-open (tok q openRound) refl refl front-none));
-        split = refl;
-        here = λ us. node-test;
-        deeper = λ us. node-test;
-      }
-  test-piece (text-test {p = p} {q = q} {r = r}) =
-      record {
-        put = λ us. tok p (word (ascii "text")) ∷ tok q openRound ∷ tok r closeRound ∷ us;
-        front = front-cons (tok p (word (ascii "text"))) refl refl (front-close (tok r closeRound) refl refl (front-open (tok q openRound) refl refl front-none));
-        split = refl;
-        here = λ us. text-test;
-        deeper = λ us. text-test;
-      }
+  test-piece (node-test {p = p} {q = q} {r = r}) = call-piece (ascii "node") p q r (λ us. node-test) (λ us. node-test)
+  test-piece (text-test {p = p} {q = q} {r = r}) = call-piece (ascii "text") p q r (λ us. text-test) (λ us. text-test)
   test-piece (name-test {p = p} {w = w} h) =
       record { put = λ us. tok p (word w) ∷ us; front = front-cons (tok p (word w)) refl refl front-none; split = refl; here = λ us. name-test h; deeper = λ us. name-test h }
 

@@ -175,28 +175,25 @@ module _ (look : List ℕ → Option ℕ) (within : ℕ → List Placed → Got 
       then-got (readSteps look within (length ts) ts) _ e
       (λ s mid u v. as-got (λ z m. OperandIn look Inside ts z m) v (path-operand (steps-got (length ts) ts s mid u)))))
 
-  -- The operands that a word joins are added to what was read before them.
-  run-got : (run : Run) (F : Expr → List Placed → Type 0)
-      → ((p : ℕ) (a b : Expr) (us left : List Placed) → F a (tok p (word (spelling run)) ∷ us) → run .operand us ≡ got b left → F (run .joined a b) left)
-      → (n : ℕ) (a : Expr) (ts : List Placed) → F a ts → (e : Expr) (left : List Placed) → run .more n a ts ≡ got e left → F e left
-  run-got run F joins =
-      run-keeps run F (λ r. (e : Expr) (left : List Placed) → r ≡ got e left → F e left) (λ a ts d e left h. as-got F h d)
-      (λ p a us d next k e left h. then-got (run .operand us) next h (λ b mid u v. k b mid (joins p a b us mid d u) e left v))
+  -- A run: the operands that its word joins are added to what was read before them.
+  run-got : (run : Run) (F G : List Placed → Expr → List Placed → Type 0) → ((ts rest : List Placed) (e : Expr) → G ts e rest → F ts e rest)
+      → ((p : ℕ) (ts us rest : List Placed) (a b : Expr) → F ts a (tok p (word (spelling run)) ∷ us) → G us b rest → F ts (run .joined a b) rest)
+      → ((ts : List Placed) (e : Expr) (left : List Placed) → run .operand ts ≡ got e left → G ts e left)
+      → (ts : List Placed) (e : Expr) (left : List Placed) → then (run .operand ts) (λ a mid. run .more (length mid) a mid) ≡ got e left → F ts e left
+  run-got run F G alone joins one ts e left h =
+      then-got (run .operand ts) _ h
+      (λ a mid u v.
+      run-keeps run (F ts) (λ r. r ≡ got e left → F ts e left) (λ b us d k. as-got (F ts) k d)
+      (λ p b us d next k q. then-got (run .operand us) next q (λ c rest w x. k c rest (joins p ts us rest b c d (one us c rest w)) x)) (length mid) a mid (alone ts mid a (one ts a mid u)) v)
 
-  -- A term, and an expression.
   pub term-got : (ts : List Placed) (e : Expr) (left : List Placed) → readTerm look within ts ≡ got e left → TermIn look Inside ts e left
   unfolding readTerm
-  term-got ts e left h =
-      then-got (readOperand look within ts) _ h
-      (λ a mid u v.
-      run-got (andRun look within) (TermIn look Inside ts) (λ p x b us l d w. and-operand d (operand-got us b l w)) (length mid) a mid (one-operand (operand-got ts a mid u)) e left v)
+  term-got =
+      run-got (andRun look within) (TermIn look Inside) (OperandIn look Inside) (λ ts rest e d. one-operand d) (λ p ts us rest a b d f. and-operand d f) operand-got
 
   pub expr-got : (ts : List Placed) (e : Expr) (left : List Placed) → readExpr look within ts ≡ got e left → ExprIn look Inside ts e left
   unfolding readExpr
-  expr-got ts e left h =
-      then-got (readTerm look within ts) _ h
-      (λ a mid u v.
-      run-got (orRun look within) (ExprIn look Inside ts) (λ p x b us l d w. or-term d (term-got us b l w)) (length mid) a mid (one-term (term-got ts a mid u)) e left v)
+  expr-got = run-got (orRun look within) (ExprIn look Inside) (TermIn look Inside) (λ ts rest e d. one-term d) (λ p ts us rest a b d f. or-term d f) term-got
 
   -- An absolute path.
   pub path-got : (ts : List Placed) (s : Steps) (left : List Placed) → readPath look within ts ≡ got s left → PathIn look Inside ts s left

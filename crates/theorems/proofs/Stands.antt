@@ -3,7 +3,7 @@
 use Prim.Native.Nat.{ℕ, zero, suc, _≤_, _<_}
 use native.Mathlib.Omega.{arith}
 use mathlib.Core.Path.{_≡_, refl, sym, _∙_, ap, ap₂, subst}
-use mathlib.Core.Bool.{Bool, true, false, _&&_, cond, false≢true}
+use mathlib.Core.Bool.{Bool, true, false, _&&_, _||_, cond, false≢true}
 use mathlib.Core.List.{List, [], _∷_, _++_, append-assoc}
 use mathlib.Core.Logic.{_⊎_, inl, inr}
 use mathlib.Core.Option.{Option, none, some}
@@ -15,9 +15,10 @@ use Rattle.paper.specs.Query.{Expr, path, negated, Steps, stop, Preds, bare, pr
 use Rattle.paper.specs.Reading.{Got, got, refused, then, next, at, sees, says, wrong, pass, axisNamed, axisAhead, Step, before, deep, startsStep}
 use Rattle.paper.specs.Reading.{readTail, readTested, readStep, readOperand, readTerm, readExpr, readPath}
 use Rattle.paper.proofs.Tests.{and-true, none-some}
+use Rattle.paper.proofs.Refusing.{or-none}
 use Rattle.paper.proofs.Same.{same-equal, same-refl}
 use Rattle.theorems.specs.Grammar.{tok, ended}
-use Rattle.theorems.proofs.Seeing.{seen, said, chosen}
+use Rattle.theorems.proofs.Seeing.{not-word, seen, said, chosen}
 use Rattle.theorems.proofs.Leaving.{Leaves}
 use Rattle.theorems.proofs.Runs.{Run, spelling, andRun, orRun}
 use Rattle.theorems.proofs.Fuel.{allPreds, allSteps, allRun, runTurn, allPaths, preds-on, steps-on, ands-on, ors-on, paths-on}
@@ -47,23 +48,6 @@ shorter us used left s = omega (arith, simp length-append at (ap length s))
 default-map : {A B : Type 0} (g : A → B) {f : List Placed → Got A} → Default f → Default (λ us. then (f us) (λ a. got (g a)))
 default-map g d = record { more = d .more; value = g (d .value); open-end = d .open-end; shuts = d .shuts; reads = λ us s. ap (λ r. then r (λ a. got (g a))) (d .reads us s) }
 
--- What is no word has no letters.
-not-word : (t : Token) → is (word []) t ≡ false → letters t ≡ []
-not-word slash h = refl
-not-word slashes h = refl
-not-word dot h = refl
-not-word dots h = refl
-not-word colons h = refl
-not-word bar h = refl
-not-word openSquare h = refl
-not-word closeSquare h = refl
-not-word openRound h = refl
-not-word closeRound h = refl
-not-word star h = refl
-not-word finish h = refl
-not-word stray h = refl
-not-word (word w) h = absurd (false≢true (sym h))
-
 -- What starts no step is none of the tokens that do.
 record Stuck (t : Token) : Type 0 where
   no-word : is (word []) t ≡ false
@@ -72,20 +56,11 @@ record Stuck (t : Token) : Type 0 where
   no-dots : is dots t ≡ false
 
 stuck : (t : Token) → startsStep t ≡ false → Stuck t
-stuck slash h = record { no-word = refl; no-star = refl; no-dot = refl; no-dots = refl }
-stuck slashes h = record { no-word = refl; no-star = refl; no-dot = refl; no-dots = refl }
-stuck dot h = absurd (false≢true (sym h))
-stuck dots h = absurd (false≢true (sym h))
-stuck colons h = record { no-word = refl; no-star = refl; no-dot = refl; no-dots = refl }
-stuck bar h = record { no-word = refl; no-star = refl; no-dot = refl; no-dots = refl }
-stuck openSquare h = record { no-word = refl; no-star = refl; no-dot = refl; no-dots = refl }
-stuck closeSquare h = record { no-word = refl; no-star = refl; no-dot = refl; no-dots = refl }
-stuck openRound h = record { no-word = refl; no-star = refl; no-dot = refl; no-dots = refl }
-stuck closeRound h = record { no-word = refl; no-star = refl; no-dot = refl; no-dots = refl }
-stuck star h = absurd (false≢true (sym h))
-stuck finish h = record { no-word = refl; no-star = refl; no-dot = refl; no-dots = refl }
-stuck stray h = record { no-word = refl; no-star = refl; no-dot = refl; no-dots = refl }
-stuck (word w) h = absurd (false≢true (sym h))
+stuck t h =
+    let three = or-none (is (word []) t || is star t || is dot t) (is dots t) h in
+    let two = or-none (is (word []) t || is star t) (is dot t) (three .0) in
+    let one = or-none (is (word []) t) (is star t) (two .0) in
+    record { no-word = one .0; no-star = one .1; no-dot = two .1; no-dots = three .1 }
 
 -- What starts a step is not `(`, and no end.
 starts-plain : (t : Token) → startsStep t ≡ true → (is openRound t ≡ false) × (is finish t ≡ false)
