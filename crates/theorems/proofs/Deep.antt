@@ -273,20 +273,20 @@ module _ (look : List ℕ → Option ℕ) (known : AllKnown look) (within : ℕ 
   -- A run: its first operand, or one that its word joins to those before it.
   run-deep : (run : Run) (F FMore G GMore : List Placed → Expr → List Placed → Type 0) → ((ts us : List Placed) (e : Expr) → F ts e us → Piece F FMore ts e us)
       → ((ts rest : List Placed) (e : Expr) → G ts e rest → F ts e rest) → ((ts rest : List Placed) (e : Expr) → GMore ts e rest → FMore ts e rest)
-      → ((q : ℕ) (ts us rest : List Placed) (a b : Expr) → F ts a (tok q (word (spelling run)) ∷ us) → G us b rest → F ts (run .joined a b) rest)
-      → ((q : ℕ) (ts us rest : List Placed) (a b : Expr) → FMore ts a (tok q (word (spelling run)) ∷ us) → GMore us b rest → FMore ts (run .joined a b) rest)
-      → ((ts : List Placed) (e : Expr) (left : List Placed) → run .operand ts ≡ got e left → G ts e left) → ((ts : List Placed) (p : ℕ) → run .operand ts ≡ refused 4 p → Deep G GMore d ts p)
-      → (ts : List Placed) (p : ℕ) → then (run .operand ts) (λ a left. run .more (length left) a left) ≡ refused 4 p → Deep F FMore d ts p
+      → ((q : ℕ) (ts us rest : List Placed) (a b : Expr) → F ts a (tok q (word (spelling run)) ∷ us) → G us b rest → F ts (run .join a b) rest)
+      → ((q : ℕ) (ts us rest : List Placed) (a b : Expr) → FMore ts a (tok q (word (spelling run)) ∷ us) → GMore us b rest → FMore ts (run .join a b) rest)
+      → ((ts : List Placed) (e : Expr) (left : List Placed) → run .one ts ≡ got e left → G ts e left) → ((ts : List Placed) (p : ℕ) → run .one ts ≡ refused 4 p → Deep G GMore d ts p)
+      → (ts : List Placed) (p : ℕ) → then (run .one ts) (λ a left. run .more (length left) a left) ≡ refused 4 p → Deep F FMore d ts p
   run-deep run F FMore G GMore pieced alone alone′ joins joins′ read one ts p h =
-      then-refused (run .operand ts) _ h
+      then-refused (run .one ts) _ h
       (λ r. deep-on F FMore d d p ts ts (λ l. l) (λ l. l) (λ x. x) (λ g f. f) refl (λ us rest x y. alone us rest x y) (λ us rest x y. alone′ us rest x y) (one ts p r))
       (λ a mid u v.
       run-keeps run (F ts) (λ r. r ≡ refused 4 p → Deep F FMore d ts p) (λ b us t k. got-refused k)
       (λ q b us t next k r.
       let w : Placed = tok q (word (spelling run)) in
-      then-refused (run .operand us) next r
+      then-refused (run .one us) next r
       (λ o.
-      deep-after F FMore d p ts us w b (run .joined b) refl refl (λ vs ws rest c i j. joins q vs ws rest b c i j) (λ vs ws rest c i j. joins′ q vs ws rest b c i j) (pieced ts (w ∷ us) b t) (one us p o))
+      deep-after F FMore d p ts us w b (run .join b) refl refl (λ vs ws rest c i j. joins q vs ws rest b c i j) (λ vs ws rest c i j. joins′ q vs ws rest b c i j) (pieced ts (w ∷ us) b t) (one us p o))
       (λ c rest i j. k c rest (joins q ts us rest b c t (read us c rest i)) j))
       (length mid) a mid (alone ts mid a (read ts a mid u)) v)
 

@@ -49,7 +49,7 @@ module _ (look : List ℕ → Option ℕ) (within : ℕ → List Placed → Got 
       cond (sees bar left) (then (more (drop 1 left)) (λ q. got (record { first = p; others = paths q }))) (pass finish (record { first = p; others = [] }) left))
 
 abbrev pub runTurn : Run → (Expr → List Placed → Got Expr) → Expr → List Placed → Got Expr
-runTurn run more a ts = cond (says (spelling run) ts) (then (run .operand (drop 1 ts)) (λ b. more (run .joined a b))) (got a ts)
+runTurn run more a ts = cond (says (spelling run) ts) (then (run .one (drop 1 ts)) (λ b. more (run .join a b))) (got a ts)
 
 -- Readers that go on alike read alike.
 then-same : {A B : Type 0} (r : Got A) (f g : A → List Placed → Got B) → ((a : A) (left : List Placed) → r ≡ got a left → f a left ≡ g a left) → then r f ≡ then r g
@@ -81,14 +81,14 @@ module _ {X A : Type 0} (read : ℕ → X → List Placed → Got A) (turn : (X 
       same (read (length ts)) (λ y left. read (length left) y left) x ts (λ y left l. any-bound (length ts) (length left) y left (omega arith) (omega arith))
 
 -- A run, whose operands leave no more tokens than there were.
-run-on : (run : Run) → ((ts : List Placed) (b : Expr) (left : List Placed) → run .operand ts ≡ got b left → length left ≤ length ts)
+run-on : (run : Run) → ((ts : List Placed) (b : Expr) (left : List Placed) → run .one ts ≡ got b left → length left ≤ length ts)
     → (a : Expr) (ts : List Placed) → allRun run a ts ≡ runTurn run (allRun run) a ts
 unfolding allRun
 run-on run less =
-    unbounded (run .more) (runTurn run) (run .goes) (λ n a. sym (run .ends a []))
+    unbounded (run .more) (runTurn run) (run .goes) (λ n a. sym (run .stops a []))
     (λ f g a ts same.
     cond-same (says (spelling run) ts)
-    (then-same (run .operand (drop 1 ts)) _ _ (λ b left u. same (run .joined a b) left (omega (arith, less (drop 1 ts) b left u, length-drop 1 ts))))
+    (then-same (run .one (drop 1 ts)) _ _ (λ b left u. same (run .join a b) left (omega (arith, less (drop 1 ts) b left u, length-drop 1 ts))))
     refl)
 
 module _ (look : List ℕ → Option ℕ) (within : ℕ → List Placed → Got Expr) (Inside : List Placed → Expr → List Placed → Type 0)

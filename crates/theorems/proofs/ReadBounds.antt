@@ -157,16 +157,16 @@ module _ (last : ℕ) where
         (fair-then pathSize sizeExpr most most (readSteps look within (length (t ∷ ts)) (t ∷ ts)) _ (steps-fair (length (t ∷ ts)) (t ∷ ts) m) (λ s left k h. (k, h))))
 
     -- A run, whose operands are read so.
-    run-fair : (run : Run) → ((a b : Expr) → sizeExpr (run .joined a b) ≤ 1 + sizeExpr a + sizeExpr b)
-        → ((ts : List Placed) → Near ts → Fair sizeExpr (2 * length ts) (run .operand ts)) → (ts : List Placed) → Near ts
-        → Fair sizeExpr (2 * length ts) (then (run .operand ts) (λ a left. run .more (length left) a left))
+    run-fair : (run : Run) → ((a b : Expr) → sizeExpr (run .join a b) ≤ 1 + sizeExpr a + sizeExpr b)
+        → ((ts : List Placed) → Near ts → Fair sizeExpr (2 * length ts) (run .one ts)) → (ts : List Placed) → Near ts
+        → Fair sizeExpr (2 * length ts) (then (run .one ts) (λ a left. run .more (length left) a left))
     run-fair run grows one ts m =
         let most = 2 * length ts in
-        fair-then sizeExpr sizeExpr most most (run .operand ts) _ (one ts m)
+        fair-then sizeExpr sizeExpr most most (run .one ts) _ (one ts m)
         (λ a left k h.
         run-keeps run (λ x us. Near us × (sizeExpr x + 2 * length us ≤ most)) (Fair sizeExpr most) (λ x us i. i)
         (λ p x us i next on.
-        fair-then sizeExpr sizeExpr (2 * length us) most (run .operand us) next (one us (i .0 .1)) (λ b rest j l. on b rest (j, omega (arith, i .1, grows x b))))
+        fair-then sizeExpr sizeExpr (2 * length us) most (run .one us) next (one us (i .0 .1)) (λ b rest j l. on b rest (j, omega (arith, i .1, grows x b))))
         (length left) a left (k, h))
 
     term-fair : (ts : List Placed) → Near ts → Fair sizeExpr (2 * length ts) (readTerm look within ts)

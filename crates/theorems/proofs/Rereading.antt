@@ -127,17 +127,17 @@ named-axis ancestorOrSelf = refl
 record RunRead (run : Run) (n : ℕ) (e : Expr) (ts rest : List Placed) : Type 0 where
   first : Expr
   left : List Placed
-  reads : run .operand ts ≡ got first left
+  reads : run .one ts ≡ got first left
   long : n + length rest ≤ length left
   chain : (m : ℕ) → run .more (n + m) first left ≡ run .more m e rest
 
 -- One operand alone;
-run-one : (run : Run) (n : ℕ) (e : Expr) (ts rest : List Placed) → n ≡ 0 → run .operand ts ≡ got e rest → RunRead run n e ts rest
+run-one : (run : Run) (n : ℕ) (e : Expr) (ts rest : List Placed) → n ≡ 0 → run .one ts ≡ got e rest → RunRead run n e ts rest
 run-one run n e ts rest none h = record { first = e; left = rest; reads = h; long = omega arith; chain = λ m. let k : n + m ≡ m = omega arith in rw k }
 
 -- one operand more, behind the word;
-run-more : (run : Run) (n p : ℕ) (a b : Expr) (ts us rest : List Placed) → RunRead run n a ts (tok p (word (spelling run)) ∷ us) → run .operand us ≡ got b rest → length rest ≤ length us
-    → RunRead run (suc n) (run .joined a b) ts rest
+run-more : (run : Run) (n p : ℕ) (a b : Expr) (ts us rest : List Placed) → RunRead run n a ts (tok p (word (spelling run)) ∷ us) → run .one us ≡ got b rest → length rest ≤ length us
+    → RunRead run (suc n) (run .join a b) ts rest
 run-more run n p a b ts us rest r h l =
     record {
       first = r .first;
@@ -150,11 +150,11 @@ run-more run n p a b ts us rest r h l =
 
 -- and the whole run, which ends where its word does not follow.
 run-ends : (run : Run) (m : ℕ) (e : Expr) (rest : List Placed) → says (spelling run) rest ≡ false → run .more m e rest ≡ got e rest
-run-ends run zero e rest h = run .ends e rest
+run-ends run zero e rest h = run .stops e rest
 run-ends run (suc m) e rest h = run .goes m e rest ∙ rw h
 
 run-whole : (run : Run) (n : ℕ) (e : Expr) (ts rest : List Placed) → RunRead run n e ts rest → says (spelling run) rest ≡ false
-    → then (run .operand ts) (λ a left. run .more (length left) a left) ≡ got e rest
+    → then (run .one ts) (λ a left. run .more (length left) a left) ≡ got e rest
 run-whole run n e ts rest r h = rw (r .reads) (go (length (r .left)) (r .long))
   where
     go : (m : ℕ) → n + length rest ≤ m → run .more m (r .first) (r .left) ≡ got e rest

@@ -177,14 +177,14 @@ module _ (look : List ℕ → Option ℕ) (within : ℕ → List Placed → Got 
 
   -- A run: the operands that its word joins are added to what was read before them.
   run-got : (run : Run) (F G : List Placed → Expr → List Placed → Type 0) → ((ts rest : List Placed) (e : Expr) → G ts e rest → F ts e rest)
-      → ((p : ℕ) (ts us rest : List Placed) (a b : Expr) → F ts a (tok p (word (spelling run)) ∷ us) → G us b rest → F ts (run .joined a b) rest)
-      → ((ts : List Placed) (e : Expr) (left : List Placed) → run .operand ts ≡ got e left → G ts e left)
-      → (ts : List Placed) (e : Expr) (left : List Placed) → then (run .operand ts) (λ a mid. run .more (length mid) a mid) ≡ got e left → F ts e left
+      → ((p : ℕ) (ts us rest : List Placed) (a b : Expr) → F ts a (tok p (word (spelling run)) ∷ us) → G us b rest → F ts (run .join a b) rest)
+      → ((ts : List Placed) (e : Expr) (left : List Placed) → run .one ts ≡ got e left → G ts e left)
+      → (ts : List Placed) (e : Expr) (left : List Placed) → then (run .one ts) (λ a mid. run .more (length mid) a mid) ≡ got e left → F ts e left
   run-got run F G alone joins one ts e left h =
-      then-got (run .operand ts) _ h
+      then-got (run .one ts) _ h
       (λ a mid u v.
       run-keeps run (F ts) (λ r. r ≡ got e left → F ts e left) (λ b us d k. as-got (F ts) k d)
-      (λ p b us d next k q. then-got (run .operand us) next q (λ c rest w x. k c rest (joins p ts us rest b c d (one us c rest w)) x)) (length mid) a mid (alone ts mid a (one ts a mid u)) v)
+      (λ p b us d next k q. then-got (run .one us) next q (λ c rest w x. k c rest (joins p ts us rest b c d (one us c rest w)) x)) (length mid) a mid (alone ts mid a (one ts a mid u)) v)
 
   pub term-got : (ts : List Placed) (e : Expr) (left : List Placed) → readTerm look within ts ≡ got e left → TermIn look Inside ts e left
   unfolding readTerm

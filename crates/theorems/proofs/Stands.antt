@@ -408,7 +408,7 @@ module _ (look : List ℕ → Option ℕ) (total : (w : List ℕ) → (v : ℕ) 
       go false h = other (is openRound (t .token)) refl h
 
   -- A term, and an expression: an operand and the run after it.
-  module _ (run : Run) (on : (a : Expr) (us : List Placed) → allRun run a us ≡ runTurn run (allRun run) a us) (local-one : (ts : List Placed) → Local false (run .operand) ts)
+  module _ (run : Run) (on : (a : Expr) (us : List Placed) → allRun run a us ≡ runTurn run (allRun run) a us) (local-one : (ts : List Placed) → Local false (run .one) ts)
       (no-word : (us : List Placed) → Shuts us → says (spelling run) us ≡ false) where
     default-run : (a : Expr) → Default (allRun run a)
     default-run a = record { more = []; value = a; open-end = λ us. refl; shuts = λ us s. s; reads = λ us s. on a us ∙ rw (no-word us s) }
@@ -421,16 +421,16 @@ module _ (look : List ℕ → Option ℕ) (total : (w : List ℕ) → (v : ℕ) 
             let head = said (run .initial) (run .others) ts h in
             let one : length ts ≡ suc (length (drop 1 ts)) = ap length head in
             subst (λ m. Local true (allRun run a) m) (sym head)
-            (local-cons (λ us. then (run .operand us) (λ b. allRun run (run .joined a b))) (tok (at ts) (word (spelling run))) refl (λ us. on a (tok (at ts) (word (spelling run)) ∷ us) ∙ rw (same-refl (spelling run)))
-            (local-then (λ b. allRun run (run .joined a b)) (local-one (drop 1 ts)) (λ b used left s. rec (run .joined a b) left (omega (arith, shorter (drop 1 ts) used left s)))
-            (λ b. default-run (run .joined a b))))
+            (local-cons (λ us. then (run .one us) (λ b. allRun run (run .join a b))) (tok (at ts) (word (spelling run))) refl (λ us. on a (tok (at ts) (word (spelling run)) ∷ us) ∙ rw (same-refl (spelling run)))
+            (local-then (λ b. allRun run (run .join a b)) (local-one (drop 1 ts)) (λ b used left s. rec (run .join a b) left (omega (arith, shorter (drop 1 ts) used left s)))
+            (λ b. default-run (run .join a b))))
         go false h = takes a [] ts refl (λ us. refl) (λ us f. on a us ∙ rw (follow (λ x. same (spelling run) (letters x)) f h (λ s. no-word us s)))
 
     local-run-below : (n : ℕ) (a : Expr) (ts : List Placed) → length ts < n → Local true (allRun run a) ts
     local-run-below zero a ts l = absurd (omega arith)
     local-run-below (suc n) a ts l = run-turn n (λ b us m. local-run-below n b us m) a ts l
 
-    local-run : (ts : List Placed) → Local false (λ us. then (run .operand us) (allRun run)) ts
+    local-run : (ts : List Placed) → Local false (λ us. then (run .one us) (allRun run)) ts
     local-run ts = local-then (allRun run) (local-one ts) (λ a used left s. local-run-below (suc (length left)) a left (omega arith)) default-run
 
   local-term : (ts : List Placed) → Local false (readTerm look within) ts
