@@ -27,6 +27,7 @@ pub record Run : Type 0 where
 abbrev pub spelling : Run → List ℕ
 spelling run = run .initial ∷ run .others
 
+-- The two runs.
 module _ (look : List ℕ → Option ℕ) (within : ℕ → List Placed → Got Expr) where
   abbrev pub andRun : Run
   andRun =
@@ -36,7 +37,7 @@ module _ (look : List ℕ → Option ℕ) (within : ℕ → List Placed → Got 
   orRun =
       record { one = readTerm look within; initial = 111; others = ascii "r"; join = either; more = readOrs look within; stops = λ a ts. refl; goes = λ n a ts. refl }
 
--- What holds of an operand and the tokens left, and is kept by each operand more, says what becomes of the run.
+-- What holds of the operands read so far and the tokens left, and is kept by each operand more, says what becomes of the run.
 module _ (run : Run) (I : Expr → List Placed → Type 0) (P : Got Expr → Type 0) (stops : (a : Expr) (ts : List Placed) → I a ts → P (got a ts))
     (joins : (p : ℕ) (a : Expr) (us : List Placed) → I a (tok p (word (spelling run)) ∷ us)
     → (next : Expr → List Placed → Got Expr) → ((b : Expr) (left : List Placed) → I (run .join a b) left → P (next b left)) → P (then (run .one us) next)) where
