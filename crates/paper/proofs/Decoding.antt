@@ -65,9 +65,10 @@ unfolding andsFrom
 as-term within k ws rest e l h = rw (l, h, zero-add k)
 
 -- A bracket opens one level more.
-opened : (e : Expr) → Reads e → (d : ℕ) (ws : List ℕ) → suc (nestExpr e) ≤ d → takeWithin d (encodeExpr e ++ ws) ≡ some (e, ws)
+opened : (e : Expr) → ((d k : ℕ) (ws : List ℕ) → nestExpr e ≤ d → orsFrom (takeWithin d) k (encodeExpr e ++ ws) ≡ takeOrs (takeWithin d) k e ws)
+    → (d : ℕ) (ws : List ℕ) → suc (nestExpr e) ≤ d → takeWithin d (encodeExpr e ++ ws) ≡ some (e, ws)
 opened e r zero ws h = absurd (omega arith)
-opened e r (suc d) ws h = whole (takeWithin d) (encodeExpr e ++ ws) ∙ r .expr d 0 ws (omega arith)
+opened e r (suc d) ws h = whole (takeWithin d) (encodeExpr e ++ ws) ∙ r d 0 ws (omega arith)
 
 -- What is no operator is read as an operand on each level.
 plain : (e : Expr) → isOr e ≡ false → isAnd e ≡ false → ((ws : List ℕ) → leading orItem (encodeExpr e ++ ws) ≡ 0) → ((ws : List ℕ) → leading andItem (encodeExpr e ++ ws) ≡ 0)
@@ -89,7 +90,7 @@ plain e o a lo la read = record { expr = whole-of; term = term-of; operand = ope
 -- `not`.
 read-negated : (a : Expr) → Reads a → Reads (negated a)
 unfolding takeOperand
-read-negated a r = plain (negated a) refl refl (λ ws. refl) (λ ws. refl) (λ d ws h. rw (opened a r d ws (omega arith)))
+read-negated a r = plain (negated a) refl refl (λ ws. refl) (λ ws. refl) (λ d ws h. rw (opened a (r .expr) d ws (omega arith)))
 
 -- `or`.
 read-either : (a b : Expr) → Reads a → Reads b → Reads (either a b)
@@ -107,8 +108,7 @@ read-either a b ra rb = record { expr = whole-of; term = term-of; operand = oper
         rw (term (takeWithin d) (encodeExpr b ++ ws) ∙ rb .term d 0 ws (omega arith))
 
     operand-of : (d : ℕ) (ws : List ℕ) → 1 + nestExpr e ≤ d → takeOperand (takeWithin d) (encodeExpr e ++ ws) ≡ some (e, ws)
-    operand-of zero ws h = absurd (omega arith)
-    operand-of (suc d) ws h = whole (takeWithin d) (encodeExpr e ++ ws) ∙ whole-of d 0 ws (omega arith)
+    operand-of d ws h = opened e whole-of d ws (omega arith)
 
     term-of : (d k : ℕ) (ws : List ℕ) → 1 + nestExpr e ≤ d → andsFrom (takeWithin d) k (encodeExpr e ++ ws) ≡ takeAnds (takeWithin d) k e ws
     term-of d k ws h = as-term (takeWithin d) k (encodeExpr e ++ ws) ws e refl (operand-of d ws h)
@@ -133,8 +133,7 @@ read-both a b ra rb = record { expr = whole-of; term = term-of; operand = operan
         as-whole (takeWithin d) k (encodeExpr e ++ ws) ws e refl (term (takeWithin d) (encodeExpr e ++ ws) ∙ term-of d 0 ws h)
 
     operand-of : (d : ℕ) (ws : List ℕ) → 1 + nestExpr e ≤ d → takeOperand (takeWithin d) (encodeExpr e ++ ws) ≡ some (e, ws)
-    operand-of zero ws h = absurd (omega arith)
-    operand-of (suc d) ws h = whole (takeWithin d) (encodeExpr e ++ ws) ∙ whole-of d 0 ws (omega arith)
+    operand-of d ws h = opened e whole-of d ws (omega arith)
 
 -- What reading makes of encoded steps and predicates.
 abbrev ReadsSteps : Steps → Type 0
@@ -170,7 +169,7 @@ read-step a t ps rest g few rp rs d ws h =
 -- One predicate more.
 read-pred : (e : Expr) (ps : Preds) → Reads e → ReadsPreds ps → ReadsPreds (pred e ps)
 read-pred e ps re rp d ws h =
-    rw (append-assoc (encodeExpr e) (encodePreds ps) ws, opened e re d (encodePreds ps ++ ws) (omega arith), rp d ws (omega arith))
+    rw (append-assoc (encodeExpr e) (encodePreds ps) ws, opened e (re .expr) d (encodePreds ps ++ ws) (omega arith), rp d ws (omega arith))
 
 mutual
   reads : (e : Expr) → goodExpr e ≡ true → Reads e

@@ -3,7 +3,7 @@
 use Prim.Native.Nat.{ℕ, zero, suc, _+_, _≤_, _<_}
 use native.Mathlib.Omega.{arith}
 use mathlib.Core.Path.{_≡_, refl, sym, _∙_, ap, ap₂, subst}
-use mathlib.Core.Bool.{Bool, true, false, _||_, cond, false≢true}
+use mathlib.Core.Bool.{Bool, true, false, _&&_, _||_, cond, false≢true}
 use mathlib.Core.List.{List, [], _∷_, _++_, append-assoc}
 use mathlib.Core.Option.{none, some}
 use lib.Dec.{eqb, leb}
@@ -39,7 +39,7 @@ pub record FromPreds (ws : List ℕ) (n : ℕ) (ps : Preds) (rest : List ℕ) (d
   pub nested : nestPreds ps ≤ d
 
 -- A bracket adds one, or nothing.
-bracket-most : (b : Bool) (n : ℕ) → inBrackets b n ≤ 1 + n
+pub bracket-most : (b : Bool) (n : ℕ) → inBrackets b n ≤ 1 + n
 bracket-most true n = omega arith
 bracket-most false n = omega arith
 
@@ -70,6 +70,44 @@ shift (suc n) w ws = ap (λ l. w ∷ l) (shift n w ws)
 begun : (w : ℕ) (ws : List ℕ) → begins w ws ≡ true → ws ≡ w ∷ drop 1 ws
 begun w [] h = absurd (false≢true h)
 begun w (x ∷ xs) h = ap (λ y. y ∷ xs) (sym (eqb-true w x h))
+
+-- A run of operators, whose items stand before its operands: `one` takes an operand, `more n e` takes n more and joins each to e.
+module _ (d item : ℕ) (one : List ℕ → Taken Expr) (more : ℕ → Expr → List ℕ → Taken Expr) (join : Expr → Expr → Expr) (nestLeft nestRight : Expr → ℕ)
+    (stops : (e : Expr) (ws : List ℕ) → more 0 e ws ≡ some (e, ws))
+    (goes : (n : ℕ) (e : Expr) (ws : List ℕ) → more (suc n) e ws ≡ found (one ws) (λ r. more n (join e (r .0)) (r .1)))
+    (encode-join : (a b : Expr) → encodeExpr (join a b) ≡ item ∷ encodeExpr a ++ encodeExpr b) (good-join : (a b : Expr) → goodExpr (join a b) ≡ (goodExpr a && goodExpr b))
+    (nest-join : (a b : Expr) → nestLeft a ≤ d → nestRight b ≤ d → nestLeft (join a b) ≤ d) (nest-one : (a : Expr) → nestRight a ≤ d → nestLeft a ≤ d)
+    (from-one : (ws : List ℕ) (r : Expr × List ℕ) → one ws ≡ some r → From ws (r .0) (r .1) (nestRight (r .0)) d) where
+  -- The rest of it.
+  from-more : (n : ℕ) (a : Expr) (ws : List ℕ) (r : Expr × List ℕ) → goodExpr a ≡ true → nestLeft a ≤ d → more n a ws ≡ some r
+      → From (replicate n item ++ (encodeExpr a ++ ws)) (r .0) (r .1) (nestLeft (r .0)) d
+  from-more zero a ws r g l h =
+      subst (λ (x : Expr × List ℕ). From (encodeExpr a ++ ws) (x .0) (x .1) (nestLeft (x .0)) d) (some-inj (sym (stops a ws) ∙ h))
+      (record { items = refl; fine = g; nested = l })
+  from-more (suc n) a ws r g l h =
+      found-some (one ws) _ r (sym (goes n a ws) ∙ h)
+      (λ b u v.
+      let f = from-one ws b u in
+      let i = from-more n (join a (b .0)) (b .1) r (good-join a (b .0) ∙ true-and g (f .fine)) (nest-join a (b .0) l (f .nested)) v in
+      record {
+        items =
+            ap (λ l. replicate (suc n) item ++ (encodeExpr a ++ l)) (f .items) ∙
+            shift n item (encodeExpr a ++ (encodeExpr (b .0) ++ b .1)) ∙
+            ap (λ l. replicate n item ++ (item ∷ l)) (sym (append-assoc (encodeExpr a) (encodeExpr (b .0)) (b .1))) ∙
+            ap (λ l. replicate n item ++ (l ++ b .1)) (sym (encode-join a (b .0))) ∙
+            i .items;
+        fine = i .fine;
+        nested = i .nested;
+      })
+
+  -- The whole of it.
+  from-run : (ws : List ℕ) (r : Expr × List ℕ) → found (one (drop (leading item ws) ws)) (λ a. more (leading item ws) (a .0) (a .1)) ≡ some r → From ws (r .0) (r .1) (nestLeft (r .0)) d
+  from-run ws r h =
+      found-some (one (drop (leading item ws) ws)) _ r h
+      (λ a u v.
+      let f = from-one (drop (leading item ws) ws) a u in
+      let i = from-more (leading item ws) (a .0) (a .1) r (f .fine) (nest-one (a .0) (f .nested)) v in
+      record { items = counted item ws ∙ ap (λ l. replicate (leading item ws) item ++ l) (f .items) ∙ i .items; fine = i .fine; nested = i .nested })
 
 -- `within` takes well what stands in a bracket, where d brackets may be opened.
 module _ (d : ℕ) (within : List ℕ → Taken Expr)
@@ -167,69 +205,19 @@ module _ (d : ℕ) (within : List ℕ → Taken Expr)
           (record { items = begun notItem ws e ∙ ap (λ l. notItem ∷ l) (f .items); fine = f .fine; nested = f .nested }))
       denied false e q = grouped (begins andItem ws || begins orItem ws) refl (rw e at q)
 
-  -- The rest of a run of `and`, whose items stand before its operands.
-  from-ands : (n : ℕ) (a : Expr) (ws : List ℕ) (r : Expr × List ℕ) → goodExpr a ≡ true → inBrackets (isOr a) (nestExpr a) ≤ d → takeAnds within n a ws ≡ some r
-      → From (replicate n andItem ++ (encodeExpr a ++ ws)) (r .0) (r .1) (inBrackets (isOr (r .0)) (nestExpr (r .0))) d
-  from-ands zero a ws r g l h =
-      subst (λ (x : Expr × List ℕ). From (encodeExpr a ++ ws) (x .0) (x .1) (inBrackets (isOr (x .0)) (nestExpr (x .0))) d) (some-inj h)
-      (record { items = refl; fine = g; nested = l })
-  from-ands (suc n) a ws r g l h =
-      found-some (takeOperand within ws) _ r h
-      (λ b u v.
-      let f = from-operand ws b u in
-      let e = both a (b .0) in
-      let i = from-ands n e (b .1) r (true-and g (f .fine)) (omega (arith, f .nested)) v in
-      record {
-        items =
-            ap (λ l. replicate (suc n) andItem ++ (encodeExpr a ++ l)) (f .items) ∙
-            shift n andItem (encodeExpr a ++ (encodeExpr (b .0) ++ b .1)) ∙
-            ap (λ l. replicate n andItem ++ (andItem ∷ l)) (sym (append-assoc (encodeExpr a) (encodeExpr (b .0)) (b .1))) ∙
-            i .items;
-        fine = i .fine;
-        nested = i .nested;
-      })
-
-  -- An operand of `or`.
+  -- An operand of `or`, which is a run of `and`.
   pub from-term : (ws : List ℕ) (r : Expr × List ℕ) → takeTerm within ws ≡ some r → From ws (r .0) (r .1) (inBrackets (isOr (r .0)) (nestExpr (r .0))) d
   unfolding takeTerm
-  from-term ws r h =
-      found-some (takeOperand within (drop (leading andItem ws) ws)) _ r h
-      (λ a u v.
-      let f = from-operand (drop (leading andItem ws) ws) a u in
-      let i = from-ands (leading andItem ws) (a .0) (a .1) r (f .fine) (omega (arith, f .nested, bracket-or (isOr (a .0)) (isAnd (a .0)) (nestExpr (a .0)))) v in
-      record { items = counted andItem ws ∙ ap (λ l. replicate (leading andItem ws) andItem ++ l) (f .items) ∙ i .items; fine = i .fine; nested = i .nested })
+  from-term =
+      from-run d andItem (takeOperand within) (takeAnds within) both (λ e. inBrackets (isOr e) (nestExpr e)) (λ e. inBrackets (isOr e || isAnd e) (nestExpr e))
+      (λ e ws. refl) (λ n e ws. refl) (λ a b. refl) (λ a b. refl) (λ a b l m. omega arith) (λ a l. omega (arith, bracket-or (isOr a) (isAnd a) (nestExpr a))) from-operand
 
-  -- The rest of a run of `or`.
-  from-ors : (n : ℕ) (a : Expr) (ws : List ℕ) (r : Expr × List ℕ) → goodExpr a ≡ true → nestExpr a ≤ d → takeOrs within n a ws ≡ some r
-      → From (replicate n orItem ++ (encodeExpr a ++ ws)) (r .0) (r .1) (nestExpr (r .0)) d
-  from-ors zero a ws r g l h =
-      subst (λ (x : Expr × List ℕ). From (encodeExpr a ++ ws) (x .0) (x .1) (nestExpr (x .0)) d) (some-inj h)
-      (record { items = refl; fine = g; nested = l })
-  from-ors (suc n) a ws r g l h =
-      found-some (takeTerm within ws) _ r h
-      (λ b u v.
-      let f = from-term ws b u in
-      let e = either a (b .0) in
-      let i = from-ors n e (b .1) r (true-and g (f .fine)) (omega (arith, f .nested)) v in
-      record {
-        items =
-            ap (λ l. replicate (suc n) orItem ++ (encodeExpr a ++ l)) (f .items) ∙
-            shift n orItem (encodeExpr a ++ (encodeExpr (b .0) ++ b .1)) ∙
-            ap (λ l. replicate n orItem ++ (orItem ∷ l)) (sym (append-assoc (encodeExpr a) (encodeExpr (b .0)) (b .1))) ∙
-            i .items;
-        fine = i .fine;
-        nested = i .nested;
-      })
-
-  -- A whole expression.
+  -- A whole expression, which is a run of `or`.
   pub from-expr : (ws : List ℕ) (r : Expr × List ℕ) → takeExpr within ws ≡ some r → From ws (r .0) (r .1) (nestExpr (r .0)) d
   unfolding takeExpr
-  from-expr ws r h =
-      found-some (takeTerm within (drop (leading orItem ws) ws)) _ r h
-      (λ a u v.
-      let f = from-term (drop (leading orItem ws) ws) a u in
-      let i = from-ors (leading orItem ws) (a .0) (a .1) r (f .fine) (omega (arith, f .nested, bracket-least (isOr (a .0)) (nestExpr (a .0)))) v in
-      record { items = counted orItem ws ∙ ap (λ l. replicate (leading orItem ws) orItem ++ l) (f .items) ∙ i .items; fine = i .fine; nested = i .nested })
+  from-expr =
+      from-run d orItem (takeTerm within) (takeOrs within) either nestExpr (λ e. inBrackets (isOr e) (nestExpr e))
+      (λ e ws. refl) (λ n e ws. refl) (λ a b. refl) (λ a b. refl) (λ a b l m. omega arith) (λ a l. omega (arith, bracket-least (isOr a) (nestExpr a))) from-term
 
 -- What stands in a bracket, by the number of brackets that may be opened.
 pub from-within : (d : ℕ) (ws : List ℕ) (r : Expr × List ℕ) → takeWithin d ws ≡ some r → From ws (r .0) (r .1) (1 + nestExpr (r .0)) d

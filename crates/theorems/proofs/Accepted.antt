@@ -13,66 +13,15 @@ use Rattle.paper.specs.Tools.{begins}
 use Rattle.paper.specs.Names.{nameStart}
 use Rattle.paper.specs.Limits.{bracketLimit}
 use Rattle.paper.specs.Tokens.{Token, finish, is, Placed, white, tokenAt, beyond, tokensFrom, tokens}
-use Rattle.paper.specs.Query.{Test, Expr, Steps, Preds, Query}
-use Rattle.paper.specs.Reading.{got, at, sees, Step, readWithin, readText}
-use Rattle.theorems.specs.Grammar.{tok, PredsIn, no-pred, one-pred, TestIn, star-test, node-test, text-test, name-test}
-use Rattle.theorems.specs.Grammar.{StepIn, dot-step, dots-step, child-step, axis-step, StepsIn, last-step, slash-step, slashes-step}
-use Rattle.theorems.specs.Grammar.{OperandIn, path-operand, round-operand, not-operand, TermIn, one-operand, and-operand, ExprIn, one-term, or-term}
-use Rattle.theorems.specs.Grammar.{PathIn, root-path, slash-path, slashes-path, QueryIn, one-path, bar-path, Within, Derives, ended, reading, Accepted, AcceptedText, AllRead, Unique}
+use Rattle.paper.specs.Query.{Query}
+use Rattle.paper.specs.Reading.{got, at, sees, readWithin, readText}
+use Rattle.theorems.specs.Grammar.{tok}
+use Rattle.theorems.specs.Grammar.{QueryIn, Within, Derives, ended, reading, Accepted, AcceptedText, AllRead, Unique}
 use Rattle.theorems.proofs.Seeing.{same-sort, got-value}
 use Rattle.theorems.proofs.Sound.{within-got, paths-got}
-use Rattle.theorems.proofs.Fuel.{within-less, allPaths}
+use Rattle.theorems.proofs.Leaving.{leaves-ended, query-leaves, within-leaves}
+use Rattle.theorems.proofs.Fuel.{allPaths}
 use Rattle.theorems.proofs.Complete.{Comes, comes, runs-short, within-read, query-read}
-
--- What is derived has no end of the text among its tokens.
-module _ (look : List ℕ → Option ℕ) (Inside : List Placed → Expr → List Placed → Type 0)
-    (inside : (ts : List Placed) (e : Expr) (rest : List Placed) → Inside ts e rest → ended ts ≡ ended rest) where
-  preds-ended : {ts rest : List Placed} {ps : Preds} → PredsIn look Inside ts ps rest → ended ts ≡ ended rest
-  preds-ended no-pred = refl
-  preds-ended (one-pred i d) = inside _ _ _ i ∙ preds-ended d
-
-  test-ended : {ts rest : List Placed} {t : Test} → TestIn look Inside ts t rest → ended ts ≡ ended rest
-  test-ended star-test = refl
-  test-ended node-test = refl
-  test-ended text-test = refl
-  test-ended (name-test h) = refl
-
-  step-ended : {ts rest : List Placed} {s : Step} → StepIn look Inside ts s rest → ended ts ≡ ended rest
-  step-ended dot-step = refl
-  step-ended dots-step = refl
-  step-ended (child-step d f) = test-ended d ∙ preds-ended f
-  step-ended (axis-step n d f) = test-ended d ∙ preds-ended f
-
-  steps-ended : {ts rest : List Placed} {s : Steps} → StepsIn look Inside ts s rest → ended ts ≡ ended rest
-  steps-ended (last-step d) = step-ended d
-  steps-ended (slash-step d f) = step-ended d ∙ steps-ended f
-  steps-ended (slashes-step d f) = step-ended d ∙ steps-ended f
-
-  operand-ended : {ts rest : List Placed} {e : Expr} → OperandIn look Inside ts e rest → ended ts ≡ ended rest
-  operand-ended (path-operand d) = steps-ended d
-  operand-ended (round-operand i) = inside _ _ _ i
-  operand-ended (not-operand i) = inside _ _ _ i
-
-  term-ended : {ts rest : List Placed} {e : Expr} → TermIn look Inside ts e rest → ended ts ≡ ended rest
-  term-ended (one-operand d) = operand-ended d
-  term-ended (and-operand d f) = term-ended d ∙ operand-ended f
-
-  expr-ended : {ts rest : List Placed} {e : Expr} → ExprIn look Inside ts e rest → ended ts ≡ ended rest
-  expr-ended (one-term d) = term-ended d
-  expr-ended (or-term d f) = expr-ended d ∙ term-ended f
-
-  path-ended : {ts rest : List Placed} {s : Steps} → PathIn look Inside ts s rest → ended ts ≡ ended rest
-  path-ended root-path = refl
-  path-ended (slash-path d) = steps-ended d
-  path-ended (slashes-path d) = steps-ended d
-
-  query-ended : {ts rest : List Placed} {q : Query} → QueryIn look Inside ts q rest → ended ts ≡ ended rest
-  query-ended (one-path d) = path-ended d
-  query-ended (bar-path d f) = path-ended d ∙ query-ended f
-
-within-ended : (look : List ℕ → Option ℕ) (d : ℕ) (ts : List Placed) (e : Expr) (rest : List Placed) → Within look d ts e rest → ended ts ≡ ended rest
-within-ended look zero ts e rest i = absurd i
-within-ended look (suc d) ts e rest i = expr-ended look (Within look d) (within-ended look d) i
 
 -- Where the end is last and comes next, nothing else is left.
 at-end : (ts : List Placed) → ended ts ≡ true → sees finish ts ≡ true → ts ≡ tok (at ts) finish ∷ []
@@ -85,14 +34,14 @@ pub derived-if : (look : List ℕ → Option ℕ) (d : ℕ) (ts : List Placed) (
     → Derives look d ts q × (left ≡ [])
 derived-if look d ts q left n h =
     let r = paths-got look (readWithin look d) (Within look d) (within-got look d) (length ts) ts q left h in
-    let e : r .0 ≡ tok (at (r .0)) finish ∷ [] = at-end (r .0) (sym (query-ended look (Within look d) (within-ended look d) (r .1)) ∙ n) (r .2) in
+    let e : r .0 ≡ tok (at (r .0)) finish ∷ [] = at-end (r .0) (sym (leaves-ended (query-leaves look (Within look d) (within-leaves look d) (r .1))) ∙ n) (r .2) in
     ((at (r .0), subst (λ m. QueryIn look (Within look d) ts q m) e (r .1)), sym (r .3) ∙ ap (drop 1) e)
 
 pub read-if : (look : List ℕ → Option ℕ) (d most : ℕ) (ts : List Placed) (q : Query) → d ≤ most → Derives look d ts q → reading look most ts ≡ got q []
 unfolding allPaths
 read-if look d most ts q l (p, i) =
     exactly
-    (query-read ⊥ look (readWithin look most) (Within look d) (Within look most) (within-got look most) (within-less look most)
+    (query-read ⊥ look (readWithin look most) (Within look d) (Within look most) (within-got look most) (within-leaves look most)
     (λ p us e rest j c. within-read ⊥ look d most p (inr l) us e rest j c) i p [] refl)
   where
     exactly : Comes ⊥ (reading look most ts) (got q []) → reading look most ts ≡ got q []

@@ -49,6 +49,16 @@ small-got : (text : List ℕ) (r : Got Query) (later : Query → Answer) → len
 small-got text (got q left) later few h l = l q h
 small-got text (refused number place) later few h l = omega arith
 
+-- The first line of two lists: the later ones may know that neither is too long.
+small-lists : (xs ys : List ℕ) (most limit : ℕ) (later : Answer) → (length xs ≤ most → length ys ≤ limit → Small later) → Small (line 1 (when (tooLong xs most || tooLong ys limit) 0) later)
+small-lists xs ys most limit later l =
+    small-when 1 0 (tooLong xs most || tooLong ys limit) later (omega arith)
+    (λ h. let short = or-none (tooLong xs most) (tooLong ys limit) h in l (ltb-false most (length xs) (short .0)) (ltb-false limit (length ys) (short .1)))
+
+-- The last line: a number is answered, or refused for want of room.
+small-room : (n : ℕ) (b : Bool) → n < 4294967296 → Small (line 10 (when b n) (value n))
+small-room n b h = small-when 10 n b (value n) h (λ e. h)
+
 -- What a search finds is below the number searched.
 first-below : (left at : ℕ) (test : ℕ → Bool) (place : ℕ) → firstFrom left at test ≡ some place → place < at + left
 first-below zero at test place e = none-some e
@@ -80,7 +90,7 @@ extract-small t marks parentRoom kindRoom =
     let counted : count < 4294967296 = omega (arith, rank-le marks (nodes t)) in
     small-line 7 (tableFault t) _ (λ p e. omega (arith, table-within t p e))
     (small-line 8 (marksFault t marks) _ (λ p e. omega (arith, marks-within t marks p e))
-    (small-when 10 count (ltb parentRoom count) (value count) counted (λ e. counted))))
+    (small-room count (ltb parentRoom count) counted)))
 
 -- RUN.
 pub run-small : (query : List ℕ) (t : Table) (given : List ℕ) (marksRoom scratchRoom : ℕ) → Small (runAnswer query t given marksRoom scratchRoom)
@@ -109,11 +119,8 @@ run-small query t given marksRoom scratchRoom =
 pub compose-small : (outer inner : List ℕ) (room : ℕ) → Small (composeAnswer outer inner room)
 unfolding composeAnswer
 compose-small outer inner room =
-    small-when 1 0 (tooLong outer itemLimit || tooLong inner itemLimit) _ (omega arith)
-    (λ h.
-    let both = or-none (tooLong outer itemLimit) (tooLong inner itemLimit) h in
-    let lo : length outer ≤ itemLimit = ltb-false itemLimit (length outer) (both .0) in
-    let li : length inner ≤ itemLimit = ltb-false itemLimit (length inner) (both .1) in
+    small-lists outer inner itemLimit itemLimit _
+    (λ lo li.
     small-query 6 0 (decode outer) _ (omega arith)
     (λ o d.
     small-query 6 1 (decode inner) _ (omega arith)
@@ -121,17 +128,14 @@ compose-small outer inner room =
     let q = composed o i in
     let few : size q < 4294967296 = composed-small o i (omega (arith, size-decoded outer o d)) (omega (arith, size-decoded inner i f)) in
     small-when 9 (nesting q) (ltb bracketLimit (nesting q)) _ (omega (arith, nesting-size q))
-    (λ e. small-when 10 (size q) (ltb room (size q) || ltb itemLimit (size q)) (value (size q)) few (λ g. few)))))
+    (λ e. small-room (size q) (ltb room (size q) || ltb itemLimit (size q)) few))))
 
 -- PRINT.
 pub print-small : (query list : List ℕ) (room : ℕ) → Small (printAnswer query list room)
 unfolding printAnswer
 print-small query list room =
-    small-when 1 0 (tooLong query itemLimit || tooLong list listLimit) _ (omega arith)
-    (λ h.
-    let both = or-none (tooLong query itemLimit) (tooLong list listLimit) h in
-    let items : length query ≤ itemLimit = ltb-false itemLimit (length query) (both .0) in
-    let bytes : length list ≤ listLimit = ltb-false listLimit (length list) (both .1) in
+    small-lists query list itemLimit listLimit _
+    (λ items bytes.
     small-line 2 (namesFault list) _ (λ p e. omega (arith, fault-within list p e))
     (small-query 6 0 (decode query) _ (omega arith)
     (λ q d.
@@ -139,17 +143,14 @@ print-small query list room =
     let needed = length (printed names q) in
     let few : needed < 4294967296 = omega (arith, printed-short names (λ v. omega (arith, name-short list v)) q, size-decoded query q d) in
     small-line 5 (unknownFrom (length names) 0 query) _ (λ p e. omega (arith, unknown-within (length names) 0 query p e))
-    (small-when 10 needed (ltb room needed) (value needed) few (λ e. few)))))
+    (small-room needed (ltb room needed) few))))
 
 -- READ.
 pub read-small : (text list : List ℕ) (room : ℕ) → Small (readAnswer text list room)
 unfolding readAnswer
 read-small text list room =
-    small-when 1 0 (tooLong text textLimit || tooLong list listLimit) _ (omega arith)
-    (λ h.
-    let both = or-none (tooLong text textLimit) (tooLong list listLimit) h in
-    let few : length text ≤ textLimit = ltb-false textLimit (length text) (both .0) in
-    let bytes : length list ≤ listLimit = ltb-false listLimit (length list) (both .1) in
+    small-lists text list textLimit listLimit _
+    (λ few bytes.
     let look = numberOf (namesOf list) in
     small-line 2 (namesFault list) _ (λ p e. omega (arith, fault-within list p e))
     (small-got text (readText anyName text) _ few (text-bounded anyName text)
@@ -157,4 +158,4 @@ read-small text list room =
     small-got text (readText look text) _ few (text-bounded look text)
     (λ q b.
     let sized : size q < 4294967296 = omega arith in
-    small-when 10 (size q) (ltb room (size q) || ltb itemLimit (size q)) (value (size q)) sized (λ e. sized)))))
+    small-room (size q) (ltb room (size q) || ltb itemLimit (size q)) sized))))

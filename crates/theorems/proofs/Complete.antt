@@ -7,7 +7,7 @@ use mathlib.Core.Bool.{Bool, true, false, _&&_}
 use mathlib.Core.List.{List, _∷_}
 use mathlib.Core.Logic.{_⊎_, inl, inr, ⊎-elim}
 use mathlib.Core.Option.{Option}
-use lib.ListN.{length, drop}
+use lib.ListN.{drop}
 use Rattle.paper.specs.Tools.{ascii, same}
 use Rattle.paper.specs.Tokens.{slash, slashes, colons, openSquare, closeSquare, openRound, closeRound, finish, word, Placed}
 use Rattle.paper.specs.Query.{Axis, child, Test}
@@ -18,8 +18,10 @@ use Rattle.theorems.specs.Grammar.{tok, PredsIn, no-pred, one-pred, Test
 use Rattle.theorems.specs.Grammar.{StepIn, dot-step, dots-step, child-step, axis-step, StepsIn, last-step, slash-step, slashes-step}
 use Rattle.theorems.specs.Grammar.{OperandIn, path-operand, round-operand, not-operand, TermIn, one-operand, and-operand, ExprIn, one-term, or-term}
 use Rattle.theorems.specs.Grammar.{PathIn, root-path, slash-path, slashes-path, QueryIn, one-path, bar-path, Within}
+use Rattle.theorems.proofs.Runs.{andRun, orRun}
 use Rattle.theorems.proofs.Sound.{within-got}
-use Rattle.theorems.proofs.Fuel.{within-less, allPreds, allSteps, allAnds, allOrs, allPaths, preds-on, steps-on, ands-on, ors-on, paths-on}
+use Rattle.theorems.proofs.Leaving.{Leaves, within-leaves}
+use Rattle.theorems.proofs.Fuel.{allPreds, allSteps, allRun, allPaths, preds-on, steps-on, ands-on, ors-on, paths-on}
 
 -- One reading comes to another, or, where brackets may run short, to refusal 4.
 pub data Comes {A : Type 0} (Short : Type 0) (r s : Got A) : Type 0 where
@@ -70,12 +72,12 @@ round-done p ts = record { over = record { stepped = record { square = refl; rou
 
 module _ (Short : Type 0) (look : List ℕ → Option ℕ) (within : ℕ → List Placed → Got Expr) (Inside Read : List Placed → Expr → List Placed → Type 0)
     (sound : (p : ℕ) (ts : List Placed) (e : Expr) (left : List Placed) → within p ts ≡ got e left → Read ts e left)
-    (less : (ts : List Placed) (e : Expr) (rest : List Placed) → Read ts e rest → length rest ≤ length ts)
+    (leaves : (ts : List Placed) (e : Expr) (rest : List Placed) → Read ts e rest → Leaves ts rest)
     (inside : (p : ℕ) (ts : List Placed) (e : Expr) (rest : List Placed) → Inside ts e rest → Done rest → Comes Short (within p ts) (got e rest)) where
   preds-read : {ts rest : List Placed} {ps : Preds} → PredsIn look Inside ts ps rest → sees openSquare rest ≡ false → Comes Short (allPreds look within ts) (got ps rest)
-  preds-read {ts} no-pred c = comes (preds-on look within Read sound less ts ∙ rw c)
+  preds-read {ts} no-pred c = comes (preds-on look within Read sound leaves ts ∙ rw c)
   preds-read {ts} (one-pred {q = q} {us = us} i d) c =
-      comes-on (preds-on look within Read sound less ts)
+      comes-on (preds-on look within Read sound leaves ts)
       (comes-then _ (comes-then _ (inside _ _ _ _ i (square-done q us)) (comes refl)) (comes-then _ (preds-read d c) (comes refl)))
 
   -- What follows a test, and is no bracket of predicates, follows the predicates too.
@@ -112,12 +114,12 @@ module _ (Short : Type 0) (look : List ℕ → Option ℕ) (within : ℕ → Lis
   step-read (axis-step {a = a} n d f) c = comes-on (rw n (test-read a d (tested f c .0))) (tail-read a _ f (c .square))
 
   steps-read : {ts rest : List Placed} {s : Steps} → StepsIn look Inside ts s rest → Over rest → Comes Short (allSteps look within ts) (got s rest)
-  steps-read {ts} (last-step d) c = comes-on (steps-on look within Read sound less ts) (comes-then _ (step-read d (c .stepped)) (comes (rw (c .one, c .two))))
+  steps-read {ts} (last-step d) c = comes-on (steps-on look within Read sound leaves ts) (comes-then _ (step-read d (c .stepped)) (comes (rw (c .one, c .two))))
   steps-read {ts} (slash-step d f) c =
-      comes-on (steps-on look within Read sound less ts)
+      comes-on (steps-on look within Read sound leaves ts)
       (comes-then _ (step-read d (record { square = refl; round = refl; colon = refl })) (comes-then _ (steps-read f c) (comes refl)))
   steps-read {ts} (slashes-step d f) c =
-      comes-on (steps-on look within Read sound less ts)
+      comes-on (steps-on look within Read sound leaves ts)
       (comes-then _ (step-read d (record { square = refl; round = refl; colon = refl })) (comes-then _ (steps-read f c) (comes refl)))
 
   -- A path is neither `not(..)` nor in round brackets, and starts a step.
@@ -153,26 +155,26 @@ module _ (Short : Type 0) (look : List ℕ → Option ℕ) (within : ℕ → Lis
   operand-read (not-operand {r = r} {rest = rest} i) c = comes-then _ (comes-then _ (inside _ _ _ _ i (round-done r rest)) (comes refl)) (comes refl)
 
   -- A term read so far comes to the run of `and` after it.
-  term-on : {ts mid : List Placed} {e : Expr} → TermIn look Inside ts e mid → Over mid → Comes Short (readTerm look within ts) (allAnds look within e mid)
-  unfolding readTerm allAnds
+  term-on : {ts mid : List Placed} {e : Expr} → TermIn look Inside ts e mid → Over mid → Comes Short (readTerm look within ts) (allRun (andRun look within) e mid)
+  unfolding readTerm allRun
   term-on (one-operand d) c = comes-then _ (operand-read d c) (comes refl)
   term-on (and-operand {p = p} {us = us} {a = a} d f) c =
       comes-to (term-on d (record { stepped = record { square = refl; round = refl; colon = refl }; one = refl; two = refl }))
-      (comes-on (ands-on look within Read sound less a (tok p (word (ascii "and")) ∷ us)) (comes-then _ (operand-read f c) (comes refl)))
+      (comes-on (ands-on look within Read sound leaves a (tok p (word (ascii "and")) ∷ us)) (comes-then _ (operand-read f c) (comes refl)))
 
   term-read : {ts rest : List Placed} {e : Expr} → TermIn look Inside ts e rest → Over rest → says (ascii "and") rest ≡ false → Comes Short (readTerm look within ts) (got e rest)
-  term-read {rest = rest} {e = e} d c n = comes-to (term-on d c) (comes (ands-on look within Read sound less e rest ∙ rw n))
+  term-read {rest = rest} {e = e} d c n = comes-to (term-on d c) (comes (ands-on look within Read sound leaves e rest ∙ rw n))
 
   -- So an expression and the run of `or`.
-  expr-on : {ts mid : List Placed} {e : Expr} → ExprIn look Inside ts e mid → Over mid → says (ascii "and") mid ≡ false → Comes Short (readExpr look within ts) (allOrs look within e mid)
-  unfolding readExpr allOrs
+  expr-on : {ts mid : List Placed} {e : Expr} → ExprIn look Inside ts e mid → Over mid → says (ascii "and") mid ≡ false → Comes Short (readExpr look within ts) (allRun (orRun look within) e mid)
+  unfolding readExpr allRun
   expr-on (one-term d) c n = comes-then _ (term-read d c n) (comes refl)
   expr-on (or-term {p = p} {us = us} {a = a} d f) c n =
       comes-to (expr-on d (record { stepped = record { square = refl; round = refl; colon = refl }; one = refl; two = refl }) refl)
-      (comes-on (ors-on look within Read sound less a (tok p (word (ascii "or")) ∷ us)) (comes-then _ (term-read f c n) (comes refl)))
+      (comes-on (ors-on look within Read sound leaves a (tok p (word (ascii "or")) ∷ us)) (comes-then _ (term-read f c n) (comes refl)))
 
   pub expr-read : {ts rest : List Placed} {e : Expr} → ExprIn look Inside ts e rest → Done rest → Comes Short (readExpr look within ts) (got e rest)
-  expr-read {rest = rest} {e = e} d c = comes-to (expr-on d (c .over) (c .no-and)) (comes (ors-on look within Read sound less e rest ∙ rw (c .no-or)))
+  expr-read {rest = rest} {e = e} d c = comes-to (expr-on d (c .over) (c .no-and)) (comes (ors-on look within Read sound leaves e rest ∙ rw (c .no-or)))
 
   path-read : {ts rest : List Placed} {s : Steps} → PathIn look Inside ts s rest → Over rest → startsStep (next rest) ≡ false → Comes Short (readPath look within ts) (got s rest)
   unfolding readPath allSteps
@@ -183,12 +185,12 @@ module _ (Short : Type 0) (look : List ℕ → Option ℕ) (within : ℕ → Lis
   -- A whole query, up to the end of the text.
   pub query-read : {ts rest : List Placed} {q : Query} → QueryIn look Inside ts q rest → (p : ℕ) (left : List Placed) → rest ≡ tok p finish ∷ left → Comes Short (allPaths look within ts) (got q left)
   query-read {ts} {rest} (one-path d) p left e =
-      comes-on (paths-on look within Read sound less ts)
+      comes-on (paths-on look within Read sound leaves ts)
       (comes-then _
       (path-read d (rw e (record { stepped = record { square = refl; round = refl; colon = refl }; one = refl; two = refl })) (rw e refl))
       (comes (rw e refl)))
   query-read {ts} (bar-path d f) p left e =
-      comes-on (paths-on look within Read sound less ts)
+      comes-on (paths-on look within Read sound leaves ts)
       (comes-then _
       (path-read d (record { stepped = record { square = refl; round = refl; colon = refl }; one = refl; two = refl }) refl)
       (comes-then _ (query-read f p left e) (comes refl)))
@@ -200,5 +202,5 @@ within-read Short look zero most p h ts e rest i c = absurd i
 within-read Short look (suc d) zero p (inl s) ts e rest i c = runs-short s refl
 within-read Short look (suc d) zero p (inr l) ts e rest i c = absurd (omega arith)
 within-read Short look (suc d) (suc most) p h ts e rest i c =
-    expr-read Short look (readWithin look most) (Within look d) (Within look most) (within-got look most) (within-less look most)
+    expr-read Short look (readWithin look most) (Within look d) (Within look most) (within-got look most) (within-leaves look most)
     (λ q us x left j b. within-read Short look d most q (⊎-elim (λ s. inl s) (λ l. inr (omega arith)) h) us x left j b) i c

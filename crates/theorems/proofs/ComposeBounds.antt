@@ -1,14 +1,14 @@
 -- A composition of two queries of at most 4,096 items each has fewer than 2^32 items and brackets: 01's formula, and no more steps, paths and brackets than items. By induction over the query. Assumes nothing.
-use Prim.Native.Nat.{ℕ, _+_, _*_, _≤_, _<_}
+use Prim.Native.Nat.{_+_, _*_, _≤_, _<_}
 use native.Mathlib.Omega.{arith}
 use native.Mathlib.Nat.{mul-le-mul}
-use mathlib.Core.Bool.{Bool, true, false}
 use mathlib.Core.List.{List, [], _∷_}
 use lib.ListN.{length}
 use Rattle.paper.specs.Query.{Expr, path, both, either, negated, Steps, stop, step, Preds, bare, pred, Query, paths}
 use Rattle.paper.specs.Measures.{sizeExpr, sizeSteps, sizePreds, sizePaths, size}
-use Rattle.paper.specs.Measures.{roundLeftOfAnd, roundRightOfAnd, roundRightOfOr, inBrackets, nestExpr, nestSteps, nestPreds, nestPaths, nesting}
+use Rattle.paper.specs.Measures.{roundLeftOfAnd, roundRightOfAnd, roundRightOfOr, nestExpr, nestSteps, nestPreds, nestPaths, nesting}
 use Rattle.paper.specs.Composition.{composed, stepsInExpr, stepsInSteps, stepsInPreds, stepsInPaths, selectedSize, composedSize}
+use Rattle.paper.proofs.Encoding.{bracket-most}
 use Rattle.theorems.proofs.Sizes.{composed-size}
 
 -- A query has no more steps and paths than items.
@@ -32,16 +32,12 @@ paths-steps [] = omega arith
 paths-steps (p ∷ ps) = omega (arith, steps-steps p, paths-steps ps)
 
 -- A query has no more brackets open at once than items.
-bracket-one : (b : Bool) (n : ℕ) → inBrackets b n ≤ 1 + n
-bracket-one true n = omega arith
-bracket-one false n = omega arith
-
 mutual
   expr-nest : (e : Expr) → 1 + nestExpr e ≤ sizeExpr e
   expr-nest (path s) = omega (arith, steps-nest s)
   expr-nest (both a b) =
-      omega (arith, expr-nest a, expr-nest b, bracket-one (roundLeftOfAnd a) (nestExpr a), bracket-one (roundRightOfAnd b) (nestExpr b))
-  expr-nest (either a b) = omega (arith, expr-nest a, expr-nest b, bracket-one (roundRightOfOr b) (nestExpr b))
+      omega (arith, expr-nest a, expr-nest b, bracket-most (roundLeftOfAnd a) (nestExpr a), bracket-most (roundRightOfAnd b) (nestExpr b))
+  expr-nest (either a b) = omega (arith, expr-nest a, expr-nest b, bracket-most (roundRightOfOr b) (nestExpr b))
   expr-nest (negated a) = omega (arith, expr-nest a)
 
   steps-nest : (s : Steps) → nestSteps s ≤ sizeSteps s

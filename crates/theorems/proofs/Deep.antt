@@ -10,15 +10,16 @@ use lib.ListN.{length, drop}
 use Rattle.paper.specs.Tools.{ascii}
 use Rattle.paper.specs.Tokens.{Token, slash, slashes, dot, dots, colons, bar, openSquare, closeSquare, openRound, closeRound, star, finish, word, letters, Placed}
 use Rattle.paper.specs.Query.{Axis, child, Test, anyNode, textNode, named, anyElement}
-use Rattle.paper.specs.Query.{Expr, path, both, either, negated, stop, Preds, bare, pred, paths}
+use Rattle.paper.specs.Query.{Expr, path, negated, stop, Preds, bare, pred, paths}
 use Rattle.paper.specs.Reading.{Got, got, refused, then, next, at, sees, says, pass, axisAhead, before, deep, startsStep}
-use Rattle.paper.specs.Reading.{readPreds, readTail, readName, readTested, readAxis, readStep, readSteps, readOperand, readAnds, readTerm, readOrs, readExpr, readPath, readPaths, readWithin}
+use Rattle.paper.specs.Reading.{readPreds, readTail, readName, readTested, readAxis, readStep, readSteps, readOperand, readTerm, readExpr, readPath, readPaths, readWithin}
 use Rattle.paper.proofs.Tests.{and-true}
 use Rattle.theorems.specs.Grammar.{tok, PredsIn, no-pred, one-pred, TestIn, star-test, node-test, text-test, name-test}
 use Rattle.theorems.specs.Grammar.{StepIn, child-step, axis-step, StepsIn, last-step, slash-step, slashes-step}
 use Rattle.theorems.specs.Grammar.{OperandIn, path-operand, round-operand, not-operand, TermIn, one-operand, and-operand, ExprIn, one-term, or-term}
 use Rattle.theorems.specs.Grammar.{PathIn, slash-path, slashes-path, QueryIn, one-path, bar-path, Within, reading, opening, closing, AllKnown, Reached}
 use Rattle.theorems.proofs.Seeing.{seen, said, chosen, passed}
+use Rattle.theorems.proofs.Runs.{Run, spelling, andRun, orRun, run-keeps}
 use Rattle.theorems.proofs.Sound.{drop-two, axis-ahead, closed-got, step-got, operand-got, term-got, path-got, within-got}
 use Rattle.theorems.proofs.Pieces.{Front, front-none, front-cons, front-open, front-close, front-then, Piece, step-piece, term-piece, expr-piece, path-piece, within-piece}
 
@@ -51,6 +52,15 @@ deep-on F More d e p ts mid g tail c wrap s conv conv′ x =
       fits = (λ rest. x .fits .0 (tail rest), c (x .fits .1), λ rest. conv (x .put (x .fits .0 (tail rest))) rest (x .fits .1) (x .fits .2 (tail rest)));
       deeper = (λ rest. x .deeper .0 (tail rest), c (x .deeper .1), λ rest. conv′ (x .put (x .token ∷ x .deeper .0 (tail rest))) rest (x .deeper .1) (x .deeper .2 (tail rest)));
     }
+
+-- It stands after a piece and a token that is no bracket.
+deep-after : {X Y Z : Type 0} {G GMore : List Placed → Y → List Placed → Type 0} {H HMore : List Placed → X → List Placed → Type 0} (F More : List Placed → Z → List Placed → Type 0) (d p : ℕ)
+    (start us : List Placed) (t : Placed) (y : Y) (c : X → Z) → opening (t .token) ≡ 0 → closing (t .token) ≡ 0
+    → ((vs ws rest : List Placed) (x : X) → G vs y (t ∷ ws) → H ws x rest → F vs (c x) rest) → ((vs ws rest : List Placed) (x : X) → GMore vs y (t ∷ ws) → HMore ws x rest → More vs (c x) rest)
+    → Piece G GMore start y (t ∷ us) → Deep H HMore d us p → Deep F More d start p
+deep-after F More d p start us t y c o n conv conv′ g x =
+    deep-on F More d d p start us (λ l. g .put (t ∷ l)) (λ l. l) c (λ h f. front-then (g .front) (front-cons t (omega arith) (omega arith) f)) (g .split)
+    (λ ws rest z i. conv (g .put (t ∷ ws)) ws rest z (g .here (t ∷ ws)) i) (λ ws rest z i. conv′ (g .put (t ∷ ws)) ws rest z (g .deeper (t ∷ ws)) i) x
 
 -- A value is no refusal, and no refusal is another.
 got-refused {ℓ} : {A : Type 0} {a : A} {left : List Placed} {n p : ℕ} {C : Type ℓ} → got a left ≡ refused n p → C
@@ -209,23 +219,23 @@ module _ (look : List ℕ → Option ℕ) (known : AllKnown look) (within : ℕ 
       (λ r.
       deep-on (StepsIn look Inside) (StepsIn look More) d d p ts ts (λ l. l) (λ l. l) (λ s. before s stop) (λ g f. f) refl (λ us rest s y. last-step y) (λ us rest s y. last-step y) (step-deep ts p r))
       (λ s mid u v.
-      let x = step-piece look Inside More piece (step-got look within Inside sound ts s mid u) in
+      let g = step-got look within Inside sound ts s mid u in
       chosen (sees slash mid) v
       (λ c e.
       then-refused (readSteps look within n (drop 1 mid)) _ e
       (λ r.
-      deep-on (StepsIn look Inside) (StepsIn look More) d d p ts (drop 1 mid) (λ l. x .put (tok (at mid) slash ∷ l)) (λ l. l) (λ ss. before s ss)
-      (λ g f. front-then (x .front) (front-cons (tok (at mid) slash) refl refl f)) (x .split ∙ ap (x .put) (seen slash mid refl c))
-      (λ us rest ss y. slash-step (x .here (tok (at mid) slash ∷ us)) y) (λ us rest ss y. slash-step (x .deeper (tok (at mid) slash ∷ us)) y) (steps-deep n (drop 1 mid) p r))
+      deep-after (StepsIn look Inside) (StepsIn look More) d p ts (drop 1 mid) (tok (at mid) slash) s (λ ss. before s ss) refl refl
+      (λ vs ws rest ss y z. slash-step y z) (λ vs ws rest ss y z. slash-step y z)
+      (step-piece look Inside More piece (subst (λ l. StepIn look Inside ts s l) (seen slash mid refl c) g)) (steps-deep n (drop 1 mid) p r))
       (λ ss l k m. got-refused m))
       (λ c1 e1.
       chosen (sees slashes mid) e1
       (λ c e.
       then-refused (readSteps look within n (drop 1 mid)) _ e
       (λ r.
-      deep-on (StepsIn look Inside) (StepsIn look More) d d p ts (drop 1 mid) (λ l. x .put (tok (at mid) slashes ∷ l)) (λ l. l) (λ ss. before s (deep ss))
-      (λ g f. front-then (x .front) (front-cons (tok (at mid) slashes) refl refl f)) (x .split ∙ ap (x .put) (seen slashes mid refl c))
-      (λ us rest ss y. slashes-step (x .here (tok (at mid) slashes ∷ us)) y) (λ us rest ss y. slashes-step (x .deeper (tok (at mid) slashes ∷ us)) y) (steps-deep n (drop 1 mid) p r))
+      deep-after (StepsIn look Inside) (StepsIn look More) d p ts (drop 1 mid) (tok (at mid) slashes) s (λ ss. before s (deep ss)) refl refl
+      (λ vs ws rest ss y z. slashes-step y z) (λ vs ws rest ss y z. slashes-step y z)
+      (step-piece look Inside More piece (subst (λ l. StepIn look Inside ts s l) (seen slashes mid refl c) g)) (steps-deep n (drop 1 mid) p r))
       (λ ss l k m. got-refused m))
       (λ c e. got-refused e)))
 
@@ -260,49 +270,39 @@ module _ (look : List ℕ → Option ℕ) (known : AllKnown look) (within : ℕ 
       deep-on (OperandIn look Inside) (OperandIn look More) d d p ts ts (λ l. l) (λ l. l) path (λ g f. f) refl (λ us rest s y. path-operand y) (λ us rest s y. path-operand y) (steps-deep (length ts) ts p r))
       (λ s mid u v. got-refused v)))
 
-  ands-deep : (n : ℕ) (a : Expr) (start ts : List Placed) (p : ℕ) → TermIn look Inside start a ts → readAnds look within n a ts ≡ refused 4 p → Deep (TermIn look Inside) (TermIn look More) d start p
-  ands-deep zero a start ts p t h = got-refused h
-  ands-deep (suc n) a start ts p t h =
-      chosen (says (ascii "and") ts) h
-      (λ c k.
-      let begun : TermIn look Inside start a (tok (at ts) (word (ascii "and")) ∷ drop 1 ts) = subst (λ m. TermIn look Inside start a m) (said 97 (ascii "nd") ts c) t in
-      then-refused (readOperand look within (drop 1 ts)) _ k
-      (λ r.
-      let x = term-piece look Inside More piece begun in
-      deep-on (TermIn look Inside) (TermIn look More) d d p start (drop 1 ts) (λ l. x .put (tok (at ts) (word (ascii "and")) ∷ l)) (λ l. l) (both a)
-      (λ g f. front-then (x .front) (front-cons (tok (at ts) (word (ascii "and"))) refl refl f)) (x .split)
-      (λ us rest b y. and-operand (x .here (tok (at ts) (word (ascii "and")) ∷ us)) y) (λ us rest b y. and-operand (x .deeper (tok (at ts) (word (ascii "and")) ∷ us)) y) (operand-deep (drop 1 ts) p r))
-      (λ b mid u v. ands-deep n (both a b) start mid p (and-operand begun (operand-got look within Inside sound (drop 1 ts) b mid u)) v))
-      (λ c k. got-refused k)
+  -- A run: its first operand, or one that its word joins to those before it.
+  run-deep : (run : Run) (F FMore G GMore : List Placed → Expr → List Placed → Type 0) → ((ts us : List Placed) (e : Expr) → F ts e us → Piece F FMore ts e us)
+      → ((ts rest : List Placed) (e : Expr) → G ts e rest → F ts e rest) → ((ts rest : List Placed) (e : Expr) → GMore ts e rest → FMore ts e rest)
+      → ((q : ℕ) (ts us rest : List Placed) (a b : Expr) → F ts a (tok q (word (spelling run)) ∷ us) → G us b rest → F ts (run .join a b) rest)
+      → ((q : ℕ) (ts us rest : List Placed) (a b : Expr) → FMore ts a (tok q (word (spelling run)) ∷ us) → GMore us b rest → FMore ts (run .join a b) rest)
+      → ((ts : List Placed) (e : Expr) (left : List Placed) → run .one ts ≡ got e left → G ts e left) → ((ts : List Placed) (p : ℕ) → run .one ts ≡ refused 4 p → Deep G GMore d ts p)
+      → (ts : List Placed) (p : ℕ) → then (run .one ts) (λ a left. run .more (length left) a left) ≡ refused 4 p → Deep F FMore d ts p
+  run-deep run F FMore G GMore pieced alone alone′ joins joins′ read one ts p h =
+      then-refused (run .one ts) _ h
+      (λ r. deep-on F FMore d d p ts ts (λ l. l) (λ l. l) (λ x. x) (λ g f. f) refl (λ us rest x y. alone us rest x y) (λ us rest x y. alone′ us rest x y) (one ts p r))
+      (λ a mid u v.
+      run-keeps run (F ts) (λ r. r ≡ refused 4 p → Deep F FMore d ts p) (λ b us t k. got-refused k)
+      (λ q b us t next k r.
+      let w : Placed = tok q (word (spelling run)) in
+      then-refused (run .one us) next r
+      (λ o.
+      deep-after F FMore d p ts us w b (run .join b) refl refl (λ vs ws rest c i j. joins q vs ws rest b c i j) (λ vs ws rest c i j. joins′ q vs ws rest b c i j) (pieced ts (w ∷ us) b t) (one us p o))
+      (λ c rest i j. k c rest (joins q ts us rest b c t (read us c rest i)) j))
+      (length mid) a mid (alone ts mid a (read ts a mid u)) v)
 
   term-deep : (ts : List Placed) (p : ℕ) → readTerm look within ts ≡ refused 4 p → Deep (TermIn look Inside) (TermIn look More) d ts p
   unfolding readTerm
-  term-deep ts p h =
-      then-refused (readOperand look within ts) _ h
-      (λ r. deep-on (TermIn look Inside) (TermIn look More) d d p ts ts (λ l. l) (λ l. l) (λ x. x) (λ g f. f) refl (λ us rest x y. one-operand y) (λ us rest x y. one-operand y) (operand-deep ts p r))
-      (λ a mid u v. ands-deep (length mid) a ts mid p (one-operand (operand-got look within Inside sound ts a mid u)) v)
-
-  ors-deep : (n : ℕ) (a : Expr) (start ts : List Placed) (p : ℕ) → ExprIn look Inside start a ts → readOrs look within n a ts ≡ refused 4 p → Deep (ExprIn look Inside) (ExprIn look More) d start p
-  ors-deep zero a start ts p t h = got-refused h
-  ors-deep (suc n) a start ts p t h =
-      chosen (says (ascii "or") ts) h
-      (λ c k.
-      let begun : ExprIn look Inside start a (tok (at ts) (word (ascii "or")) ∷ drop 1 ts) = subst (λ m. ExprIn look Inside start a m) (said 111 (ascii "r") ts c) t in
-      then-refused (readTerm look within (drop 1 ts)) _ k
-      (λ r.
-      let x = expr-piece look Inside More piece begun in
-      deep-on (ExprIn look Inside) (ExprIn look More) d d p start (drop 1 ts) (λ l. x .put (tok (at ts) (word (ascii "or")) ∷ l)) (λ l. l) (either a)
-      (λ g f. front-then (x .front) (front-cons (tok (at ts) (word (ascii "or"))) refl refl f)) (x .split)
-      (λ us rest b y. or-term (x .here (tok (at ts) (word (ascii "or")) ∷ us)) y) (λ us rest b y. or-term (x .deeper (tok (at ts) (word (ascii "or")) ∷ us)) y) (term-deep (drop 1 ts) p r))
-      (λ b mid u v. ors-deep n (either a b) start mid p (or-term begun (term-got look within Inside sound (drop 1 ts) b mid u)) v))
-      (λ c k. got-refused k)
+  term-deep =
+      run-deep (andRun look within) (TermIn look Inside) (TermIn look More) (OperandIn look Inside) (OperandIn look More) (λ ts us e t. term-piece look Inside More piece t)
+      (λ ts rest e o. one-operand o) (λ ts rest e o. one-operand o) (λ q ts us rest a b t o. and-operand t o) (λ q ts us rest a b t o. and-operand t o)
+      (operand-got look within Inside sound) operand-deep
 
   expr-deep : (ts : List Placed) (p : ℕ) → readExpr look within ts ≡ refused 4 p → Deep (ExprIn look Inside) (ExprIn look More) d ts p
   unfolding readExpr
-  expr-deep ts p h =
-      then-refused (readTerm look within ts) _ h
-      (λ r. deep-on (ExprIn look Inside) (ExprIn look More) d d p ts ts (λ l. l) (λ l. l) (λ x. x) (λ g f. f) refl (λ us rest x y. one-term y) (λ us rest x y. one-term y) (term-deep ts p r))
-      (λ a mid u v. ors-deep (length mid) a ts mid p (one-term (term-got look within Inside sound ts a mid u)) v)
+  expr-deep =
+      run-deep (orRun look within) (ExprIn look Inside) (ExprIn look More) (TermIn look Inside) (TermIn look More) (λ ts us e t. expr-piece look Inside More piece t)
+      (λ ts rest e o. one-term o) (λ ts rest e o. one-term o) (λ q ts us rest a b t o. or-term t o) (λ q ts us rest a b t o. or-term t o)
+      (term-got look within Inside sound) term-deep
 
   path-deep : (ts : List Placed) (p : ℕ) → readPath look within ts ≡ refused 4 p → Deep (PathIn look Inside) (PathIn look More) d ts p
   unfolding readPath
@@ -331,14 +331,14 @@ module _ (look : List ℕ → Option ℕ) (known : AllKnown look) (within : ℕ 
       (λ r.
       deep-on (QueryIn look Inside) (QueryIn look More) d d p ts ts (λ l. l) (λ l. l) (λ s. record { first = s; others = [] }) (λ g f. f) refl (λ us rest s y. one-path y) (λ us rest s y. one-path y) (path-deep ts p r))
       (λ s mid u v.
-      let x = path-piece look Inside More piece (path-got look within Inside sound ts s mid u) in
+      let g = path-got look within Inside sound ts s mid u in
       chosen (sees bar mid) v
       (λ c e.
       then-refused (readPaths look within n (drop 1 mid)) _ e
       (λ r.
-      deep-on (QueryIn look Inside) (QueryIn look More) d d p ts (drop 1 mid) (λ l. x .put (tok (at mid) bar ∷ l)) (λ l. l) (λ q. record { first = s; others = paths q })
-      (λ g f. front-then (x .front) (front-cons (tok (at mid) bar) refl refl f)) (x .split ∙ ap (x .put) (seen bar mid refl c))
-      (λ us rest q y. bar-path (x .here (tok (at mid) bar ∷ us)) y) (λ us rest q y. bar-path (x .deeper (tok (at mid) bar ∷ us)) y) (paths-deep n (drop 1 mid) p r))
+      deep-after (QueryIn look Inside) (QueryIn look More) d p ts (drop 1 mid) (tok (at mid) bar) s (λ q. record { first = s; others = paths q }) refl refl
+      (λ vs ws rest q y z. bar-path y z) (λ vs ws rest q y z. bar-path y z)
+      (path-piece look Inside More piece (subst (λ l. PathIn look Inside ts s l) (seen bar mid refl c) g)) (paths-deep n (drop 1 mid) p r))
       (λ q l k m. got-refused m))
       (λ c e. pass-four finish (record { first = s; others = [] }) mid e))
 

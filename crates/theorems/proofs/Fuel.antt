@@ -2,20 +2,17 @@
 -- A reader leaves no more tokens than it was given, since what it gets is derived from them. Assumes nothing.
 use Prim.Native.Nat.{ℕ, zero, suc, _-_, _≤_}
 use native.Mathlib.Omega.{arith}
-use mathlib.Core.Path.{_≡_, refl, _∙_, ap}
+use mathlib.Core.Path.{_≡_, refl, sym, _∙_, ap}
 use mathlib.Core.Bool.{Bool, true, false, cond}
 use mathlib.Core.List.{List, [], _∷_}
 use mathlib.Core.Option.{Option}
 use lib.ListN.{length, drop, length-drop}
-use Rattle.paper.specs.Tools.{ascii}
 use Rattle.paper.specs.Tokens.{slash, slashes, bar, openSquare, closeSquare, finish, Placed}
-use Rattle.paper.specs.Query.{Expr, both, either, Steps, stop, Preds, bare, pred, Query, paths, Test}
-use Rattle.paper.specs.Reading.{Got, got, refused, then, at, sees, says, pass, Step, before, deep}
-use Rattle.paper.specs.Reading.{readPreds, readTested, readStep, readSteps, readOperand, readAnds, readTerm, readOrs, readPath, readPaths}
-use Rattle.theorems.specs.Grammar.{PredsIn, no-pred, one-pred, TestIn, star-test, node-test, text-test, name-test}
-use Rattle.theorems.specs.Grammar.{StepIn, dot-step, dots-step, child-step, axis-step, StepsIn, last-step, slash-step, slashes-step}
-use Rattle.theorems.specs.Grammar.{OperandIn, path-operand, round-operand, not-operand, TermIn, one-operand, and-operand, ExprIn, one-term, or-term}
-use Rattle.theorems.specs.Grammar.{PathIn, root-path, slash-path, slashes-path, Within}
+use Rattle.paper.specs.Query.{Expr, Steps, stop, Preds, bare, pred, Query, paths}
+use Rattle.paper.specs.Reading.{Got, got, refused, then, at, sees, says, pass, before, deep}
+use Rattle.paper.specs.Reading.{readPreds, readTested, readStep, readSteps, readPath, readPaths}
+use Rattle.theorems.proofs.Leaving.{Leaves, leaves-less, step-leaves, operand-leaves, term-leaves, path-leaves}
+use Rattle.theorems.proofs.Runs.{Run, spelling, andRun, orRun}
 use Rattle.theorems.proofs.Sound.{closed-got, step-got, operand-got, term-got, path-got}
 
 -- The readers with a bound of all tokens left.
@@ -26,14 +23,11 @@ module _ (look : List ℕ → Option ℕ) (within : ℕ → List Placed → Got 
   unfoldable pub allSteps : List Placed → Got Steps
   allSteps ts = readSteps look within (length ts) ts
 
-  unfoldable pub allAnds : Expr → List Placed → Got Expr
-  allAnds a ts = readAnds look within (length ts) a ts
-
-  unfoldable pub allOrs : Expr → List Placed → Got Expr
-  allOrs a ts = readOrs look within (length ts) a ts
-
   unfoldable pub allPaths : List Placed → Got Query
   allPaths ts = readPaths look within (length ts) ts
+
+unfoldable pub allRun : Run → Expr → List Placed → Got Expr
+allRun run a ts = run .more (length ts) a ts
 
 -- One turn of each, which goes on with another reader.
 module _ (look : List ℕ → Option ℕ) (within : ℕ → List Placed → Got Expr) where
@@ -48,63 +42,14 @@ module _ (look : List ℕ → Option ℕ) (within : ℕ → List Placed → Got 
       cond (sees slash left) (then (more (drop 1 left)) (λ rest. got (before s rest)))
       (cond (sees slashes left) (then (more (drop 1 left)) (λ rest. got (before s (deep rest)))) (got (before s stop) left)))
 
-  abbrev pub andsTurn : (Expr → List Placed → Got Expr) → Expr → List Placed → Got Expr
-  andsTurn more a ts = cond (says (ascii "and") ts) (then (readOperand look within (drop 1 ts)) (λ b. more (both a b))) (got a ts)
-
-  abbrev pub orsTurn : (Expr → List Placed → Got Expr) → Expr → List Placed → Got Expr
-  orsTurn more a ts = cond (says (ascii "or") ts) (then (readTerm look within (drop 1 ts)) (λ b. more (either a b))) (got a ts)
-
   abbrev pub pathsTurn : (List Placed → Got Query) → List Placed → Got Query
   pathsTurn more ts =
       then (readPath look within ts)
       (λ p left.
       cond (sees bar left) (then (more (drop 1 left)) (λ q. got (record { first = p; others = paths q }))) (pass finish (record { first = p; others = [] }) left))
 
--- What is derived leaves no more tokens than there were.
-module _ (look : List ℕ → Option ℕ) (Inside : List Placed → Expr → List Placed → Type 0)
-    (inside : (ts : List Placed) (e : Expr) (rest : List Placed) → Inside ts e rest → length rest ≤ length ts) where
-  preds-less : {ts rest : List Placed} {ps : Preds} → PredsIn look Inside ts ps rest → length rest ≤ length ts
-  preds-less no-pred = omega arith
-  preds-less (one-pred i d) = omega (arith, inside _ _ _ i, preds-less d)
-
-  test-less : {ts rest : List Placed} {t : Test} → TestIn look Inside ts t rest → length rest ≤ length ts
-  test-less star-test = omega arith
-  test-less node-test = omega arith
-  test-less text-test = omega arith
-  test-less (name-test h) = omega arith
-
-  step-less : {ts rest : List Placed} {s : Step} → StepIn look Inside ts s rest → length rest ≤ length ts
-  step-less dot-step = omega arith
-  step-less dots-step = omega arith
-  step-less (child-step d f) = omega (arith, test-less d, preds-less f)
-  step-less (axis-step n d f) = omega (arith, test-less d, preds-less f)
-
-  steps-less : {ts rest : List Placed} {s : Steps} → StepsIn look Inside ts s rest → length rest ≤ length ts
-  steps-less (last-step d) = step-less d
-  steps-less (slash-step d f) = omega (arith, step-less d, steps-less f)
-  steps-less (slashes-step d f) = omega (arith, step-less d, steps-less f)
-
-  operand-less : {ts rest : List Placed} {e : Expr} → OperandIn look Inside ts e rest → length rest ≤ length ts
-  operand-less (path-operand d) = steps-less d
-  operand-less (round-operand i) = omega (arith, inside _ _ _ i)
-  operand-less (not-operand i) = omega (arith, inside _ _ _ i)
-
-  term-less : {ts rest : List Placed} {e : Expr} → TermIn look Inside ts e rest → length rest ≤ length ts
-  term-less (one-operand d) = operand-less d
-  term-less (and-operand d f) = omega (arith, term-less d, operand-less f)
-
-  expr-less : {ts rest : List Placed} {e : Expr} → ExprIn look Inside ts e rest → length rest ≤ length ts
-  expr-less (one-term d) = term-less d
-  expr-less (or-term d f) = omega (arith, expr-less d, term-less f)
-
-  path-less : {ts rest : List Placed} {s : Steps} → PathIn look Inside ts s rest → length rest ≤ length ts
-  path-less root-path = omega arith
-  path-less (slash-path d) = omega (arith, steps-less d)
-  path-less (slashes-path d) = omega (arith, steps-less d)
-
-pub within-less : (look : List ℕ → Option ℕ) (d : ℕ) (ts : List Placed) (e : Expr) (rest : List Placed) → Within look d ts e rest → length rest ≤ length ts
-within-less look zero ts e rest i = absurd i
-within-less look (suc d) ts e rest i = expr-less look (Within look d) (within-less look d) i
+abbrev pub runTurn : Run → (Expr → List Placed → Got Expr) → Expr → List Placed → Got Expr
+runTurn run more a ts = cond (says (spelling run) ts) (then (run .one (drop 1 ts)) (λ b. more (run .join a b))) (got a ts)
 
 -- Readers that go on alike read alike.
 then-same : {A B : Type 0} (r : Got A) (f g : A → List Placed → Got B) → ((a : A) (left : List Placed) → r ≡ got a left → f a left ≡ g a left) → then r f ≡ then r g
@@ -115,9 +60,40 @@ cond-same : {A : Type 0} (b : Bool) {x y u v : A} → x ≡ u → y ≡ v → co
 cond-same true p q = p
 cond-same false p q = q
 
+-- A reader with a bound, which goes on by a turn that leaves fewer tokens; beside them it may carry what was read before.
+module _ {X A : Type 0} (read : ℕ → X → List Placed → Got A) (turn : (X → List Placed → Got A) → X → List Placed → Got A)
+    (goes : (n : ℕ) (x : X) (ts : List Placed) → read (suc n) x ts ≡ turn (read n) x ts) (nothing : (n : ℕ) (x : X) → turn (read n) x [] ≡ read zero x [])
+    (same : (f g : X → List Placed → Got A) (x : X) (ts : List Placed) → ((y : X) (left : List Placed) → length left ≤ length ts - 1 → f y left ≡ g y left) → turn f x ts ≡ turn g x ts) where
+  -- Any two bounds that suffice read alike.
+  any-bound : (n m : ℕ) (x : X) (ts : List Placed) → length ts ≤ n → length ts ≤ m → read n x ts ≡ read m x ts
+  any-bound zero zero x ts h k = refl
+  any-bound zero (suc m) x [] h k = sym (goes m x [] ∙ nothing m x)
+  any-bound zero (suc m) x (t ∷ ts) h k = absurd (omega arith)
+  any-bound (suc n) zero x [] h k = goes n x [] ∙ nothing n x
+  any-bound (suc n) zero x (t ∷ ts) h k = absurd (omega arith)
+  any-bound (suc n) (suc m) x ts h k =
+      goes n x ts ∙ same (read n) (read m) x ts (λ y left l. any-bound n m y left (omega arith) (omega arith)) ∙ sym (goes m x ts)
+
+  -- So with a bound of all tokens left it goes on as if it had none.
+  unbounded : (x : X) (ts : List Placed) → read (length ts) x ts ≡ turn (λ y left. read (length left) y left) x ts
+  unbounded x ts =
+      any-bound (length ts) (suc (length ts)) x ts (omega arith) (omega arith) ∙ goes (length ts) x ts ∙
+      same (read (length ts)) (λ y left. read (length left) y left) x ts (λ y left l. any-bound (length ts) (length left) y left (omega arith) (omega arith))
+
+-- A run, whose operands leave no more tokens than there were.
+run-on : (run : Run) → ((ts : List Placed) (b : Expr) (left : List Placed) → run .one ts ≡ got b left → length left ≤ length ts)
+    → (a : Expr) (ts : List Placed) → allRun run a ts ≡ runTurn run (allRun run) a ts
+unfolding allRun
+run-on run less =
+    unbounded (run .more) (runTurn run) (run .goes) (λ n a. sym (run .stops a []))
+    (λ f g a ts same.
+    cond-same (says (spelling run) ts)
+    (then-same (run .one (drop 1 ts)) _ _ (λ b left u. same (run .join a b) left (omega (arith, less (drop 1 ts) b left u, length-drop 1 ts))))
+    refl)
+
 module _ (look : List ℕ → Option ℕ) (within : ℕ → List Placed → Got Expr) (Inside : List Placed → Expr → List Placed → Type 0)
     (sound : (p : ℕ) (ts : List Placed) (e : Expr) (left : List Placed) → within p ts ≡ got e left → Inside ts e left)
-    (inside : (ts : List Placed) (e : Expr) (rest : List Placed) → Inside ts e rest → length rest ≤ length ts) where
+    (leaves : (ts : List Placed) (e : Expr) (rest : List Placed) → Inside ts e rest → Leaves ts rest) where
   -- A turn goes on with fewer tokens than it was given.
   preds-same : (f g : List Placed → Got Preds) (ts : List Placed) → ((left : List Placed) → length left ≤ length ts - 1 → f left ≡ g left) → predsTurn look within f ts ≡ predsTurn look within g ts
   preds-same f g ts same =
@@ -125,7 +101,7 @@ module _ (look : List ℕ → Option ℕ) (within : ℕ → List Placed → Got 
       (then-same (then (within (at ts) (drop 1 ts)) (pass closeSquare)) _ _
       (λ e left u.
       let i = closed-got look within Inside sound closeSquare refl (λ w. refl) (at ts) (drop 1 ts) e left u in
-      let less : suc (length left) ≤ length (drop 1 ts) = inside _ _ _ (i .1) in
+      let less : suc (length left) ≤ length (drop 1 ts) = leaves-less (leaves _ _ _ (i .1)) in
       let one : length (drop 1 ts) ≡ length ts - 1 = length-drop 1 ts in
       ap (λ r. then r (λ ps. got (pred e ps))) (same left (omega arith))))
       refl
@@ -134,112 +110,41 @@ module _ (look : List ℕ → Option ℕ) (within : ℕ → List Placed → Got 
   steps-same f g ts same =
       then-same (readStep look within ts) _ _
       (λ s left u.
-      let less : length left ≤ length ts = step-less look Inside inside (step-got look within Inside sound ts s left u) in
+      let less : length left ≤ length ts = leaves-less (step-leaves look Inside leaves (step-got look within Inside sound ts s left u)) in
       let one : length (drop 1 left) ≡ length left - 1 = length-drop 1 left in
       let e = same (drop 1 left) (omega arith) in
       cond-same (sees slash left) (ap (λ r. then r (λ rest. got (before s rest))) e)
       (cond-same (sees slashes left) (ap (λ r. then r (λ rest. got (before s (deep rest)))) e) refl))
 
-  ands-same : (f g : Expr → List Placed → Got Expr) (a : Expr) (ts : List Placed) → ((b : Expr) (left : List Placed) → length left ≤ length ts - 1 → f b left ≡ g b left)
-      → andsTurn look within f a ts ≡ andsTurn look within g a ts
-  ands-same f g a ts same =
-      cond-same (says (ascii "and") ts)
-      (then-same (readOperand look within (drop 1 ts)) _ _
-      (λ b left u.
-      let less : length left ≤ length (drop 1 ts) = operand-less look Inside inside (operand-got look within Inside sound (drop 1 ts) b left u) in
-      let one : length (drop 1 ts) ≡ length ts - 1 = length-drop 1 ts in
-      same (both a b) left (omega arith)))
-      refl
-
-  ors-same : (f g : Expr → List Placed → Got Expr) (a : Expr) (ts : List Placed) → ((b : Expr) (left : List Placed) → length left ≤ length ts - 1 → f b left ≡ g b left)
-      → orsTurn look within f a ts ≡ orsTurn look within g a ts
-  ors-same f g a ts same =
-      cond-same (says (ascii "or") ts)
-      (then-same (readTerm look within (drop 1 ts)) _ _
-      (λ b left u.
-      let less : length left ≤ length (drop 1 ts) = term-less look Inside inside (term-got look within Inside sound (drop 1 ts) b left u) in
-      let one : length (drop 1 ts) ≡ length ts - 1 = length-drop 1 ts in
-      same (either a b) left (omega arith)))
-      refl
-
   paths-same : (f g : List Placed → Got Query) (ts : List Placed) → ((left : List Placed) → length left ≤ length ts - 1 → f left ≡ g left) → pathsTurn look within f ts ≡ pathsTurn look within g ts
   paths-same f g ts same =
       then-same (readPath look within ts) _ _
       (λ p left u.
-      let less : length left ≤ length ts = path-less look Inside inside (path-got look within Inside sound ts p left u) in
+      let less : length left ≤ length ts = leaves-less (path-leaves look Inside leaves (path-got look within Inside sound ts p left u)) in
       let one : length (drop 1 left) ≡ length left - 1 = length-drop 1 left in
       cond-same (sees bar left) (ap (λ r. then r (λ q. got (record { first = p; others = paths q }))) (same (drop 1 left) (omega arith))) refl)
-
-  -- Any two bounds that suffice read alike.
-  preds-any : (n m : ℕ) (ts : List Placed) → length ts ≤ n → length ts ≤ m → readPreds look within n ts ≡ readPreds look within m ts
-  preds-any zero zero ts h k = refl
-  preds-any zero (suc m) [] h k = refl
-  preds-any zero (suc m) (t ∷ ts) h k = absurd (omega arith)
-  preds-any (suc n) zero [] h k = refl
-  preds-any (suc n) zero (t ∷ ts) h k = absurd (omega arith)
-  preds-any (suc n) (suc m) ts h k = preds-same (readPreds look within n) (readPreds look within m) ts (λ left l. preds-any n m left (omega arith) (omega arith))
-
-  steps-any : (n m : ℕ) (ts : List Placed) → length ts ≤ n → length ts ≤ m → readSteps look within n ts ≡ readSteps look within m ts
-  unfolding readStep readTested
-  steps-any zero zero ts h k = refl
-  steps-any zero (suc m) [] h k = refl
-  steps-any zero (suc m) (t ∷ ts) h k = absurd (omega arith)
-  steps-any (suc n) zero [] h k = refl
-  steps-any (suc n) zero (t ∷ ts) h k = absurd (omega arith)
-  steps-any (suc n) (suc m) ts h k = steps-same (readSteps look within n) (readSteps look within m) ts (λ left l. steps-any n m left (omega arith) (omega arith))
-
-  ands-any : (n m : ℕ) (a : Expr) (ts : List Placed) → length ts ≤ n → length ts ≤ m → readAnds look within n a ts ≡ readAnds look within m a ts
-  ands-any zero zero a ts h k = refl
-  ands-any zero (suc m) a [] h k = refl
-  ands-any zero (suc m) a (t ∷ ts) h k = absurd (omega arith)
-  ands-any (suc n) zero a [] h k = refl
-  ands-any (suc n) zero a (t ∷ ts) h k = absurd (omega arith)
-  ands-any (suc n) (suc m) a ts h k = ands-same (readAnds look within n) (readAnds look within m) a ts (λ b left l. ands-any n m b left (omega arith) (omega arith))
-
-  ors-any : (n m : ℕ) (a : Expr) (ts : List Placed) → length ts ≤ n → length ts ≤ m → readOrs look within n a ts ≡ readOrs look within m a ts
-  ors-any zero zero a ts h k = refl
-  ors-any zero (suc m) a [] h k = refl
-  ors-any zero (suc m) a (t ∷ ts) h k = absurd (omega arith)
-  ors-any (suc n) zero a [] h k = refl
-  ors-any (suc n) zero a (t ∷ ts) h k = absurd (omega arith)
-  ors-any (suc n) (suc m) a ts h k = ors-same (readOrs look within n) (readOrs look within m) a ts (λ b left l. ors-any n m b left (omega arith) (omega arith))
-
-  paths-any : (n m : ℕ) (ts : List Placed) → length ts ≤ n → length ts ≤ m → readPaths look within n ts ≡ readPaths look within m ts
-  unfolding readPath
-  paths-any zero zero ts h k = refl
-  paths-any zero (suc m) [] h k = refl
-  paths-any zero (suc m) (t ∷ ts) h k = absurd (omega arith)
-  paths-any (suc n) zero [] h k = refl
-  paths-any (suc n) zero (t ∷ ts) h k = absurd (omega arith)
-  paths-any (suc n) (suc m) ts h k = paths-same (readPaths look within n) (readPaths look within m) ts (λ left l. paths-any n m left (omega arith) (omega arith))
 
   -- How each goes on.
   pub preds-on : (ts : List Placed) → allPreds look within ts ≡ predsTurn look within (allPreds look within) ts
   unfolding allPreds
   preds-on ts =
-      preds-any (length ts) (suc (length ts)) ts (omega arith) (omega arith) ∙
-      preds-same (readPreds look within (length ts)) (allPreds look within) ts (λ left l. preds-any (length ts) (length left) left (omega arith) (omega arith))
+      unbounded {X = Unit {0}} (λ n x us. readPreds look within n us) (λ f x us. predsTurn look within (f tt) us) (λ n x us. refl) (λ n x. refl)
+      (λ f g x us same. preds-same (f tt) (g tt) us (λ left l. same tt left l)) tt ts
 
   pub steps-on : (ts : List Placed) → allSteps look within ts ≡ stepsTurn look within (allSteps look within) ts
-  unfolding allSteps
+  unfolding allSteps readStep readTested
   steps-on ts =
-      steps-any (length ts) (suc (length ts)) ts (omega arith) (omega arith) ∙
-      steps-same (readSteps look within (length ts)) (allSteps look within) ts (λ left l. steps-any (length ts) (length left) left (omega arith) (omega arith))
+      unbounded {X = Unit {0}} (λ n x us. readSteps look within n us) (λ f x us. stepsTurn look within (f tt) us) (λ n x us. refl) (λ n x. refl)
+      (λ f g x us same. steps-same (f tt) (g tt) us (λ left l. same tt left l)) tt ts
 
-  pub ands-on : (a : Expr) (ts : List Placed) → allAnds look within a ts ≡ andsTurn look within (allAnds look within) a ts
-  unfolding allAnds
-  ands-on a ts =
-      ands-any (length ts) (suc (length ts)) a ts (omega arith) (omega arith) ∙
-      ands-same (readAnds look within (length ts)) (allAnds look within) a ts (λ b left l. ands-any (length ts) (length left) b left (omega arith) (omega arith))
+  pub ands-on : (a : Expr) (ts : List Placed) → allRun (andRun look within) a ts ≡ runTurn (andRun look within) (allRun (andRun look within)) a ts
+  ands-on = run-on (andRun look within) (λ ts b left u. leaves-less (operand-leaves look Inside leaves (operand-got look within Inside sound ts b left u)))
 
-  pub ors-on : (a : Expr) (ts : List Placed) → allOrs look within a ts ≡ orsTurn look within (allOrs look within) a ts
-  unfolding allOrs
-  ors-on a ts =
-      ors-any (length ts) (suc (length ts)) a ts (omega arith) (omega arith) ∙
-      ors-same (readOrs look within (length ts)) (allOrs look within) a ts (λ b left l. ors-any (length ts) (length left) b left (omega arith) (omega arith))
+  pub ors-on : (a : Expr) (ts : List Placed) → allRun (orRun look within) a ts ≡ runTurn (orRun look within) (allRun (orRun look within)) a ts
+  ors-on = run-on (orRun look within) (λ ts b left u. leaves-less (term-leaves look Inside leaves (term-got look within Inside sound ts b left u)))
 
   pub paths-on : (ts : List Placed) → allPaths look within ts ≡ pathsTurn look within (allPaths look within) ts
-  unfolding allPaths
+  unfolding allPaths readPath
   paths-on ts =
-      paths-any (length ts) (suc (length ts)) ts (omega arith) (omega arith) ∙
-      paths-same (readPaths look within (length ts)) (allPaths look within) ts (λ left l. paths-any (length ts) (length left) left (omega arith) (omega arith))
+      unbounded {X = Unit {0}} (λ n x us. readPaths look within n us) (λ f x us. pathsTurn look within (f tt) us) (λ n x us. refl) (λ n x. refl)
+      (λ f g x us same. paths-same (f tt) (g tt) us (λ left l. same tt left l)) tt ts

@@ -12,6 +12,8 @@ pub mod Nesting
 pub mod Height
 pub mod Forms
 pub mod Seeing
+pub mod Runs
+pub mod Leaving
 pub mod Sound
 pub mod Fuel
 pub mod Complete

@@ -1,7 +1,7 @@
 -- A reader decides by the tokens that it takes and the one after them; a refusal 3 stands whatever follows its token, and without that token the text can be completed.
 -- Here: what that means for a reader, and how it carries over from readers to those made of them. Assumes nothing.
 use Prim.Native.Nat.{ℕ}
-use mathlib.Core.Path.{_≡_, refl, sym, _∙_, ap, subst, subst₂}
+use mathlib.Core.Path.{_≡_, refl, sym, _∙_, ap, subst}
 use mathlib.Core.Bool.{Bool, true, false}
 use mathlib.Core.List.{List, [], _∷_, _++_, append-assoc}
 use mathlib.Core.Logic.{_⊎_, inl}
@@ -79,59 +79,51 @@ gentle-of : (gentle : Bool) {ts us : List Placed} → Follows ts us → Gentle g
 gentle-of true f = f
 gentle-of false f = tt
 
+-- A reader that has used some tokens and goes on as another, at least before what may follow if that one is gentle.
+local-after : {gentle rough : Bool} {A : Type 0} {f : List Placed → Got A} (g : List Placed → Got A) (used : List Placed) {ts left : List Placed} → ts ≡ used ++ left → Unended used
+    → ((us : List Placed) → Gentle rough left us → f (used ++ us) ≡ g us) → ((us : List Placed) → Gentle rough left us → Gentle gentle ts (used ++ us)) → Local rough g left → Local gentle f ts
+local-after {rough = rough} {f = f} g used s u e mild (takes a used₂ left₂ s₂ u₂ st) =
+    takes a (used ++ used₂) left₂ (s ∙ ap (λ l. used ++ l) s₂ ∙ sym (append-assoc used used₂ left₂))
+    (λ us. ap ended (append-assoc used used₂ us) ∙ u (used₂ ++ us) ∙ u₂ us)
+    (λ us o.
+    ap f (append-assoc used used₂ us) ∙ e (used₂ ++ us) (gentle-of rough (subst (λ l. Follows l (used₂ ++ us)) (sym s₂) (follows-append used₂ o))) ∙ st us o)
+local-after {gentle} {rough} {f = f} g used {ts} s u e mild (fails m p x) =
+    fails m p
+    (record {
+      used = used ++ x .used;
+      left = x .left;
+      split = s ∙ ap (λ l. used ++ l) (x .split) ∙ sym (append-assoc used (x .used) (x .left));
+      unended = λ us. ap ended (append-assoc used (x .used) us) ∙ u (x .used ++ us) ∙ x .unended us;
+      number = x .number;
+      there = x .there;
+      stands = λ us o.
+          ap f (append-assoc used (x .used) us) ∙
+          e (x .used ++ us) (gentle-of rough (subst (λ l. Follows l (x .used ++ us)) (sym (x .split)) (like (alike-append (x .used) o)))) ∙
+          x .stands us o;
+      completion = λ three. let c = x .completion three in
+          record {
+            more = c .more;
+            value = c .value;
+            open-end = c .open-end;
+            reads = λ us o. ap f (append-assoc used (x .used) (c .more ++ us)) ∙ e (x .used ++ (c .more ++ us)) (c .mild us o) ∙ c .reads us o;
+            mild = λ us o. subst (λ l. Gentle gentle ts l) (sym (append-assoc used (x .used) (c .more ++ us))) (mild (x .used ++ (c .more ++ us)) (c .mild us o));
+          };
+    })
+
 -- One token more in front.
 pub local-cons : {gentle rough : Bool} {A : Type 0} {f : List Placed → Got A} (after : List Placed → Got A) (t : Placed) {ts : List Placed} → is finish (t .token) ≡ false
     → ((us : List Placed) → f (t ∷ us) ≡ after us) → Local rough after ts → Local gentle f (t ∷ ts)
-local-cons after t n e (takes a used left s u st) = takes a (t ∷ used) left (ap (λ l. t ∷ l) s) (λ us. rw n (u us)) (λ us f. e (used ++ us) ∙ st us f)
-local-cons {gentle} after t n e (fails m p x) =
-    fails m p
-    (record {
-      used = t ∷ x .used;
-      left = x .left;
-      split = ap (λ l. t ∷ l) (x .split);
-      unended = λ us. rw n (x .unended us);
-      number = x .number;
-      there = x .there;
-      stands = λ us a. e (x .used ++ us) ∙ x .stands us a;
-      completion = λ three. let c = x .completion three in
-          record { more = c .more; value = c .value; open-end = c .open-end; reads = λ us s. e (x .used ++ (c .more ++ us)) ∙ c .reads us s; mild = λ us s. gentle-of gentle (like (record { token = refl; place = refl })) };
-    })
+local-cons {gentle} after t n e l =
+    local-after after (t ∷ []) refl (λ us. rw n) (λ us o. e us) (λ us o. gentle-of gentle (like (record { token = refl; place = refl }))) l
 
 -- A reader that agrees with another.
 pub local-same : {gentle : Bool} {A : Type 0} {f : List Placed → Got A} (g : List Placed → Got A) {ts : List Placed} → ((us : List Placed) → f us ≡ g us) → Local gentle g ts → Local gentle f ts
-local-same g e (takes a used left s u st) = takes a used left s u (λ us f. e (used ++ us) ∙ st us f)
-local-same g e (fails m p x) =
-    fails m p
-    (record {
-      used = x .used;
-      left = x .left;
-      split = x .split;
-      unended = x .unended;
-      number = x .number;
-      there = x .there;
-      stands = λ us a. e (x .used ++ us) ∙ x .stands us a;
-      completion = λ three. let c = x .completion three in
-          record { more = c .more; value = c .value; open-end = c .open-end; reads = λ us s. e (x .used ++ (c .more ++ us)) ∙ c .reads us s; mild = c .mild };
-    })
+local-same g e l = local-after g [] refl (λ us. refl) (λ us o. e us) (λ us o. o) l
 
 -- It is enough that it agrees before what may follow, if the other is gentle.
 pub local-when : {gentle : Bool} {A : Type 0} {f : List Placed → Got A} (g : List Placed → Got A) {ts : List Placed} → ((us : List Placed) → Follows ts us → f us ≡ g us)
     → Local true g ts → Local gentle f ts
-local-when g e (takes a used left s u st) =
-    takes a used left s u (λ us f. e (used ++ us) (subst (λ l. Follows l (used ++ us)) (sym s) (follows-append used f)) ∙ st us f)
-local-when {gentle} g e (fails m p x) =
-    fails m p
-    (record {
-      used = x .used;
-      left = x .left;
-      split = x .split;
-      unended = x .unended;
-      number = x .number;
-      there = x .there;
-      stands = λ us a. e (x .used ++ us) (subst (λ l. Follows l (x .used ++ us)) (sym (x .split)) (like (alike-append (x .used) a))) ∙ x .stands us a;
-      completion = λ three. let c = x .completion three in
-          record { more = c .more; value = c .value; open-end = c .open-end; reads = λ us s. e (x .used ++ (c .more ++ us)) (c .mild us s) ∙ c .reads us s; mild = λ us s. gentle-of gentle (c .mild us s) };
-    })
+local-when {gentle} g e l = local-after {rough = true} g [] refl (λ us. refl) e (λ us o. gentle-of gentle o) l
 
 -- A reader that takes nothing.
 pub local-got : {A : Type 0} (a : A) (ts : List Placed) → Local true (got a) ts
@@ -142,46 +134,11 @@ default-got a = record { more = []; value = a; open-end = λ us. refl; shuts = �
 
 -- Two readers after each other.
 module _ {A B : Type 0} (k : A → List Placed → Got B) where
-  after-took : {gentle : Bool} (f : List Placed → Got A) {ts : List Placed} (a : A) (used left : List Placed) → ts ≡ used ++ left → Unended used
-      → ((us : List Placed) → Follows left us → f (used ++ us) ≡ got a us) → Local true (k a) left → Local gentle (λ us. then (f us) k) ts
-  after-took f a used left s u st (takes b used₂ left₂ s₂ u₂ st₂) =
-      takes b (used ++ used₂) left₂ (s ∙ ap (λ l. used ++ l) s₂ ∙ sym (append-assoc used used₂ left₂))
-      (λ us. ap ended (append-assoc used used₂ us) ∙ u (used₂ ++ us) ∙ u₂ us)
-      (λ us o.
-      ap (λ l. then (f l) k) (append-assoc used used₂ us) ∙
-      ap (λ r. then r k) (st (used₂ ++ us) (subst (λ l. Follows l (used₂ ++ us)) (sym s₂) (follows-append used₂ o))) ∙
-      st₂ us o)
-  after-took {gentle} f {ts} a used left s u st (fails m p x) =
-      fails m p
-      (record {
-        used = used ++ x .used;
-        left = x .left;
-        split = s ∙ ap (λ l. used ++ l) (x .split) ∙ sym (append-assoc used (x .used) (x .left));
-        unended = λ us. ap ended (append-assoc used (x .used) us) ∙ u (x .used ++ us) ∙ x .unended us;
-        number = x .number;
-        there = x .there;
-        stands = λ us o.
-            ap (λ l. then (f l) k) (append-assoc used (x .used) us) ∙
-            ap (λ r. then r k) (st (x .used ++ us) (subst (λ l. Follows l (x .used ++ us)) (sym (x .split)) (like (alike-append (x .used) o)))) ∙
-            x .stands us o;
-        completion = λ three. let c = x .completion three in
-            record {
-              more = c .more;
-              value = c .value;
-              open-end = c .open-end;
-              reads = λ us o.
-                  ap (λ l. then (f l) k) (append-assoc used (x .used) (c .more ++ us)) ∙
-                  ap (λ r. then r k) (st (x .used ++ (c .more ++ us)) (c .mild us o)) ∙
-                  c .reads us o;
-              mild = λ us o.
-                  gentle-of gentle
-                  (subst₂ Follows (sym s) (sym (append-assoc used (x .used) (c .more ++ us))) (follows-append used (c .mild us o)));
-            };
-      })
-
   pub local-then : {gentle : Bool} {f : List Placed → Got A} {ts : List Placed} → Local gentle f ts
       → ((a : A) (used left : List Placed) → ts ≡ used ++ left → Local true (k a) left) → ((a : A) → Default (k a)) → Local gentle (λ us. then (f us) k) ts
-  local-then {f = f} (takes a used left s u st) more d = after-took f a used left s u st (more a used left s)
+  local-then {gentle} (takes a used left s u st) more d =
+      local-after {rough = true} (k a) used s u (λ us o. ap (λ r. then r k) (st us o))
+      (λ us o. gentle-of gentle (subst (λ l. Follows l (used ++ us)) (sym s) (follows-append used o))) (more a used left s)
   local-then {gentle} {f} {ts} (fails m p x) more d =
       fails m p
       (record {

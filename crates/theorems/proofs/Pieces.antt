@@ -50,6 +50,34 @@ pub record Piece {X : Type 0} (F Deeper : List Placed → X → List Placed → 
   pub here : (us : List Placed) → F (put us) x us
   pub deeper : (us : List Placed) → Deeper (put us) x us
 
+-- A thing made of another by tokens before and after it that leave no bracket open;
+wrapped-piece : {X Y : Type 0} {F FDeeper : List Placed → X → List Placed → Type 0} {G GDeeper : List Placed → Y → List Placed → Type 0} {ts rest : List Placed} {x : X} {y : Y}
+    (lead tail : List Placed → List Placed) → ((h : List Placed → List Placed) → Front 0 h → Front 0 (λ us. lead (h (tail us))))
+    → ((us vs : List Placed) → F us x (tail vs) → G (lead us) y vs) → ((us vs : List Placed) → FDeeper us x (tail vs) → GDeeper (lead us) y vs)
+    → Piece F FDeeper ts x (tail rest) → Piece G GDeeper (lead ts) y rest
+wrapped-piece lead tail wrap made made′ a =
+    record {
+      put = λ us. lead (a .put (tail us));
+      front = wrap (a .put) (a .front);
+      split = ap lead (a .split);
+      here = λ us. made (a .put (tail us)) us (a .here (tail us));
+      deeper = λ us. made′ (a .put (tail us)) us (a .deeper (tail us));
+    }
+
+-- or of two, with such tokens between them.
+two-pieces : {X Y Z : Type 0} {F FDeeper : List Placed → X → List Placed → Type 0} {G GDeeper : List Placed → Y → List Placed → Type 0} {H HDeeper : List Placed → Z → List Placed → Type 0}
+    {ts us rest : List Placed} {x : X} {y : Y} {z : Z} (between : List Placed → List Placed) → Front 0 between
+    → ((vs ws rs : List Placed) → F vs x (between ws) → G ws y rs → H vs z rs) → ((vs ws rs : List Placed) → FDeeper vs x (between ws) → GDeeper ws y rs → HDeeper vs z rs)
+    → Piece F FDeeper ts x (between us) → Piece G GDeeper us y rest → Piece H HDeeper ts z rest
+two-pieces between f made made′ a b =
+    record {
+      put = λ us. a .put (between (b .put us));
+      front = front-then (a .front) (front-then f (b .front));
+      split = a .split ∙ ap (λ l. a .put (between l)) (b .split);
+      here = λ us. made (a .put (between (b .put us))) (b .put us) us (a .here (between (b .put us))) (b .here us);
+      deeper = λ us. made′ (a .put (between (b .put us))) (b .put us) us (a .deeper (between (b .put us))) (b .deeper us);
+    }
+
 module _ (look : List ℕ → Option ℕ) (Inside More : List Placed → Expr → List Placed → Type 0)
     (inside : (ts : List Placed) (e : Expr) (rest : List Placed) → Inside ts e rest → Piece Inside More ts e rest) where
   pub preds-piece : {ts rest : List Placed} {ps : Preds} → PredsIn look Inside ts ps rest → Piece (PredsIn look Inside) (PredsIn look More) ts ps rest
@@ -65,40 +93,29 @@ module _ (look : List ℕ → Option ℕ) (Inside More : List Placed → Expr �
         deeper = λ us. one-pred (e .deeper (tok q closeSquare ∷ f .put us)) (f .deeper us);
       }
 
+  call-piece : {rest : List Placed} {t : Test} (w : List ℕ) (p q r : ℕ) → ((us : List Placed) → TestIn look Inside (tok p (word w) ∷ tok q openRound ∷ tok r closeRound ∷ us) t us)
+      → ((us : List Placed) → TestIn look More (tok p (word w) ∷ tok q openRound ∷ tok r closeRound ∷ us) t us)
+      → Piece (TestIn look Inside) (TestIn look More) (tok p (word w) ∷ tok q openRound ∷ tok r closeRound ∷ rest) t rest
+  call-piece w p q r here deeper =
+      record {
+        put = λ us. tok p (word w) ∷ tok q openRound ∷ tok r closeRound ∷ us;
+        front = front-cons (tok p (word w)) refl refl (front-close (tok r closeRound) refl refl (front-open (tok q openRound) refl refl front-none));
+        split = refl;
+        here = here;
+        deeper = deeper;
+      }
+
   test-piece : {ts rest : List Placed} {t : Test} → TestIn look Inside ts t rest → Piece (TestIn look Inside) (TestIn look More) ts t rest
   test-piece (star-test {p = p}) = record { put = λ us. tok p star ∷ us; front = front-cons (tok p star) refl refl front-none; split = refl; here = λ us. star-test; deeper = λ us. star-test }
-  test-piece (node-test {p = p} {q = q} {r = r}) =
-      record {
-        put = λ us. tok p (word (ascii "node")) ∷ tok q openRound ∷ tok r closeRound ∷ us;
-        front = front-cons (tok p (word (ascii "node"))) refl refl (front-close (tok r closeRound) refl refl (front-open (tok q openRound) refl refl front-none));
-        split = refl;
-        here = λ us. node-test;
-        deeper = λ us. node-test;
-      }
-  test-piece (text-test {p = p} {q = q} {r = r}) =
-      record {
-        put = λ us. tok p (word (ascii "text")) ∷ tok q openRound ∷ tok r closeRound ∷ us;
-        front = front-cons (tok p (word (ascii "text"))) refl refl (front-close (tok r closeRound) refl refl (front-open (tok q openRound) refl refl front-none));
-        split = refl;
-        here = λ us. text-test;
-        deeper = λ us. text-test;
-      }
+  test-piece (node-test {p = p} {q = q} {r = r}) = call-piece (ascii "node") p q r (λ us. node-test) (λ us. node-test)
+  test-piece (text-test {p = p} {q = q} {r = r}) = call-piece (ascii "text") p q r (λ us. text-test) (λ us. text-test)
   test-piece (name-test {p = p} {w = w} h) =
       record { put = λ us. tok p (word w) ∷ us; front = front-cons (tok p (word w)) refl refl front-none; split = refl; here = λ us. name-test h; deeper = λ us. name-test h }
 
   pub step-piece : {ts rest : List Placed} {s : Step} → StepIn look Inside ts s rest → Piece (StepIn look Inside) (StepIn look More) ts s rest
   step-piece (dot-step {p = p}) = record { put = λ us. tok p dot ∷ us; front = front-cons (tok p dot) refl refl front-none; split = refl; here = λ us. dot-step; deeper = λ us. dot-step }
   step-piece (dots-step {p = p}) = record { put = λ us. tok p dots ∷ us; front = front-cons (tok p dots) refl refl front-none; split = refl; here = λ us. dots-step; deeper = λ us. dots-step }
-  step-piece (child-step d f) =
-      let a = test-piece d in
-      let b = preds-piece f in
-      record {
-        put = λ us. a .put (b .put us);
-        front = front-then (a .front) (b .front);
-        split = a .split ∙ ap (a .put) (b .split);
-        here = λ us. child-step (a .here (b .put us)) (b .here us);
-        deeper = λ us. child-step (a .deeper (b .put us)) (b .deeper us);
-      }
+  step-piece (child-step d f) = two-pieces (λ us. us) front-none (λ vs ws rs a b. child-step a b) (λ vs ws rs a b. child-step a b) (test-piece d) (preds-piece f)
   step-piece (axis-step {p = p} {q = q} {w = w} n d f) =
       let a = test-piece d in
       let b = preds-piece f in
@@ -111,103 +128,40 @@ module _ (look : List ℕ → Option ℕ) (Inside More : List Placed → Expr �
       }
 
   pub steps-piece : {ts rest : List Placed} {s : Steps} → StepsIn look Inside ts s rest → Piece (StepsIn look Inside) (StepsIn look More) ts s rest
-  steps-piece (last-step d) =
-      let a = step-piece d in
-      record { put = a .put; front = a .front; split = a .split; here = λ us. last-step (a .here us); deeper = λ us. last-step (a .deeper us) }
+  steps-piece (last-step d) = wrapped-piece (λ us. us) (λ us. us) (λ h f. f) (λ us vs a. last-step a) (λ us vs a. last-step a) (step-piece d)
   steps-piece (slash-step {p = p} d f) =
-      let a = step-piece d in
-      let b = steps-piece f in
-      record {
-        put = λ us. a .put (tok p slash ∷ b .put us);
-        front = front-then (a .front) (front-cons (tok p slash) refl refl (b .front));
-        split = a .split ∙ ap (λ l. a .put (tok p slash ∷ l)) (b .split);
-        here = λ us. slash-step (a .here (tok p slash ∷ b .put us)) (b .here us);
-        deeper = λ us. slash-step (a .deeper (tok p slash ∷ b .put us)) (b .deeper us);
-      }
+      two-pieces (λ us. tok p slash ∷ us) (front-cons (tok p slash) refl refl front-none) (λ vs ws rs a b. slash-step a b) (λ vs ws rs a b. slash-step a b) (step-piece d) (steps-piece f)
   steps-piece (slashes-step {p = p} d f) =
-      let a = step-piece d in
-      let b = steps-piece f in
-      record {
-        put = λ us. a .put (tok p slashes ∷ b .put us);
-        front = front-then (a .front) (front-cons (tok p slashes) refl refl (b .front));
-        split = a .split ∙ ap (λ l. a .put (tok p slashes ∷ l)) (b .split);
-        here = λ us. slashes-step (a .here (tok p slashes ∷ b .put us)) (b .here us);
-        deeper = λ us. slashes-step (a .deeper (tok p slashes ∷ b .put us)) (b .deeper us);
-      }
+      two-pieces (λ us. tok p slashes ∷ us) (front-cons (tok p slashes) refl refl front-none) (λ vs ws rs a b. slashes-step a b) (λ vs ws rs a b. slashes-step a b) (step-piece d) (steps-piece f)
 
   pub operand-piece : {ts rest : List Placed} {e : Expr} → OperandIn look Inside ts e rest → Piece (OperandIn look Inside) (OperandIn look More) ts e rest
-  operand-piece (path-operand d) =
-      let a = steps-piece d in
-      record { put = a .put; front = a .front; split = a .split; here = λ us. path-operand (a .here us); deeper = λ us. path-operand (a .deeper us) }
+  operand-piece (path-operand d) = wrapped-piece (λ us. us) (λ us. us) (λ h f. f) (λ us vs a. path-operand a) (λ us vs a. path-operand a) (steps-piece d)
   operand-piece (round-operand {p = p} {q = q} i) =
-      let a = inside _ _ _ i in
-      record {
-        put = λ us. tok p openRound ∷ a .put (tok q closeRound ∷ us);
-        front = front-close (tok q closeRound) refl refl (front-open (tok p openRound) refl refl (a .front));
-        split = ap (λ l. tok p openRound ∷ l) (a .split);
-        here = λ us. round-operand (a .here (tok q closeRound ∷ us));
-        deeper = λ us. round-operand (a .deeper (tok q closeRound ∷ us));
-      }
+      wrapped-piece (λ us. tok p openRound ∷ us) (λ us. tok q closeRound ∷ us) (λ h f. front-close (tok q closeRound) refl refl (front-open (tok p openRound) refl refl f))
+      (λ us vs a. round-operand a) (λ us vs a. round-operand a) (inside _ _ _ i)
   operand-piece (not-operand {p = p} {q = q} {r = r} i) =
-      let a = inside _ _ _ i in
-      record {
-        put = λ us. tok p (word (ascii "not")) ∷ tok q openRound ∷ a .put (tok r closeRound ∷ us);
-        front = front-cons (tok p (word (ascii "not"))) refl refl (front-close (tok r closeRound) refl refl (front-open (tok q openRound) refl refl (a .front)));
-        split = ap (λ l. tok p (word (ascii "not")) ∷ tok q openRound ∷ l) (a .split);
-        here = λ us. not-operand (a .here (tok r closeRound ∷ us));
-        deeper = λ us. not-operand (a .deeper (tok r closeRound ∷ us));
-      }
+      wrapped-piece (λ us. tok p (word (ascii "not")) ∷ tok q openRound ∷ us) (λ us. tok r closeRound ∷ us)
+      (λ h f. front-cons (tok p (word (ascii "not"))) refl refl (front-close (tok r closeRound) refl refl (front-open (tok q openRound) refl refl f)))
+      (λ us vs a. not-operand a) (λ us vs a. not-operand a) (inside _ _ _ i)
 
   pub term-piece : {ts rest : List Placed} {e : Expr} → TermIn look Inside ts e rest → Piece (TermIn look Inside) (TermIn look More) ts e rest
-  term-piece (one-operand d) =
-      let a = operand-piece d in
-      record { put = a .put; front = a .front; split = a .split; here = λ us. one-operand (a .here us); deeper = λ us. one-operand (a .deeper us) }
+  term-piece (one-operand d) = wrapped-piece (λ us. us) (λ us. us) (λ h f. f) (λ us vs a. one-operand a) (λ us vs a. one-operand a) (operand-piece d)
   term-piece (and-operand {p = p} d f) =
-      let a = term-piece d in
-      let b = operand-piece f in
-      record {
-        put = λ us. a .put (tok p (word (ascii "and")) ∷ b .put us);
-        front = front-then (a .front) (front-cons (tok p (word (ascii "and"))) refl refl (b .front));
-        split = a .split ∙ ap (λ l. a .put (tok p (word (ascii "and")) ∷ l)) (b .split);
-        here = λ us. and-operand (a .here (tok p (word (ascii "and")) ∷ b .put us)) (b .here us);
-        deeper = λ us. and-operand (a .deeper (tok p (word (ascii "and")) ∷ b .put us)) (b .deeper us);
-      }
+      two-pieces (λ us. tok p (word (ascii "and")) ∷ us) (front-cons (tok p (word (ascii "and"))) refl refl front-none)
+      (λ vs ws rs a b. and-operand a b) (λ vs ws rs a b. and-operand a b) (term-piece d) (operand-piece f)
 
   pub expr-piece : {ts rest : List Placed} {e : Expr} → ExprIn look Inside ts e rest → Piece (ExprIn look Inside) (ExprIn look More) ts e rest
-  expr-piece (one-term d) =
-      let a = term-piece d in
-      record { put = a .put; front = a .front; split = a .split; here = λ us. one-term (a .here us); deeper = λ us. one-term (a .deeper us) }
+  expr-piece (one-term d) = wrapped-piece (λ us. us) (λ us. us) (λ h f. f) (λ us vs a. one-term a) (λ us vs a. one-term a) (term-piece d)
   expr-piece (or-term {p = p} d f) =
-      let a = expr-piece d in
-      let b = term-piece f in
-      record {
-        put = λ us. a .put (tok p (word (ascii "or")) ∷ b .put us);
-        front = front-then (a .front) (front-cons (tok p (word (ascii "or"))) refl refl (b .front));
-        split = a .split ∙ ap (λ l. a .put (tok p (word (ascii "or")) ∷ l)) (b .split);
-        here = λ us. or-term (a .here (tok p (word (ascii "or")) ∷ b .put us)) (b .here us);
-        deeper = λ us. or-term (a .deeper (tok p (word (ascii "or")) ∷ b .put us)) (b .deeper us);
-      }
+      two-pieces (λ us. tok p (word (ascii "or")) ∷ us) (front-cons (tok p (word (ascii "or"))) refl refl front-none)
+      (λ vs ws rs a b. or-term a b) (λ vs ws rs a b. or-term a b) (expr-piece d) (term-piece f)
 
   pub path-piece : {ts rest : List Placed} {s : Steps} → PathIn look Inside ts s rest → Piece (PathIn look Inside) (PathIn look More) ts s rest
   path-piece (root-path {p = p}) = record { put = λ us. tok p slash ∷ us; front = front-cons (tok p slash) refl refl front-none; split = refl; here = λ us. root-path; deeper = λ us. root-path }
   path-piece (slash-path {p = p} d) =
-      let a = steps-piece d in
-      record {
-        put = λ us. tok p slash ∷ a .put us;
-        front = front-cons (tok p slash) refl refl (a .front);
-        split = ap (λ l. tok p slash ∷ l) (a .split);
-        here = λ us. slash-path (a .here us);
-        deeper = λ us. slash-path (a .deeper us);
-      }
+      wrapped-piece (λ us. tok p slash ∷ us) (λ us. us) (λ h f. front-cons (tok p slash) refl refl f) (λ us vs a. slash-path a) (λ us vs a. slash-path a) (steps-piece d)
   path-piece (slashes-path {p = p} d) =
-      let a = steps-piece d in
-      record {
-        put = λ us. tok p slashes ∷ a .put us;
-        front = front-cons (tok p slashes) refl refl (a .front);
-        split = ap (λ l. tok p slashes ∷ l) (a .split);
-        here = λ us. slashes-path (a .here us);
-        deeper = λ us. slashes-path (a .deeper us);
-      }
+      wrapped-piece (λ us. tok p slashes ∷ us) (λ us. us) (λ h f. front-cons (tok p slashes) refl refl f) (λ us vs a. slashes-path a) (λ us vs a. slashes-path a) (steps-piece d)
 
 pub within-piece : (look : List ℕ → Option ℕ) (d : ℕ) (ts : List Placed) (e : Expr) (rest : List Placed) → Within look d ts e rest → Piece (Within look d) (Within look (suc d)) ts e rest
 within-piece look zero ts e rest i = absurd i

@@ -9,10 +9,11 @@ use lib.ListN.{length, drop, length-drop}
 use Rattle.paper.specs.Tools.{ascii}
 use Rattle.paper.specs.Limits.{bracketLimit}
 use Rattle.paper.specs.Tokens.{Token, slash, slashes, dot, dots, bar, openSquare, closeSquare, openRound, closeRound, star, finish, word, letters, Placed, white, tokenAt, beyond, tokensFrom, tokens}
-use Rattle.paper.specs.Query.{Axis, Test, anyNode, textNode, named, anyElement, Expr, both, either, Steps, stop, Query, paths}
+use Rattle.paper.specs.Query.{Axis, Test, anyNode, textNode, named, anyElement, Expr, Steps, stop, Query, paths}
 use Rattle.paper.specs.Measures.{sizeExpr, sizeSteps, sizePreds, sizePaths, size}
 use Rattle.paper.specs.Reading.{Got, got, refused, then, next, at, sees, says, pass, axisAhead, Step, before, deep, startsStep}
-use Rattle.paper.specs.Reading.{readPreds, readTail, readName, readTested, readAxis, readStep, readSteps, readOperand, readAnds, readTerm, readOrs, readExpr, readPath, readPaths, readWithin, readText}
+use Rattle.paper.specs.Reading.{readPreds, readTail, readName, readTested, readAxis, readStep, readSteps, readOperand, readTerm, readExpr, readPath, readPaths, readWithin, readText}
+use Rattle.theorems.proofs.Runs.{Run, andRun, orRun, run-keeps}
 use Rattle.theorems.proofs.Accepted.{either-way}
 
 -- The items of a path that has only this step, and of a path.
@@ -155,31 +156,26 @@ module _ (last : ℕ) where
         (fair-more sizeExpr (2 * length ts) most (then (within (t .place) ts) (pass closeRound)) (omega arith) (bracket-fair closeRound (t .place) ts (m .0) (m .1)))
         (fair-then pathSize sizeExpr most most (readSteps look within (length (t ∷ ts)) (t ∷ ts)) _ (steps-fair (length (t ∷ ts)) (t ∷ ts) m) (λ s left k h. (k, h))))
 
-    ands-fair : (n most : ℕ) (a : Expr) (ts : List Placed) → Near ts → sizeExpr a + 2 * length ts ≤ most → Fair sizeExpr most (readAnds look within n a ts)
-    ands-fair zero most a ts m l = (m, l)
-    ands-fair (suc n) most a [] m l = (m, l)
-    ands-fair (suc n) most a (t ∷ ts) m l =
-        either-way (Fair sizeExpr most) (says (ascii "and") (t ∷ ts))
-        (fair-then sizeExpr sizeExpr (2 * length ts) most (readOperand look within ts) _ (operand-fair ts (m .1)) (λ b left k h. ands-fair n most (both a b) left k (omega arith)))
-        (m, l)
+    -- A run, whose operands are read so.
+    run-fair : (run : Run) → ((a b : Expr) → sizeExpr (run .join a b) ≤ 1 + sizeExpr a + sizeExpr b)
+        → ((ts : List Placed) → Near ts → Fair sizeExpr (2 * length ts) (run .one ts)) → (ts : List Placed) → Near ts
+        → Fair sizeExpr (2 * length ts) (then (run .one ts) (λ a left. run .more (length left) a left))
+    run-fair run grows one ts m =
+        let most = 2 * length ts in
+        fair-then sizeExpr sizeExpr most most (run .one ts) _ (one ts m)
+        (λ a left k h.
+        run-keeps run (λ x us. Near us × (sizeExpr x + 2 * length us ≤ most)) (Fair sizeExpr most) (λ x us i. i)
+        (λ p x us i next on.
+        fair-then sizeExpr sizeExpr (2 * length us) most (run .one us) next (one us (i .0 .1)) (λ b rest j l. on b rest (j, omega (arith, i .1, grows x b))))
+        (length left) a left (k, h))
 
     term-fair : (ts : List Placed) → Near ts → Fair sizeExpr (2 * length ts) (readTerm look within ts)
     unfolding readTerm
-    term-fair ts m =
-        fair-then sizeExpr sizeExpr (2 * length ts) (2 * length ts) (readOperand look within ts) _ (operand-fair ts m) (λ a left k h. ands-fair (length left) (2 * length ts) a left k h)
-
-    ors-fair : (n most : ℕ) (a : Expr) (ts : List Placed) → Near ts → sizeExpr a + 2 * length ts ≤ most → Fair sizeExpr most (readOrs look within n a ts)
-    ors-fair zero most a ts m l = (m, l)
-    ors-fair (suc n) most a [] m l = (m, l)
-    ors-fair (suc n) most a (t ∷ ts) m l =
-        either-way (Fair sizeExpr most) (says (ascii "or") (t ∷ ts))
-        (fair-then sizeExpr sizeExpr (2 * length ts) most (readTerm look within ts) _ (term-fair ts (m .1)) (λ b left k h. ors-fair n most (either a b) left k (omega arith)))
-        (m, l)
+    term-fair ts m = run-fair (andRun look within) (λ a b. omega arith) operand-fair ts m
 
     expr-fair : (ts : List Placed) → Near ts → Fair sizeExpr (2 * length ts) (readExpr look within ts)
     unfolding readExpr
-    expr-fair ts m =
-        fair-then sizeExpr sizeExpr (2 * length ts) (2 * length ts) (readTerm look within ts) _ (term-fair ts m) (λ a left k h. ors-fair (length left) (2 * length ts) a left k h)
+    expr-fair ts m = run-fair (orRun look within) (λ a b. omega arith) term-fair ts m
 
     path-fair : (ts : List Placed) → Near ts → Fair pathSize (2 * length ts) (readPath look within ts)
     unfolding readPath

@@ -17,7 +17,8 @@ use Rattle.theorems.specs.Grammar.{StepIn, dot-step, dots-step, child-st
 use Rattle.theorems.specs.Grammar.{OperandIn, path-operand, round-operand, not-operand, TermIn, one-operand, and-operand, ExprIn, one-term, or-term}
 use Rattle.theorems.specs.Grammar.{PathIn, root-path, slash-path, slashes-path, QueryIn, one-path, bar-path, Within, Derives, ended, reading, AllKnown, allBeyond, Rising, RefusedWrong, RefusedWrongText, RefusedDeep, RefusedDeepText}
 use Rattle.theorems.proofs.Sound.{within-got}
-use Rattle.theorems.proofs.Fuel.{within-less, allPaths}
+use Rattle.theorems.proofs.Leaving.{within-leaves}
+use Rattle.theorems.proofs.Fuel.{allPaths}
 use Rattle.theorems.proofs.Complete.{Comes, comes, runs-short, within-read, query-read}
 use Rattle.theorems.proofs.Accepted.{derived-if, read-if, either-way, tokens-ended}
 use Rattle.theorems.proofs.Local.{Alike}
@@ -77,7 +78,7 @@ within-known names look known (suc d) ts e rest i = expr-known names look known 
 -- Each bracket is read by the tokens in it, or is one too many.
 pub bracket : (look : List ℕ → Option ℕ) → AllKnown look → (d p : ℕ) (ts : List Placed) → Bracket (readWithin look d) p ts
 bracket look known zero p ts = too-many (λ us. refl)
-bracket look known (suc d) p ts = opens (local-expr look known (readWithin look d) (Within look d) (within-got look d) (within-less look d) (bracket look known d) ts)
+bracket look known (suc d) p ts = opens (local-expr look known (readWithin look d) (Within look d) (within-got look d) (within-leaves look d) (bracket look known d) ts)
 
 -- Where tokens are refused with 3, no query is derived from them.
 pub refused-never : (look : List ℕ → Option ℕ) → AllKnown look → (d p : ℕ) (ts : List Placed) → reading look d ts ≡ refused 3 p
@@ -86,7 +87,7 @@ unfolding allPaths
 refused-never look known d p ts h names depth q (end, i) =
     let k = query-known names look known (Within names depth) (Within look depth) (within-known names look known depth) i in
     no
-    (query-read (Unit {0}) look (readWithin look d) (Within look depth) (Within look d) (within-got look d) (within-less look d)
+    (query-read (Unit {0}) look (readWithin look d) (Within look depth) (Within look d) (within-got look d) (within-leaves look d)
     (λ r us e rest j c. within-read (Unit {0}) look depth d r (inl tt) us e rest j c) (k .1) end [] refl)
   where
     no : {x : Query} → Comes (Unit {0}) (reading look d ts) (got x []) → ⊥
@@ -161,10 +162,10 @@ pub record StopsAt (look : List ℕ → Option ℕ) (d : ℕ) (ts : List Placed)
 pub stops-at : (look : List ℕ → Option ℕ) (d : ℕ) (ts : List Placed) (n p : ℕ) → AllKnown look → ended ts ≡ true → reading look d ts ≡ refused n p → StopsAt look d ts n p
 unfolding allPaths
 stops-at look d ts n p known fin h =
-    judged (verdict look known (readWithin look d) (Within look d) (within-got look d) (within-less look d) (bracket look known d) ts)
+    judged (verdict look known (readWithin look d) (Within look d) (within-got look d) (within-leaves look d) (bracket look known d) ts)
   where
     Stopped : ℕ → ℕ → Type 0
-    Stopped m r = Stops look known (readWithin look d) (Within look d) (within-got look d) (within-less look d) (bracket look known d) ts m r
+    Stopped m r = Stops look known (readWithin look d) (Within look d) (within-got look d) (within-leaves look d) (bracket look known d) ts m r
 
     stopped : (m r : ℕ) (x : Stopped m r) (left : List Placed) → x .left ≡ left → StopsAt look d ts m r
     stopped m r x [] e = absurd (false≢true (sym (ap ended (x .split) ∙ x .unended (x .left) ∙ ap ended e) ∙ fin))
@@ -183,7 +184,7 @@ stops-at look d ts n p known fin h =
               (all, c .1, derived-if look d (x .used ++ all) (c .1) [] (x .unended all ∙ c .2 (tok 0 finish ∷ [])) (c .3) .0);
         }
 
-    judged : Verdict look known (readWithin look d) (Within look d) (within-got look d) (within-less look d) (bracket look known d) ts → StopsAt look d ts n p
+    judged : Verdict look known (readWithin look d) (Within look d) (within-got look d) (within-leaves look d) (bracket look known d) ts → StopsAt look d ts n p
     judged (gets q left e) = absurd (let f = sym h ∙ e in let z : _≡_ {A = ℕ} 0 1 = cc in omega arith)
     judged (stops m r x) =
         let same : _≡_ {A = Got Query} (refused m r) (refused n p) = sym (ap (reading look d) (x .split) ∙ x .stands (x .left) (record { token = refl; place = refl })) ∙ h in

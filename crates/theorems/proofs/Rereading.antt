@@ -4,14 +4,14 @@
 use Prim.Native.Nat.{ℕ, zero, suc, _+_, _-_, _≤_, _<_}
 use native.Mathlib.Omega.{arith}
 use mathlib.Core.Path.{_≡_, refl, sym, _∙_, ap, ap₂}
-use mathlib.Core.Bool.{Bool, true, false, _&&_, _||_}
+use mathlib.Core.Bool.{false, _||_}
 use mathlib.Core.List.{List, [], _∷_, _++_, append-assoc, map}
 use mathlib.Core.Option.{Option, some}
 use lib.ListN.{length, getD, drop, length-append}
 use Rattle.paper.specs.Tools.{ascii, same}
-use Rattle.paper.specs.Tokens.{Token, slash, slashes, openSquare, closeSquare, openRound, closeRound, finish, Placed}
-use Rattle.paper.specs.Reading.{Got, got, next, at, sees, says, axisNamed, startsStep}
-use Rattle.paper.specs.Reading.{readPreds, readTail, readTested, readStep, readSteps, readOperand, readAnds, readTerm, readOrs, readExpr, readPath, readPaths, readWithin}
+use Rattle.paper.specs.Tokens.{Token, slash, slashes, openSquare, closeSquare, openRound, closeRound, finish, word, Placed}
+use Rattle.paper.specs.Reading.{Got, got, then, next, at, sees, says, axisNamed, startsStep}
+use Rattle.paper.specs.Reading.{readPreds, readTail, readTested, readStep, readSteps, readOperand, readTerm, readExpr, readPath, readPaths, readWithin}
 use Rattle.paper.specs.Query.{Axis, self, child, parent, descendantOrSelf, ancestorOrSelf, Test, anyNode, textNode, named, anyElement}
 use Rattle.paper.specs.Query.{Expr, path, both, either, negated, Steps, stop, step, Preds, bare, pred}
 use Rattle.paper.specs.Items.{stepCount, predCount}
@@ -19,6 +19,10 @@ use Rattle.paper.specs.Measures.{isAnd, isOr, inBrackets, nestExpr, nestSteps, 
 use Rattle.paper.specs.Printing.{Piece, closePred, openGroup, andWord, orWord, barSign}
 use Rattle.paper.specs.Printing.{closeRound as closeSign}
 use Rattle.paper.specs.Printing.{axisText, grouped, exprPieces, relativePieces, laterPieces, predsPieces, pathPieces, pathsPieces}
+use Rattle.paper.proofs.Same.{same-refl}
+use Rattle.theorems.specs.Grammar.{tok}
+use Rattle.theorems.proofs.Runs.{Run, spelling, andRun, orRun}
+use Rattle.theorems.proofs.Complete.{and-false}
 use Rattle.theorems.proofs.Spelling.{testTokens, pieceTokens, tokensOf, firstPlace, laid, Spelt}
 
 -- The query with other numbers for its names.
@@ -112,10 +116,6 @@ termPieces e = grouped (isOr e) (exprPieces e)
 abbrev operandPieces : Expr → List Piece
 operandPieces e = grouped (isOr e || isAnd e) (exprPieces e)
 
-and-no : (b : Bool) → (b && false) ≡ false
-and-no true = refl
-and-no false = refl
-
 named-axis : (a : Axis) → axisNamed (axisText a) ≡ some a
 named-axis self = refl
 named-axis child = refl
@@ -123,21 +123,52 @@ named-axis parent = refl
 named-axis descendantOrSelf = refl
 named-axis ancestorOrSelf = refl
 
-module _ (P : ℕ → Type 0) (names : List (List ℕ)) (look : List ℕ → Option ℕ) (f : ℕ → ℕ) (finds : (v : ℕ) → P v → look (getD names v []) ≡ some (f v)) where
-  -- A run of `or`: its first term is read, and the others are joined to it.
-  record OrsRead (d : ℕ) (e : Expr) (ts rest : List Placed) : Type 0 where
-    first : Expr
-    left : List Placed
-    reads : readTerm look (readWithin look d) ts ≡ got first left
-    long : orCount e + length rest ≤ length left
-    chain : (m : ℕ) → readOrs look (readWithin look d) (orCount e + m) first left ≡ readOrs look (readWithin look d) m (newExpr f e) rest
+-- A left-grouped run of n operators: its first operand is read, and the others are joined to it.
+record RunRead (run : Run) (n : ℕ) (e : Expr) (ts rest : List Placed) : Type 0 where
+  first : Expr
+  left : List Placed
+  reads : run .one ts ≡ got first left
+  long : n + length rest ≤ length left
+  chain : (m : ℕ) → run .more (n + m) first left ≡ run .more m e rest
 
-  record AndsRead (d : ℕ) (e : Expr) (ts rest : List Placed) : Type 0 where
-    first : Expr
-    left : List Placed
-    reads : readOperand look (readWithin look d) ts ≡ got first left
-    long : andCount e + length rest ≤ length left
-    chain : (m : ℕ) → readAnds look (readWithin look d) (andCount e + m) first left ≡ readAnds look (readWithin look d) m (newExpr f e) rest
+-- One operand alone;
+run-one : (run : Run) (n : ℕ) (e : Expr) (ts rest : List Placed) → n ≡ 0 → run .one ts ≡ got e rest → RunRead run n e ts rest
+run-one run n e ts rest none h = record { first = e; left = rest; reads = h; long = omega arith; chain = λ m. let k : n + m ≡ m = omega arith in rw k }
+
+-- one operand more, behind the word;
+run-more : (run : Run) (n p : ℕ) (a b : Expr) (ts us rest : List Placed) → RunRead run n a ts (tok p (word (spelling run)) ∷ us) → run .one us ≡ got b rest → length rest ≤ length us
+    → RunRead run (suc n) (run .join a b) ts rest
+run-more run n p a b ts us rest r h l =
+    record {
+      first = r .first;
+      left = r .left;
+      reads = r .reads;
+      long = omega (arith, r .long);
+      chain = λ m. let k : suc n + m ≡ n + suc m = omega arith in
+          rw k (r .chain (suc m) ∙ run .goes m a (tok p (word (spelling run)) ∷ us) ∙ rw (same-refl (spelling run), h));
+    }
+
+-- and the whole run, which ends where its word does not follow.
+run-ends : (run : Run) (m : ℕ) (e : Expr) (rest : List Placed) → says (spelling run) rest ≡ false → run .more m e rest ≡ got e rest
+run-ends run zero e rest h = run .stops e rest
+run-ends run (suc m) e rest h = run .goes m e rest ∙ rw h
+
+run-whole : (run : Run) (n : ℕ) (e : Expr) (ts rest : List Placed) → RunRead run n e ts rest → says (spelling run) rest ≡ false
+    → then (run .one ts) (λ a left. run .more (length left) a left) ≡ got e rest
+run-whole run n e ts rest r h = rw (r .reads) (go (length (r .left)) (r .long))
+  where
+    go : (m : ℕ) → n + length rest ≤ m → run .more m (r .first) (r .left) ≡ got e rest
+    go m l =
+        let k : m ≡ n + (m - n) = omega arith in
+        rw k (r .chain (m - n) ∙ run-ends run (m - n) e rest h)
+
+module _ (P : ℕ → Type 0) (names : List (List ℕ)) (look : List ℕ → Option ℕ) (f : ℕ → ℕ) (finds : (v : ℕ) → P v → look (getD names v []) ≡ some (f v)) where
+  -- An expression as a run of `or`, and as a run of `and`.
+  abbrev OrsRead : ℕ → Expr → List Placed → List Placed → Type 0
+  OrsRead d e ts rest = RunRead (orRun look (readWithin look d)) (orCount e) (newExpr f e) ts rest
+
+  abbrev AndsRead : ℕ → Expr → List Placed → List Placed → Type 0
+  AndsRead d e ts rest = RunRead (andRun look (readWithin look d)) (andCount e) (newExpr f e) ts rest
 
   -- What reading makes of a printed expression, on the three levels.
   record Reads (e : Expr) : Type 0 where
@@ -148,32 +179,21 @@ module _ (P : ℕ → Type 0) (names : List (List ℕ)) (look : List ℕ → Opt
     operand : (d : ℕ) (places : List ℕ) (rest : List Placed) → inBrackets (isOr e || isAnd e) (nestExpr e) ≤ d → Calm rest
         → readOperand look (readWithin look d) (laid places (tokensOf names (operandPieces e)) rest) ≡ got (newExpr f e) rest
 
-  -- A run ends where its word does not follow.
-  ors-end : (d m : ℕ) (e : Expr) (rest : List Placed) → says (ascii "or") rest ≡ false → readOrs look (readWithin look d) m e rest ≡ got e rest
-  ors-end d zero e rest h = refl
-  ors-end d (suc m) e rest h = rw h
-
-  ands-end : (d m : ℕ) (e : Expr) (rest : List Placed) → says (ascii "and") rest ≡ false → readAnds look (readWithin look d) m e rest ≡ got e rest
-  ands-end d zero e rest h = refl
-  ands-end d (suc m) e rest h = rw h
-
+  -- The whole of it is read where its word does not follow.
   whole-read : (d : ℕ) (e : Expr) (ts rest : List Placed) → OrsRead d e ts rest → says (ascii "or") rest ≡ false → readExpr look (readWithin look d) ts ≡ got (newExpr f e) rest
   unfolding readExpr
-  whole-read d e ts rest o h = rw (o .reads) (go (length (o .left)) (o .long))
-    where
-      go : (n : ℕ) → orCount e + length rest ≤ n → readOrs look (readWithin look d) n (o .first) (o .left) ≡ got (newExpr f e) rest
-      go n l =
-          let k : n ≡ orCount e + (n - orCount e) = omega arith in
-          rw k (o .chain (n - orCount e) ∙ ors-end d (n - orCount e) (newExpr f e) rest h)
+  whole-read d e ts rest o h = run-whole (orRun look (readWithin look d)) (orCount e) (newExpr f e) ts rest o h
 
   term-read : (d : ℕ) (e : Expr) (ts rest : List Placed) → AndsRead d e ts rest → says (ascii "and") rest ≡ false → readTerm look (readWithin look d) ts ≡ got (newExpr f e) rest
   unfolding readTerm
-  term-read d e ts rest o h = rw (o .reads) (go (length (o .left)) (o .long))
-    where
-      go : (n : ℕ) → andCount e + length rest ≤ n → readAnds look (readWithin look d) n (o .first) (o .left) ≡ got (newExpr f e) rest
-      go n l =
-          let k : n ≡ andCount e + (n - andCount e) = omega arith in
-          rw k (o .chain (n - andCount e) ∙ ands-end d (n - andCount e) (newExpr f e) rest h)
+  term-read d e ts rest o h = run-whole (andRun look (readWithin look d)) (andCount e) (newExpr f e) ts rest o h
+
+  -- A term is an expression, and an operand is a term, each with no operator of its own.
+  as-whole : (d : ℕ) (e : Expr) (ts rest : List Placed) → orCount e ≡ 0 → AndsRead d e ts rest → says (ascii "and") rest ≡ false → OrsRead d e ts rest
+  as-whole d e ts rest z t n = run-one (orRun look (readWithin look d)) (orCount e) (newExpr f e) ts rest z (term-read d e ts rest t n)
+
+  as-term : (d : ℕ) (e : Expr) (ts rest : List Placed) → andCount e ≡ 0 → readOperand look (readWithin look d) ts ≡ got (newExpr f e) rest → AndsRead d e ts rest
+  as-term d e ts rest z h = run-one (andRun look (readWithin look d)) (andCount e) (newExpr f e) ts rest z h
 
   -- What stands in a bracket that is closed by a token of no word.
   in-bracket : (e : Expr) → Reads e → (d place : ℕ) (places : List ℕ) (rest : List Placed) → suc (nestExpr e) ≤ d → Calm rest → says (ascii "and") rest ≡ false → says (ascii "or") rest ≡ false
@@ -192,24 +212,10 @@ module _ (P : ℕ → Type 0) (names : List (List ℕ)) (look : List ℕ → Opt
   plain e o a oc ac read = record { expr = whole-of; term = term-of; operand = operand-of }
     where
       term-at : (d : ℕ) (places : List ℕ) (rest : List Placed) → nestExpr e ≤ d → Calm rest → AndsRead d e (laid places (tokensOf names (exprPieces e)) rest) rest
-      term-at d places rest h c =
-          record {
-            first = newExpr f e;
-            left = rest;
-            reads = read d places rest h c;
-            long = omega arith;
-            chain = λ m. let k : andCount e + m ≡ m = omega arith in rw k;
-          }
+      term-at d places rest h c = as-term d e (laid places (tokensOf names (exprPieces e)) rest) rest ac (read d places rest h c)
 
       whole-of : (d : ℕ) (places : List ℕ) (rest : List Placed) → nestExpr e ≤ d → Calm rest → says (ascii "and") rest ≡ false → OrsRead d e (laid places (tokensOf names (exprPieces e)) rest) rest
-      whole-of d places rest h c n =
-          record {
-            first = newExpr f e;
-            left = rest;
-            reads = term-read d e (laid places (tokensOf names (exprPieces e)) rest) rest (term-at d places rest h c) n;
-            long = omega arith;
-            chain = λ m. let k : orCount e + m ≡ m = omega arith in rw k;
-          }
+      whole-of d places rest h c n = as-whole d e (laid places (tokensOf names (exprPieces e)) rest) rest oc (term-at d places rest h c) n
 
       term-of : (d : ℕ) (places : List ℕ) (rest : List Placed) → inBrackets (isOr e) (nestExpr e) ≤ d → Calm rest → AndsRead d e (laid places (tokensOf names (termPieces e)) rest) rest
       term-of d places rest h c = rw o (term-at d places rest (rw o at h) c)
@@ -258,17 +264,13 @@ module _ (P : ℕ → Type 0) (names : List (List ℕ)) (look : List ℕ → Opt
           let tail = laid there (tokensOf names (orWord ∷ termPieces b)) rest in
           let oa = ra .expr d places tail (omega arith) (record { no-square = refl; no-slash = refl; no-slashes = refl; no-round = refl }) refl in
           let tb = term-read d b (laid (drop 1 there) (tokensOf names (termPieces b)) rest) rest (rb .term d (drop 1 there) rest (omega arith) c) n in
-          record {
-            first = oa .first;
-            left = oa .left;
-            reads = rw (shown names places (exprPieces a) (orWord ∷ termPieces b) rest) (oa .reads);
-            long = omega (arith, oa .long, laid-long (drop 1 there) (tokensOf names (termPieces b)) rest);
-            chain = λ m. let k : suc (orCount a) + m ≡ orCount a + suc m = omega arith in rw k (oa .chain (suc m) ∙ rw tb);
-          }
+          let us = laid (drop 1 there) (tokensOf names (termPieces b)) rest in
+          rw (shown names places (exprPieces a) (orWord ∷ termPieces b) rest)
+          (run-more (orRun look (readWithin look d)) (orCount a) (firstPlace there) (newExpr f a) (newExpr f b) (laid places (tokensOf names (exprPieces a)) tail) us rest oa tb
+          (omega (arith, laid-long (drop 1 there) (tokensOf names (termPieces b)) rest)))
 
       term-of : (d : ℕ) (places : List ℕ) (rest : List Placed) → 1 + nestExpr e ≤ d → Calm rest → AndsRead d e (laid places (tokensOf names (termPieces e)) rest) rest
-      term-of d places rest h c =
-          record { first = newExpr f e; left = rest; reads = group e whole-of d places rest (omega arith); long = omega arith; chain = λ m. let k : 0 + m ≡ m = omega arith in rw k }
+      term-of d places rest h c = as-term d e (laid places (tokensOf names (termPieces e)) rest) rest refl (group e whole-of d places rest (omega arith))
 
   -- `and`.
   read-both : (a b : Expr) → Reads a → Reads b → Reads (both a b)
@@ -283,23 +285,13 @@ module _ (P : ℕ → Type 0) (names : List (List ℕ)) (look : List ℕ → Opt
           let tail = laid there (tokensOf names (andWord ∷ operandPieces b)) rest in
           let oa = ra .term d places tail (omega arith) (record { no-square = refl; no-slash = refl; no-slashes = refl; no-round = refl }) in
           let ob = rb .operand d (drop 1 there) rest (omega arith) c in
-          record {
-            first = oa .first;
-            left = oa .left;
-            reads = rw (shown names places (termPieces a) (andWord ∷ operandPieces b) rest) (oa .reads);
-            long = omega (arith, oa .long, laid-long (drop 1 there) (tokensOf names (operandPieces b)) rest);
-            chain = λ m. let k : suc (andCount a) + m ≡ andCount a + suc m = omega arith in rw k (oa .chain (suc m) ∙ rw ob);
-          }
+          let us = laid (drop 1 there) (tokensOf names (operandPieces b)) rest in
+          rw (shown names places (termPieces a) (andWord ∷ operandPieces b) rest)
+          (run-more (andRun look (readWithin look d)) (andCount a) (firstPlace there) (newExpr f a) (newExpr f b) (laid places (tokensOf names (termPieces a)) tail) us rest oa ob
+          (omega (arith, laid-long (drop 1 there) (tokensOf names (operandPieces b)) rest)))
 
       whole-of : (d : ℕ) (places : List ℕ) (rest : List Placed) → nestExpr e ≤ d → Calm rest → says (ascii "and") rest ≡ false → OrsRead d e (laid places (tokensOf names (exprPieces e)) rest) rest
-      whole-of d places rest h c n =
-          record {
-            first = newExpr f e;
-            left = rest;
-            reads = term-read d e (laid places (tokensOf names (exprPieces e)) rest) rest (term-of d places rest h c) n;
-            long = omega arith;
-            chain = λ m. let k : 0 + m ≡ m = omega arith in rw k;
-          }
+      whole-of d places rest h c n = as-whole d e (laid places (tokensOf names (exprPieces e)) rest) rest refl (term-of d places rest h c) n
 
   -- What reading makes of printed predicates and steps.
   abbrev ReadsPreds : Preds → Type 0
@@ -356,20 +348,18 @@ module _ (P : ℕ → Type 0) (names : List (List ℕ)) (look : List ℕ → Opt
   pred-tokens (pred e ps) =
       rw (tokens-append names (exprPieces e) (closePred ∷ predsPieces ps)) (omega (arith, pred-tokens ps, length-append (tokensOf names (exprPieces e)) (closeSquare ∷ tokensOf names (predsPieces ps))))
 
-  mutual
-    step-tokens : (s : Steps) → stepCount s ≤ length (tokensOf names (relativePieces s))
-    step-tokens stop = omega arith
-    step-tokens (step a t ps rest) =
-        let l = later-tokens rest in
-        rw (tokens-append names (predsPieces ps) (laterPieces rest))
-        (omega (arith, length-append (testTokens names t) (tokensOf names (predsPieces ps) ++ tokensOf names (laterPieces rest)), length-append (tokensOf names (predsPieces ps)) (tokensOf names (laterPieces rest))))
+  one-step-tokens : (a : Axis) (t : Test) (ps : Preds) (rest : Steps) → stepCount rest ≤ length (tokensOf names (laterPieces rest)) → suc (stepCount rest) ≤ length (tokensOf names (relativePieces (step a t ps rest)))
+  one-step-tokens a t ps rest l =
+      rw (tokens-append names (predsPieces ps) (laterPieces rest))
+      (omega (arith, length-append (testTokens names t) (tokensOf names (predsPieces ps) ++ tokensOf names (laterPieces rest)), length-append (tokensOf names (predsPieces ps)) (tokensOf names (laterPieces rest))))
 
-    later-tokens : (s : Steps) → stepCount s ≤ length (tokensOf names (laterPieces s))
-    later-tokens stop = omega arith
-    later-tokens (step a t ps rest) =
-        let l = later-tokens rest in
-        rw (tokens-append names (predsPieces ps) (laterPieces rest))
-        (omega (arith, length-append (testTokens names t) (tokensOf names (predsPieces ps) ++ tokensOf names (laterPieces rest)), length-append (tokensOf names (predsPieces ps)) (tokensOf names (laterPieces rest))))
+  later-tokens : (s : Steps) → stepCount s ≤ length (tokensOf names (laterPieces s))
+  later-tokens stop = omega arith
+  later-tokens (step a t ps rest) = omega (arith, one-step-tokens a t ps rest (later-tokens rest))
+
+  step-tokens : (s : Steps) → stepCount s ≤ length (tokensOf names (relativePieces s))
+  step-tokens stop = omega arith
+  step-tokens (step a t ps rest) = one-step-tokens a t ps rest (later-tokens rest)
 
   -- A step, and what follows it.
   module _ (a : Axis) (t : Test) (ps : Preds) (s : Steps) (places : List ℕ) (rest : List Placed) where
@@ -418,7 +408,7 @@ module _ (P : ℕ → Type 0) (names : List (List ℕ)) (look : List ℕ → Opt
       (λ d places rest h c.
       let ts = laid places (tokensOf names (relativePieces (step a t ps s))) rest in
       rw (
-        and-no (same (ascii "not") (axisText a)),
+        and-false (same (ascii "not") (axisText a)),
         rs d (length ts) places rest h o (omega (arith, step-tokens (step a t ps s), laid-long places (tokensOf names (relativePieces (step a t ps s))) rest)) c,
       ))
 

@@ -56,22 +56,30 @@ pub seen : (t : Token) (ts : List Placed) → is t finish ≡ false → sees t t
 seen t [] n h = absurd (false≢true (sym n ∙ h))
 seen t (u ∷ us) n h = ap (λ x. tok (u .place) x ∷ us) (sym (same-sort t (u .token) h))
 
+-- What is no word has no letters.
+pub not-word : (t : Token) → is (word []) t ≡ false → letters t ≡ []
+not-word slash h = refl
+not-word slashes h = refl
+not-word dot h = refl
+not-word dots h = refl
+not-word colons h = refl
+not-word bar h = refl
+not-word openSquare h = refl
+not-word closeSquare h = refl
+not-word openRound h = refl
+not-word closeRound h = refl
+not-word star h = refl
+not-word finish h = refl
+not-word stray h = refl
+not-word (word w) h = absurd (false≢true (sym h))
+
 -- What has letters is a word.
 has-letters : (x : ℕ) (w : List ℕ) (t : Token) → x ∷ w ≡ letters t → word (x ∷ w) ≡ t
-has-letters x w slash h = absurd (let z : _≡_ {A = ℕ} 0 1 = cc in omega arith)
-has-letters x w slashes h = absurd (let z : _≡_ {A = ℕ} 0 1 = cc in omega arith)
-has-letters x w dot h = absurd (let z : _≡_ {A = ℕ} 0 1 = cc in omega arith)
-has-letters x w dots h = absurd (let z : _≡_ {A = ℕ} 0 1 = cc in omega arith)
-has-letters x w colons h = absurd (let z : _≡_ {A = ℕ} 0 1 = cc in omega arith)
-has-letters x w bar h = absurd (let z : _≡_ {A = ℕ} 0 1 = cc in omega arith)
-has-letters x w openSquare h = absurd (let z : _≡_ {A = ℕ} 0 1 = cc in omega arith)
-has-letters x w closeSquare h = absurd (let z : _≡_ {A = ℕ} 0 1 = cc in omega arith)
-has-letters x w openRound h = absurd (let z : _≡_ {A = ℕ} 0 1 = cc in omega arith)
-has-letters x w closeRound h = absurd (let z : _≡_ {A = ℕ} 0 1 = cc in omega arith)
-has-letters x w star h = absurd (let z : _≡_ {A = ℕ} 0 1 = cc in omega arith)
-has-letters x w finish h = absurd (let z : _≡_ {A = ℕ} 0 1 = cc in omega arith)
-has-letters x w stray h = absurd (let z : _≡_ {A = ℕ} 0 1 = cc in omega arith)
-has-letters x w (word v) h = ap word h
+has-letters x w t h = go (is (word []) t) refl
+  where
+    go : (b : Bool) → is (word []) t ≡ b → word (x ∷ w) ≡ t
+    go true k = ap word h ∙ same-sort (word []) t k
+    go false k = absurd (let e : x ∷ w ≡ [] = h ∙ not-word t k in let z : _≡_ {A = ℕ} 0 1 = cc in omega arith)
 
 pub lettered : (x : ℕ) (w : List ℕ) (ts : List Placed) → x ∷ w ≡ letters (next ts) → ts ≡ tok (at ts) (word (x ∷ w)) ∷ drop 1 ts
 lettered x w [] h = absurd (let z : _≡_ {A = ℕ} 0 1 = cc in omega arith)

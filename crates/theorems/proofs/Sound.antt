@@ -9,15 +9,16 @@ use lib.ListN.{length, drop}
 use Rattle.paper.specs.Tools.{ascii}
 use Rattle.paper.specs.Tokens.{Token, slash, slashes, dot, dots, colons, bar, openSquare, closeSquare, openRound, closeRound, star, finish, word, sort, is, letters, Placed}
 use Rattle.paper.specs.Query.{Axis, self, child, parent, Test, anyNode, textNode, named, anyElement}
-use Rattle.paper.specs.Query.{Expr, both, either, negated, Steps, stop, Preds, bare, pred, Query}
+use Rattle.paper.specs.Query.{Expr, negated, Steps, stop, Preds, bare, pred, Query}
 use Rattle.paper.specs.Reading.{Got, got, then, next, at, sees, says, pass, axisNamed, axisAhead, Step, deep, startsStep}
-use Rattle.paper.specs.Reading.{readPreds, readTail, readName, readTested, readAxis, readStep, readSteps, readOperand, readAnds, readTerm, readOrs, readExpr, readPath, readPaths, readWithin}
+use Rattle.paper.specs.Reading.{readPreds, readTail, readName, readTested, readAxis, readStep, readSteps, readOperand, readTerm, readExpr, readPath, readPaths, readWithin}
 use Rattle.paper.proofs.Tests.{and-true, none-some}
 use Rattle.theorems.specs.Grammar.{tok, PredsIn, no-pred, one-pred, TestIn, star-test, node-test, text-test, name-test}
 use Rattle.theorems.specs.Grammar.{StepIn, dot-step, dots-step, child-step, axis-step, StepsIn, last-step, slash-step, slashes-step}
 use Rattle.theorems.specs.Grammar.{OperandIn, path-operand, round-operand, not-operand, TermIn, one-operand, and-operand, ExprIn, one-term, or-term}
 use Rattle.theorems.specs.Grammar.{PathIn, root-path, slash-path, slashes-path, QueryIn, one-path, bar-path, Within}
 use Rattle.theorems.proofs.Seeing.{ofSort, seen, lettered, said, chosen, not-got, as-got, got-value, got-left, then-got, passed}
+use Rattle.theorems.proofs.Runs.{Run, spelling, andRun, orRun, run-keeps}
 
 pub drop-two : (ts : List Placed) → drop 1 (drop 1 ts) ≡ drop 2 ts
 drop-two [] = refl
@@ -174,40 +175,25 @@ module _ (look : List ℕ → Option ℕ) (within : ℕ → List Placed → Got 
       then-got (readSteps look within (length ts) ts) _ e
       (λ s mid u v. as-got (λ z m. OperandIn look Inside ts z m) v (path-operand (steps-got (length ts) ts s mid u)))))
 
-  -- A term: the operands that `and` joins are added to what was read before them.
-  ands-got : (n : ℕ) (a : Expr) (start ts : List Placed) (e : Expr) (left : List Placed) → TermIn look Inside start a ts → readAnds look within n a ts ≡ got e left
-      → TermIn look Inside start e left
-  ands-got zero a start ts e left d h = as-got (λ z m. TermIn look Inside start z m) h d
-  ands-got (suc n) a start ts e left d h =
-      chosen (says (ascii "and") ts) h
-      (λ c k.
-      then-got (readOperand look within (drop 1 ts)) _ k
-      (λ b mid u v.
-      ands-got n (both a b) start mid e left
-      (and-operand (subst (λ m. TermIn look Inside start a m) (said 97 (ascii "nd") ts c) d) (operand-got (drop 1 ts) b mid u)) v))
-      (λ c k. as-got (λ z m. TermIn look Inside start z m) k d)
+  -- A run: the operands that its word joins are added to what was read before them.
+  run-got : (run : Run) (F G : List Placed → Expr → List Placed → Type 0) → ((ts rest : List Placed) (e : Expr) → G ts e rest → F ts e rest)
+      → ((p : ℕ) (ts us rest : List Placed) (a b : Expr) → F ts a (tok p (word (spelling run)) ∷ us) → G us b rest → F ts (run .join a b) rest)
+      → ((ts : List Placed) (e : Expr) (left : List Placed) → run .one ts ≡ got e left → G ts e left)
+      → (ts : List Placed) (e : Expr) (left : List Placed) → then (run .one ts) (λ a mid. run .more (length mid) a mid) ≡ got e left → F ts e left
+  run-got run F G alone joins one ts e left h =
+      then-got (run .one ts) _ h
+      (λ a mid u v.
+      run-keeps run (F ts) (λ r. r ≡ got e left → F ts e left) (λ b us d k. as-got (F ts) k d)
+      (λ p b us d next k q. then-got (run .one us) next q (λ c rest w x. k c rest (joins p ts us rest b c d (one us c rest w)) x)) (length mid) a mid (alone ts mid a (one ts a mid u)) v)
 
   pub term-got : (ts : List Placed) (e : Expr) (left : List Placed) → readTerm look within ts ≡ got e left → TermIn look Inside ts e left
   unfolding readTerm
-  term-got ts e left h =
-      then-got (readOperand look within ts) _ h (λ a mid u v. ands-got (length mid) a ts mid e left (one-operand (operand-got ts a mid u)) v)
-
-  -- An expression: so with `or`.
-  ors-got : (n : ℕ) (a : Expr) (start ts : List Placed) (e : Expr) (left : List Placed) → ExprIn look Inside start a ts → readOrs look within n a ts ≡ got e left
-      → ExprIn look Inside start e left
-  ors-got zero a start ts e left d h = as-got (λ z m. ExprIn look Inside start z m) h d
-  ors-got (suc n) a start ts e left d h =
-      chosen (says (ascii "or") ts) h
-      (λ c k.
-      then-got (readTerm look within (drop 1 ts)) _ k
-      (λ b mid u v.
-      ors-got n (either a b) start mid e left
-      (or-term (subst (λ m. ExprIn look Inside start a m) (said 111 (ascii "r") ts c) d) (term-got (drop 1 ts) b mid u)) v))
-      (λ c k. as-got (λ z m. ExprIn look Inside start z m) k d)
+  term-got =
+      run-got (andRun look within) (TermIn look Inside) (OperandIn look Inside) (λ ts rest e d. one-operand d) (λ p ts us rest a b d f. and-operand d f) operand-got
 
   pub expr-got : (ts : List Placed) (e : Expr) (left : List Placed) → readExpr look within ts ≡ got e left → ExprIn look Inside ts e left
   unfolding readExpr
-  expr-got ts e left h = then-got (readTerm look within ts) _ h (λ a mid u v. ors-got (length mid) a ts mid e left (one-term (term-got ts a mid u)) v)
+  expr-got = run-got (orRun look within) (ExprIn look Inside) (TermIn look Inside) (λ ts rest e d. one-term d) (λ p ts us rest a b d f. or-term d f) term-got
 
   -- An absolute path.
   pub path-got : (ts : List Placed) (s : Steps) (left : List Placed) → readPath look within ts ≡ got s left → PathIn look Inside ts s left

@@ -3,7 +3,7 @@
 use Prim.Native.Nat.{ℕ, zero, suc, _≤_, _<_}
 use native.Mathlib.Omega.{arith}
 use mathlib.Core.Path.{_≡_, refl, sym, _∙_, ap, ap₂, subst}
-use mathlib.Core.Bool.{Bool, true, false, _&&_, cond, false≢true}
+use mathlib.Core.Bool.{Bool, true, false, _&&_, _||_, cond, false≢true}
 use mathlib.Core.List.{List, [], _∷_, _++_, append-assoc}
 use mathlib.Core.Logic.{_⊎_, inl, inr}
 use mathlib.Core.Option.{Option, none, some}
@@ -11,14 +11,17 @@ use lib.ListN.{length, drop, length-append}
 use Rattle.paper.specs.Tools.{ascii, same}
 use Rattle.paper.specs.Tokens.{Token, slash, slashes, dot, dots, colons, bar, openSquare, closeSquare, openRound, closeRound, star, finish, stray, word, is, letters, Placed}
 use Rattle.paper.specs.Query.{Axis, self, child, parent, Test, anyNode, textNode, named, anyElement}
-use Rattle.paper.specs.Query.{Expr, path, both, either, negated, Steps, stop, Preds, bare, pred, Query, paths}
+use Rattle.paper.specs.Query.{Expr, path, negated, Steps, stop, Preds, bare, pred, Query, paths}
 use Rattle.paper.specs.Reading.{Got, got, refused, then, next, at, sees, says, wrong, pass, axisNamed, axisAhead, Step, before, deep, startsStep}
 use Rattle.paper.specs.Reading.{readTail, readTested, readStep, readOperand, readTerm, readExpr, readPath}
 use Rattle.paper.proofs.Tests.{and-true, none-some}
-use Rattle.paper.proofs.Same.{same-equal}
+use Rattle.paper.proofs.Refusing.{or-none}
+use Rattle.paper.proofs.Same.{same-equal, same-refl}
 use Rattle.theorems.specs.Grammar.{tok, ended}
-use Rattle.theorems.proofs.Seeing.{seen, said, chosen}
-use Rattle.theorems.proofs.Fuel.{allPreds, allSteps, allAnds, allOrs, allPaths, preds-on, steps-on, ands-on, ors-on, paths-on}
+use Rattle.theorems.proofs.Seeing.{not-word, seen, said, chosen}
+use Rattle.theorems.proofs.Leaving.{Leaves}
+use Rattle.theorems.proofs.Runs.{Run, spelling, andRun, orRun}
+use Rattle.theorems.proofs.Fuel.{allPreds, allSteps, allRun, runTurn, allPaths, preds-on, steps-on, ands-on, ors-on, paths-on}
 use Rattle.theorems.proofs.Complete.{and-false, square-done, round-done}
 use Rattle.theorems.proofs.Local.{Alike, Shuts, Follows, like, shut, Unended, Fails, Local, takes, fails, Default}
 use Rattle.theorems.proofs.Local.{local-cons, local-same, local-when, local-got, local-then, local-map, local-pass, default-pass}
@@ -45,23 +48,6 @@ shorter us used left s = omega (arith, simp length-append at (ap length s))
 default-map : {A B : Type 0} (g : A → B) {f : List Placed → Got A} → Default f → Default (λ us. then (f us) (λ a. got (g a)))
 default-map g d = record { more = d .more; value = g (d .value); open-end = d .open-end; shuts = d .shuts; reads = λ us s. ap (λ r. then r (λ a. got (g a))) (d .reads us s) }
 
--- What is no word has no letters.
-not-word : (t : Token) → is (word []) t ≡ false → letters t ≡ []
-not-word slash h = refl
-not-word slashes h = refl
-not-word dot h = refl
-not-word dots h = refl
-not-word colons h = refl
-not-word bar h = refl
-not-word openSquare h = refl
-not-word closeSquare h = refl
-not-word openRound h = refl
-not-word closeRound h = refl
-not-word star h = refl
-not-word finish h = refl
-not-word stray h = refl
-not-word (word w) h = absurd (false≢true (sym h))
-
 -- What starts no step is none of the tokens that do.
 record Stuck (t : Token) : Type 0 where
   no-word : is (word []) t ≡ false
@@ -70,20 +56,11 @@ record Stuck (t : Token) : Type 0 where
   no-dots : is dots t ≡ false
 
 stuck : (t : Token) → startsStep t ≡ false → Stuck t
-stuck slash h = record { no-word = refl; no-star = refl; no-dot = refl; no-dots = refl }
-stuck slashes h = record { no-word = refl; no-star = refl; no-dot = refl; no-dots = refl }
-stuck dot h = absurd (false≢true (sym h))
-stuck dots h = absurd (false≢true (sym h))
-stuck colons h = record { no-word = refl; no-star = refl; no-dot = refl; no-dots = refl }
-stuck bar h = record { no-word = refl; no-star = refl; no-dot = refl; no-dots = refl }
-stuck openSquare h = record { no-word = refl; no-star = refl; no-dot = refl; no-dots = refl }
-stuck closeSquare h = record { no-word = refl; no-star = refl; no-dot = refl; no-dots = refl }
-stuck openRound h = record { no-word = refl; no-star = refl; no-dot = refl; no-dots = refl }
-stuck closeRound h = record { no-word = refl; no-star = refl; no-dot = refl; no-dots = refl }
-stuck star h = absurd (false≢true (sym h))
-stuck finish h = record { no-word = refl; no-star = refl; no-dot = refl; no-dots = refl }
-stuck stray h = record { no-word = refl; no-star = refl; no-dot = refl; no-dots = refl }
-stuck (word w) h = absurd (false≢true (sym h))
+stuck t h =
+    let three = or-none (is (word []) t || is star t || is dot t) (is dots t) h in
+    let two = or-none (is (word []) t || is star t) (is dot t) (three .0) in
+    let one = or-none (is (word []) t) (is star t) (two .0) in
+    record { no-word = one .0; no-star = one .1; no-dot = two .1; no-dots = three .1 }
 
 -- What starts a step is not `(`, and no end.
 starts-plain : (t : Token) → startsStep t ≡ true → (is openRound t ≡ false) × (is finish t ≡ false)
@@ -147,11 +124,11 @@ local-bracket {f = f} within after p t ts n e o c (too-many h) =
 module _ (look : List ℕ → Option ℕ) (total : (w : List ℕ) → (v : ℕ) × (look w ≡ some v)) (within : ℕ → List Placed → Got Expr)
     (Read : List Placed → Expr → List Placed → Type 0)
     (sound : (p : ℕ) (ts : List Placed) (e : Expr) (left : List Placed) → within p ts ≡ got e left → Read ts e left)
-    (less : (ts : List Placed) (e : Expr) (rest : List Placed) → Read ts e rest → length rest ≤ length ts)
+    (leaves : (ts : List Placed) (e : Expr) (rest : List Placed) → Read ts e rest → Leaves ts rest)
     (inside : (p : ℕ) (ts : List Placed) → Bracket within p ts) where
   -- Predicates.
   default-preds : Default (allPreds look within)
-  default-preds = record { more = []; value = bare; open-end = λ us. refl; shuts = λ us s. s; reads = λ us s. preds-on look within Read sound less us ∙ rw (s .done .over .stepped .square) }
+  default-preds = record { more = []; value = bare; open-end = λ us. refl; shuts = λ us s. s; reads = λ us s. preds-on look within Read sound leaves us ∙ rw (s .done .over .stepped .square) }
 
   preds-turn : (n : ℕ) → ((us : List Placed) → length us < n → Local true (allPreds look within) us) → (ts : List Placed) → length ts < suc n → Local true (allPreds look within) ts
   preds-turn n rec ts l = go (sees openSquare ts) refl
@@ -164,7 +141,7 @@ module _ (look : List ℕ → Option ℕ) (total : (w : List ℕ) → (v : ℕ) 
           let head = seen openSquare ts refl h in
           let one : length ts ≡ suc (length (drop 1 ts)) = ap length head in
           subst (λ m. Local true (allPreds look within) m) (sym head)
-          (local-bracket within after (at ts) openSquare (drop 1 ts) refl (λ us. preds-on look within Read sound less (tok (at ts) openSquare ∷ us))
+          (local-bracket within after (at ts) openSquare (drop 1 ts) refl (λ us. preds-on look within Read sound leaves (tok (at ts) openSquare ∷ us))
           (λ m.
           local-then (λ e left. then (allPreds look within left) (λ ps. got (pred e ps)))
           (local-then (pass closeSquare) m (λ e used left s. local-pass closeSquare refl refl refl (λ w. refl) square-shuts e left)
@@ -175,7 +152,7 @@ module _ (look : List ℕ → Option ℕ) (total : (w : List ℕ) → (v : ℕ) 
           (inside (at ts) (drop 1 ts)))
       go false h =
           takes bare [] ts refl (λ us. refl)
-          (λ us f. preds-on look within Read sound less us ∙ rw (follow (is openSquare) f h (λ s. s .done .over .stepped .square)))
+          (λ us f. preds-on look within Read sound leaves us ∙ rw (follow (is openSquare) f h (λ s. s .done .over .stepped .square)))
 
   local-preds-below : (n : ℕ) (ts : List Placed) → length ts < n → Local true (allPreds look within) ts
   local-preds-below zero ts l = absurd (omega arith)
@@ -334,11 +311,11 @@ module _ (look : List ℕ → Option ℕ) (total : (w : List ℕ) → (v : ℕ) 
       → Local true (λ us. allSteps look within (tok p t ∷ us)) ts
   unfolding goOn
   steps-from n rec p t ts h l =
-      local-same (λ us. then (readStep look within (tok p t ∷ us)) goOn) (λ us. steps-on look within Read sound less (tok p t ∷ us))
+      local-same (λ us. then (readStep look within (tok p t ∷ us)) goOn) (λ us. steps-on look within Read sound leaves (tok p t ∷ us))
       (local-then goOn (local-step p t ts h) (λ s used left e. local-on n rec s left (omega (arith, shorter ts used left e))) (λ s. default-on s))
 
   no-steps : (us : List Placed) → startsStep (next us) ≡ false → allSteps look within us ≡ wrong us
-  no-steps us h = steps-on look within Read sound less us ∙ rw (no-step us h)
+  no-steps us h = steps-on look within Read sound leaves us ∙ rw (no-step us h)
 
   name-steps : Steps
   name-steps = before (record { axis = child; test = named (total (ascii "a") .0); preds = bare }) stop
@@ -348,7 +325,7 @@ module _ (look : List ℕ → Option ℕ) (total : (w : List ℕ) → (v : ℕ) 
   steps-name us s =
       let one : readStep look within (tok 0 (word (ascii "a")) ∷ us) ≡ got (record { axis = child; test = named (total (ascii "a") .0); preds = bare }) us =
       rw (s .done .over .stepped .colon) (name-reads child us s) in
-      steps-on look within Read sound less (tok 0 (word (ascii "a")) ∷ us) ∙ rw (one, s .done .over .one, s .done .over .two)
+      steps-on look within Read sound leaves (tok 0 (word (ascii "a")) ∷ us) ∙ rw (one, s .done .over .one, s .done .over .two)
 
   steps-turn : (n : ℕ) → ((us : List Placed) → length us < n → Local false (allSteps look within) us) → (ts : List Placed) → length ts < suc n → Local false (allSteps look within) ts
   steps-turn n rec [] l = refuses [] (λ us e. no-steps us (ap startsStep e)) (word (ascii "a")) name-steps refl (λ us s. steps-name us s)
@@ -430,67 +407,39 @@ module _ (look : List ℕ → Option ℕ) (total : (w : List ℕ) → (v : ℕ) 
       go true h = steps (says (ascii "not") (t ∷ ts) && sees openRound ts) refl h
       go false h = other (is openRound (t .token)) refl h
 
-  -- A term.
-  default-ands : (a : Expr) → Default (allAnds look within a)
-  default-ands a = record { more = []; value = a; open-end = λ us. refl; shuts = λ us s. s; reads = λ us s. ands-on look within Read sound less a us ∙ rw (s .done .no-and) }
+  -- A term, and an expression: an operand and the run after it.
+  module _ (run : Run) (on : (a : Expr) (us : List Placed) → allRun run a us ≡ runTurn run (allRun run) a us) (local-one : (ts : List Placed) → Local false (run .one) ts)
+      (no-word : (us : List Placed) → Shuts us → says (spelling run) us ≡ false) where
+    default-run : (a : Expr) → Default (allRun run a)
+    default-run a = record { more = []; value = a; open-end = λ us. refl; shuts = λ us s. s; reads = λ us s. on a us ∙ rw (no-word us s) }
 
-  ands-turn : (n : ℕ) → ((a : Expr) (us : List Placed) → length us < n → Local true (allAnds look within a) us) → (a : Expr) (ts : List Placed) → length ts < suc n
-      → Local true (allAnds look within a) ts
-  ands-turn n rec a ts l = go (says (ascii "and") ts) refl
-    where
-      go : (b : Bool) → says (ascii "and") ts ≡ b → Local true (allAnds look within a) ts
-      go true h =
-          let head = said 97 (ascii "nd") ts h in
-          let one : length ts ≡ suc (length (drop 1 ts)) = ap length head in
-          subst (λ m. Local true (allAnds look within a) m) (sym head)
-          (local-cons (λ us. then (readOperand look within us) (λ b. allAnds look within (both a b))) (tok (at ts) (word (ascii "and"))) refl
-          (λ us. ands-on look within Read sound less a (tok (at ts) (word (ascii "and")) ∷ us))
-          (local-then (λ b. allAnds look within (both a b)) (local-operand (drop 1 ts))
-          (λ b used left s. rec (both a b) left (omega (arith, shorter (drop 1 ts) used left s)))
-          (λ b. default-ands (both a b))))
-      go false h =
-          takes a [] ts refl (λ us. refl)
-          (λ us f. ands-on look within Read sound less a us ∙ rw (follow (λ x. same (ascii "and") (letters x)) f h (λ s. s .done .no-and)))
+    run-turn : (n : ℕ) → ((a : Expr) (us : List Placed) → length us < n → Local true (allRun run a) us) → (a : Expr) (ts : List Placed) → length ts < suc n → Local true (allRun run a) ts
+    run-turn n rec a ts l = go (says (spelling run) ts) refl
+      where
+        go : (b : Bool) → says (spelling run) ts ≡ b → Local true (allRun run a) ts
+        go true h =
+            let head = said (run .initial) (run .others) ts h in
+            let one : length ts ≡ suc (length (drop 1 ts)) = ap length head in
+            subst (λ m. Local true (allRun run a) m) (sym head)
+            (local-cons (λ us. then (run .one us) (λ b. allRun run (run .join a b))) (tok (at ts) (word (spelling run))) refl (λ us. on a (tok (at ts) (word (spelling run)) ∷ us) ∙ rw (same-refl (spelling run)))
+            (local-then (λ b. allRun run (run .join a b)) (local-one (drop 1 ts)) (λ b used left s. rec (run .join a b) left (omega (arith, shorter (drop 1 ts) used left s)))
+            (λ b. default-run (run .join a b))))
+        go false h = takes a [] ts refl (λ us. refl) (λ us f. on a us ∙ rw (follow (λ x. same (spelling run) (letters x)) f h (λ s. no-word us s)))
 
-  local-ands-below : (n : ℕ) (a : Expr) (ts : List Placed) → length ts < n → Local true (allAnds look within a) ts
-  local-ands-below zero a ts l = absurd (omega arith)
-  local-ands-below (suc n) a ts l = ands-turn n (λ b us m. local-ands-below n b us m) a ts l
+    local-run-below : (n : ℕ) (a : Expr) (ts : List Placed) → length ts < n → Local true (allRun run a) ts
+    local-run-below zero a ts l = absurd (omega arith)
+    local-run-below (suc n) a ts l = run-turn n (λ b us m. local-run-below n b us m) a ts l
+
+    local-run : (ts : List Placed) → Local false (λ us. then (run .one us) (allRun run)) ts
+    local-run ts = local-then (allRun run) (local-one ts) (λ a used left s. local-run-below (suc (length left)) a left (omega arith)) default-run
 
   local-term : (ts : List Placed) → Local false (readTerm look within) ts
-  unfolding readTerm allAnds
-  local-term ts =
-      local-then (allAnds look within) (local-operand ts) (λ a used left s. local-ands-below (suc (length left)) a left (omega arith)) (λ a. default-ands a)
-
-  -- An expression.
-  default-ors : (a : Expr) → Default (allOrs look within a)
-  default-ors a = record { more = []; value = a; open-end = λ us. refl; shuts = λ us s. s; reads = λ us s. ors-on look within Read sound less a us ∙ rw (s .done .no-or) }
-
-  ors-turn : (n : ℕ) → ((a : Expr) (us : List Placed) → length us < n → Local true (allOrs look within a) us) → (a : Expr) (ts : List Placed) → length ts < suc n
-      → Local true (allOrs look within a) ts
-  ors-turn n rec a ts l = go (says (ascii "or") ts) refl
-    where
-      go : (b : Bool) → says (ascii "or") ts ≡ b → Local true (allOrs look within a) ts
-      go true h =
-          let head = said 111 (ascii "r") ts h in
-          let one : length ts ≡ suc (length (drop 1 ts)) = ap length head in
-          subst (λ m. Local true (allOrs look within a) m) (sym head)
-          (local-cons (λ us. then (readTerm look within us) (λ b. allOrs look within (either a b))) (tok (at ts) (word (ascii "or"))) refl
-          (λ us. ors-on look within Read sound less a (tok (at ts) (word (ascii "or")) ∷ us))
-          (local-then (λ b. allOrs look within (either a b)) (local-term (drop 1 ts))
-          (λ b used left s. rec (either a b) left (omega (arith, shorter (drop 1 ts) used left s)))
-          (λ b. default-ors (either a b))))
-      go false h =
-          takes a [] ts refl (λ us. refl)
-          (λ us f. ors-on look within Read sound less a us ∙ rw (follow (λ x. same (ascii "or") (letters x)) f h (λ s. s .done .no-or)))
-
-  local-ors-below : (n : ℕ) (a : Expr) (ts : List Placed) → length ts < n → Local true (allOrs look within a) ts
-  local-ors-below zero a ts l = absurd (omega arith)
-  local-ors-below (suc n) a ts l = ors-turn n (λ b us m. local-ors-below n b us m) a ts l
+  unfolding readTerm allRun
+  local-term = local-run (andRun look within) (ands-on look within Read sound leaves) local-operand (λ us s. s .done .no-and)
 
   pub local-expr : (ts : List Placed) → Local false (readExpr look within) ts
-  unfolding readExpr allOrs
-  local-expr ts =
-      local-then (allOrs look within) (local-term ts) (λ a used left s. local-ors-below (suc (length left)) a left (omega arith)) (λ a. default-ors a)
+  unfolding readExpr allRun
+  local-expr = local-run (orRun look within) (ors-on look within Read sound leaves) local-term (λ us s. s .done .no-or)
 
   -- An absolute path.
   local-path : (ts : List Placed) → Local false (readPath look within) ts
@@ -548,14 +497,14 @@ module _ (look : List ℕ → Option ℕ) (total : (w : List ℕ) → (v : ℕ) 
         unended = x .unended;
         number = x .number;
         there = x .there;
-        stands = λ us a. paths-on look within Read sound less (x .used ++ us) ∙ rw (x .stands us a);
+        stands = λ us a. paths-on look within Read sound leaves (x .used ++ us) ∙ rw (x .stands us a);
         completion = λ three.
             let c = x .completion three in
             let fin = tok 0 finish ∷ [] in (
               c .more,
               record { first = c .value; others = [] },
               c .open-end,
-              paths-on look within Read sound less (x .used ++ (c .more ++ fin)) ∙ rw (c .reads fin (finish-shuts 0 [])),
+              paths-on look within Read sound leaves (x .used ++ (c .more ++ fin)) ∙ rw (c .reads fin (finish-shuts 0 [])),
             );
       }
 
@@ -570,7 +519,7 @@ module _ (look : List ℕ → Option ℕ) (total : (w : List ℕ) → (v : ℕ) 
         λ us. took (t ∷ us) (subst (λ l. Follows l (t ∷ us)) (sym head) (like (record { token = refl; place = refl }))) in
         let more : (us : List Placed) → allPaths look within ((used ++ (t ∷ x .used)) ++ us) ≡ then (allPaths look within (x .used ++ us)) (λ q. got (record { first = s; others = paths q })) =
         λ us.
-        ap (allPaths look within) (append-assoc used (t ∷ x .used) us) ∙ paths-on look within Read sound less (used ++ (t ∷ (x .used ++ us))) ∙ rw (begun (x .used ++ us)) in
+        ap (allPaths look within) (append-assoc used (t ∷ x .used) us) ∙ paths-on look within Read sound leaves (used ++ (t ∷ (x .used ++ us))) ∙ rw (begun (x .used ++ us)) in
         record {
           used = used ++ (t ∷ x .used);
           left = x .left;
@@ -597,9 +546,9 @@ module _ (look : List ℕ → Option ℕ) (total : (w : List ℕ) → (v : ℕ) 
           stands = λ us a.
               let no-bar : sees bar us ≡ false = ap (is bar) (sym (a .token)) ∙ b in
               let no-end : sees finish us ≡ false = ap (is finish) (sym (a .token)) ∙ f in
-              paths-on look within Read sound less (used ++ us) ∙ rw (took us (like a), no-bar, no-end, a .place);
+              paths-on look within Read sound leaves (used ++ us) ∙ rw (took us (like a), no-bar, no-end, a .place);
           completion = λ three.
-              ([], record { first = s; others = [] }, λ us. refl, paths-on look within Read sound less (used ++ (tok 0 finish ∷ [])) ∙ rw (took (tok 0 finish ∷ []) (shut (finish-shuts 0 []))));
+              ([], record { first = s; others = [] }, λ us. refl, paths-on look within Read sound leaves (used ++ (tok 0 finish ∷ [])) ∙ rw (took (tok 0 finish ∷ []) (shut (finish-shuts 0 []))));
         }
 
     verdict-on : ((us : List Placed) → length us < length ts → Verdict us) → Verdict ts
@@ -607,7 +556,7 @@ module _ (look : List ℕ → Option ℕ) (total : (w : List ℕ) → (v : ℕ) 
       where
         begun : allPaths look within ts ≡ cond (sees bar left) (then (allPaths look within (drop 1 left)) (λ q. got (record { first = s; others = paths q }))) (pass finish (record { first = s; others = [] }) left)
         begun =
-            paths-on look within Read sound less ts ∙ rw (ap (readPath look within) split ∙ took left (like (record { token = refl; place = refl })))
+            paths-on look within Read sound leaves ts ∙ rw (ap (readPath look within) split ∙ took left (like (record { token = refl; place = refl })))
 
         again : sees bar left ≡ true → Verdict (drop 1 left) → Verdict ts
         again b (gets q l e) = gets (record { first = s; others = paths q }) l (begun ∙ rw (b, e))
