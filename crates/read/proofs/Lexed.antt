@@ -1,8 +1,8 @@
 -- What a token that was taken says of the paper's tokens from there on. Assumes nothing.
-use Prim.Native.Nat.{ℕ, _+_, _≤_, _<_}
+use Prim.Native.Nat.{ℕ, suc, _+_, _≤_, _<_}
 use native.Mathlib.Omega.{arith}
 use mathlib.Core.Path.{_≡_, refl, sym, _∙_, ap, subst}
-use mathlib.Core.Bool.{Bool, true, false, _&&_, _||_, false≢true}
+use mathlib.Core.Bool.{Bool, true, false, _&&_, _||_, cond, false≢true}
 use mathlib.Core.Logic.{⊎-elim}
 use mathlib.Core.List.{List, [], _∷_}
 use lib.Dec.{eqb}
@@ -11,11 +11,11 @@ use lib.Seq.{drop-cons}
 use borrow.Author.Tests.{eq-eqb, ne-eqb, eqb-true}
 use denote.Enum.Declared.{tagOf}
 use types.Run.{OneOf, miss}
-use Rattle.paper.specs.Tools.{same}
+use Rattle.paper.specs.Tools.{begins, same}
 use Rattle.paper.specs.Tokens as paper
 use Rattle.paper.specs.Names.{nameStart}
-use Rattle.paper.specs.Tokens.{sort, letters, white, tokenAt, tokensFrom}
-use Rattle.paper.proofs.Tests.{or-true, decide}
+use Rattle.paper.specs.Tokens.{sort, letters, tokenAt, tokensFrom}
+use Rattle.paper.proofs.Tests.{decide}
 use Rattle.paper.specs.Reading.{next, at, sees, says, startsStep}
 use Rattle.token.specs.declared.Token.{Token}
 use Rattle.token.specs.declared.Token.the-variants.{Slash, Slashes, Dot, Dots, Colons, Bar, OpenSquare, CloseSquare, OpenRound, CloseRound, Star, Finish, Stray, Word}
@@ -23,7 +23,7 @@ use Rattle.token.specs.declared.Taken.{Taken}
 use Rattle.token.specs.declared.Cursor.{Cursor}
 use Rattle.token.specs.Taking.{Takes, tokenOf, finished}
 use Rattle.token.proofs.Token.{the-type}
-use Rattle.read.specs.Parts.{tokensAt, sortOf, Past, Looks, Joins, Leads}
+use Rattle.read.specs.Parts.{tokensAt, sortOf, Past, Looks, Joins, Leads, leads, OtherByte}
 use Rattle.read.specs.declared.Ahead.the-variants.{There, Other}
 use Rattle.read.specs.declared.Joint.the-variants.{Next}
 use Rattle.read.specs.declared.Lead.the-variants.{Alone, Before}
@@ -108,25 +108,42 @@ mark-letters paper.finish h = refl
 mark-letters paper.stray h = refl
 mark-letters (paper.word w) h = absurd (h refl)
 
--- A byte that starts a name is no white space.
-name-not-white : (b : ℕ) → nameStart b ≡ true → white b ≡ false
-name-not-white b h =
-    ⊎-elim
-    (λ w.
-    absurd
-    (⊎-elim (λ e. ⊎-elim (λ e. not-name 32 b (eqb-true b 32 e) h refl) (λ e. not-name 9 b (eqb-true b 9 e) h refl) (or-true (eqb b 32) (eqb b 9) e))
-    (λ e. not-name 10 b (eqb-true b 10 e) h refl) (or-true (eqb b 32 || eqb b 9) (eqb b 10) w)))
-    (λ w. w) (decide (white b))
-  where
-    not-name : (n b : ℕ) → b ≡ n → nameStart b ≡ true → nameStart n ≡ false → ⊥
-    not-name n b e h f = false≢true (sym f ∙ ap nameStart (sym e) ∙ h)
+-- A mark starts with the byte of its sort.
+abbrev Led : ℕ → paper.Token → Type 0
+Led b t = sort t < 11 → b ≡ getD leads (sort t) 0
 
--- Where a word starts, no mark comes next.
-pub word-here : (text : List ℕ) (from wanted : ℕ) → from < length text → nameStart (getD text from 0) ≡ true → wanted < 11
+one-led : (b : ℕ) (test : Bool) (t u : paper.Token) → Led b t → Led b u → Led b (cond test t u)
+one-led b true t u p q = p
+one-led b false t u p q = q
+
+byte-led : (b k : ℕ) (t u : paper.Token) → (b ≡ k → Led b t) → Led b u → Led b (cond (eqb b k) t u)
+byte-led b k t u p q =
+    ⊎-elim (λ e. subst (λ x. Led b (cond x t u)) (sym e) (p (eqb-true b k e))) (λ e. subst (λ x. Led b (cond x t u)) (sym e) q) (decide (eqb b k))
+
+led : (b : ℕ) (bs : List ℕ) → Led b (tokenAt b bs)
+unfolding tokenAt
+led b bs =
+    one-led b (nameStart b) _ _ (λ l. absurd (omega arith))
+    (byte-led b 47 _ _ (λ e. one-led b (begins 47 bs) _ _ (λ l. e) (λ l. e))
+    (byte-led b 46 _ _ (λ e. one-led b (begins 46 bs) _ _ (λ l. e) (λ l. e))
+    (byte-led b 58 _ _ (λ e. one-led b (begins 58 bs) _ _ (λ l. e) (λ l. absurd (omega arith)))
+    (byte-led b 124 _ _ (λ e l. e)
+    (byte-led b 91 _ _ (λ e l. e)
+    (byte-led b 93 _ _ (λ e l. e)
+    (byte-led b 40 _ _ (λ e l. e)
+    (byte-led b 41 _ _ (λ e l. e)
+    (byte-led b 42 _ _ (λ e l. e) (λ l. absurd (omega arith)))))))))))
+
+-- Where another byte stands than a mark starts with, that mark does not come next.
+pub other-here : (text : List ℕ) (from wanted b : ℕ) → wanted < 11 → b ≡ getD leads wanted 0 → OtherByte text from b
     → (eqb wanted (sort (next (tokensAt text from))) ≡ false) × (from ≡ at (tokensAt text from))
-unfolding tokensAt tokenAt
-word-here text from wanted inside h few =
-    rw (drop-cons text from 0 inside, name-not-white (getD text from 0) h, h) (ne-eqb wanted 13 (λ e. omega arith), refl)
+unfolding tokensAt
+other-here text from wanted b few e o =
+    let x = getD text from 0 in
+    let t = tokenAt x (drop (suc from) text) in
+    let differs : eqb wanted (sort t) ≡ false =
+    ne-eqb wanted (sort t) (λ s. false≢true (sym (o .other) ∙ eq-eqb x b (led x (drop (suc from) text) (omega arith) ∙ ap (λ k. getD leads k 0) (sym s) ∙ sym e))) in
+    rw (drop-cons text from 0 (o .inside), o .solid) (differs, refl)
 
 module _ (text : List ℕ) (from : ℕ) (r : Taken) (t : Takes text from r) where
   -- The token that comes next, and its place.

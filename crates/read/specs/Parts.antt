@@ -6,7 +6,7 @@ use mathlib.Core.List.{List, [], _∷_, _++_}
 use mathlib.Core.Option.{Option, none, some}
 use mathlib.Core.Logic.{_⊎_}
 use lib.Dec.{eqb}
-use lib.ListN.{length, take, drop, replicate}
+use lib.ListN.{length, getD, take, drop, replicate}
 use Rattle.paper.specs.Tools.{ascii, same}
 use Rattle.paper.specs.Limits.{textLimit, itemLimit, bracketLimit}
 use Rattle.paper.specs.Names.{namesOf, numberOf}
@@ -68,6 +68,16 @@ pub record Past (text : List ℕ) (from next : ℕ) : Type 0 where
   pub inside : next ≤ length text
   pub rest : drop 1 (tokensAt text from) ≡ tokensAt text next
   pub fewer : length (tokensAt text from) ≡ suc (length (tokensAt text next))
+
+-- The bytes that marks start with, by their sorts.
+abbrev pub leads : List ℕ
+leads = ascii "//..:|[]()*"
+
+-- Another byte than this one stands here, and no white space.
+pub record OtherByte (text : List ℕ) (at b : ℕ) : Type 0 where
+  pub inside : at < length text
+  pub other : eqb (getD text at 0) b ≡ false
+  pub solid : paper.white (getD text at 0) ≡ false
 
 -- A test of the next token, with its place, and the place past it where the test holds.
 abbrev pub Looks : List ℕ → ℕ → Bool → Ahead → Type 0

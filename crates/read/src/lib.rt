@@ -23,7 +23,7 @@ ghost use Rattle.paper.specs.Told.{told};
 ghost use Rattle.paper.specs.declared.Answer.the-variants.{Value};
 ghost use Rattle.item.specs.Unpacked.{packed};
 ghost use Rattle.names.specs.Listing.{Indexed};
-ghost use Rattle.read.specs.Parts.{tokensAt, sortOf, Looks, lookOf, Wrote, Grouped, deepItems, deepIf, stepItems, Reads, passSort, Heads, axisCode, callCode, Joins, Leads, Begins, Axes, Calls, Closes, Numbered, Moved, Filled, Ready, pathItems, Finishes, ReadsAll, Kept, Measures, Refusal};
+ghost use Rattle.read.specs.Parts.{tokensAt, sortOf, leads, OtherByte, Looks, lookOf, Wrote, Grouped, deepItems, deepIf, stepItems, Reads, passSort, Heads, axisCode, callCode, Joins, Leads, Begins, Axes, Calls, Closes, Numbered, Moved, Filled, Ready, pathItems, Finishes, ReadsAll, Kept, Measures, Refusal};
 
 // What reading a part of a query comes to: the cursor past it and the place past its items, or a refusal with its place.
 pub enum Part {
@@ -136,24 +136,40 @@ fn sort_of(t: Token) -> usize
     }
 }
 
-// Does a word start at this very byte?
-fn word_starts(text: &[u8], at: usize) -> bool
-    ensures { λ r. ⌜ (r ≡ true → (at < length (now (text .entry))) × (nameStart (getD (now (text .entry)) at 0) ≡ true)) ⌝ }
+// A byte of a string.
+fn byte_at(bytes: &[u8], i: usize) -> u8
+    requires { ⌜ i < length (now bytes) ⌝ }
+    ensures { λ r. ⌜ r ≡ getD (now (bytes .entry)) i 0 ⌝ }
+{
+    bytes[i]
+}
+
+// The byte that a mark of this sort starts with.
+fn first_byte(wanted: usize) -> u8
+    requires { ⌜ wanted < 11 ⌝ }
+    ensures { λ r. ⌜ r ≡ getD leads wanted 0 ⌝ }
+{
+    byte_at(b"//..:|[]()*", wanted)
+}
+
+// Does another byte than this one stand here, and no white space?
+fn other_byte(text: &[u8], at: usize, b: u8) -> bool
+    ensures { λ r. ⌜ (r ≡ true → OtherByte (now (text .entry)) at b) ⌝ }
 {
     if at < text.len() {
-        names::name_start(text[at])
+        (text[at] != b) & !token::white_space(text[at])
     } else {
         false
     }
 }
 
-// Is the next token of this sort? Where a word starts, it is not, and the word's bytes are not looked at.
+// Is the next token of this sort? Where another byte stands than such a token starts with, it is not, and no token is taken.
 fn mark(text: &[u8], cursor: Cursor, wanted: usize) -> Ahead
     requires { ⌜ (cursor .at ≤ length (now text)) × (wanted < 11) ⌝ }
     ensures { λ r. ⌜ Looks (now (text .entry)) (cursor .at) (eqb wanted (sort (next (tokensAt (now (text .entry)) (cursor .at))))) r ⌝ }
 {
     let at = cursor.at;
-    if word_starts(text, at) {
+    if other_byte(text, at, first_byte(wanted)) {
         return Ahead::Other(at);
     }
     let taken = cursor.take(text);

@@ -106,100 +106,54 @@ steps-at t = and 4 steps-kinds.ps (is 4 steps-kinds.ps μ-steps t) steps.Pre
 abbrev steps-below : ℕ → In 4 steps-kinds.ps
 steps-below t = and 4 steps-kinds.ps (falls 4 steps-kinds.ps _<_ μ-steps t) steps.Pre
 
-bracketed-returns : (t : ℕ) → bracketed-lts.Need-returns (
+-- What `bracketed` knows of the functions it calls.
+abbrev bracketed-claims : ℕ → bracketed-lts.Claims
+bracketed-claims t = (
   expression-below t,
   expression.Post,
   mark-reads.Asked,
   mark-reads.Learnt,
-) (bracketed-at t) bracketed.Post
+)
+
+bracketed-returns : (t : ℕ) → bracketed-lts.Need-returns (bracketed-claims t) (bracketed-at t) bracketed.Post
 bracketed-returns t c =
     too-deep (lookOf (c .before .before .before .before .args .known) (now (c .before .before .before .before .args .list))) (c .before .before .before .before .args .depth) (c .before .before .before .before .args .bracket) (c .before .before .before .before .args .closer) (tokensAt (now (c .before .before .before .before .args .text)) (c .before .before .before .before .args .cursor .at)) (c .if1 .taken)
 
-bracketed-sub-expression : (t : ℕ) → bracketed-lts.Need-sub-expression (
-  expression-below t,
-  expression.Post,
-  mark-reads.Asked,
-  mark-reads.Learnt,
-) (bracketed-at t) bracketed.Post
+bracketed-sub-expression : (t : ℕ) → bracketed-lts.Need-sub-expression (bracketed-claims t) (bracketed-at t) bracketed.Post
 bracketed-sub-expression t c = search needs
 
-bracketed-expression-requires : (t : ℕ) → bracketed-lts.Need-expression-requires (
-  expression-below t,
-  expression.Post,
-  mark-reads.Asked,
-  mark-reads.Learnt,
-) (bracketed-at t) bracketed.Post
+bracketed-expression-requires : (t : ℕ) → bracketed-lts.Need-expression-requires (bracketed-claims t) (bracketed-at t) bracketed.Post
 bracketed-expression-requires t c κs =
     let s = c .before .before .before .before .before in
     (search needs, (record { short = s .pre .1 .0 .short; names = s .pre .1 .0 .names; inside = s .pre .1 .0 .inside; shallow = omega (arith, s .pre .1 .0 .shallow) }, s .pre .1 .1 .0))
 
-bracketed-enum-known-inner : (t : ℕ) → bracketed-lts.Need-enum-known-inner (
-  expression-below t,
-  expression.Post,
-  mark-reads.Asked,
-  mark-reads.Learnt,
-) (bracketed-at t) bracketed.Post
+bracketed-enum-known-inner : (t : ℕ) → bracketed-lts.Need-enum-known-inner (bracketed-claims t) (bracketed-at t) bracketed.Post
 bracketed-enum-known-inner t c = search needs
 
-bracketed-same-length : (t : ℕ) → bracketed-lts.Need-same-length (
-  expression-below t,
-  expression.Post,
-  mark-reads.Asked,
-  mark-reads.Learnt,
-) (bracketed-at t) bracketed.Post
+bracketed-same-length : (t : ℕ) → bracketed-lts.Need-same-length (bracketed-claims t) (bracketed-at t) bracketed.Post
 bracketed-same-length t c = search needs
 
-bracketed-returns-2 : (t : ℕ) → bracketed-lts.Need-returns-2 (
-  expression-below t,
-  expression.Post,
-  mark-reads.Asked,
-  mark-reads.Learnt,
-) (bracketed-at t) bracketed.Post
+bracketed-returns-2 : (t : ℕ) → bracketed-lts.Need-returns-2 (bracketed-claims t) (bracketed-at t) bracketed.Post
 bracketed-returns-2 t c =
     let s = c .before .before .before .before .before .before .before .before .before in
     let look = lookOf (s .args .known) (now (s .args .list)) in
     passed-on _ _ _ _ _ _ _ _ _ _ _ _ _ _ _ _ _ _ (c .before .before .before .expression .result) (c .match .keys2) (c .before .before .before .expression .ensures)
     (λ n spot h. ap (λ x. then x (passSort (s .args .closer))) (opened look (s .args .depth) (s .args .bracket) (tokensAt (now (s .args .text)) (s .args .cursor .at)) (c .before .before .before .before .before .if1 .left) ∙ h))
 
-bracketed-mark-requires : (t : ℕ) → bracketed-lts.Need-mark-requires (
-  expression-below t,
-  expression.Post,
-  mark-reads.Asked,
-  mark-reads.Learnt,
-) (bracketed-at t) bracketed.Post
+bracketed-mark-requires : (t : ℕ) → bracketed-lts.Need-mark-requires (bracketed-claims t) (bracketed-at t) bracketed.Post
 bracketed-mark-requires t c κs =
     ((rw (c .before .inner .given .1) at (c .before .before .before .before .before .expression .ensures)) .inside, c .before .before .before .before .before .before .before .before .before .before .before .pre .1 .1 .1)
 
-bracketed-enum-known-close : (t : ℕ) → bracketed-lts.Need-enum-known-close (
-  expression-below t,
-  expression.Post,
-  mark-reads.Asked,
-  mark-reads.Learnt,
-) (bracketed-at t) bracketed.Post
+bracketed-enum-known-close : (t : ℕ) → bracketed-lts.Need-enum-known-close (bracketed-claims t) (bracketed-at t) bracketed.Post
 bracketed-enum-known-close t c = search needs
 
-bracketed-enum-known-close-2 : (t : ℕ) → bracketed-lts.Need-enum-known-close-2 (
-  expression-below t,
-  expression.Post,
-  mark-reads.Asked,
-  mark-reads.Learnt,
-) (bracketed-at t) bracketed.Post
+bracketed-enum-known-close-2 : (t : ℕ) → bracketed-lts.Need-enum-known-close-2 (bracketed-claims t) (bracketed-at t) bracketed.Post
 bracketed-enum-known-close-2 t c = search needs
 
-bracketed-same-length-2 : (t : ℕ) → bracketed-lts.Need-same-length-2 (
-  expression-below t,
-  expression.Post,
-  mark-reads.Asked,
-  mark-reads.Learnt,
-) (bracketed-at t) bracketed.Post
+bracketed-same-length-2 : (t : ℕ) → bracketed-lts.Need-same-length-2 (bracketed-claims t) (bracketed-at t) bracketed.Post
 bracketed-same-length-2 t c = search needs
 
-bracketed-returns-3 : (t : ℕ) → bracketed-lts.Need-returns-3 (
-  expression-below t,
-  expression.Post,
-  mark-reads.Asked,
-  mark-reads.Learnt,
-) (bracketed-at t) bracketed.Post
+bracketed-returns-3 : (t : ℕ) → bracketed-lts.Need-returns-3 (bracketed-claims t) (bracketed-at t) bracketed.Post
 bracketed-returns-3 t c =
     let s = c .before .before .before .before .before .before .before .before .before .before .before .before .before .before .before in
     let look = lookOf (s .args .known) (now (s .args .list)) in
@@ -207,26 +161,27 @@ bracketed-returns-3 t c =
     let m = rw (c .before .close .given .1) at (c .before .before .before .mark .ensures) in
     closed _ _ _ _ _ (s .args .closer) _ _ (opened look (s .args .depth) (s .args .bracket) (tokensAt (now (s .args .text)) (s .args .cursor .at)) (c .before .before .before .before .before .before .before .before .before .before .before .if1 .left)) _ _ _ g (m .0) (m .2)
 
-bracketed-same-length-3 : (t : ℕ) → bracketed-lts.Need-same-length-3 (
-  expression-below t,
-  expression.Post,
-  mark-reads.Asked,
-  mark-reads.Learnt,
-) (bracketed-at t) bracketed.Post
+bracketed-same-length-3 : (t : ℕ) → bracketed-lts.Need-same-length-3 (bracketed-claims t) (bracketed-at t) bracketed.Post
 bracketed-same-length-3 t c = search needs
 
-bracketed-returns-4 : (t : ℕ) → bracketed-lts.Need-returns-4 (
-  expression-below t,
-  expression.Post,
-  mark-reads.Asked,
-  mark-reads.Learnt,
-) (bracketed-at t) bracketed.Post
+bracketed-returns-4 : (t : ℕ) → bracketed-lts.Need-returns-4 (bracketed-claims t) (bracketed-at t) bracketed.Post
 bracketed-returns-4 t c =
     let s = c .before .before .before .before .before .before .before .before .before .before .before .before .before .before .before in
     let look = lookOf (s .args .known) (now (s .args .list)) in
     let g = rw (c .before .before .before .before .before .inner .given .1) at (c .before .before .before .before .before .before .before .before .before .expression .ensures) in
     let m = rw (c .before .close2 .given .1) at (c .before .before .before .mark .ensures) in
     unclosed _ _ _ _ _ (s .args .closer) _ _ (opened look (s .args .depth) (s .args .bracket) (tokensAt (now (s .args .text)) (s .args .cursor .at)) (c .before .before .before .before .before .before .before .before .before .before .before .if1 .left)) _ _ _ g (m .0) (m .1)
+
+-- What `expression` knows of the functions it calls.
+abbrev expression-claims : ℕ → expression-lts.Claims
+expression-claims t = (
+  operand-below t,
+  operand.Post,
+  word-ahead-reads.Asked,
+  word-ahead-reads.Learnt,
+  group-reads.Asked,
+  group-reads.Learnt,
+)
 
 abbrev expression-Inv-loop : expression-lts.InvT-loop
 expression-Inv-loop text list starts count known depth out₀ place here₀ filled₀ begun₀ ands₀ ors₀ t23 t24 out here filled begun ands ors =
@@ -236,59 +191,24 @@ abbrev expression-μ-loop : expression-lts.MeasureT-loop
 expression-μ-loop text list starts count known depth out₀ place here₀ filled₀ begun₀ ands₀ ors₀ t23 t24 out here filled begun ands ors =
     length text - here .at
 
-expression-loop-holds : (t : ℕ) → expression-lts.Need-loop-holds (
-  operand-below t,
-  operand.Post,
-  word-ahead-reads.Asked,
-  word-ahead-reads.Learnt,
-  group-reads.Asked,
-  group-reads.Learnt,
-) (expression-at t) expression.Post expression-Inv-loop expression-μ-loop
+expression-loop-holds : (t : ℕ) → expression-lts.Need-loop-holds (expression-claims t) (expression-at t) expression.Post expression-Inv-loop expression-μ-loop
 expression-loop-holds t c =
     let s = c .before .before .before in
     (search needs, turn-start (lookOf (s .args .known) (now (s .args .list))) (readWithin (lookOf (s .args .known) (now (s .args .list))) (s .args .depth)) (now (s .args .text)) (now (s .args .out)) (s .args .cursor .at) (s .args .place) (s .pre .1 .0 .inside))
 
-expression-operand-requires : (t : ℕ) → expression-lts.Need-operand-requires (
-  operand-below t,
-  operand.Post,
-  word-ahead-reads.Asked,
-  word-ahead-reads.Learnt,
-  group-reads.Asked,
-  group-reads.Learnt,
-) (expression-at t) expression.Post expression-Inv-loop expression-μ-loop
+expression-operand-requires : (t : ℕ) → expression-lts.Need-operand-requires (expression-claims t) (expression-at t) expression.Post expression-Inv-loop expression-μ-loop
 expression-operand-requires t c κs =
     let s = c .before .before .before .before .before in
     let turn = c .before .loop .inv .1 in
     (omega (arith, turn .outer .onward, turn .inner .onward, turn .inner .inside, s .pre .0), (record { short = s .pre .1 .0 .short; names = s .pre .1 .0 .names; inside = turn .inner .inside; shallow = s .pre .1 .0 .shallow }, omega (arith, turn .outer .grows, turn .inner .grows, s .pre .1 .1)))
 
-expression-enum-known-one : (t : ℕ) → expression-lts.Need-enum-known-one (
-  operand-below t,
-  operand.Post,
-  word-ahead-reads.Asked,
-  word-ahead-reads.Learnt,
-  group-reads.Asked,
-  group-reads.Learnt,
-) (expression-at t) expression.Post expression-Inv-loop expression-μ-loop
+expression-enum-known-one : (t : ℕ) → expression-lts.Need-enum-known-one (expression-claims t) (expression-at t) expression.Post expression-Inv-loop expression-μ-loop
 expression-enum-known-one t c = search needs
 
-expression-same-length : (t : ℕ) → expression-lts.Need-same-length (
-  operand-below t,
-  operand.Post,
-  word-ahead-reads.Asked,
-  word-ahead-reads.Learnt,
-  group-reads.Asked,
-  group-reads.Learnt,
-) (expression-at t) expression.Post expression-Inv-loop expression-μ-loop
+expression-same-length : (t : ℕ) → expression-lts.Need-same-length (expression-claims t) (expression-at t) expression.Post expression-Inv-loop expression-μ-loop
 expression-same-length t c = search needs
 
-expression-returns : (t : ℕ) → expression-lts.Need-returns (
-  operand-below t,
-  operand.Post,
-  word-ahead-reads.Asked,
-  word-ahead-reads.Learnt,
-  group-reads.Asked,
-  group-reads.Learnt,
-) (expression-at t) expression.Post expression-Inv-loop expression-μ-loop
+expression-returns : (t : ℕ) → expression-lts.Need-returns (expression-claims t) (expression-at t) expression.Post expression-Inv-loop expression-μ-loop
 expression-returns t c =
     let s = c .before .before .before .before .before .before .before .before .before in
     let look = lookOf (s .args .known) (now (s .args .list)) in
@@ -296,47 +216,19 @@ expression-returns t c =
     let turn = c .before .before .before .before .before .loop .inv .1 in
     passed-on _ _ _ _ _ _ _ _ _ _ _ _ _ _ _ _ _ _ (c .before .before .before .operand .result) (c .match .keys2) (c .before .before .before .operand .ensures) (turn-stuck look within _ _ _ _ _ _ _ _ _ _ turn)
 
-expression-slice-aggregate-word-ahead : (t : ℕ) → expression-lts.Need-slice-aggregate-word-ahead (
-  operand-below t,
-  operand.Post,
-  word-ahead-reads.Asked,
-  word-ahead-reads.Learnt,
-  group-reads.Asked,
-  group-reads.Learnt,
-) (expression-at t) expression.Post expression-Inv-loop expression-μ-loop
+expression-slice-aggregate-word-ahead : (t : ℕ) → expression-lts.Need-slice-aggregate-word-ahead (expression-claims t) (expression-at t) expression.Post expression-Inv-loop expression-μ-loop
 expression-slice-aggregate-word-ahead t c = search needs
 
-expression-word-ahead-requires : (t : ℕ) → expression-lts.Need-word-ahead-requires (
-  operand-below t,
-  operand.Post,
-  word-ahead-reads.Asked,
-  word-ahead-reads.Learnt,
-  group-reads.Asked,
-  group-reads.Learnt,
-) (expression-at t) expression.Post expression-Inv-loop expression-μ-loop
+expression-word-ahead-requires : (t : ℕ) → expression-lts.Need-word-ahead-requires (expression-claims t) (expression-at t) expression.Post expression-Inv-loop expression-μ-loop
 expression-word-ahead-requires t c κs =
     let turn = c .before .before .before .before .before .before .before .before .loop .inv .1 in
     let g = rw (c .before .before .one .given .1) at (c .before .before .before .before .before .before .operand .ensures) in
     (omega (arith, g .inside, turn .inner .inside), search needs)
 
-expression-enum-known-and : (t : ℕ) → expression-lts.Need-enum-known-and (
-  operand-below t,
-  operand.Post,
-  word-ahead-reads.Asked,
-  word-ahead-reads.Learnt,
-  group-reads.Asked,
-  group-reads.Learnt,
-) (expression-at t) expression.Post expression-Inv-loop expression-μ-loop
+expression-enum-known-and : (t : ℕ) → expression-lts.Need-enum-known-and (expression-claims t) (expression-at t) expression.Post expression-Inv-loop expression-μ-loop
 expression-enum-known-and t c = search needs
 
-expression-add-ands : (t : ℕ) → expression-lts.Need-add-ands (
-  operand-below t,
-  operand.Post,
-  word-ahead-reads.Asked,
-  word-ahead-reads.Learnt,
-  group-reads.Asked,
-  group-reads.Learnt,
-) (expression-at t) expression.Post expression-Inv-loop expression-μ-loop
+expression-add-ands : (t : ℕ) → expression-lts.Need-add-ands (expression-claims t) (expression-at t) expression.Post expression-Inv-loop expression-μ-loop
 expression-add-ands t c =
     let s = c .before .before .before .before .before .before .before .before .before .before .before .before .before .before .before .before in
     let look = lookOf (s .args .known) (now (s .args .list)) in
@@ -346,27 +238,13 @@ expression-add-ands t c =
     let l = operands look within _ _ _ _ _ _ _ _ _ _ turn _ _ _ g in
     omega (arith, l .grows, l .inside, turn .outer .grows, s .pre .1 .0 .short, s .pre .1 .1)
 
-expression-loop-less : (t : ℕ) → expression-lts.Need-loop-less (
-  operand-below t,
-  operand.Post,
-  word-ahead-reads.Asked,
-  word-ahead-reads.Learnt,
-  group-reads.Asked,
-  group-reads.Learnt,
-) (expression-at t) expression.Post expression-Inv-loop expression-μ-loop
+expression-loop-less : (t : ℕ) → expression-lts.Need-loop-less (expression-claims t) (expression-at t) expression.Post expression-Inv-loop expression-μ-loop
 expression-loop-less t c =
     let g = rw (c .before .before .before .before .before .before .one .given .1) at (c .before .before .before .before .before .before .before .before .before .before .operand .ensures) in
     let and = rw (c .before .and .given .1) at (c .before .before .before .word-ahead .ensures) in
     omega (arith, and .2 .onward, and .2 .inside, g .onward)
 
-expression-loop-again : (t : ℕ) → expression-lts.Need-loop-again (
-  operand-below t,
-  operand.Post,
-  word-ahead-reads.Asked,
-  word-ahead-reads.Learnt,
-  group-reads.Asked,
-  group-reads.Learnt,
-) (expression-at t) expression.Post expression-Inv-loop expression-μ-loop
+expression-loop-again : (t : ℕ) → expression-lts.Need-loop-again (expression-claims t) (expression-at t) expression.Post expression-Inv-loop expression-μ-loop
 expression-loop-again t c =
     let s = c .before .before .before .before .before .before .before .before .before .before .before .before .before .before .before .before in
     let look = lookOf (s .args .known) (now (s .args .list)) in
@@ -376,24 +254,10 @@ expression-loop-again t c =
     let and = rw (c .before .and .given .1) at (c .before .before .before .word-ahead .ensures) in
     (search needs, turn-and look within _ _ _ _ _ _ _ _ _ _ turn _ _ _ g _ (and .0) (and .2))
 
-expression-enum-told : (t : ℕ) → expression-lts.Need-enum-told (
-  operand-below t,
-  operand.Post,
-  word-ahead-reads.Asked,
-  word-ahead-reads.Learnt,
-  group-reads.Asked,
-  group-reads.Learnt,
-) (expression-at t) expression.Post expression-Inv-loop expression-μ-loop
+expression-enum-told : (t : ℕ) → expression-lts.Need-enum-told (expression-claims t) (expression-at t) expression.Post expression-Inv-loop expression-μ-loop
 expression-enum-told t c = search needs
 
-expression-group-requires : (t : ℕ) → expression-lts.Need-group-requires (
-  operand-below t,
-  operand.Post,
-  word-ahead-reads.Asked,
-  word-ahead-reads.Learnt,
-  group-reads.Asked,
-  group-reads.Learnt,
-) (expression-at t) expression.Post expression-Inv-loop expression-μ-loop
+expression-group-requires : (t : ℕ) → expression-lts.Need-group-requires (expression-claims t) (expression-at t) expression.Post expression-Inv-loop expression-μ-loop
 expression-group-requires t c κs =
     let s = c .before .before .before .before .before .before .before .before .before .before .before .before .before .before .before .before in
     let look = lookOf (s .args .known) (now (s .args .list)) in
@@ -403,14 +267,7 @@ expression-group-requires t c κs =
     let l = operands look within _ _ _ _ _ _ _ _ _ _ turn _ _ _ g in
     (omega (arith, l .ends), omega (arith, l .grows, l .inside, turn .outer .grows, s .pre .1 .0 .short, s .pre .1 .1), omega (arith, l .grows, l .inside, turn .outer .grows, s .pre .1 .0 .short, s .pre .1 .1))
 
-expression-add-closed : (t : ℕ) → expression-lts.Need-add-closed (
-  operand-below t,
-  operand.Post,
-  word-ahead-reads.Asked,
-  word-ahead-reads.Learnt,
-  group-reads.Asked,
-  group-reads.Learnt,
-) (expression-at t) expression.Post expression-Inv-loop expression-μ-loop
+expression-add-closed : (t : ℕ) → expression-lts.Need-add-closed (expression-claims t) (expression-at t) expression.Post expression-Inv-loop expression-μ-loop
 expression-add-closed t c =
     let s = c .before .before .before .before .before .before .before .before .before .before .before .before .before .before .before .before .before .before .before in
     let look = lookOf (s .args .known) (now (s .args .list)) in
@@ -431,46 +288,18 @@ expression-slice-aggregate-word-ahead-2 :
     ) (expression-at t) expression.Post expression-Inv-loop expression-μ-loop
 expression-slice-aggregate-word-ahead-2 t c = search needs
 
-expression-word-ahead-requires-2 : (t : ℕ) → expression-lts.Need-word-ahead-requires-2 (
-  operand-below t,
-  operand.Post,
-  word-ahead-reads.Asked,
-  word-ahead-reads.Learnt,
-  group-reads.Asked,
-  group-reads.Learnt,
-) (expression-at t) expression.Post expression-Inv-loop expression-μ-loop
+expression-word-ahead-requires-2 : (t : ℕ) → expression-lts.Need-word-ahead-requires-2 (expression-claims t) (expression-at t) expression.Post expression-Inv-loop expression-μ-loop
 expression-word-ahead-requires-2 t c κs =
     let g = rw (c .before .before .before .before .before .before .before .before .before .before .one .given .1) at (c .before .before .before .before .before .before .before .before .before .before .before .before .before .before .operand .ensures) in
     (g .inside, search needs)
 
-expression-enum-known-or : (t : ℕ) → expression-lts.Need-enum-known-or (
-  operand-below t,
-  operand.Post,
-  word-ahead-reads.Asked,
-  word-ahead-reads.Learnt,
-  group-reads.Asked,
-  group-reads.Learnt,
-) (expression-at t) expression.Post expression-Inv-loop expression-μ-loop
+expression-enum-known-or : (t : ℕ) → expression-lts.Need-enum-known-or (expression-claims t) (expression-at t) expression.Post expression-Inv-loop expression-μ-loop
 expression-enum-known-or t c = search needs
 
-expression-enum-told-2 : (t : ℕ) → expression-lts.Need-enum-told-2 (
-  operand-below t,
-  operand.Post,
-  word-ahead-reads.Asked,
-  word-ahead-reads.Learnt,
-  group-reads.Asked,
-  group-reads.Learnt,
-) (expression-at t) expression.Post expression-Inv-loop expression-μ-loop
+expression-enum-told-2 : (t : ℕ) → expression-lts.Need-enum-told-2 (expression-claims t) (expression-at t) expression.Post expression-Inv-loop expression-μ-loop
 expression-enum-told-2 t c = search needs
 
-expression-group-requires-2 : (t : ℕ) → expression-lts.Need-group-requires-2 (
-  operand-below t,
-  operand.Post,
-  word-ahead-reads.Asked,
-  word-ahead-reads.Learnt,
-  group-reads.Asked,
-  group-reads.Learnt,
-) (expression-at t) expression.Post expression-Inv-loop expression-μ-loop
+expression-group-requires-2 : (t : ℕ) → expression-lts.Need-group-requires-2 (expression-claims t) (expression-at t) expression.Post expression-Inv-loop expression-μ-loop
 expression-group-requires-2 t c κs =
     let s = c .before .before .before .before .before .before .before .before .before .before .before .before .before .before .before .before .before .before .before .before .before .before .before .before in
     let look = lookOf (s .args .known) (now (s .args .list)) in
@@ -481,14 +310,7 @@ expression-group-requires-2 t c κs =
     let whole = terms look within _ _ _ _ _ _ _ _ _ _ turn _ _ _ g _ (and .0) (c .before .before .before .before .before .before .before .group .ensures) in
     (omega (arith, whole .ends), omega (arith, whole .grows, whole .inside, s .pre .1 .0 .short, s .pre .1 .1), omega (arith, whole .grows, whole .inside, s .pre .1 .0 .short, s .pre .1 .1))
 
-expression-add-t37 : (t : ℕ) → expression-lts.Need-add-t37 (
-  operand-below t,
-  operand.Post,
-  word-ahead-reads.Asked,
-  word-ahead-reads.Learnt,
-  group-reads.Asked,
-  group-reads.Learnt,
-) (expression-at t) expression.Post expression-Inv-loop expression-μ-loop
+expression-add-t37 : (t : ℕ) → expression-lts.Need-add-t37 (expression-claims t) (expression-at t) expression.Post expression-Inv-loop expression-μ-loop
 expression-add-t37 t c =
     let s = c .before .before .before .before .before .before .before .before .before .before .before .before .before .before .before .before .before .before .before .before .before .before .before .before .before .before .before in
     let look = lookOf (s .args .known) (now (s .args .list)) in
@@ -499,24 +321,10 @@ expression-add-t37 t c =
     let whole = terms look within _ _ _ _ _ _ _ _ _ _ turn _ _ _ g _ (and .0) (c .before .before .before .before .before .before .before .before .before .before .group .ensures) in
     omega (arith, whole .grows, whole .inside, s .pre .1 .0 .short, s .pre .1 .1)
 
-expression-same-length-2 : (t : ℕ) → expression-lts.Need-same-length-2 (
-  operand-below t,
-  operand.Post,
-  word-ahead-reads.Asked,
-  word-ahead-reads.Learnt,
-  group-reads.Asked,
-  group-reads.Learnt,
-) (expression-at t) expression.Post expression-Inv-loop expression-μ-loop
+expression-same-length-2 : (t : ℕ) → expression-lts.Need-same-length-2 (expression-claims t) (expression-at t) expression.Post expression-Inv-loop expression-μ-loop
 expression-same-length-2 t c = search needs
 
-expression-returns-2 : (t : ℕ) → expression-lts.Need-returns-2 (
-  operand-below t,
-  operand.Post,
-  word-ahead-reads.Asked,
-  word-ahead-reads.Learnt,
-  group-reads.Asked,
-  group-reads.Learnt,
-) (expression-at t) expression.Post expression-Inv-loop expression-μ-loop
+expression-returns-2 : (t : ℕ) → expression-lts.Need-returns-2 (expression-claims t) (expression-at t) expression.Post expression-Inv-loop expression-μ-loop
 expression-returns-2 t c =
     let s = c .before .before .before .before .before .before .before .before .before .before .before .before .before .before .before .before .before .before .before .before .before .before .before .before .before .before .before in
     let look = lookOf (s .args .known) (now (s .args .list)) in
@@ -527,14 +335,7 @@ expression-returns-2 t c =
     let or = rw (c .before .before .before .before .enum-told2 .given .1) at (c .before .before .before .before .before .before .word-ahead2 .ensures) in
     turn-done look within _ _ _ _ _ _ _ _ _ _ turn _ _ _ g _ (and .0) (c .before .before .before .before .before .before .before .before .before .before .group .ensures) _ (or .0) (c .before .before .group2 .ensures)
 
-expression-add-ors : (t : ℕ) → expression-lts.Need-add-ors (
-  operand-below t,
-  operand.Post,
-  word-ahead-reads.Asked,
-  word-ahead-reads.Learnt,
-  group-reads.Asked,
-  group-reads.Learnt,
-) (expression-at t) expression.Post expression-Inv-loop expression-μ-loop
+expression-add-ors : (t : ℕ) → expression-lts.Need-add-ors (expression-claims t) (expression-at t) expression.Post expression-Inv-loop expression-μ-loop
 expression-add-ors t c =
     let s = c .before .before .before .before .before .before .before .before .before .before .before .before .before .before .before .before .before .before .before .before .before .before .before .before in
     let look = lookOf (s .args .known) (now (s .args .list)) in
@@ -545,27 +346,13 @@ expression-add-ors t c =
     let whole = terms look within _ _ _ _ _ _ _ _ _ _ turn _ _ _ g _ (and .0) (c .before .before .before .before .before .before .before .group .ensures) in
     omega (arith, whole .grows, whole .inside, s .pre .1 .0 .short, s .pre .1 .1)
 
-expression-loop-less-2 : (t : ℕ) → expression-lts.Need-loop-less-2 (
-  operand-below t,
-  operand.Post,
-  word-ahead-reads.Asked,
-  word-ahead-reads.Learnt,
-  group-reads.Asked,
-  group-reads.Learnt,
-) (expression-at t) expression.Post expression-Inv-loop expression-μ-loop
+expression-loop-less-2 : (t : ℕ) → expression-lts.Need-loop-less-2 (expression-claims t) (expression-at t) expression.Post expression-Inv-loop expression-μ-loop
 expression-loop-less-2 t c =
     let g = rw (c .before .before .before .before .before .before .before .before .before .before .before .before .before .before .one .given .1) at (c .before .before .before .before .before .before .before .before .before .before .before .before .before .before .before .before .before .before .operand .ensures) in
     let or = rw (c .before .or .given .1) at (c .before .before .before .word-ahead2 .ensures) in
     omega (arith, or .2 .onward, or .2 .inside, g .onward)
 
-expression-loop-again-2 : (t : ℕ) → expression-lts.Need-loop-again-2 (
-  operand-below t,
-  operand.Post,
-  word-ahead-reads.Asked,
-  word-ahead-reads.Learnt,
-  group-reads.Asked,
-  group-reads.Learnt,
-) (expression-at t) expression.Post expression-Inv-loop expression-μ-loop
+expression-loop-again-2 : (t : ℕ) → expression-lts.Need-loop-again-2 (expression-claims t) (expression-at t) expression.Post expression-Inv-loop expression-μ-loop
 expression-loop-again-2 t c = (
   search needs,
   let s = c .before .before .before .before .before .before .before .before .before .before .before .before .before .before .before .before .before .before .before .before .before .before .before .before in
@@ -578,7 +365,9 @@ expression-loop-again-2 t c = (
       turn-or look within _ _ _ _ _ _ _ _ _ _ turn _ _ _ g _ (and .0) (c .before .before .before .before .before .before .before .group .ensures) _ (or .0) (or .2),
 )
 
-operand-opening-requires : (t : ℕ) → operand-lts.Need-opening-requires (
+-- What `operand` knows of the functions it calls.
+abbrev operand-claims : ℕ → operand-lts.Claims
+operand-claims t = (
   opening-reads.Asked,
   opening-reads.Learnt,
   bracketed-below t,
@@ -587,82 +376,30 @@ operand-opening-requires : (t : ℕ) → operand-lts.Need-opening-requires (
   put-reads.Learnt,
   steps-below t,
   steps.Post,
-) (operand-at t) operand.Post
+)
+
+operand-opening-requires : (t : ℕ) → operand-lts.Need-opening-requires (operand-claims t) (operand-at t) operand.Post
 operand-opening-requires t c κs = search needs
 
-operand-enum-known-opens : (t : ℕ) → operand-lts.Need-enum-known-opens (
-  opening-reads.Asked,
-  opening-reads.Learnt,
-  bracketed-below t,
-  bracketed.Post,
-  put-reads.Asked,
-  put-reads.Learnt,
-  steps-below t,
-  steps.Post,
-) (operand-at t) operand.Post
+operand-enum-known-opens : (t : ℕ) → operand-lts.Need-enum-known-opens (operand-claims t) (operand-at t) operand.Post
 operand-enum-known-opens t c = search needs
 
-operand-add-bracketed : (t : ℕ) → operand-lts.Need-add-bracketed (
-  opening-reads.Asked,
-  opening-reads.Learnt,
-  bracketed-below t,
-  bracketed.Post,
-  put-reads.Asked,
-  put-reads.Learnt,
-  steps-below t,
-  steps.Post,
-) (operand-at t) operand.Post
+operand-add-bracketed : (t : ℕ) → operand-lts.Need-add-bracketed (operand-claims t) (operand-at t) operand.Post
 operand-add-bracketed t c = search needs
 
-operand-bracketed-requires : (t : ℕ) → operand-lts.Need-bracketed-requires (
-  opening-reads.Asked,
-  opening-reads.Learnt,
-  bracketed-below t,
-  bracketed.Post,
-  put-reads.Asked,
-  put-reads.Learnt,
-  steps-below t,
-  steps.Post,
-) (operand-at t) operand.Post
+operand-bracketed-requires : (t : ℕ) → operand-lts.Need-bracketed-requires (operand-claims t) (operand-at t) operand.Post
 operand-bracketed-requires t c κs =
     let s = c .before .before .before .before .before .before .before .before in
     let n = rw (c .before .before .opens .given .1) at (c .before .before .before .before .opening .ensures) in
     (omega (arith, n .first .onward, n .second .onward, n .second .inside, s .pre .0), (record { short = s .pre .1 .0 .short; names = s .pre .1 .0 .names; inside = n .second .inside; shallow = s .pre .1 .0 .shallow }, (omega (arith, n .first .onward, n .second .onward, s .pre .1 .1), search needs)))
 
-operand-enum-known-inner : (t : ℕ) → operand-lts.Need-enum-known-inner (
-  opening-reads.Asked,
-  opening-reads.Learnt,
-  bracketed-below t,
-  bracketed.Post,
-  put-reads.Asked,
-  put-reads.Learnt,
-  steps-below t,
-  steps.Post,
-) (operand-at t) operand.Post
+operand-enum-known-inner : (t : ℕ) → operand-lts.Need-enum-known-inner (operand-claims t) (operand-at t) operand.Post
 operand-enum-known-inner t c = search needs
 
-operand-same-length : (t : ℕ) → operand-lts.Need-same-length (
-  opening-reads.Asked,
-  opening-reads.Learnt,
-  bracketed-below t,
-  bracketed.Post,
-  put-reads.Asked,
-  put-reads.Learnt,
-  steps-below t,
-  steps.Post,
-) (operand-at t) operand.Post
+operand-same-length : (t : ℕ) → operand-lts.Need-same-length (operand-claims t) (operand-at t) operand.Post
 operand-same-length t c = search needs
 
-operand-returns : (t : ℕ) → operand-lts.Need-returns (
-  opening-reads.Asked,
-  opening-reads.Learnt,
-  bracketed-below t,
-  bracketed.Post,
-  put-reads.Asked,
-  put-reads.Learnt,
-  steps-below t,
-  steps.Post,
-) (operand-at t) operand.Post
+operand-returns : (t : ℕ) → operand-lts.Need-returns (operand-claims t) (operand-at t) operand.Post
 operand-returns t c =
     let s = c .before .before .before .before .before .before .before .before .before .before .before .before in
     let look = lookOf (s .args .known) (now (s .args .list)) in
@@ -670,91 +407,28 @@ operand-returns t c =
     let n = rw (c .before .before .before .before .before .before .opens .given .1) at (c .before .before .before .before .before .before .before .before .opening .ensures) in
     passed-on _ _ _ _ _ _ _ _ _ _ _ _ _ _ _ _ _ _ (c .before .before .before .bracketed .result) (c .match2 .keys2) (c .before .before .before .bracketed .ensures) (λ k spot h. not-stuck look within _ (s .args .out .now) _ (s .args .place) _ _ k spot n h)
 
-operand-put-requires : (t : ℕ) → operand-lts.Need-put-requires (
-  opening-reads.Asked,
-  opening-reads.Learnt,
-  bracketed-below t,
-  bracketed.Post,
-  put-reads.Asked,
-  put-reads.Learnt,
-  steps-below t,
-  steps.Post,
-) (operand-at t) operand.Post
+operand-put-requires : (t : ℕ) → operand-lts.Need-put-requires (operand-claims t) (operand-at t) operand.Post
 operand-put-requires t c κs = search needs
 
-operand-enum-known-opens-2 : (t : ℕ) → operand-lts.Need-enum-known-opens-2 (
-  opening-reads.Asked,
-  opening-reads.Learnt,
-  bracketed-below t,
-  bracketed.Post,
-  put-reads.Asked,
-  put-reads.Learnt,
-  steps-below t,
-  steps.Post,
-) (operand-at t) operand.Post
+operand-enum-known-opens-2 : (t : ℕ) → operand-lts.Need-enum-known-opens-2 (operand-claims t) (operand-at t) operand.Post
 operand-enum-known-opens-2 t c = search needs
 
-operand-bracketed-requires-2 : (t : ℕ) → operand-lts.Need-bracketed-requires-2 (
-  opening-reads.Asked,
-  opening-reads.Learnt,
-  bracketed-below t,
-  bracketed.Post,
-  put-reads.Asked,
-  put-reads.Learnt,
-  steps-below t,
-  steps.Post,
-) (operand-at t) operand.Post
+operand-bracketed-requires-2 : (t : ℕ) → operand-lts.Need-bracketed-requires-2 (operand-claims t) (operand-at t) operand.Post
 operand-bracketed-requires-2 t c κs =
     let s = c .before .before .before .before .before .before .before .before in
     let o = rw (c .before .before .opens2 .given .1) at (c .before .before .before .before .opening .ensures) in
     (omega (arith, o .3 .onward, o .3 .inside, s .pre .0), (record { short = s .pre .1 .0 .short; names = s .pre .1 .0 .names; inside = o .3 .inside; shallow = s .pre .1 .0 .shallow }, (omega (arith, o .3 .onward, s .pre .1 .1), search needs)))
 
-operand-enum-told : (t : ℕ) → operand-lts.Need-enum-told (
-  opening-reads.Asked,
-  opening-reads.Learnt,
-  bracketed-below t,
-  bracketed.Post,
-  put-reads.Asked,
-  put-reads.Learnt,
-  steps-below t,
-  steps.Post,
-) (operand-at t) operand.Post
+operand-enum-told : (t : ℕ) → operand-lts.Need-enum-told (operand-claims t) (operand-at t) operand.Post
 operand-enum-told t c = search needs
 
-operand-steps-requires : (t : ℕ) → operand-lts.Need-steps-requires (
-  opening-reads.Asked,
-  opening-reads.Learnt,
-  bracketed-below t,
-  bracketed.Post,
-  put-reads.Asked,
-  put-reads.Learnt,
-  steps-below t,
-  steps.Post,
-) (operand-at t) operand.Post
+operand-steps-requires : (t : ℕ) → operand-lts.Need-steps-requires (operand-claims t) (operand-at t) operand.Post
 operand-steps-requires t c κs = search needs
 
-operand-same-length-2 : (t : ℕ) → operand-lts.Need-same-length-2 (
-  opening-reads.Asked,
-  opening-reads.Learnt,
-  bracketed-below t,
-  bracketed.Post,
-  put-reads.Asked,
-  put-reads.Learnt,
-  steps-below t,
-  steps.Post,
-) (operand-at t) operand.Post
+operand-same-length-2 : (t : ℕ) → operand-lts.Need-same-length-2 (operand-claims t) (operand-at t) operand.Post
 operand-same-length-2 t c = search needs
 
-operand-returns-2 : (t : ℕ) → operand-lts.Need-returns-2 (
-  opening-reads.Asked,
-  opening-reads.Learnt,
-  bracketed-below t,
-  bracketed.Post,
-  put-reads.Asked,
-  put-reads.Learnt,
-  steps-below t,
-  steps.Post,
-) (operand-at t) operand.Post
+operand-returns-2 : (t : ℕ) → operand-lts.Need-returns-2 (operand-claims t) (operand-at t) operand.Post
 operand-returns-2 t c =
     let s = c .before .before .before .before .before .before .before .before .before .before .before .before .before .before .before .before .before .before in
     let look = lookOf (s .args .known) (now (s .args .list)) in
@@ -763,28 +437,10 @@ operand-returns-2 t c =
     let g = rw (c .before .before .before .before .before .inner .given .1) at (c .before .before .before .before .before .before .before .before .before .bracketed .ensures) in
     not-done look within _ _ _ _ _ _ _ _ _ _ n g (c .before .before .put .ensures)
 
-operand-same-length-3 : (t : ℕ) → operand-lts.Need-same-length-3 (
-  opening-reads.Asked,
-  opening-reads.Learnt,
-  bracketed-below t,
-  bracketed.Post,
-  put-reads.Asked,
-  put-reads.Learnt,
-  steps-below t,
-  steps.Post,
-) (operand-at t) operand.Post
+operand-same-length-3 : (t : ℕ) → operand-lts.Need-same-length-3 (operand-claims t) (operand-at t) operand.Post
 operand-same-length-3 t c = search needs
 
-operand-returns-3 : (t : ℕ) → operand-lts.Need-returns-3 (
-  opening-reads.Asked,
-  opening-reads.Learnt,
-  bracketed-below t,
-  bracketed.Post,
-  put-reads.Asked,
-  put-reads.Learnt,
-  steps-below t,
-  steps.Post,
-) (operand-at t) operand.Post
+operand-returns-3 : (t : ℕ) → operand-lts.Need-returns-3 (operand-claims t) (operand-at t) operand.Post
 operand-returns-3 t c =
     let s = c .before .before .before .before .before .before .before .before .before .before .before in
     let look = lookOf (s .args .known) (now (s .args .list)) in
@@ -792,34 +448,29 @@ operand-returns-3 t c =
     let o = rw (c .before .before .before .before .before .opens2 .given .1) at (c .before .before .before .before .before .before .before .opening .ensures) in
     round-done look within _ _ _ _ _ _ _ (c .before .before .bracketed2 .result) o (c .before .before .bracketed2 .ensures)
 
-operand-same-length-4 : (t : ℕ) → operand-lts.Need-same-length-4 (
-  opening-reads.Asked,
-  opening-reads.Learnt,
-  bracketed-below t,
-  bracketed.Post,
-  put-reads.Asked,
-  put-reads.Learnt,
-  steps-below t,
-  steps.Post,
-) (operand-at t) operand.Post
+operand-same-length-4 : (t : ℕ) → operand-lts.Need-same-length-4 (operand-claims t) (operand-at t) operand.Post
 operand-same-length-4 t c = search needs
 
-operand-returns-4 : (t : ℕ) → operand-lts.Need-returns-4 (
-  opening-reads.Asked,
-  opening-reads.Learnt,
-  bracketed-below t,
-  bracketed.Post,
-  put-reads.Asked,
-  put-reads.Learnt,
-  steps-below t,
-  steps.Post,
-) (operand-at t) operand.Post
+operand-returns-4 : (t : ℕ) → operand-lts.Need-returns-4 (operand-claims t) (operand-at t) operand.Post
 operand-returns-4 t c =
     let s = c .before .before .before .before .before .before .before .before .before .before in
     let look = lookOf (s .args .known) (now (s .args .list)) in
     let within = readWithin look (s .args .depth) in
     let o = rw (c .before .before .before .before .enum-told .given .1) at (c .before .before .before .before .before .before .opening .ensures) in
     path-done look within _ _ _ _ _ (c .before .before .steps .result) o (c .before .before .steps .ensures)
+
+-- What `predicates` knows of the functions it calls.
+abbrev predicates-claims : ℕ → predicates-lts.Claims
+predicates-claims t = (
+  mark-reads.Asked,
+  mark-reads.Learnt,
+  bracketed-below t,
+  bracketed.Post,
+  step-word-reads.Asked,
+  step-word-reads.Learnt,
+  put-reads.Asked,
+  put-reads.Learnt,
+)
 
 abbrev predicates-Inv-loop : predicates-lts.InvT-loop
 predicates-Inv-loop text list starts count known depth out₀ place axis test here₀ filled₀ taken₀ out here filled taken =
@@ -829,117 +480,36 @@ abbrev predicates-μ-loop : predicates-lts.MeasureT-loop
 predicates-μ-loop text list starts count known depth out₀ place axis test here₀ filled₀ taken₀ out here filled taken =
     length text - here .at
 
-predicates-add-filled : (t : ℕ) → predicates-lts.Need-add-filled (
-  mark-reads.Asked,
-  mark-reads.Learnt,
-  bracketed-below t,
-  bracketed.Post,
-  step-word-reads.Asked,
-  step-word-reads.Learnt,
-  put-reads.Asked,
-  put-reads.Learnt,
-) (predicates-at t) predicates.Post predicates-Inv-loop predicates-μ-loop
+predicates-add-filled : (t : ℕ) → predicates-lts.Need-add-filled (predicates-claims t) (predicates-at t) predicates.Post predicates-Inv-loop predicates-μ-loop
 predicates-add-filled t c = search needs
 
-predicates-loop-holds : (t : ℕ) → predicates-lts.Need-loop-holds (
-  mark-reads.Asked,
-  mark-reads.Learnt,
-  bracketed-below t,
-  bracketed.Post,
-  step-word-reads.Asked,
-  step-word-reads.Learnt,
-  put-reads.Asked,
-  put-reads.Learnt,
-) (predicates-at t) predicates.Post predicates-Inv-loop predicates-μ-loop
+predicates-loop-holds : (t : ℕ) → predicates-lts.Need-loop-holds (predicates-claims t) (predicates-at t) predicates.Post predicates-Inv-loop predicates-μ-loop
 predicates-loop-holds t c =
     (refl, preds-start _ _ _ _ _ _ (c .before .before .before .pre .1 .0 .inside))
 
-predicates-mark-requires : (t : ℕ) → predicates-lts.Need-mark-requires (
-  mark-reads.Asked,
-  mark-reads.Learnt,
-  bracketed-below t,
-  bracketed.Post,
-  step-word-reads.Asked,
-  step-word-reads.Learnt,
-  put-reads.Asked,
-  put-reads.Learnt,
-) (predicates-at t) predicates.Post predicates-Inv-loop predicates-μ-loop
+predicates-mark-requires : (t : ℕ) → predicates-lts.Need-mark-requires (predicates-claims t) (predicates-at t) predicates.Post predicates-Inv-loop predicates-μ-loop
 predicates-mark-requires t c κs = search needs
 
-predicates-enum-known-ahead : (t : ℕ) → predicates-lts.Need-enum-known-ahead (
-  mark-reads.Asked,
-  mark-reads.Learnt,
-  bracketed-below t,
-  bracketed.Post,
-  step-word-reads.Asked,
-  step-word-reads.Learnt,
-  put-reads.Asked,
-  put-reads.Learnt,
-) (predicates-at t) predicates.Post predicates-Inv-loop predicates-μ-loop
+predicates-enum-known-ahead : (t : ℕ) → predicates-lts.Need-enum-known-ahead (predicates-claims t) (predicates-at t) predicates.Post predicates-Inv-loop predicates-μ-loop
 predicates-enum-known-ahead t c = search needs
 
-predicates-enum-told : (t : ℕ) → predicates-lts.Need-enum-told (
-  mark-reads.Asked,
-  mark-reads.Learnt,
-  bracketed-below t,
-  bracketed.Post,
-  step-word-reads.Asked,
-  step-word-reads.Learnt,
-  put-reads.Asked,
-  put-reads.Learnt,
-) (predicates-at t) predicates.Post predicates-Inv-loop predicates-μ-loop
+predicates-enum-told : (t : ℕ) → predicates-lts.Need-enum-told (predicates-claims t) (predicates-at t) predicates.Post predicates-Inv-loop predicates-μ-loop
 predicates-enum-told t c = search needs
 
-predicates-bracketed-requires : (t : ℕ) → predicates-lts.Need-bracketed-requires (
-  mark-reads.Asked,
-  mark-reads.Learnt,
-  bracketed-below t,
-  bracketed.Post,
-  step-word-reads.Asked,
-  step-word-reads.Learnt,
-  put-reads.Asked,
-  put-reads.Learnt,
-) (predicates-at t) predicates.Post predicates-Inv-loop predicates-μ-loop
+predicates-bracketed-requires : (t : ℕ) → predicates-lts.Need-bracketed-requires (predicates-claims t) (predicates-at t) predicates.Post predicates-Inv-loop predicates-μ-loop
 predicates-bracketed-requires t c κs =
     let s = c .before .before .before .before .before .before .before .before .before in
     let l = c .before .before .before .before .before .loop .inv .1 in
     let m = rw (c .before .before .ahead .given .1) at (c .before .before .before .before .mark .ensures) in
     (omega (arith, l .onward, m .2 .onward, m .2 .inside, s .pre .0), (record { short = s .pre .1 .0 .short; names = s .pre .1 .0 .names; inside = m .2 .inside; shallow = s .pre .1 .0 .shallow }, (omega (arith, l .grows, m .2 .onward, s .pre .1 .1 .0), search needs)))
 
-predicates-enum-known-one : (t : ℕ) → predicates-lts.Need-enum-known-one (
-  mark-reads.Asked,
-  mark-reads.Learnt,
-  bracketed-below t,
-  bracketed.Post,
-  step-word-reads.Asked,
-  step-word-reads.Learnt,
-  put-reads.Asked,
-  put-reads.Learnt,
-) (predicates-at t) predicates.Post predicates-Inv-loop predicates-μ-loop
+predicates-enum-known-one : (t : ℕ) → predicates-lts.Need-enum-known-one (predicates-claims t) (predicates-at t) predicates.Post predicates-Inv-loop predicates-μ-loop
 predicates-enum-known-one t c = search needs
 
-predicates-same-length : (t : ℕ) → predicates-lts.Need-same-length (
-  mark-reads.Asked,
-  mark-reads.Learnt,
-  bracketed-below t,
-  bracketed.Post,
-  step-word-reads.Asked,
-  step-word-reads.Learnt,
-  put-reads.Asked,
-  put-reads.Learnt,
-) (predicates-at t) predicates.Post predicates-Inv-loop predicates-μ-loop
+predicates-same-length : (t : ℕ) → predicates-lts.Need-same-length (predicates-claims t) (predicates-at t) predicates.Post predicates-Inv-loop predicates-μ-loop
 predicates-same-length t c = search needs
 
-predicates-returns : (t : ℕ) → predicates-lts.Need-returns (
-  mark-reads.Asked,
-  mark-reads.Learnt,
-  bracketed-below t,
-  bracketed.Post,
-  step-word-reads.Asked,
-  step-word-reads.Learnt,
-  put-reads.Asked,
-  put-reads.Learnt,
-) (predicates-at t) predicates.Post predicates-Inv-loop predicates-μ-loop
+predicates-returns : (t : ℕ) → predicates-lts.Need-returns (predicates-claims t) (predicates-at t) predicates.Post predicates-Inv-loop predicates-μ-loop
 predicates-returns t c =
     let s = c .before .before .before .before .before .before .before .before .before .before .before .before .before in
     let look = lookOf (s .args .known) (now (s .args .list)) in
@@ -949,43 +519,16 @@ predicates-returns t c =
     λ a t′ ea et. passed-on _ _ _ _ _ _ _ _ _ _ _ _ _ _ _ _ _ _ (c .before .before .before .bracketed .result) (c .match2 .keys2) (c .before .before .before .bracketed .ensures)
     (preds-stuck look within _ _ _ _ _ _ _ _ l _ _ (m .0) (m .1) (m .2) a t′)
 
-predicates-add-taken : (t : ℕ) → predicates-lts.Need-add-taken (
-  mark-reads.Asked,
-  mark-reads.Learnt,
-  bracketed-below t,
-  bracketed.Post,
-  step-word-reads.Asked,
-  step-word-reads.Learnt,
-  put-reads.Asked,
-  put-reads.Learnt,
-) (predicates-at t) predicates.Post predicates-Inv-loop predicates-μ-loop
+predicates-add-taken : (t : ℕ) → predicates-lts.Need-add-taken (predicates-claims t) (predicates-at t) predicates.Post predicates-Inv-loop predicates-μ-loop
 predicates-add-taken t c = search needs
 
-predicates-loop-less : (t : ℕ) → predicates-lts.Need-loop-less (
-  mark-reads.Asked,
-  mark-reads.Learnt,
-  bracketed-below t,
-  bracketed.Post,
-  step-word-reads.Asked,
-  step-word-reads.Learnt,
-  put-reads.Asked,
-  put-reads.Learnt,
-) (predicates-at t) predicates.Post predicates-Inv-loop predicates-μ-loop
+predicates-loop-less : (t : ℕ) → predicates-lts.Need-loop-less (predicates-claims t) (predicates-at t) predicates.Post predicates-Inv-loop predicates-μ-loop
 predicates-loop-less t c =
     let g = rw (c .before .one .given .1) at (c .before .before .before .before .before .bracketed .ensures) in
     let m = rw (c .before .before .before .before .before .before .before .before .ahead .given .1) at (c .before .before .before .before .before .before .before .before .before .before .mark .ensures) in
     omega (arith, m .2 .onward, g .onward, g .inside)
 
-predicates-loop-again : (t : ℕ) → predicates-lts.Need-loop-again (
-  mark-reads.Asked,
-  mark-reads.Learnt,
-  bracketed-below t,
-  bracketed.Post,
-  step-word-reads.Asked,
-  step-word-reads.Learnt,
-  put-reads.Asked,
-  put-reads.Learnt,
-) (predicates-at t) predicates.Post predicates-Inv-loop predicates-μ-loop
+predicates-loop-again : (t : ℕ) → predicates-lts.Need-loop-again (predicates-claims t) (predicates-at t) predicates.Post predicates-Inv-loop predicates-μ-loop
 predicates-loop-again t c = (
   search needs,
   let s = c .before .before .before .before .before .before .before .before .before .before .before .before .before .before .before in
@@ -997,52 +540,16 @@ predicates-loop-again t c = (
       preds-more look within _ _ _ _ _ _ _ _ l _ _ (m .0) (m .1) (m .2) _ _ _ g,
 )
 
-predicates-step-word-requires : (t : ℕ) → predicates-lts.Need-step-word-requires (
-  mark-reads.Asked,
-  mark-reads.Learnt,
-  bracketed-below t,
-  bracketed.Post,
-  step-word-reads.Asked,
-  step-word-reads.Learnt,
-  put-reads.Asked,
-  put-reads.Learnt,
-) (predicates-at t) predicates.Post predicates-Inv-loop predicates-μ-loop
+predicates-step-word-requires : (t : ℕ) → predicates-lts.Need-step-word-requires (predicates-claims t) (predicates-at t) predicates.Post predicates-Inv-loop predicates-μ-loop
 predicates-step-word-requires t c κs = search needs
 
-predicates-put-requires : (t : ℕ) → predicates-lts.Need-put-requires (
-  mark-reads.Asked,
-  mark-reads.Learnt,
-  bracketed-below t,
-  bracketed.Post,
-  step-word-reads.Asked,
-  step-word-reads.Learnt,
-  put-reads.Asked,
-  put-reads.Learnt,
-) (predicates-at t) predicates.Post predicates-Inv-loop predicates-μ-loop
+predicates-put-requires : (t : ℕ) → predicates-lts.Need-put-requires (predicates-claims t) (predicates-at t) predicates.Post predicates-Inv-loop predicates-μ-loop
 predicates-put-requires t c κs = search needs
 
-predicates-same-length-2 : (t : ℕ) → predicates-lts.Need-same-length-2 (
-  mark-reads.Asked,
-  mark-reads.Learnt,
-  bracketed-below t,
-  bracketed.Post,
-  step-word-reads.Asked,
-  step-word-reads.Learnt,
-  put-reads.Asked,
-  put-reads.Learnt,
-) (predicates-at t) predicates.Post predicates-Inv-loop predicates-μ-loop
+predicates-same-length-2 : (t : ℕ) → predicates-lts.Need-same-length-2 (predicates-claims t) (predicates-at t) predicates.Post predicates-Inv-loop predicates-μ-loop
 predicates-same-length-2 t c = search needs
 
-predicates-returns-2 : (t : ℕ) → predicates-lts.Need-returns-2 (
-  mark-reads.Asked,
-  mark-reads.Learnt,
-  bracketed-below t,
-  bracketed.Post,
-  step-word-reads.Asked,
-  step-word-reads.Learnt,
-  put-reads.Asked,
-  put-reads.Learnt,
-) (predicates-at t) predicates.Post predicates-Inv-loop predicates-μ-loop
+predicates-returns-2 : (t : ℕ) → predicates-lts.Need-returns-2 (predicates-claims t) (predicates-at t) predicates.Post predicates-Inv-loop predicates-μ-loop
 predicates-returns-2 t c =
     let s = c .before .before .before .before .before .before .before .before .before .before .before .before in
     let look = lookOf (s .args .known) (now (s .args .list)) in
@@ -1051,7 +558,9 @@ predicates-returns-2 t c =
     let m = rw (c .before .before .before .before .before .enum-told .given .1) at (c .before .before .before .before .before .before .before .mark .ensures) in
     λ a t′ ea et. preds-done look within _ _ _ _ _ _ _ _ l _ _ _ _ a t′ ea et (m .0) (c .before .before .before .step-word .ensures) (c .before .before .put .ensures)
 
-step-step-head-requires : (t : ℕ) → step-lts.Need-step-head-requires (
+-- What `step` knows of the functions it calls.
+abbrev step-claims : ℕ → step-lts.Claims
+step-claims t = (
   step-head-reads.Asked,
   step-head-reads.Learnt,
   step-word-reads.Asked,
@@ -1060,132 +569,44 @@ step-step-head-requires : (t : ℕ) → step-lts.Need-step-head-requires (
   put-reads.Learnt,
   predicates-below t,
   predicates.Post,
-) (step-at t) step.Post
+)
+
+step-step-head-requires : (t : ℕ) → step-lts.Need-step-head-requires (step-claims t) (step-at t) step.Post
 step-step-head-requires t c κs = search needs
 
-step-enum-known-head : (t : ℕ) → step-lts.Need-enum-known-head (
-  step-head-reads.Asked,
-  step-head-reads.Learnt,
-  step-word-reads.Asked,
-  step-word-reads.Learnt,
-  put-reads.Asked,
-  put-reads.Learnt,
-  predicates-below t,
-  predicates.Post,
-) (step-at t) step.Post
+step-enum-known-head : (t : ℕ) → step-lts.Need-enum-known-head (step-claims t) (step-at t) step.Post
 step-enum-known-head t c = search needs
 
-step-step-word-requires : (t : ℕ) → step-lts.Need-step-word-requires (
-  step-head-reads.Asked,
-  step-head-reads.Learnt,
-  step-word-reads.Asked,
-  step-word-reads.Learnt,
-  put-reads.Asked,
-  put-reads.Learnt,
-  predicates-below t,
-  predicates.Post,
-) (step-at t) step.Post
+step-step-word-requires : (t : ℕ) → step-lts.Need-step-word-requires (step-claims t) (step-at t) step.Post
 step-step-word-requires t c κs =
     let h = rw (c .before .before .head .given .1) at (c .before .before .before .before .step-head .ensures) in
     (axis-small (h .way) _ (h .number), search needs)
 
-step-put-requires : (t : ℕ) → step-lts.Need-put-requires (
-  step-head-reads.Asked,
-  step-head-reads.Learnt,
-  step-word-reads.Asked,
-  step-word-reads.Learnt,
-  put-reads.Asked,
-  put-reads.Learnt,
-  predicates-below t,
-  predicates.Post,
-) (step-at t) step.Post
+step-put-requires : (t : ℕ) → step-lts.Need-put-requires (step-claims t) (step-at t) step.Post
 step-put-requires t c κs = search needs
 
-step-add-t23 : (t : ℕ) → step-lts.Need-add-t23 (
-  step-head-reads.Asked,
-  step-head-reads.Learnt,
-  step-word-reads.Asked,
-  step-word-reads.Learnt,
-  put-reads.Asked,
-  put-reads.Learnt,
-  predicates-below t,
-  predicates.Post,
-) (step-at t) step.Post
+step-add-t23 : (t : ℕ) → step-lts.Need-add-t23 (step-claims t) (step-at t) step.Post
 step-add-t23 t c = search needs
 
-step-enum-known-head-2 : (t : ℕ) → step-lts.Need-enum-known-head-2 (
-  step-head-reads.Asked,
-  step-head-reads.Learnt,
-  step-word-reads.Asked,
-  step-word-reads.Learnt,
-  put-reads.Asked,
-  put-reads.Learnt,
-  predicates-below t,
-  predicates.Post,
-) (step-at t) step.Post
+step-enum-known-head-2 : (t : ℕ) → step-lts.Need-enum-known-head-2 (step-claims t) (step-at t) step.Post
 step-enum-known-head-2 t c = search needs
 
-step-predicates-requires : (t : ℕ) → step-lts.Need-predicates-requires (
-  step-head-reads.Asked,
-  step-head-reads.Learnt,
-  step-word-reads.Asked,
-  step-word-reads.Learnt,
-  put-reads.Asked,
-  put-reads.Learnt,
-  predicates-below t,
-  predicates.Post,
-) (step-at t) step.Post
+step-predicates-requires : (t : ℕ) → step-lts.Need-predicates-requires (step-claims t) (step-at t) step.Post
 step-predicates-requires t c κs =
     let s = c .before .before .before .before .before .before .before .before in
     let h = rw (c .before .before .head2 .given .1) at (c .before .before .before .before .step-head .ensures) in
     (omega (arith, h .onward, h .inside, s .pre .0), (record { short = s .pre .1 .0 .short; names = s .pre .1 .0 .names; inside = h .inside; shallow = s .pre .1 .0 .shallow }, (omega (arith, h .onward, s .pre .1 .1), axis-small (h .way) _ (h .number), h .small)))
 
-step-enum-known-head-3 : (t : ℕ) → step-lts.Need-enum-known-head-3 (
-  step-head-reads.Asked,
-  step-head-reads.Learnt,
-  step-word-reads.Asked,
-  step-word-reads.Learnt,
-  put-reads.Asked,
-  put-reads.Learnt,
-  predicates-below t,
-  predicates.Post,
-) (step-at t) step.Post
+step-enum-known-head-3 : (t : ℕ) → step-lts.Need-enum-known-head-3 (step-claims t) (step-at t) step.Post
 step-enum-known-head-3 t c = search needs
 
-step-enum-known-head-4 : (t : ℕ) → step-lts.Need-enum-known-head-4 (
-  step-head-reads.Asked,
-  step-head-reads.Learnt,
-  step-word-reads.Asked,
-  step-word-reads.Learnt,
-  put-reads.Asked,
-  put-reads.Learnt,
-  predicates-below t,
-  predicates.Post,
-) (step-at t) step.Post
+step-enum-known-head-4 : (t : ℕ) → step-lts.Need-enum-known-head-4 (step-claims t) (step-at t) step.Post
 step-enum-known-head-4 t c = search needs
 
-step-same-length : (t : ℕ) → step-lts.Need-same-length (
-  step-head-reads.Asked,
-  step-head-reads.Learnt,
-  step-word-reads.Asked,
-  step-word-reads.Learnt,
-  put-reads.Asked,
-  put-reads.Learnt,
-  predicates-below t,
-  predicates.Post,
-) (step-at t) step.Post
+step-same-length : (t : ℕ) → step-lts.Need-same-length (step-claims t) (step-at t) step.Post
 step-same-length t c = search needs
 
-step-returns : (t : ℕ) → step-lts.Need-returns (
-  step-head-reads.Asked,
-  step-head-reads.Learnt,
-  step-word-reads.Asked,
-  step-word-reads.Learnt,
-  put-reads.Asked,
-  put-reads.Learnt,
-  predicates-below t,
-  predicates.Post,
-) (step-at t) step.Post
+step-returns : (t : ℕ) → step-lts.Need-returns (step-claims t) (step-at t) step.Post
 step-returns t c =
     let s = c .before .before .before .before .before .before .before .before .before .before .before .before in
     let look = lookOf (s .args .known) (now (s .args .list)) in
@@ -1193,28 +614,10 @@ step-returns t c =
     let h = rw (c .before .before .before .before .before .before .head .given .1) at (c .before .before .before .before .before .before .before .before .step-head .ensures) in
     plain-done look within _ _ _ _ _ _ _ _ h (c .before .before .before .step-word .ensures) (c .before .before .put .ensures)
 
-step-same-length-2 : (t : ℕ) → step-lts.Need-same-length-2 (
-  step-head-reads.Asked,
-  step-head-reads.Learnt,
-  step-word-reads.Asked,
-  step-word-reads.Learnt,
-  put-reads.Asked,
-  put-reads.Learnt,
-  predicates-below t,
-  predicates.Post,
-) (step-at t) step.Post
+step-same-length-2 : (t : ℕ) → step-lts.Need-same-length-2 (step-claims t) (step-at t) step.Post
 step-same-length-2 t c = search needs
 
-step-returns-2 : (t : ℕ) → step-lts.Need-returns-2 (
-  step-head-reads.Asked,
-  step-head-reads.Learnt,
-  step-word-reads.Asked,
-  step-word-reads.Learnt,
-  put-reads.Asked,
-  put-reads.Learnt,
-  predicates-below t,
-  predicates.Post,
-) (step-at t) step.Post
+step-returns-2 : (t : ℕ) → step-lts.Need-returns-2 (step-claims t) (step-at t) step.Post
 step-returns-2 t c =
     let s = c .before .before .before .before .before .before .before .before .before .before .before in
     let look = lookOf (s .args .known) (now (s .args .list)) in
@@ -1222,37 +625,34 @@ step-returns-2 t c =
     let h = rw (c .before .before .before .before .before .head2 .given .1) at (c .before .before .before .before .before .before .before .step-head .ensures) in
     tested-done look within _ _ _ _ _ _ _ _ (c .before .before .predicates .result) h (c .before .before .predicates .ensures (h .way) (h .kind) (h .number) (h .tested))
 
-step-returns-3 : (t : ℕ) → step-lts.Need-returns-3 (
-  step-head-reads.Asked,
-  step-head-reads.Learnt,
-  step-word-reads.Asked,
-  step-word-reads.Learnt,
-  put-reads.Asked,
-  put-reads.Learnt,
-  predicates-below t,
-  predicates.Post,
-) (step-at t) step.Post
+step-returns-3 : (t : ℕ) → step-lts.Need-returns-3 (step-claims t) (step-at t) step.Post
 step-returns-3 t c =
     let s = c .before .before .before .before .before .before .before in
     let look = lookOf (s .args .known) (now (s .args .list)) in
     let within = readWithin look (s .args .depth) in
     (rw (c .before .head3 .given .1) at (c .before .before .before .step-head .ensures)) within
 
-step-returns-4 : (t : ℕ) → step-lts.Need-returns-4 (
-  step-head-reads.Asked,
-  step-head-reads.Learnt,
-  step-word-reads.Asked,
-  step-word-reads.Learnt,
-  put-reads.Asked,
-  put-reads.Learnt,
-  predicates-below t,
-  predicates.Post,
-) (step-at t) step.Post
+step-returns-4 : (t : ℕ) → step-lts.Need-returns-4 (step-claims t) (step-at t) step.Post
 step-returns-4 t c =
     let s = c .before .before .before .before .before .before .before in
     let look = lookOf (s .args .known) (now (s .args .list)) in
     let within = readWithin look (s .args .depth) in
     (rw (c .before .head4 .given .1) at (c .before .before .before .step-head .ensures)) within
+
+-- What `steps` knows of the functions it calls.
+abbrev steps-claims : ℕ → steps-lts.Claims
+steps-claims t = (
+  put-deep-reads.Asked,
+  put-deep-reads.Learnt,
+  step-below t,
+  step.Post,
+  joined-reads.Asked,
+  joined-reads.Learnt,
+  path-word-reads.Asked,
+  path-word-reads.Learnt,
+  put-reads.Asked,
+  put-reads.Learnt,
+)
 
 abbrev steps-Inv-loop : steps-lts.InvT-loop
 steps-Inv-loop text list starts count known depth out₀ place deep here₀ filled₀ lead₀ taken₀ out here filled lead taken =
@@ -1262,106 +662,29 @@ abbrev steps-μ-loop : steps-lts.MeasureT-loop
 steps-μ-loop text list starts count known depth out₀ place deep here₀ filled₀ lead₀ taken₀ out here filled lead taken =
     length text - here .at
 
-steps-add-filled : (t : ℕ) → steps-lts.Need-add-filled (
-  put-deep-reads.Asked,
-  put-deep-reads.Learnt,
-  step-below t,
-  step.Post,
-  joined-reads.Asked,
-  joined-reads.Learnt,
-  path-word-reads.Asked,
-  path-word-reads.Learnt,
-  put-reads.Asked,
-  put-reads.Learnt,
-) (steps-at t) steps.Post steps-Inv-loop steps-μ-loop
+steps-add-filled : (t : ℕ) → steps-lts.Need-add-filled (steps-claims t) (steps-at t) steps.Post steps-Inv-loop steps-μ-loop
 steps-add-filled t c = search needs
 
-steps-loop-holds : (t : ℕ) → steps-lts.Need-loop-holds (
-  put-deep-reads.Asked,
-  put-deep-reads.Learnt,
-  step-below t,
-  step.Post,
-  joined-reads.Asked,
-  joined-reads.Learnt,
-  path-word-reads.Asked,
-  path-word-reads.Learnt,
-  put-reads.Asked,
-  put-reads.Learnt,
-) (steps-at t) steps.Post steps-Inv-loop steps-μ-loop
+steps-loop-holds : (t : ℕ) → steps-lts.Need-loop-holds (steps-claims t) (steps-at t) steps.Post steps-Inv-loop steps-μ-loop
 steps-loop-holds t c =
     (refl, steps-start _ _ _ _ _ _ _ (c .before .before .before .pre .1 .0 .inside))
 
-steps-put-deep-requires : (t : ℕ) → steps-lts.Need-put-deep-requires (
-  put-deep-reads.Asked,
-  put-deep-reads.Learnt,
-  step-below t,
-  step.Post,
-  joined-reads.Asked,
-  joined-reads.Learnt,
-  path-word-reads.Asked,
-  path-word-reads.Learnt,
-  put-reads.Asked,
-  put-reads.Learnt,
-) (steps-at t) steps.Post steps-Inv-loop steps-μ-loop
+steps-put-deep-requires : (t : ℕ) → steps-lts.Need-put-deep-requires (steps-claims t) (steps-at t) steps.Post steps-Inv-loop steps-μ-loop
 steps-put-deep-requires t c κs = search needs
 
-steps-step-requires : (t : ℕ) → steps-lts.Need-step-requires (
-  put-deep-reads.Asked,
-  put-deep-reads.Learnt,
-  step-below t,
-  step.Post,
-  joined-reads.Asked,
-  joined-reads.Learnt,
-  path-word-reads.Asked,
-  path-word-reads.Learnt,
-  put-reads.Asked,
-  put-reads.Learnt,
-) (steps-at t) steps.Post steps-Inv-loop steps-μ-loop
+steps-step-requires : (t : ℕ) → steps-lts.Need-step-requires (steps-claims t) (steps-at t) steps.Post steps-Inv-loop steps-μ-loop
 steps-step-requires t c κs =
     let s = c .before .before .before .before .before .before .before .before .before in
     let l = c .before .before .before .before .before .loop .inv .1 in
     (search needs, (record { short = s .pre .1 .0 .short; names = s .pre .1 .0 .names; inside = l .inside; shallow = s .pre .1 .0 .shallow }, omega (arith, l .grows, s .pre .1 .1, c .before .before .before .put-deep .ensures .1, deep-few (c .before .before .before .before .before .loop .lead))))
 
-steps-enum-known-one : (t : ℕ) → steps-lts.Need-enum-known-one (
-  put-deep-reads.Asked,
-  put-deep-reads.Learnt,
-  step-below t,
-  step.Post,
-  joined-reads.Asked,
-  joined-reads.Learnt,
-  path-word-reads.Asked,
-  path-word-reads.Learnt,
-  put-reads.Asked,
-  put-reads.Learnt,
-) (steps-at t) steps.Post steps-Inv-loop steps-μ-loop
+steps-enum-known-one : (t : ℕ) → steps-lts.Need-enum-known-one (steps-claims t) (steps-at t) steps.Post steps-Inv-loop steps-μ-loop
 steps-enum-known-one t c = search needs
 
-steps-same-length : (t : ℕ) → steps-lts.Need-same-length (
-  put-deep-reads.Asked,
-  put-deep-reads.Learnt,
-  step-below t,
-  step.Post,
-  joined-reads.Asked,
-  joined-reads.Learnt,
-  path-word-reads.Asked,
-  path-word-reads.Learnt,
-  put-reads.Asked,
-  put-reads.Learnt,
-) (steps-at t) steps.Post steps-Inv-loop steps-μ-loop
+steps-same-length : (t : ℕ) → steps-lts.Need-same-length (steps-claims t) (steps-at t) steps.Post steps-Inv-loop steps-μ-loop
 steps-same-length t c = search needs
 
-steps-returns : (t : ℕ) → steps-lts.Need-returns (
-  put-deep-reads.Asked,
-  put-deep-reads.Learnt,
-  step-below t,
-  step.Post,
-  joined-reads.Asked,
-  joined-reads.Learnt,
-  path-word-reads.Asked,
-  path-word-reads.Learnt,
-  put-reads.Asked,
-  put-reads.Learnt,
-) (steps-at t) steps.Post steps-Inv-loop steps-μ-loop
+steps-returns : (t : ℕ) → steps-lts.Need-returns (steps-claims t) (steps-at t) steps.Post steps-Inv-loop steps-μ-loop
 steps-returns t c =
     let s = c .before .before .before .before .before .before .before .before .before .before .before .before .before in
     let look = lookOf (s .args .known) (now (s .args .list)) in
@@ -1369,106 +692,29 @@ steps-returns t c =
     let l = c .before .before .before .before .before .before .before .before .before .loop .inv .1 in
     passed-on _ _ _ _ _ _ _ _ _ _ _ _ _ _ _ _ _ _ (c .before .before .before .step .result) (c .match .keys2) (c .before .before .before .step .ensures) (step-stuck look within _ _ _ _ _ _ _ _ _ _ l)
 
-steps-sub-taken : (t : ℕ) → steps-lts.Need-sub-taken (
-  put-deep-reads.Asked,
-  put-deep-reads.Learnt,
-  step-below t,
-  step.Post,
-  joined-reads.Asked,
-  joined-reads.Learnt,
-  path-word-reads.Asked,
-  path-word-reads.Learnt,
-  put-reads.Asked,
-  put-reads.Learnt,
-) (steps-at t) steps.Post steps-Inv-loop steps-μ-loop
+steps-sub-taken : (t : ℕ) → steps-lts.Need-sub-taken (steps-claims t) (steps-at t) steps.Post steps-Inv-loop steps-μ-loop
 steps-sub-taken t c = search needs
 
-steps-add-taken : (t : ℕ) → steps-lts.Need-add-taken (
-  put-deep-reads.Asked,
-  put-deep-reads.Learnt,
-  step-below t,
-  step.Post,
-  joined-reads.Asked,
-  joined-reads.Learnt,
-  path-word-reads.Asked,
-  path-word-reads.Learnt,
-  put-reads.Asked,
-  put-reads.Learnt,
-) (steps-at t) steps.Post steps-Inv-loop steps-μ-loop
+steps-add-taken : (t : ℕ) → steps-lts.Need-add-taken (steps-claims t) (steps-at t) steps.Post steps-Inv-loop steps-μ-loop
 steps-add-taken t c = search needs
 
-steps-add-taken-2 : (t : ℕ) → steps-lts.Need-add-taken-2 (
-  put-deep-reads.Asked,
-  put-deep-reads.Learnt,
-  step-below t,
-  step.Post,
-  joined-reads.Asked,
-  joined-reads.Learnt,
-  path-word-reads.Asked,
-  path-word-reads.Learnt,
-  put-reads.Asked,
-  put-reads.Learnt,
-) (steps-at t) steps.Post steps-Inv-loop steps-μ-loop
+steps-add-taken-2 : (t : ℕ) → steps-lts.Need-add-taken-2 (steps-claims t) (steps-at t) steps.Post steps-Inv-loop steps-μ-loop
 steps-add-taken-2 t c = search needs
 
-steps-joined-requires : (t : ℕ) → steps-lts.Need-joined-requires (
-  put-deep-reads.Asked,
-  put-deep-reads.Learnt,
-  step-below t,
-  step.Post,
-  joined-reads.Asked,
-  joined-reads.Learnt,
-  path-word-reads.Asked,
-  path-word-reads.Learnt,
-  put-reads.Asked,
-  put-reads.Learnt,
-) (steps-at t) steps.Post steps-Inv-loop steps-μ-loop
+steps-joined-requires : (t : ℕ) → steps-lts.Need-joined-requires (steps-claims t) (steps-at t) steps.Post steps-Inv-loop steps-μ-loop
 steps-joined-requires t c κs =
     (rw (c .before .one .given .1) at (c .before .before .before .before .before .step .ensures)) .inside
 
-steps-enum-known-joint : (t : ℕ) → steps-lts.Need-enum-known-joint (
-  put-deep-reads.Asked,
-  put-deep-reads.Learnt,
-  step-below t,
-  step.Post,
-  joined-reads.Asked,
-  joined-reads.Learnt,
-  path-word-reads.Asked,
-  path-word-reads.Learnt,
-  put-reads.Asked,
-  put-reads.Learnt,
-) (steps-at t) steps.Post steps-Inv-loop steps-μ-loop
+steps-enum-known-joint : (t : ℕ) → steps-lts.Need-enum-known-joint (steps-claims t) (steps-at t) steps.Post steps-Inv-loop steps-μ-loop
 steps-enum-known-joint t c = search needs
 
-steps-loop-less : (t : ℕ) → steps-lts.Need-loop-less (
-  put-deep-reads.Asked,
-  put-deep-reads.Learnt,
-  step-below t,
-  step.Post,
-  joined-reads.Asked,
-  joined-reads.Learnt,
-  path-word-reads.Asked,
-  path-word-reads.Learnt,
-  put-reads.Asked,
-  put-reads.Learnt,
-) (steps-at t) steps.Post steps-Inv-loop steps-μ-loop
+steps-loop-less : (t : ℕ) → steps-lts.Need-loop-less (steps-claims t) (steps-at t) steps.Post steps-Inv-loop steps-μ-loop
 steps-loop-less t c =
     let g = rw (c .before .before .before .before .before .one .given .1) at (c .before .before .before .before .before .before .before .before .before .step .ensures) in
     let p = joined-past (c .before .before .before .before .before .before .before .before .before .before .before .before .before .before .before .before .before .before .before .args .text .now) (c .before .before .before .before .before .one .given .0 .0 .at) (c .before .joint .given .0 .0) (c .before .joint .given .0 .1 .0) (rw (c .before .joint .given .1) at (c .before .before .before .joined .ensures)) in
     omega (arith, p .onward, p .inside, g .onward)
 
-steps-loop-again : (t : ℕ) → steps-lts.Need-loop-again (
-  put-deep-reads.Asked,
-  put-deep-reads.Learnt,
-  step-below t,
-  step.Post,
-  joined-reads.Asked,
-  joined-reads.Learnt,
-  path-word-reads.Asked,
-  path-word-reads.Learnt,
-  put-reads.Asked,
-  put-reads.Learnt,
-) (steps-at t) steps.Post steps-Inv-loop steps-μ-loop
+steps-loop-again : (t : ℕ) → steps-lts.Need-loop-again (steps-claims t) (steps-at t) steps.Post steps-Inv-loop steps-μ-loop
 steps-loop-again t c = (
   search needs,
   let s = c .before .before .before .before .before .before .before .before .before .before .before .before .before .before .before .before .before .before .before in
@@ -1479,74 +725,19 @@ steps-loop-again t c = (
       steps-more look within _ _ _ _ _ _ _ _ _ l _ _ (rw (c .before .joint .given .1) at (c .before .before .before .joined .ensures)),
 )
 
-steps-enum-told : (t : ℕ) → steps-lts.Need-enum-told (
-  put-deep-reads.Asked,
-  put-deep-reads.Learnt,
-  step-below t,
-  step.Post,
-  joined-reads.Asked,
-  joined-reads.Learnt,
-  path-word-reads.Asked,
-  path-word-reads.Learnt,
-  put-reads.Asked,
-  put-reads.Learnt,
-) (steps-at t) steps.Post steps-Inv-loop steps-μ-loop
+steps-enum-told : (t : ℕ) → steps-lts.Need-enum-told (steps-claims t) (steps-at t) steps.Post steps-Inv-loop steps-μ-loop
 steps-enum-told t c = search needs
 
-steps-path-word-requires : (t : ℕ) → steps-lts.Need-path-word-requires (
-  put-deep-reads.Asked,
-  put-deep-reads.Learnt,
-  step-below t,
-  step.Post,
-  joined-reads.Asked,
-  joined-reads.Learnt,
-  path-word-reads.Asked,
-  path-word-reads.Learnt,
-  put-reads.Asked,
-  put-reads.Learnt,
-) (steps-at t) steps.Post steps-Inv-loop steps-μ-loop
+steps-path-word-requires : (t : ℕ) → steps-lts.Need-path-word-requires (steps-claims t) (steps-at t) steps.Post steps-Inv-loop steps-μ-loop
 steps-path-word-requires t c κs = search needs
 
-steps-put-requires : (t : ℕ) → steps-lts.Need-put-requires (
-  put-deep-reads.Asked,
-  put-deep-reads.Learnt,
-  step-below t,
-  step.Post,
-  joined-reads.Asked,
-  joined-reads.Learnt,
-  path-word-reads.Asked,
-  path-word-reads.Learnt,
-  put-reads.Asked,
-  put-reads.Learnt,
-) (steps-at t) steps.Post steps-Inv-loop steps-μ-loop
+steps-put-requires : (t : ℕ) → steps-lts.Need-put-requires (steps-claims t) (steps-at t) steps.Post steps-Inv-loop steps-μ-loop
 steps-put-requires t c κs = search needs
 
-steps-same-length-2 : (t : ℕ) → steps-lts.Need-same-length-2 (
-  put-deep-reads.Asked,
-  put-deep-reads.Learnt,
-  step-below t,
-  step.Post,
-  joined-reads.Asked,
-  joined-reads.Learnt,
-  path-word-reads.Asked,
-  path-word-reads.Learnt,
-  put-reads.Asked,
-  put-reads.Learnt,
-) (steps-at t) steps.Post steps-Inv-loop steps-μ-loop
+steps-same-length-2 : (t : ℕ) → steps-lts.Need-same-length-2 (steps-claims t) (steps-at t) steps.Post steps-Inv-loop steps-μ-loop
 steps-same-length-2 t c = search needs
 
-steps-returns-2 : (t : ℕ) → steps-lts.Need-returns-2 (
-  put-deep-reads.Asked,
-  put-deep-reads.Learnt,
-  step-below t,
-  step.Post,
-  joined-reads.Asked,
-  joined-reads.Learnt,
-  path-word-reads.Asked,
-  path-word-reads.Learnt,
-  put-reads.Asked,
-  put-reads.Learnt,
-) (steps-at t) steps.Post steps-Inv-loop steps-μ-loop
+steps-returns-2 : (t : ℕ) → steps-lts.Need-returns-2 (steps-claims t) (steps-at t) steps.Post steps-Inv-loop steps-μ-loop
 steps-returns-2 t c =
     let s = c .before .before .before .before .before .before .before .before .before .before .before .before .before .before .before .before .before .before .before .before .before .before .before in
     let look = lookOf (s .args .known) (now (s .args .list)) in
@@ -1557,12 +748,7 @@ steps-returns-2 t c =
 
 pub +bracketed+expression+operand+predicates+step+steps-spec : {M : Type 1} → statement M
 +bracketed+expression+operand+predicates+step+steps-spec =
-    close μ-bracketed μ-expression μ-operand μ-predicates μ-step μ-steps (λ t. bracketed-lts.spec (
-      expression-below t,
-      expression.Post,
-      mark-reads.Asked,
-      mark-reads.Learnt,
-    )
+    close μ-bracketed μ-expression μ-operand μ-predicates μ-step μ-steps (λ t. bracketed-lts.spec (bracketed-claims t)
     (bracketed-at t)
     bracketed.Post
     (bracketed-returns t)
@@ -1578,14 +764,7 @@ pub +bracketed+expression+operand+predicates+step+steps-spec : {M : Type 1} → 
     (bracketed-returns-3 t)
     (bracketed-same-length-3 t)
     (bracketed-returns-4 t))
-    (λ t. expression-lts.spec (
-      operand-below t,
-      operand.Post,
-      word-ahead-reads.Asked,
-      word-ahead-reads.Learnt,
-      group-reads.Asked,
-      group-reads.Learnt,
-    )
+    (λ t. expression-lts.spec (expression-claims t)
     (expression-at t)
     expression.Post
     expression-Inv-loop
@@ -1615,16 +794,7 @@ pub +bracketed+expression+operand+predicates+step+steps-spec : {M : Type 1} → 
     (expression-add-ors t)
     (expression-loop-less-2 t)
     (expression-loop-again-2 t))
-    (λ t. operand-lts.spec (
-      opening-reads.Asked,
-      opening-reads.Learnt,
-      bracketed-below t,
-      bracketed.Post,
-      put-reads.Asked,
-      put-reads.Learnt,
-      steps-below t,
-      steps.Post,
-    )
+    (λ t. operand-lts.spec (operand-claims t)
     (operand-at t)
     operand.Post
     (operand-opening-requires t)
@@ -1645,16 +815,7 @@ pub +bracketed+expression+operand+predicates+step+steps-spec : {M : Type 1} → 
     (operand-returns-3 t)
     (operand-same-length-4 t)
     (operand-returns-4 t))
-    (λ t. predicates-lts.spec (
-      mark-reads.Asked,
-      mark-reads.Learnt,
-      bracketed-below t,
-      bracketed.Post,
-      step-word-reads.Asked,
-      step-word-reads.Learnt,
-      put-reads.Asked,
-      put-reads.Learnt,
-    )
+    (λ t. predicates-lts.spec (predicates-claims t)
     (predicates-at t)
     predicates.Post
     predicates-Inv-loop
@@ -1675,16 +836,7 @@ pub +bracketed+expression+operand+predicates+step+steps-spec : {M : Type 1} → 
     (predicates-put-requires t)
     (predicates-same-length-2 t)
     (predicates-returns-2 t))
-    (λ t. step-lts.spec (
-      step-head-reads.Asked,
-      step-head-reads.Learnt,
-      step-word-reads.Asked,
-      step-word-reads.Learnt,
-      put-reads.Asked,
-      put-reads.Learnt,
-      predicates-below t,
-      predicates.Post,
-    )
+    (λ t. step-lts.spec (step-claims t)
     (step-at t)
     step.Post
     (step-step-head-requires t)
@@ -1702,18 +854,7 @@ pub +bracketed+expression+operand+predicates+step+steps-spec : {M : Type 1} → 
     (step-returns-2 t)
     (step-returns-3 t)
     (step-returns-4 t))
-    λ t. steps-lts.spec (
-      put-deep-reads.Asked,
-      put-deep-reads.Learnt,
-      step-below t,
-      step.Post,
-      joined-reads.Asked,
-      joined-reads.Learnt,
-      path-word-reads.Asked,
-      path-word-reads.Learnt,
-      put-reads.Asked,
-      put-reads.Learnt,
-    )
+    λ t. steps-lts.spec (steps-claims t)
     (steps-at t)
     steps.Post
     steps-Inv-loop

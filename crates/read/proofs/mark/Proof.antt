@@ -1,17 +1,18 @@
--- `read::mark` meets its contract: where a word starts no mark stands; else the sort of the token that was taken is the paper's. Assumes nothing.
+-- `read::mark` meets its contract: where another byte stands than the mark starts with, it does not; else the sort of the token that was taken is the paper's. Assumes nothing.
 use mathlib.Core.Path.{sym, _∙_}
 use borrow.Author.Needs.{needs}
-use Rattle.read.proofs.Lexed.{word-here, looks-there, looks-other}
+use Rattle.read.proofs.Lexed.{other-here, looks-there, looks-other}
 use Rattle.read.proofs.mark.Statement.{statement}
 use Rattle.read.proofs.mark.Tie as tie
 
-word-starts-requires : tie.Need-word-starts-requires
-word-starts-requires c κs = search needs
+first-byte-requires : tie.Need-first-byte-requires
+first-byte-requires c κs = search needs
+
+other-byte-requires : tie.Need-other-byte-requires
+other-byte-requires c κs = search needs
 
 returns : tie.Need-returns
-returns c =
-    let word = c .before .word-starts .ensures (c .if1 .taken) in
-    word-here _ _ _ (word .0) (word .1) (c .before .before .before .pre .1)
+returns c = other-here _ _ _ _ (c .before .before .before .before .pre .1) (c .before .before .first-byte .ensures) (c .before .other-byte .ensures (c .if1 .taken))
 
 take-requires : tie.Need-take-requires
 take-requires c κs = search needs
@@ -20,12 +21,10 @@ sort-of-requires : tie.Need-sort-of-requires
 sort-of-requires c κs = search needs
 
 returns-2 : tie.Need-returns-2
-returns-2 c = looks-there _ _ _ (c .before .before .before .take .ensures) _ (c .before .before .before .before .before .before .before .pre .1) (c .if2 .taken ∙ c .before .sort-of .ensures)
+returns-2 c = looks-there _ _ _ (c .before .before .before .take .ensures) _ (c .before .before .before .before .before .before .before .before .pre .1) (c .if2 .taken ∙ c .before .sort-of .ensures)
 
 returns-3 : tie.Need-returns-3
 returns-3 c = looks-other _ _ _ (c .before .before .before .take .ensures) _ (λ e. c .if2 .left (e ∙ sym (c .before .sort-of .ensures)))
 
 pub mark-spec : {M : Type 1} → statement M
-mark-spec =
-    tie.close
-    (tie.spec word-starts-requires returns take-requires sort-of-requires returns-2 returns-3)
+mark-spec = tie.close (tie.spec first-byte-requires other-byte-requires returns take-requires sort-of-requires returns-2 returns-3)
