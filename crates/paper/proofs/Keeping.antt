@@ -63,11 +63,6 @@ keeps-parent t w marks c q i l h =
     (⊎-elim (λ a. over-cases t w i k l a (λ e. or-right (over t p k) (ap (λ x. over t x p) (sym e) ∙ up)) (λ z b. or-left (over t k p) b))
     (λ a. or-right (over t p k) (over-trans t w i p k lk a up)) o))
 
--- The marks written are closed,
-pub kept-closed : (t : Table) → Tree t → (marks : List ℕ) → Closed t marks → (q : Query) → Closed t (kept t marks q)
-kept-closed t w marks c q i l m =
-    marked-kept t marks q (parentOf t i) (omega (arith, parent-le t w i l)) ∙ keeps-parent t w marks c q i l (sym (marked-kept t marks q i l) ∙ m)
-
 -- WHAT A RUN WRITES HAS NO FAULT: it can be lent as given marks again.
 pub kept-good : (t : Table) (marks : List ℕ) (q : Query) → tableFault t ≡ none → marksFault t marks ≡ none → marksFault t (kept t marks q) ≡ none
 unfolding marksFault goodMark
