@@ -38,7 +38,7 @@ module _ (list starts : List ℕ) where
       by-cases (ℕ-discrete v count) (λ e. or-left (someOf test (earlier list starts count)) (subst (λ u. test (said list starts u) ≡ true) e h))
       (λ e. or-right (test (said list starts count)) (earlier-some test count v (omega arith) h))
 
-  earlier-none : (test : List ℕ → Bool) (count : ℕ) → ((u : ℕ) → u < count → test (said list starts u) ≡ false) → someOf test (earlier list starts count) ≡ false
+  pub earlier-none : (test : List ℕ → Bool) (count : ℕ) → ((u : ℕ) → u < count → test (said list starts u) ≡ false) → someOf test (earlier list starts count) ≡ false
   earlier-none test zero h = refl
   earlier-none test (suc count) h = rw (h count (omega arith)) (earlier-none test count (λ u l. h u (omega arith)))
 

@@ -13,14 +13,15 @@ use lib.Dec.{ltb}
 use lib.ListN.{length, getD, set, take, drop, drop-of-length-le, length-set, take-append-drop}
 use lib.Seq.{getD-set-same, getD-set-other, append-snoc, take-suc, take-set-le, drop-set-lt, drop-drop, length-take-le}
 use Rattle.paper.specs.Tools.{column, columnFrom, written}
-use Rattle.paper.specs.Limits.{namesLimit}
-use Rattle.paper.specs.Names.{linesFrom, firstBad, badLine, namesFault, namesOf}
+use Rattle.paper.specs.Limits.{nameLimit, namesLimit}
+use Rattle.paper.specs.Names.{linesFrom, firstBad, badLine, isName, namesFault, namesOf}
 use Rattle.paper.proofs.Searches.{column-same}
-use Rattle.paper.proofs.Lines.{first-line, bad-open, bad-many}
+use Rattle.paper.proofs.Lines.{first-line, bad-name, bad-long, bad-open, bad-many}
 use Rattle.paper.proofs.Tests.{decide}
-use Rattle.names.specs.Listing.{Ends, Rising, Indexed, Checked, said, earlier, lineTo, opened}
+use Rattle.names.specs.Listing.{Ends, Rising, Keyed, Indexed, Checked, keyOf, said, earlier, lineTo, opened}
 use Rattle.names.specs.declared.Listed.the-variants.{Good, Bad}
 use Rattle.names.proofs.Parts.{earlier-length}
+use Rattle.names.proofs.Keys.{name-length}
 
 pub record Upto (list old starts : List ℕ) (count start : ℕ) : Type 0 where
   pub rising : Rising list starts count
@@ -126,6 +127,17 @@ module _ (list old starts : List ℕ) (count start end : ℕ) (u : Upto list old
       by-cases (decLt count namesLimit) (λ l. l)
       (λ n. absurd (false≢true (sym good ∙ bad-many (earlier list starts count) (lineTo list start end) (rw (earlier-length list starts count) (omega arith)))))
 
+  abbrev word : List ℕ
+  word = take (end - start) (drop start list)
+
+  -- It has a key.
+  pub has-key : (0 < length word) × (length word ≤ nameLimit)
+  has-key =
+      let line = lineTo list start end in (
+        ⊎-elim (λ h. name-length word h) (λ h. absurd (false≢true (sym good ∙ bad-name (earlier list starts count) line h))) (decide (isName word)),
+        by-cases (decLt nameLimit (length word)) (λ l. absurd (false≢true (sym good ∙ bad-long (earlier list starts count) line l))) (λ n. omega arith),
+      )
+
   abbrev after : List ℕ
   after = set starts (suc count) (suc end)
 
@@ -138,7 +150,7 @@ module _ (list old starts : List ℕ) (count start end : ℕ) (u : Upto list old
   said-old : (v : ℕ) → v < count → said list after v ≡ said list starts v
   said-old v l = rw (unchanged v (omega arith), unchanged (suc v) (omega arith))
 
-  said-new : said list after count ≡ take (end - start) (drop start list)
+  said-new : said list after count ≡ word
   said-new =
       let m : suc end - 1 - start ≡ end - start = omega arith in
       rw (unchanged count (omega arith), new, u .here, m)
@@ -153,7 +165,6 @@ module _ (list old starts : List ℕ) (count start end : ℕ) (u : Upto list old
   pub at-next : Upto list old after (suc count) (suc end)
   at-next =
       let lines = next-line list start end inside e in
-      let word = take (end - start) (drop start list) in
       let front : take (suc count) after ≡ take count starts ++ (start ∷ []) =
       take-set-le (suc count) starts (suc count) (suc end) (omega arith) ∙ take-suc starts count 0 (omega (arith, room, u .size)) ∙ ap (λ n. take count starts ++ (n ∷ [])) (u .here) in
       let one-more : (l : List ℕ) → drop (suc (suc count)) l ≡ drop 1 (drop (suc count) l) = λ l. sym (drop-drop 1 (suc count) l ∙ ap (λ n. drop n l) (add-one (suc count))) in
@@ -182,3 +193,10 @@ module _ (list old starts : List ℕ) (count start end : ℕ) (u : Upto list old
         rest = drop-set-lt (suc (suc count)) starts (suc count) (suc end) (omega arith) ∙ one-more starts ∙ ap (drop 1) (u .rest) ∙ sym (one-more old);
         size = length-set starts (suc count) (suc end) ∙ u .size;
       }
+
+  -- Its key is kept with those before it.
+  pub keyed-next : (keys : List ℕ) → length keys ≡ 257 → Keyed list starts keys count → Keyed list after (set keys count (keyOf word)) (suc count)
+  keyed-next keys long keyed =
+      last-line {P = λ v. getD (set keys count (keyOf word)) v 0 ≡ keyOf (said list after v)}
+      (getD-set-same keys count (keyOf word) 0 (omega (arith, room)) ∙ ap keyOf (sym said-new))
+      (λ v l. getD-set-other keys count v (keyOf word) 0 (λ h. omega arith) ∙ keyed v l ∙ ap keyOf (sym (said-old v l)))

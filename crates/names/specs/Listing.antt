@@ -1,5 +1,5 @@
 -- What checking a list of names promises, and what the kept starts of its lines say.
-use Prim.Native.Nat.{ℕ, zero, suc, _+_, _-_, _≤_, _<_}
+use Prim.Native.Nat.{ℕ, zero, suc, _+_, _-_, _*_, _≤_, _<_}
 use mathlib.Core.Path.{_≡_}
 use mathlib.Core.Bool.{true, false, cond}
 use mathlib.Core.List.{List, [], _∷_}
@@ -54,6 +54,14 @@ pub record FirstSame (list starts : List ℕ) (count : ℕ) (word : List ℕ) (v
   pub most : v ≤ count
   pub before : (u : ℕ) → u < v → same (said list starts u) word ≡ false
   pub here : v < count → same (said list starts v) word ≡ true
+
+-- The key of a line: its length and its first and last byte in one number, below 65,536 for a line of at most 64 bytes.
+abbrev pub keyOf : List ℕ → ℕ
+keyOf line = length line * 256 + getD line 0 0 + getD line (length line - 1) 0 * 191
+
+-- The keys are those of the first `count` lines.
+abbrev pub Keyed : List ℕ → List ℕ → List ℕ → ℕ → Type 0
+Keyed list starts keys count = (v : ℕ) → v < count → getD keys v 0 ≡ keyOf (said list starts v)
 
 -- The starts say the names of the list.
 pub record Indexed (list starts : List ℕ) (count : ℕ) : Type 0 where

@@ -4,10 +4,12 @@ use paper::NAMES_LIMIT;
 ghost use Prim.Native.Nat.{suc, _+_, _-_, _≤_, _<_};
 ghost use mathlib.Core.Path.{_≡_};
 ghost use mathlib.Core.Bool.{false};
+ghost use lib.Dec.{eqb};
 ghost use lib.ListN.{length, getD, take, drop};
-ghost use Rattle.paper.specs.Limits.{listLimit, namesLimit};
+ghost use Rattle.paper.specs.Tools.{same, someBelow, someOf};
+ghost use Rattle.paper.specs.Limits.{listLimit, nameLimit, namesLimit};
 ghost use Rattle.paper.specs.Names.{nameStart, namePart, isName, nameParts, numberOf, namesOf, badLine};
-ghost use Rattle.names.specs.Listing.{Ends, Rising, FirstSame, Checked, Indexed, Spelled, lineTo, earlier, partOf, foundAt};
+ghost use Rattle.names.specs.Listing.{Ends, Rising, FirstSame, Keyed, Checked, Indexed, Spelled, keyOf, lineTo, earlier, partOf, foundAt};
 
 // What checking the list finds: so many good names, or where the first bad line starts.
 pub enum Listed {
@@ -135,10 +137,63 @@ fn first_same(list: &[u8], starts: &[u16; 257], count: usize, word: &[u8]) -> us
     v
 }
 
+// A byte as a number of two bytes.
+fn wide_byte(x: u8) -> u16
+    ensures { λ r. ⌜ (r ≡ x) × (r < 256) ⌝ }
+{
+    x as u16
+}
+
+// The key of a line: its length and its first and last byte in one number, the same for equal lines.
+fn key(line: &[u8]) -> u16
+    requires { ⌜ (0 < length (now line)) × (length (now line) ≤ nameLimit) ⌝ }
+    ensures { λ r. ⌜ r ≡ keyOf (now (line .entry)) ⌝ }
+{
+    let len = line.len();
+    let first = wide_byte(line[0]);
+    let last = wide_byte(line[len - 1]);
+    len as u16 * 256 + first + last * 191
+}
+
+// Is this one of the first keys? No branch ends the pass early, so that several keys are compared at once.
+fn key_kept(keys: &[u16; 257], count: usize, key: u16) -> bool
+    requires { ⌜ count ≤ namesLimit ⌝ }
+    ensures { λ r. ⌜ r ≡ someBelow count (λ v. eqb (getD (now (keys .entry)) v 0) key) ⌝ }
+{
+    let mut found = false;
+    let mut v: usize = 0;
+    while v < count {
+        found = (keys[v] == key) | found;
+        v += 1;
+    }
+    found
+}
+
+// Does one of the lines say this word? They are searched only where one has the word's key.
+fn repeats(list: &[u8], starts: &[u16; 257], keys: &[u16; 257], count: usize, word: &[u8]) -> bool
+    requires { ⌜ Rising (now list) (now starts) count ⌝ }
+    requires { ⌜ Keyed (now list) (now starts) (now keys) count ⌝ }
+    requires { ⌜ (0 < length (now word)) × (length (now word) ≤ nameLimit) ⌝ }
+    ensures { λ r. ⌜ r ≡ someOf (same (now (word .entry))) (earlier (now (list .entry)) (now (starts .entry)) count) ⌝ }
+{
+    if !key_kept(keys, count, key(word)) {
+        return false;
+    }
+    first_same(list, starts, count, word) < count
+}
+
 // Is the line from `start` to `end` bad, after these?
-fn bad_line(list: &[u8], starts: &[u16; 257], count: usize, start: usize, end: usize) -> bool
+fn bad_line(
+    list: &[u8],
+    starts: &[u16; 257],
+    keys: &[u16; 257],
+    count: usize,
+    start: usize,
+    end: usize,
+) -> bool
     requires { ⌜ (start ≤ end) × (end ≤ length (now list)) ⌝ }
     requires { ⌜ Rising (now list) (now starts) count ⌝ }
+    requires { ⌜ Keyed (now list) (now starts) (now keys) count ⌝ }
     ensures { λ r. ⌜ r ≡ badLine (earlier (now (list .entry)) (now (starts .entry)) count) (lineTo (now (list .entry)) start end) ⌝ }
 {
     let word = &list[start..end];
@@ -154,7 +209,7 @@ fn bad_line(list: &[u8], starts: &[u16; 257], count: usize, start: usize, end: u
     if NAMES_LIMIT <= count {
         return true;
     }
-    first_same(list, starts, count, word) < count
+    repeats(list, starts, keys, count, word)
 }
 
 // Checks the list, and keeps where each line starts; past the last line stands the length of the list.
@@ -165,12 +220,14 @@ pub fn index(list: &[u8], starts: &mut [u16; 257]) -> Listed
 {
     let mut start: usize = 0;
     let mut count: usize = 0;
+    let mut keys = [0u16; 257];
     starts[0] = 0;
     while start < list.len() {
         let end = line_end(list, start);
-        if bad_line(list, starts, count, start, end) {
+        if bad_line(list, starts, &keys, count, start, end) {
             return Listed::Bad(start);
         }
+        keys[count] = key(&list[start..end]);
         start = end + 1;
         count += 1;
         starts[count] = start as u16;

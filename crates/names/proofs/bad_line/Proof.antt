@@ -4,10 +4,12 @@ use native.Mathlib.Omega.{arith}
 use borrow.Author.Needs.{needs}
 use borrow.Author.Tests.{not-true, not-false, le-ltb, lt-ltb}
 use mathlib.Core.Path.{sym, _∙_}
+use lib.ListN.{take, drop}
 use Rattle.paper.proofs.Same.{part-length}
 use Rattle.paper.proofs.Lines.{bad-name, bad-long, bad-open, bad-many, bad-repeat}
 use Rattle.names.specs.Listing.{earlier, lineTo}
-use Rattle.names.proofs.Parts.{earlier-length, repeats-first}
+use Rattle.names.proofs.Parts.{earlier-length}
+use Rattle.names.proofs.Keys.{name-length}
 use Rattle.names.proofs.bad_line.Statement.{statement}
 use Rattle.names.proofs.bad_line.Tie as tie
 
@@ -47,8 +49,17 @@ returns-4 c =
     let a = c .before .before .before .before .before .before .before .args in
     sym (bad-many (earlier (a .list .now) (a .starts .now) (a .count)) (lineTo (a .list .now) (a .start) (a .end)) (rw (earlier-length (a .list .now) (a .starts .now) (a .count)) (omega arith)))
 
-first-same-requires : tie.Need-first-same-requires
-first-same-requires c κs = search needs
+repeats-requires : tie.Need-repeats-requires
+repeats-requires c κs =
+    let start = c .before .before .before .before .before .before .before in
+    let a = start .args in
+    let long = part-length (a .list .now) (a .list .now) (a .start) (a .end - a .start) (omega arith) in (
+      start .pre .1 .0,
+      (
+        start .pre .1 .1,
+        (name-length (take (a .end - a .start) (drop (a .start) (a .list .now))) (sym (c .before .before .before .is-name .ensures) ∙ not-false _ (c .before .before .if2 .left)), rw long (omega arith)),
+      ),
+    )
 
 returns-5 : tie.Need-returns-5
 returns-5 c =
@@ -60,7 +71,7 @@ returns-5 c =
     (rw long (omega arith))
     (lt-ltb (a .end) _ (omega arith))
     (rw many (omega arith))
-    ∙ repeats-first (a .list .now) (a .starts .now) (a .count) _ (c .first-same .result) (c .first-same .ensures))
+    ∙ sym (c .repeats .ensures))
 
 pub bad-line-spec : {M : Type 1} → statement M
 bad-line-spec =
@@ -75,5 +86,5 @@ bad-line-spec =
     sub-if3
     returns-3
     returns-4
-    first-same-requires
+    repeats-requires
     returns-5)

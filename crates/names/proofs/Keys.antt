@@ -1,0 +1,28 @@
+-- What the keys of lines say: equal lines have equal keys, so a word whose key no line has is said by none. Assumes nothing.
+use Prim.Native.Nat.{ℕ, _<_}
+use native.Mathlib.Omega.{arith}
+use borrow.Author.Tests.{eq-eqb}
+use mathlib.Core.Path.{_≡_, sym, _∙_, ap}
+use mathlib.Core.Bool.{true, false, false≢true}
+use mathlib.Core.List.{List, [], _∷_}
+use lib.Dec.{eqb}
+use lib.ListN.{length, getD}
+use Rattle.paper.specs.Tools.{same, someBelow, someOf}
+use Rattle.paper.specs.Names.{isName}
+use Rattle.paper.proofs.Same.{not-same}
+use Rattle.paper.proofs.Searches.{some-intro}
+use Rattle.names.specs.Listing.{Keyed, keyOf, said, earlier}
+use Rattle.names.proofs.Parts.{earlier-none}
+
+-- A name has a first byte.
+pub name-length : (word : List ℕ) → isName word ≡ true → 0 < length word
+name-length [] h = absurd (false≢true h)
+name-length (b ∷ bs) h = omega arith
+
+-- Where no line has the word's key, no line says the word.
+pub no-key-no-line : (list starts keys : List ℕ) (count : ℕ) (word : List ℕ) → Keyed list starts keys count
+    → someBelow count (λ v. eqb (getD keys v 0) (keyOf word)) ≡ false → someOf (same word) (earlier list starts count) ≡ false
+no-key-no-line list starts keys count word keyed none =
+    earlier-none list starts (same word) count
+    (λ u l. not-same word (said list starts u)
+    (λ e. false≢true (sym none ∙ some-intro count (λ v. eqb (getD keys v 0) (keyOf word)) u l (eq-eqb _ _ (keyed u l ∙ ap keyOf (sym e))))))
