@@ -14,7 +14,7 @@ use Rattle.paper.specs.Measures.{isOr}
 use Rattle.paper.specs.Printing.{Piece, andWord, orWord, pieceText, grouped, exprPieces, textOf}
 use Rattle.paper.proofs.Tests.{found-some}
 use Rattle.paper.proofs.Decoding.{orsFrom, andsFrom, term}
-use Rattle.shape.proofs.Walking.{operand-not-and, term-not-or, ors-go}
+use Rattle.shape.proofs.Walking.{ors-go, run, first-alone}
 use Rattle.print.specs.declared.Reached.{Reached}
 use Rattle.print.specs.Writing.{Puts, termPieces, operandPieces, Some, Prints}
 use Rattle.print.proofs.Putting.{puts-both, puts-as, puts-long}
@@ -126,35 +126,35 @@ module _ {names : List (List ℕ)} (k : Run names) (items : List ℕ) (at pen : 
   left-done (suc owed) z l = absurd (omega arith)
 
 -- Where a run starts: what is read after its operators is no operator of the same kind, so it stands without a bracket.
-module _ (depth : ℕ) (items : List ℕ) (at counted run : ℕ) where
-  and-there : run ≡ leading andItem (drop at items) → drop (leading andItem (drop at items)) (drop at items) ≡ drop (at + run) items
-  and-there e = ap (λ (k : ℕ). drop k (drop at items)) (sym e) ∙ drop-drop run at items
+module _ (depth : ℕ) (items : List ℕ) (at counted count : ℕ) where
+  and-there : count ≡ leading andItem (drop at items) → drop (leading andItem (drop at items)) (drop at items) ≡ drop (at + count) items
+  and-there e = ap (λ (k : ℕ). drop k (drop at items)) (sym e) ∙ drop-drop count at items
 
-  or-there : run ≡ leading orItem (drop at items) → drop (leading orItem (drop at items)) (drop at items) ≡ drop (at + run) items
-  or-there e = ap (λ (k : ℕ). drop k (drop at items)) (sym e) ∙ drop-drop run at items
+  or-there : count ≡ leading orItem (drop at items) → drop (leading orItem (drop at items)) (drop at items) ≡ drop (at + count) items
+  or-there e = ap (λ (k : ℕ). drop k (drop at items)) (sym e) ∙ drop-drop count at items
 
-  pub ands-first : run ≡ leading andItem (drop at items) → Some (andsFrom (takeWithin depth) counted (drop at items)) → Some (takeOperand (takeWithin depth) (drop (at + run) items))
+  pub ands-first : count ≡ leading andItem (drop at items) → Some (andsFrom (takeWithin depth) counted (drop at items)) → Some (takeOperand (takeWithin depth) (drop (at + count) items))
   unfolding andsFrom
   ands-first e s =
       found-some (takeOperand (takeWithin depth) (drop (leading andItem (drop at items)) (drop at items))) (λ r. takeAnds (takeWithin depth) (leading andItem (drop at items) + counted) (r .0) (r .1)) (s .tree) (s .taken-whole)
       (λ a p q. record { tree = a; taken-whole = ap (takeOperand (takeWithin depth)) (sym (and-there e)) ∙ p })
 
-  pub ors-first : run ≡ leading orItem (drop at items) → Some (orsFrom (takeWithin depth) counted (drop at items)) → Some (andsFrom (takeWithin depth) 0 (drop (at + run) items))
+  pub ors-first : count ≡ leading orItem (drop at items) → Some (orsFrom (takeWithin depth) counted (drop at items)) → Some (andsFrom (takeWithin depth) 0 (drop (at + count) items))
   unfolding orsFrom
   ors-first e s =
       found-some (takeTerm (takeWithin depth) (drop (leading orItem (drop at items)) (drop at items))) (λ r. takeOrs (takeWithin depth) (leading orItem (drop at items) + counted) (r .0) (r .1)) (s .tree) (s .taken-whole)
       (λ a p q.
       record { tree = a; taken-whole = ap (andsFrom (takeWithin depth) 0) (sym (or-there e)) ∙ sym (term (takeWithin depth) (drop (leading orItem (drop at items)) (drop at items))) ∙ p })
 
-  pub ands-start : (names : List (List ℕ)) (pen : ℕ) (old out : List ℕ) (r : Reached) → run ≡ leading andItem (drop at items)
-      → Prints names items (at + run) pen 64 (takeOperand (takeWithin depth) (drop (at + run) items)) operandPieces old out r
-      → Left (ands names depth) items at pen (andsFrom (takeWithin depth) counted (drop at items)) old out (r .item) (r .byte) (run + counted)
+  pub ands-start : (names : List (List ℕ)) (pen : ℕ) (old out : List ℕ) (r : Reached) → count ≡ leading andItem (drop at items)
+      → Prints names items (at + count) pen 64 (takeOperand (takeWithin depth) (drop (at + count) items)) operandPieces old out r
+      → Left (ands names depth) items at pen (andsFrom (takeWithin depth) counted (drop at items)) old out (r .item) (r .byte) (count + counted)
   unfolding andsFrom
   ands-start names pen old out r e w =
       let read : takeOperand (takeWithin depth) (drop (leading andItem (drop at items)) (drop at items)) ≡ some (w .what, drop (r .item) items) =
       ap (takeOperand (takeWithin depth)) (and-there e) ∙ w .reads in
       let pieces : operandPieces (w .what) ≡ termPieces (w .what) =
-      rw (operand-not-and depth (drop at items) (w .what, drop (r .item) items) read) (plain (isOr (w .what)) (exprPieces (w .what))) in
+      rw (first-alone andItem depth (run depth andItem (omega arith, omega arith)) items at counted count e (w .what, drop (r .item) items) (w .reads)) (plain (isOr (w .what)) (exprPieces (w .what))) in
       record {
         so-far = w .what;
         goes-on = rw (read, ← e);
@@ -168,16 +168,16 @@ module _ (depth : ℕ) (items : List ℕ) (at counted run : ℕ) where
       plain true ps = refl
       plain false ps = refl
 
-  pub ors-start : (names : List (List ℕ)) (pen : ℕ) (old out : List ℕ) (r : Reached) → run ≡ leading orItem (drop at items)
-      → Prints names items (at + run) pen 64 (andsFrom (takeWithin depth) 0 (drop (at + run) items)) termPieces old out r
-      → Left (ors names depth) items at pen (orsFrom (takeWithin depth) counted (drop at items)) old out (r .item) (r .byte) (run + counted)
+  pub ors-start : (names : List (List ℕ)) (pen : ℕ) (old out : List ℕ) (r : Reached) → count ≡ leading orItem (drop at items)
+      → Prints names items (at + count) pen 64 (andsFrom (takeWithin depth) 0 (drop (at + count) items)) termPieces old out r
+      → Left (ors names depth) items at pen (orsFrom (takeWithin depth) counted (drop at items)) old out (r .item) (r .byte) (count + counted)
   unfolding orsFrom
   ors-start names pen old out r e w =
       let read : andsFrom (takeWithin depth) 0 (drop (leading orItem (drop at items)) (drop at items)) ≡ some (w .what, drop (r .item) items) =
       ap (andsFrom (takeWithin depth) 0) (or-there e) ∙ w .reads in
       let taken : takeTerm (takeWithin depth) (drop (leading orItem (drop at items)) (drop at items)) ≡ some (w .what, drop (r .item) items) =
       term (takeWithin depth) (drop (leading orItem (drop at items)) (drop at items)) ∙ read in
-      let pieces : termPieces (w .what) ≡ exprPieces (w .what) = rw (term-not-or depth (drop at items) (w .what, drop (r .item) items) read) in
+      let pieces : termPieces (w .what) ≡ exprPieces (w .what) = rw (first-alone orItem depth (run depth orItem (omega arith, omega arith)) items at counted count e (w .what, drop (r .item) items) (w .reads)) in
       record {
         so-far = w .what;
         goes-on = rw (taken, ← e);

@@ -21,7 +21,7 @@ use Rattle.item.specs.declared.Item.the-variants.{Path, Step as StepItem, And, 
 use Rattle.item.proofs.Saying.{Said}
 use Rattle.item.proofs.Item.{the-type}
 use Rattle.shape.proofs.Operands.{at-place, operand-past, operand-path, operand-bare, operand-other, operand-step, operand-and, operand-or, operand-not}
-use Rattle.shape.proofs.Operands.{and-there, or-there}
+use Rattle.shape.proofs.Operands.{joined-there}
 use Rattle.print.specs.declared.Reached.{Reached}
 use Rattle.print.specs.Writing.{Puts, termPieces, operandPieces, Some, Prints}
 use Rattle.print.proofs.Putting.{puts-both, puts-as}
@@ -165,7 +165,7 @@ module _ (items : List ℕ) (at : ℕ) (l : at < length items) where
           what = v .what;
           reads = read;
           puts =
-              puts-as (close-text names (exprPieces (v .what)) (ascii "(") ∙ ap (textOf names) (sym (round (v .what) (or-there items at d l (v .what) (r .item) e read))))
+              puts-as (close-text names (exprPieces (v .what)) (ascii "(") ∙ ap (textOf names) (sym (round (v .what) (rw e at (joined-there items at d l (rw e (omega arith, omega arith)) (v .what) (r .item) read)))))
               (puts-both (puts-both p (v .puts)) q);
           onward = omega (arith, v .onward);
           inside = omega (arith, v .inside);
@@ -191,7 +191,7 @@ module _ (items : List ℕ) (at : ℕ) (l : at < length items) where
           what = v .what;
           reads = read;
           puts =
-              puts-as (close-text names (termPieces (v .what)) (ascii "(") ∙ ap (textOf names) (sym (round (v .what) (and-there items at d l (v .what) (r .item) e read))))
+              puts-as (close-text names (termPieces (v .what)) (ascii "(") ∙ ap (textOf names) (sym (round (v .what) (rw e at (joined-there items at d l (rw e (omega arith, omega arith)) (v .what) (r .item) read)))))
               (puts-both (puts-both p (v .puts)) q);
           onward = omega (arith, v .onward);
           inside = omega (arith, v .inside);

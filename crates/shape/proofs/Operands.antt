@@ -9,11 +9,11 @@ use mathlib.Core.Option.{none, some}
 use lib.Dec.{eqb}
 use lib.ListN.{length, getD, drop, drop-of-length-le}
 use lib.Seq.{drop-cons}
-use borrow.Author.Tests.{ne-eqb, le-leb}
+use borrow.Author.Tests.{eq-eqb, ne-eqb, le-leb}
 use Rattle.paper.specs.Tools.{found, begins}
 use Rattle.paper.specs.Query.{Expr, path, both, either, negated}
 use Rattle.paper.specs.Items.{andItem, orItem, notItem, pathAt, Head, stepAt, Taken, takeSteps, takeOperand, takeTerm, takeOrs, takeExpr, takeWithin}
-use Rattle.paper.specs.Measures.{isAnd, isOr, nestExpr, nestSteps, heightExpr, heightSteps}
+use Rattle.paper.specs.Measures.{isAnd, nestExpr, nestSteps, heightExpr, heightSteps}
 use Rattle.paper.proofs.Fields.{path-found, step-found}
 use Rattle.paper.proofs.Decoding.{orsFrom, andsFrom, whole, term, one-or, one-and}
 use Rattle.paper.proofs.Encoding.{from-operand, from-within}
@@ -26,8 +26,9 @@ use denote.Enum.Declared.{tagOf}
 use types.Run.{OneOf, miss}
 use Rattle.shape.specs.declared.Walked.{Walked}
 use Rattle.shape.specs.declared.Walked.the-variants.{Done, Malformed}
-use Rattle.shape.specs.Walks.{nestTerm, nestOperand, Walks, raisedBy, Small}
-use Rattle.shape.proofs.Walking.{begins-and, begins-or}
+use Rattle.shape.specs.Operators.{Operator, takeChain, isJoined}
+use Rattle.shape.specs.Walks.{nestTerm, nestOperand, nestChain, Walks, raisedBy, Small}
+use Rattle.shape.proofs.Walking.{each, run}
 
 -- A number that is a path's is no operator's and not `not`.
 pub path-other : (w n count : ℕ) → pathAt w ≡ some count → 0 < n → n < 8 → eqb n w ≡ false
@@ -70,6 +71,9 @@ pub operand-or : (d : ℕ) (ws : List ℕ) → takeOperand (takeWithin (suc d)) 
 unfolding takeOperand
 operand-or d ws = whole (takeWithin d) (orItem ∷ ws) ∙ one-or (takeWithin d) 0 ws
 
+pub operand-joined : (operator : ℕ) → Operator operator → (d : ℕ) (ws : List ℕ) → takeOperand (takeWithin (suc d)) (operator ∷ ws) ≡ takeChain operator (takeWithin d) 1 ws
+operand-joined = each (λ operator. (d : ℕ) (ws : List ℕ) → takeOperand (takeWithin (suc d)) (operator ∷ ws) ≡ takeChain operator (takeWithin d) 1 ws) operand-and operand-or
+
 pub operand-not : (d : ℕ) (ws : List ℕ) → takeOperand (takeWithin (suc d)) (notItem ∷ ws) ≡ found (orsFrom (takeWithin d) 0 ws) (λ r. some (negated (r .0), r .1))
 unfolding takeOperand
 operand-not d ws = rw (whole (takeWithin d) ws)
@@ -94,9 +98,28 @@ operand-rest within w Or ws s k l = absurd (miss (0 ∷ 1 ∷ 5 ∷ []) 3 tt l)
 operand-rest within w Not ws s k l = absurd (miss (0 ∷ 1 ∷ 5 ∷ []) 4 tt l)
 operand-rest within w Bad ws s k l = operand-other within w ws (s .0) (s .2) (s .3) (s .4)
 
+-- The item of `and` or of `or`.
+pub operator-item : (w : ℕ) (i : Item) → Said w i → OneOf (2 ∷ 3 ∷ []) (tagOf the-type i) → Operator w
+operator-item w (Path count) s k = absurd (miss (2 ∷ 3 ∷ []) 0 tt k)
+operator-item w (StepItem st) s k = absurd (miss (2 ∷ 3 ∷ []) 1 tt k)
+operator-item w And s k = (omega arith, omega arith)
+operator-item w Or s k = (omega arith, omega arith)
+operator-item w Not s k = absurd (miss (2 ∷ 3 ∷ []) 4 tt k)
+operator-item w Bad s k = absurd (miss (2 ∷ 3 ∷ []) 5 tt k)
+
 -- What stands at a place of the items.
 pub at-place : (items : List ℕ) (at : ℕ) → at < length items → drop at items ≡ getD items at 0 ∷ drop (at + 1) items
 at-place items at l = drop-cons items at 0 l ∙ ap (λ (k : ℕ). getD items at 0 ∷ drop k items) (sym (add-one at))
+
+-- What is joined by an operator gets a bracket as an operand.
+nest-joined : (operator : ℕ) → Operator operator → (e : Expr) → isJoined operator e ≡ true → nestOperand e ≡ 1 + nestChain operator e
+nest-joined = each (λ operator. (e : Expr) → isJoined operator e ≡ true → nestOperand e ≡ 1 + nestChain operator e) of-and (λ e h. rw h)
+  where
+    of-and : (e : Expr) → isAnd e ≡ true → nestOperand e ≡ 1 + nestTerm e
+    of-and (path s) h = absurd (false≢true h)
+    of-and (both a b) h = refl
+    of-and (either a b) h = absurd (false≢true h)
+    of-and (negated a) h = absurd (false≢true h)
 
 -- The walks of an operand, from those of what it holds.
 module _ (items : List ℕ) (at depth : ℕ) (l : at < length items) where
@@ -133,60 +156,30 @@ module _ (items : List ℕ) (at depth : ℕ) (l : at < length items) where
       }
   walk-not e Malformed w = rw (at-place items at l, e, operand-not depth (drop (at + 1) items), w)
 
-  -- A bracket of `and` holds an `and`, a bracket of `or` an `or`.
-  pub and-there : (e : Expr) (next : ℕ) → getD items at 0 ≡ andItem → takeOperand (takeWithin (suc depth)) (drop at items) ≡ some (e, drop next items) → isAnd e ≡ true
-  and-there e next i h =
+  -- A bracket of an operator holds what is joined by it.
+  pub joined-there : Operator (getD items at 0) → (e : Expr) (next : ℕ) → takeOperand (takeWithin (suc depth)) (drop at items) ≡ some (e, drop next items) → isJoined (getD items at 0) e ≡ true
+  joined-there o e next h =
+      let w = getD items at 0 in
       let f = from-operand (suc depth) (takeWithin (suc depth)) (from-within (suc depth)) (drop at items) (e, drop next items) h in
-      sym (begins-and e (drop next items)) ∙ ap (begins andItem) (sym (f .items) ∙ at-place items at l) ∙ rw i
+      sym (run depth w o .begins-with e (drop next items)) ∙ ap (begins w) (sym (f .items) ∙ at-place items at l) ∙ eq-eqb w w refl
 
-  pub or-there : (e : Expr) (next : ℕ) → getD items at 0 ≡ orItem → takeOperand (takeWithin (suc depth)) (drop at items) ≡ some (e, drop next items) → isOr e ≡ true
-  or-there e next i h =
-      let f = from-operand (suc depth) (takeWithin (suc depth)) (from-within (suc depth)) (drop at items) (e, drop next items) h in
-      sym (begins-or e (drop next items)) ∙ ap (begins orItem) (sym (f .items) ∙ at-place items at l) ∙ rw i
-
-  pub walk-or : getD items at 0 ≡ orItem → (r : Walked)
-      → Walks items (at + 1) 1 depth (orsFrom (takeWithin depth) 1 (drop (at + 1) items)) nestExpr heightExpr r
+  pub walk-joined : Operator (getD items at 0) → (r : Walked)
+      → Walks items (at + 1) 1 depth (takeChain (getD items at 0) (takeWithin depth) 1 (drop (at + 1) items)) (nestChain (getD items at 0)) heightExpr r
       → Walks items at 0 (suc depth) (takeOperand (takeWithin (suc depth)) (drop at items)) nestOperand heightExpr (raisedBy r 1 0)
-  walk-or i (Done next nest high) w =
+  walk-joined o (Done next nest high) w =
       let read : takeOperand (takeWithin (suc depth)) (drop at items) ≡ some (w .what, drop next items) =
-      rw (at-place items at l, i, operand-or depth (drop (at + 1) items), w .reads) in
-      let is : isOr (w .what) ≡ true = or-there (w .what) next i read in
+      ap (takeOperand (takeWithin (suc depth))) (at-place items at l) ∙ operand-joined (getD items at 0) o depth (drop (at + 1) items) ∙ w .reads in
       record {
         what = w .what;
         reads = read;
-        nests = rw is (omega (arith, w .nests));
+        nests = omega (arith, w .nests, nest-joined (getD items at 0) o (w .what) (joined-there o (w .what) next read));
         heights = omega (arith, w .heights);
         onward = omega (arith, w .onward);
         inside = w .inside;
         shallow = omega (arith, w .shallow);
         low = omega (arith, w .low);
       }
-  walk-or i Malformed w = rw (at-place items at l, i, operand-or depth (drop (at + 1) items), w)
-
-  pub walk-and : getD items at 0 ≡ andItem → (r : Walked)
-      → Walks items (at + 1) 1 depth (andsFrom (takeWithin depth) 1 (drop (at + 1) items)) nestTerm heightExpr r
-      → Walks items at 0 (suc depth) (takeOperand (takeWithin (suc depth)) (drop at items)) nestOperand heightExpr (raisedBy r 1 0)
-  walk-and i (Done next nest high) w =
-      let read : takeOperand (takeWithin (suc depth)) (drop at items) ≡ some (w .what, drop next items) =
-      rw (at-place items at l, i, operand-and depth (drop (at + 1) items), w .reads) in
-      let is : isAnd (w .what) ≡ true = and-there (w .what) next i read in
-      record {
-        what = w .what;
-        reads = read;
-        nests = omega (arith, w .nests, lone (w .what) is);
-        heights = omega (arith, w .heights);
-        onward = omega (arith, w .onward);
-        inside = w .inside;
-        shallow = omega (arith, w .shallow);
-        low = omega (arith, w .low);
-      }
-    where
-      lone : (e : Expr) → isAnd e ≡ true → nestOperand e ≡ 1 + nestTerm e
-      lone (path s) h = absurd (false≢true h)
-      lone (both a b) h = refl
-      lone (either a b) h = absurd (false≢true h)
-      lone (negated a) h = absurd (false≢true h)
-  walk-and i Malformed w = rw (at-place items at l, i, operand-and depth (drop (at + 1) items), w)
+  walk-joined o Malformed w = ap (takeOperand (takeWithin (suc depth))) (at-place items at l) ∙ operand-joined (getD items at 0) o depth (drop (at + 1) items) ∙ w
 
   -- What is no operand.
   pub walk-none : (d : ℕ) → takeOperand (takeWithin d) (getD items at 0 ∷ drop (at + 1) items) ≡ none → takeOperand (takeWithin d) (drop at items) ≡ none
@@ -219,23 +212,15 @@ deeper P next (suc d) z = subst (λ (k : ℕ). P k (suc d)) (let e : d ≡ suc d
 
 -- The brackets, where d brackets may be opened and d is not 0.
 module _ (items : List ℕ) (at depth : ℕ) (l : at < length items) (z : depth ≡ 0 → ⊥) (r : Walked) where
-  pub opens-and : getD items at 0 ≡ andItem → Walks items (at + 1) 1 (depth - 1) (andsFrom (takeWithin (depth - 1)) 1 (drop (at + 1) items)) nestTerm heightExpr r
+  pub opens-joined : Operator (getD items at 0)
+      → Walks items (at + 1) 1 (depth - 1) (takeChain (getD items at 0) (takeWithin (depth - 1)) 1 (drop (at + 1) items)) (nestChain (getD items at 0)) heightExpr r
       → Walks items at 0 depth (takeOperand (takeWithin depth) (drop at items)) nestOperand heightExpr (raisedBy r 1 0)
-  opens-and e =
+  opens-joined o =
       deeper
       (λ less d.
-      Walks items (at + 1) 1 less (andsFrom (takeWithin less) 1 (drop (at + 1) items)) nestTerm heightExpr r
+      Walks items (at + 1) 1 less (takeChain (getD items at 0) (takeWithin less) 1 (drop (at + 1) items)) (nestChain (getD items at 0)) heightExpr r
       → Walks items at 0 d (takeOperand (takeWithin d) (drop at items)) nestOperand heightExpr (raisedBy r 1 0))
-      (λ d. walk-and items at d l e r) depth z
-
-  pub opens-or : getD items at 0 ≡ orItem → Walks items (at + 1) 1 (depth - 1) (orsFrom (takeWithin (depth - 1)) 1 (drop (at + 1) items)) nestExpr heightExpr r
-      → Walks items at 0 depth (takeOperand (takeWithin depth) (drop at items)) nestOperand heightExpr (raisedBy r 1 0)
-  opens-or e =
-      deeper
-      (λ less d.
-      Walks items (at + 1) 1 less (orsFrom (takeWithin less) 1 (drop (at + 1) items)) nestExpr heightExpr r
-      → Walks items at 0 d (takeOperand (takeWithin d) (drop at items)) nestOperand heightExpr (raisedBy r 1 0))
-      (λ d. walk-or items at d l e r) depth z
+      (λ d. walk-joined items at d l o r) depth z
 
   pub opens-not : getD items at 0 ≡ notItem → Walks items (at + 1) 0 (depth - 1) (orsFrom (takeWithin (depth - 1)) 0 (drop (at + 1) items)) nestExpr heightExpr r
       → Walks items at 0 depth (takeOperand (takeWithin depth) (drop at items)) nestOperand heightExpr (raisedBy r 1 1)

@@ -2,7 +2,7 @@
 -- The idea is the same each time: what is left to read gives the answer of the whole. Assumes nothing.
 use Prim.Native.Nat.{ℕ, zero, suc, _+_, _-_, _*_, _≤_, _<_, max}
 use native.Mathlib.Omega.{arith}
-use mathlib.Core.Path.{_≡_, refl, sym, _∙_, ap, ap₂}
+use mathlib.Core.Path.{_≡_, refl, sym, _∙_, ap, ap₂, subst}
 use mathlib.Core.Bool.{Bool, true, false, _||_}
 use mathlib.Core.List.{List, [], _∷_, _++_}
 use mathlib.Core.Option.{none, some}
@@ -11,213 +11,201 @@ use lib.ListN.{length, getD, drop, drop-of-length-le}
 use lib.Seq.{drop-cons, drop-drop}
 use native.Mathlib.Numerals.{add-one}
 use borrow.Author.Tests.{ne-eqb, eqb-false}
-use mathlib.Core.Logic.{⊎-elim}
+use native.Mathlib.Decide.{ℕ-discrete}
+use mathlib.Core.Logic.{⊎-elim, by-cases}
 use Rattle.paper.proofs.Tests.{decide}
 use Rattle.paper.specs.Tools.{found, begins}
 use Rattle.paper.specs.Query.{Expr, path, both, either, negated, Steps, stop, step, Preds, bare, pred}
-use Rattle.paper.specs.Items.{andItem, orItem, stepCount, Head, stepAt, encodeExpr, leading, Taken, takePreds, takeSteps, takeOperand, takeAnds, takeTerm, takeOrs, takeWithin}
+use Rattle.paper.specs.Items.{andItem, orItem, stepCount, Head, stepAt, encodeExpr, leading, Taken, takePreds, takeSteps, takeOrs, takeWithin}
 use Rattle.paper.specs.Measures.{isAnd, isOr, inBrackets, nestExpr, nestSteps, nestPreds, heightExpr, heightSteps, heightPreds}
 use Rattle.paper.specs.Composition.{append}
 use Rattle.paper.proofs.Decoding.{orsFrom, andsFrom, whole, term}
 use Rattle.paper.proofs.Encoding.{from-operand, from-term, from-within}
-use Rattle.shape.specs.Walks.{nestTerm, nestOperand, Walk}
+use Rattle.shape.specs.Operators.{Operator, takeChain, takePart, takeMore, joinBy, isJoined}
+use Rattle.shape.specs.Walks.{nestChain, nestPart, Walk}
 
--- A run of operators: `one` reads an operand, `more n e` reads n more and joins each to e.
-module _ (one : List ℕ → Taken Expr) (more : ℕ → Expr → List ℕ → Taken Expr) (join : Expr → Expr → Expr) (nestLeft nestRight : Expr → ℕ)
-    (stops : (e : Expr) (ws : List ℕ) → more 0 e ws ≡ some (e, ws))
-    (goes : (n : ℕ) (e : Expr) (ws : List ℕ) → more (suc n) e ws ≡ found (one ws) (λ r. more n (join e (r .0)) (r .1)))
-    (nest-join : (a b : Expr) → nestLeft (join a b) ≡ max (nestLeft a) (nestRight b))
-    (height-join : (a b : Expr) → heightExpr (join a b) ≡ 1 + max (heightExpr a) (heightExpr b)) where
-  -- What has been read of the run, with so many operands owed.
-  pub record Left (items : List ℕ) (at counted depth : ℕ) (whole : Taken Expr) (place deep high owed : ℕ) : Type 0 where
-    pub so-far : Expr
-    pub goes-on : whole ≡ more owed so-far (drop place items)
-    pub nests : deep ≡ nestLeft so-far
-    pub heights : high ≡ heightExpr so-far
-    pub onward : at ≤ place
-    pub inside : place ≤ length items
-    pub shallow : deep ≤ depth
-    pub low : high + owed + at ≤ place + counted
-
-  -- One operand more.
-  pub left-more : (items : List ℕ) (at counted depth : ℕ) (whole : Taken Expr) (place deep high owed next nesting height deep′ high′ : ℕ) → 0 < owed
-      → Left items at counted depth whole place deep high owed → Walk items place 0 depth (one (drop place items)) nestRight heightExpr next nesting height
-      → deep′ ≡ max deep nesting → high′ ≡ max high height → Left items at counted depth whole next deep′ (high′ + 1) (owed - 1)
-  left-more items at counted depth whole place deep high zero next nesting height deep′ high′ z l w ed eh = absurd (omega arith)
-  left-more items at counted depth whole place deep high (suc owed) next nesting height deep′ high′ z l w ed eh =
-      record {
-        so-far = join (l .so-far) (w .what);
-        goes-on =
-            l .goes-on ∙ goes owed (l .so-far) (drop place items) ∙ ap (λ (o : Taken Expr). found o (λ r. more owed (join (l .so-far) (r .0)) (r .1))) (w .reads) ∙
-            ap (λ (n : ℕ). more n (join (l .so-far) (w .what)) (drop next items)) (let e : owed ≡ suc owed - 1 = omega arith in e);
-        nests = ed ∙ ap₂ max (l .nests) (w .nests) ∙ sym (nest-join (l .so-far) (w .what));
-        heights = omega (arith, eh, l .heights, w .heights, height-join (l .so-far) (w .what));
-        onward = omega (arith, l .onward, w .onward);
-        inside = w .inside;
-        shallow = omega (arith, l .shallow, w .shallow);
-        low = omega (arith, l .low, w .low, w .onward);
-      }
-
-  -- An operand that is malformed.
-  pub left-stuck : (items : List ℕ) (at counted depth : ℕ) (whole : Taken Expr) (place deep high owed : ℕ) → 0 < owed
-      → Left items at counted depth whole place deep high owed → one (drop place items) ≡ none → whole ≡ none
-  left-stuck items at counted depth whole place deep high zero z l h = absurd (omega arith)
-  left-stuck items at counted depth whole place deep high (suc owed) z l h =
-      l .goes-on ∙ goes owed (l .so-far) (drop place items) ∙ ap (λ (o : Taken Expr). found o (λ r. more owed (join (l .so-far) (r .0)) (r .1))) h
-
-  -- Nothing more owed.
-  pub left-done : (items : List ℕ) (at counted depth : ℕ) (whole : Taken Expr) (place deep high owed : ℕ) → owed ≤ 0
-      → Left items at counted depth whole place deep high owed → Walk items at counted depth whole nestLeft heightExpr place deep high
-  left-done items at counted depth whole place deep high zero z l =
-      record {
-        what = l .so-far;
-        reads = l .goes-on ∙ stops (l .so-far) (drop place items);
-        nests = l .nests;
-        heights = l .heights;
-        onward = l .onward;
-        inside = l .inside;
-        shallow = l .shallow;
-        low = omega (arith, l .low);
-      }
-  left-done items at counted depth whole place deep high (suc owed) z l = absurd (omega arith)
-
--- An encoded expression begins with an operator's item exactly if it is that operator.
-pub begins-and : (e : Expr) (rest : List ℕ) → begins andItem (encodeExpr e ++ rest) ≡ isAnd e
+-- An encoded expression begins with an operator's item exactly if it is joined by that operator.
+begins-and : (e : Expr) (rest : List ℕ) → begins andItem (encodeExpr e ++ rest) ≡ isAnd e
 begins-and (path s) rest = ne-eqb 2 (stepCount s * 8) (λ e. omega arith)
 begins-and (both a b) rest = refl
 begins-and (either a b) rest = refl
 begins-and (negated a) rest = refl
 
-pub begins-or : (e : Expr) (rest : List ℕ) → begins orItem (encodeExpr e ++ rest) ≡ isOr e
+begins-or : (e : Expr) (rest : List ℕ) → begins orItem (encodeExpr e ++ rest) ≡ isOr e
 begins-or (path s) rest = ne-eqb 3 (stepCount s * 8) (λ e. omega arith)
 begins-or (both a b) rest = refl
 begins-or (either a b) rest = refl
 begins-or (negated a) rest = refl
-
--- After a run its item does not come again.
-run-over : (w : ℕ) (ws : List ℕ) → begins w (drop (leading w ws) ws) ≡ false
-run-over w [] = refl
-run-over w (x ∷ xs) = ⊎-elim (λ p. rw p (run-over w xs)) (λ p. rw p (ne-eqb w x (λ e. eqb-false x w p (sym e)))) (decide (eqb x w))
-
--- What is read after a run is not of its operator.
-pub operand-not-and : (d : ℕ) (ws : List ℕ) (r : Expr × List ℕ) → takeOperand (takeWithin d) (drop (leading andItem ws) ws) ≡ some r → isAnd (r .0) ≡ false
-operand-not-and d ws r h =
-    let f = from-operand d (takeWithin d) (from-within d) (drop (leading andItem ws) ws) r h in
-    sym (begins-and (r .0) (r .1)) ∙ ap (begins andItem) (sym (f .items)) ∙ run-over andItem ws
-
-pub term-not-or : (d : ℕ) (ws : List ℕ) (r : Expr × List ℕ) → andsFrom (takeWithin d) 0 (drop (leading orItem ws) ws) ≡ some r → isOr (r .0) ≡ false
-term-not-or d ws r h =
-    let f = from-term d (takeWithin d) (from-within d) (drop (leading orItem ws) ws) r (term (takeWithin d) (drop (leading orItem ws) ws) ∙ h) in
-    sym (begins-or (r .0) (r .1)) ∙ ap (begins orItem) (sym (f .items)) ∙ run-over orItem ws
 
 -- A term is read with none counted before.
 pub ors-go : (depth n : ℕ) (e : Expr) (ws : List ℕ)
     → takeOrs (takeWithin depth) (suc n) e ws ≡ found (andsFrom (takeWithin depth) 0 ws) (λ r. takeOrs (takeWithin depth) n (either e (r .0)) (r .1))
 ors-go depth n e ws = ap (λ (o : Taken Expr). found o (λ r. takeOrs (takeWithin depth) n (either e (r .0)) (r .1))) (term (takeWithin depth) ws)
 
--- The two runs.
-abbrev pub Ands : ℕ → List ℕ → ℕ → ℕ → Taken Expr → ℕ → ℕ → ℕ → ℕ → Type 0
-Ands depth items at counted whole place deep high owed =
-    Left (takeOperand (takeWithin depth)) (takeAnds (takeWithin depth)) both nestTerm nestOperand (λ e ws. refl) (λ n e ws. refl) (λ a b. refl) (λ a b. refl)
-    items at counted depth whole place deep high owed
+-- AN OPERATOR: how a run of it begins, goes on and stops, what its parts are encoded as, and how it measures.
+pub record Run (depth operator : ℕ) : Type 0 where
+  pub starts : (counted : ℕ) (ws : List ℕ)
+      → takeChain operator (takeWithin depth) counted ws ≡ found (takePart operator (takeWithin depth) (drop (leading operator ws) ws)) (λ r. takeMore operator (takeWithin depth) (leading operator ws + counted) (r .0) (r .1))
+  pub goes : (n : ℕ) (e : Expr) (ws : List ℕ)
+      → takeMore operator (takeWithin depth) (suc n) e ws ≡ found (takePart operator (takeWithin depth) ws) (λ r. takeMore operator (takeWithin depth) n (joinBy operator e (r .0)) (r .1))
+  pub stops : (e : Expr) (ws : List ℕ) → takeMore operator (takeWithin depth) 0 e ws ≡ some (e, ws)
+  pub encoded : (ws : List ℕ) (r : Expr × List ℕ) → takePart operator (takeWithin depth) ws ≡ some r → ws ≡ encodeExpr (r .0) ++ r .1
+  pub begins-with : (e : Expr) (rest : List ℕ) → begins operator (encodeExpr e ++ rest) ≡ isJoined operator e
+  pub nest-join : (a b : Expr) → nestChain operator (joinBy operator a b) ≡ max (nestChain operator a) (nestPart operator b)
+  pub nest-alone : (e : Expr) → isJoined operator e ≡ false → nestPart operator e ≡ nestChain operator e
+  pub height-join : (a b : Expr) → heightExpr (joinBy operator a b) ≡ 1 + max (heightExpr a) (heightExpr b)
 
-abbrev pub Ors : ℕ → List ℕ → ℕ → ℕ → Taken Expr → ℕ → ℕ → ℕ → ℕ → Type 0
-Ors depth items at counted whole place deep high owed =
-    Left (andsFrom (takeWithin depth) 0) (takeOrs (takeWithin depth)) either nestExpr nestTerm (λ e ws. refl) (ors-go depth) (λ a b. refl) (λ a b. refl)
-    items at counted depth whole place deep high owed
-
--- Each begins with what is read after its run.
-pub ands-start : (depth : ℕ) (items : List ℕ) (at counted run next nesting height : ℕ) → run ≡ leading andItem (drop at items)
-    → Walk items (at + run) 0 depth (takeOperand (takeWithin depth) (drop (at + run) items)) nestOperand heightExpr next nesting height
-    → Ands depth items at counted (andsFrom (takeWithin depth) counted (drop at items)) next nesting height (run + counted)
+ands : (depth : ℕ) → Run depth andItem
 unfolding andsFrom
-ands-start depth items at counted run next nesting height e w =
-    let there : drop (leading andItem (drop at items)) (drop at items) ≡ drop (at + run) items = ap (λ (k : ℕ). drop k (drop at items)) (sym e) ∙ drop-drop run at items in
-    let read : takeOperand (takeWithin depth) (drop (leading andItem (drop at items)) (drop at items)) ≡ some (w .what, drop next items) =
-    ap (takeOperand (takeWithin depth)) there ∙ w .reads in
+ands depth =
     record {
-      so-far = w .what;
-      goes-on = rw (read, ← e);
-      nests = w .nests ∙ rw (operand-not-and depth (drop at items) (w .what, drop next items) read) (plain (isOr (w .what)) (nestExpr (w .what)));
-      heights = w .heights;
-      onward = omega (arith, w .onward);
-      inside = w .inside;
-      shallow = w .shallow;
-      low = omega (arith, w .low);
+      starts = λ counted ws. refl;
+      goes = λ n e ws. refl;
+      stops = λ e ws. refl;
+      encoded = λ ws r h. from-operand depth (takeWithin depth) (from-within depth) ws r h .items;
+      begins-with = begins-and;
+      nest-join = λ a b. refl;
+      nest-alone = λ e h. rw h (plain (isOr e) (nestExpr e));
+      height-join = λ a b. refl;
     }
   where
     plain : (b : Bool) (n : ℕ) → inBrackets (b || false) n ≡ inBrackets b n
     plain true n = refl
     plain false n = refl
 
-pub ors-start : (depth : ℕ) (items : List ℕ) (at counted run next nesting height : ℕ) → run ≡ leading orItem (drop at items)
-    → Walk items (at + run) 0 depth (andsFrom (takeWithin depth) 0 (drop (at + run) items)) nestTerm heightExpr next nesting height
-    → Ors depth items at counted (orsFrom (takeWithin depth) counted (drop at items)) next nesting height (run + counted)
+ors : (depth : ℕ) → Run depth orItem
 unfolding orsFrom
-ors-start depth items at counted run next nesting height e w =
-    let there : drop (leading orItem (drop at items)) (drop at items) ≡ drop (at + run) items = ap (λ (k : ℕ). drop k (drop at items)) (sym e) ∙ drop-drop run at items in
-    let read : andsFrom (takeWithin depth) 0 (drop (leading orItem (drop at items)) (drop at items)) ≡ some (w .what, drop next items) =
-    ap (andsFrom (takeWithin depth) 0) there ∙ w .reads in
-    let taken : takeTerm (takeWithin depth) (drop (leading orItem (drop at items)) (drop at items)) ≡ some (w .what, drop next items) =
-    term (takeWithin depth) (drop (leading orItem (drop at items)) (drop at items)) ∙ read in
+ors depth =
     record {
-      so-far = w .what;
-      goes-on = rw (taken, ← e);
-      nests = w .nests ∙ rw (term-not-or depth (drop at items) (w .what, drop next items) read);
-      heights = w .heights;
-      onward = omega (arith, w .onward);
-      inside = w .inside;
-      shallow = w .shallow;
-      low = omega (arith, w .low);
+      starts = λ counted ws. rw (term (takeWithin depth) (drop (leading orItem ws) ws));
+      goes = ors-go depth;
+      stops = λ e ws. refl;
+      encoded = λ ws r h. from-term depth (takeWithin depth) (from-within depth) ws r (term (takeWithin depth) ws ∙ h) .items;
+      begins-with = begins-or;
+      nest-join = λ a b. refl;
+      nest-alone = λ e h. rw h;
+      height-join = λ a b. refl;
     }
 
--- A run whose first operand is malformed.
-pub ands-stuck : (depth : ℕ) (items : List ℕ) (at counted run : ℕ) → run ≡ leading andItem (drop at items) → takeOperand (takeWithin depth) (drop (at + run) items) ≡ none
-    → andsFrom (takeWithin depth) counted (drop at items) ≡ none
-unfolding andsFrom
-ands-stuck depth items at counted run e h =
-    let there : drop (leading andItem (drop at items)) (drop at items) ≡ drop (at + run) items = ap (λ (k : ℕ). drop k (drop at items)) (sym e) ∙ drop-drop run at items in
-    rw (there, h)
+-- What holds of both operators holds of each.
+pub each : (P : ℕ → Type 0) → P andItem → P orItem → (operator : ℕ) → Operator operator → P operator
+each P ofAnd ofOr operator o =
+    by-cases (ℕ-discrete operator orItem) (λ e. subst P (sym e) ofOr) (λ n. subst P (let e : andItem ≡ operator = omega arith in e) ofAnd)
 
-pub ors-stuck : (depth : ℕ) (items : List ℕ) (at counted run : ℕ) → run ≡ leading orItem (drop at items) → andsFrom (takeWithin depth) 0 (drop (at + run) items) ≡ none
-    → orsFrom (takeWithin depth) counted (drop at items) ≡ none
-unfolding orsFrom
-ors-stuck depth items at counted run e h =
-    let there : drop (leading orItem (drop at items)) (drop at items) ≡ drop (at + run) items = ap (λ (k : ℕ). drop k (drop at items)) (sym e) ∙ drop-drop run at items in
-    rw (there, term (takeWithin depth) (drop (at + run) items), h)
+pub run : (depth operator : ℕ) → Operator operator → Run depth operator
+run depth = each (Run depth) (ands depth) (ors depth)
 
--- How each goes on, and ends.
-pub ands-more : (depth : ℕ) (items : List ℕ) (at counted : ℕ) (whole : Taken Expr) (place deep high owed next nesting height deep′ high′ : ℕ) → 0 < owed
-    → Ands depth items at counted whole place deep high owed → Walk items place 0 depth (takeOperand (takeWithin depth) (drop place items)) nestOperand heightExpr next nesting height
-    → deep′ ≡ max deep nesting → high′ ≡ max high height → Ands depth items at counted whole next deep′ (high′ + 1) (owed - 1)
-ands-more depth items at counted whole place deep high owed next nesting height deep′ high′ z l w ed eh =
-    left-more (takeOperand (takeWithin depth)) (takeAnds (takeWithin depth)) both nestTerm nestOperand (λ e ws. refl) (λ n e ws. refl) (λ a b. refl) (λ a b. refl) items at counted depth whole place deep high owed next nesting height deep′ high′ z l w ed eh
+-- After a run its item does not come again.
+run-over : (w : ℕ) (ws : List ℕ) → begins w (drop (leading w ws) ws) ≡ false
+run-over w [] = refl
+run-over w (x ∷ xs) = ⊎-elim (λ p. rw p (run-over w xs)) (λ p. rw p (ne-eqb w x (λ e. eqb-false x w p (sym e)))) (decide (eqb x w))
 
-pub ands-halt : (depth : ℕ) (items : List ℕ) (at counted : ℕ) (whole : Taken Expr) (place deep high owed : ℕ) → 0 < owed
-    → Ands depth items at counted whole place deep high owed → takeOperand (takeWithin depth) (drop place items) ≡ none → whole ≡ none
-ands-halt depth items at counted whole place deep high owed z l h =
-    left-stuck (takeOperand (takeWithin depth)) (takeAnds (takeWithin depth)) both nestTerm nestOperand (λ e ws. refl) (λ n e ws. refl) (λ a b. refl) (λ a b. refl) items at counted depth whole place deep high owed z l h
+-- A run in the items, from `at` on: its first part stands after it, and is not joined by its operator.
+module _ (operator depth : ℕ) (l : Run depth operator) (items : List ℕ) (at counted count : ℕ) (e : count ≡ leading operator (drop at items)) where
+  after : drop (leading operator (drop at items)) (drop at items) ≡ drop (at + count) items
+  after = ap (λ (k : ℕ). drop k (drop at items)) (sym e) ∙ drop-drop count at items
 
-pub ands-done : (depth : ℕ) (items : List ℕ) (at counted : ℕ) (whole : Taken Expr) (place deep high owed : ℕ) → owed ≤ 0
-    → Ands depth items at counted whole place deep high owed → Walk items at counted depth whole nestTerm heightExpr place deep high
-ands-done depth items at counted whole place deep high owed z l =
-    left-done (takeOperand (takeWithin depth)) (takeAnds (takeWithin depth)) both nestTerm nestOperand (λ e ws. refl) (λ n e ws. refl) (λ a b. refl) (λ a b. refl) items at counted depth whole place deep high owed z l
+  pub chain-starts : takeChain operator (takeWithin depth) counted (drop at items) ≡ found (takePart operator (takeWithin depth) (drop (at + count) items)) (λ r. takeMore operator (takeWithin depth) (count + counted) (r .0) (r .1))
+  chain-starts =
+      l .starts counted (drop at items) ∙
+      ap₂ (λ (ws : List ℕ) (n : ℕ). found (takePart operator (takeWithin depth) ws) (λ r. takeMore operator (takeWithin depth) (n + counted) (r .0) (r .1))) after (sym e)
 
-pub ors-more : (depth : ℕ) (items : List ℕ) (at counted : ℕ) (whole : Taken Expr) (place deep high owed next nesting height deep′ high′ : ℕ) → 0 < owed
-    → Ors depth items at counted whole place deep high owed → Walk items place 0 depth (andsFrom (takeWithin depth) 0 (drop place items)) nestTerm heightExpr next nesting height
-    → deep′ ≡ max deep nesting → high′ ≡ max high height → Ors depth items at counted whole next deep′ (high′ + 1) (owed - 1)
-ors-more depth items at counted whole place deep high owed next nesting height deep′ high′ z l w ed eh =
-    left-more (andsFrom (takeWithin depth) 0) (takeOrs (takeWithin depth)) either nestExpr nestTerm (λ e ws. refl) (ors-go depth) (λ a b. refl) (λ a b. refl) items at counted depth whole place deep high owed next nesting height deep′ high′ z l w ed eh
+  pub first-alone : (r : Expr × List ℕ) → takePart operator (takeWithin depth) (drop (at + count) items) ≡ some r → isJoined operator (r .0) ≡ false
+  first-alone r h =
+      sym (l .begins-with (r .0) (r .1)) ∙ ap (begins operator) (sym (l .encoded (drop (at + count) items) r h) ∙ sym after) ∙ run-over operator (drop at items)
 
-pub ors-halt : (depth : ℕ) (items : List ℕ) (at counted : ℕ) (whole : Taken Expr) (place deep high owed : ℕ) → 0 < owed
-    → Ors depth items at counted whole place deep high owed → andsFrom (takeWithin depth) 0 (drop place items) ≡ none → whole ≡ none
-ors-halt depth items at counted whole place deep high owed z l h =
-    left-stuck (andsFrom (takeWithin depth) 0) (takeOrs (takeWithin depth)) either nestExpr nestTerm (λ e ws. refl) (ors-go depth) (λ a b. refl) (λ a b. refl) items at counted depth whole place deep high owed z l h
+-- Walking over a run of operator items that begins at `at`, where so many of its items were counted before.
+module _ (operator depth : ℕ) (items : List ℕ) (at counted : ℕ) where
+  -- What has been read of the run, with so many parts owed.
+  pub record Left (place deep high owed : ℕ) : Type 0 where
+    pub so-far : Expr
+    pub goes-on : takeChain operator (takeWithin depth) counted (drop at items) ≡ takeMore operator (takeWithin depth) owed so-far (drop place items)
+    pub nests : deep ≡ nestChain operator so-far
+    pub heights : high ≡ heightExpr so-far
+    pub onward : at ≤ place
+    pub inside : place ≤ length items
+    pub shallow : deep ≤ depth
+    pub low : high + owed + at ≤ place + counted
 
-pub ors-done : (depth : ℕ) (items : List ℕ) (at counted : ℕ) (whole : Taken Expr) (place deep high owed : ℕ) → owed ≤ 0
-    → Ors depth items at counted whole place deep high owed → Walk items at counted depth whole nestExpr heightExpr place deep high
-ors-done depth items at counted whole place deep high owed z l =
-    left-done (andsFrom (takeWithin depth) 0) (takeOrs (takeWithin depth)) either nestExpr nestTerm (λ e ws. refl) (ors-go depth) (λ a b. refl) (λ a b. refl) items at counted depth whole place deep high owed z l
+  -- A part is to be read at `place`: what its answer makes of the run. Joining it adds `joined` to the height, 0 for the first.
+  pub record Awaits (place deep high joined owed : ℕ) : Type 0 where
+    pub stuck : takePart operator (takeWithin depth) (drop place items) ≡ none → takeChain operator (takeWithin depth) counted (drop at items) ≡ none
+    pub gives : (next nesting height deep′ high′ : ℕ) → Walk items place 0 depth (takePart operator (takeWithin depth) (drop place items)) (nestPart operator) heightExpr next nesting height
+        → deep′ ≡ max deep nesting → high′ ≡ max high height → Left next deep′ (high′ + joined) owed
+    pub onward : at ≤ place
+    pub inside : place ≤ length items
+    pub once : joined ≤ 1
+    pub low : high + owed + at + joined ≤ place + counted
+
+  module _ (l : Run depth operator) where
+    -- The first part.
+    pub awaits-first : (count : ℕ) → count ≡ leading operator (drop at items) → at + count ≤ length items → Awaits (at + count) 0 0 0 (count + counted)
+    awaits-first count e inside =
+        record {
+          stuck = λ h. starts ∙ ap (λ (o : Taken Expr). found o (λ r. takeMore operator (takeWithin depth) (count + counted) (r .0) (r .1))) h;
+          gives = λ next nesting height deep′ high′ w ed eh.
+              record {
+                so-far = w .what;
+                goes-on = starts ∙ ap (λ (o : Taken Expr). found o (λ r. takeMore operator (takeWithin depth) (count + counted) (r .0) (r .1))) (w .reads);
+                nests = omega (arith, ed, w .nests, l .nest-alone (w .what) (first-alone operator depth l items at counted count e (w .what, drop next items) (w .reads)));
+                heights = omega (arith, eh, w .heights);
+                onward = omega (arith, w .onward);
+                inside = w .inside;
+                shallow = omega (arith, ed, w .shallow);
+                low = omega (arith, eh, w .low);
+              };
+          onward = omega arith;
+          inside = inside;
+          once = omega arith;
+          low = omega arith;
+        }
+      where
+        starts : takeChain operator (takeWithin depth) counted (drop at items) ≡ found (takePart operator (takeWithin depth) (drop (at + count) items)) (λ r. takeMore operator (takeWithin depth) (count + counted) (r .0) (r .1))
+        starts = chain-starts operator depth l items at counted count e
+
+    -- The next part, where one is owed.
+    pub awaits-next : (place deep high owed : ℕ) → (owed ≡ 0 → ⊥) → Left place deep high owed → Awaits place deep high 1 (owed - 1)
+    awaits-next place deep high zero z left = absurd (z refl)
+    awaits-next place deep high (suc owed) z left =
+        record {
+          stuck = λ h. goes ∙ ap (λ (o : Taken Expr). found o (λ r. takeMore operator (takeWithin depth) (suc owed - 1) (joinBy operator (left .so-far) (r .0)) (r .1))) h;
+          gives = λ next nesting height deep′ high′ w ed eh.
+              record {
+                so-far = joinBy operator (left .so-far) (w .what);
+                goes-on = goes ∙ ap (λ (o : Taken Expr). found o (λ r. takeMore operator (takeWithin depth) (suc owed - 1) (joinBy operator (left .so-far) (r .0)) (r .1))) (w .reads);
+                nests = ed ∙ ap₂ max (left .nests) (w .nests) ∙ sym (l .nest-join (left .so-far) (w .what));
+                heights = omega (arith, eh, left .heights, w .heights, l .height-join (left .so-far) (w .what));
+                onward = omega (arith, left .onward, w .onward);
+                inside = w .inside;
+                shallow = omega (arith, ed, left .shallow, w .shallow);
+                low = omega (arith, eh, left .low, w .low, w .onward);
+              };
+          onward = left .onward;
+          inside = left .inside;
+          once = omega arith;
+          low = omega (arith, left .low);
+        }
+      where
+        goes : takeChain operator (takeWithin depth) counted (drop at items) ≡ found (takePart operator (takeWithin depth) (drop place items)) (λ r. takeMore operator (takeWithin depth) (suc owed - 1) (joinBy operator (left .so-far) (r .0)) (r .1))
+        goes =
+            left .goes-on ∙ l .goes owed (left .so-far) (drop place items) ∙
+            ap (λ (n : ℕ). found (takePart operator (takeWithin depth) (drop place items)) (λ r. takeMore operator (takeWithin depth) n (joinBy operator (left .so-far) (r .0)) (r .1)))
+            (let k : owed ≡ suc owed - 1 = omega arith in k)
+
+    -- No part is owed.
+    pub left-done : (place deep high owed : ℕ) → owed ≡ 0 → Left place deep high owed
+        → Walk items at counted depth (takeChain operator (takeWithin depth) counted (drop at items)) (nestChain operator) heightExpr place deep high
+    left-done place deep high owed z left =
+        record {
+          what = left .so-far;
+          reads = left .goes-on ∙ ap (λ (n : ℕ). takeMore operator (takeWithin depth) n (left .so-far) (drop place items)) z ∙ l .stops (left .so-far) (drop place items);
+          nests = left .nests;
+          heights = left .heights;
+          onward = left .onward;
+          inside = left .inside;
+          shallow = left .shallow;
+          low = omega (arith, left .low);
+        }
 
 -- What is taken, with more put before it.
 abbrev pub ahead : {A : Type 0} → (A → A) → Taken A → Taken A

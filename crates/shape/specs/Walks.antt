@@ -9,6 +9,7 @@ use Rattle.paper.specs.Query.{Expr, Query}
 use Rattle.paper.specs.Items.{Taken}
 use Rattle.paper.specs.Measures.{isOr, isAnd, inBrackets, nestExpr}
 use Rattle.paper.specs.Measures.{nesting as nestingOf, height as heightOf}
+use Rattle.shape.specs.Operators.{byOperator}
 use Rattle.shape.specs.declared.Walked.{Walked}
 use Rattle.shape.specs.declared.Walked.the-variants.{Done, Malformed}
 use Rattle.shape.specs.declared.Shape.{Shape}
@@ -20,6 +21,13 @@ nestTerm e = inBrackets (isOr e) (nestExpr e)
 
 abbrev pub nestOperand : Expr → ℕ
 nestOperand e = inBrackets (isOr e || isAnd e) (nestExpr e)
+
+-- The nesting of an expression as a run of the operator, and as a part of one.
+abbrev pub nestChain : ℕ → Expr → ℕ
+nestChain operator = byOperator operator nestExpr nestTerm
+
+abbrev pub nestPart : ℕ → Expr → ℕ
+nestPart operator = byOperator operator nestTerm nestOperand
 
 -- The walk from `at` took something, and ended at `next` with these measures of it; `counted` operators stood before `at`.
 pub record Walk {A : Type 0} (items : List ℕ) (at counted depth : ℕ) (taken : Taken A) (nestOf heightOf : A → ℕ) (next nest high : ℕ) : Type 0 where

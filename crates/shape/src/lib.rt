@@ -4,9 +4,9 @@ ghost use mathlib.Core.Path.{_≡_};
 ghost use Prim.Native.Nat.{_+_, _≤_, max};
 ghost use lib.ListN.{length, drop};
 ghost use Rattle.paper.specs.Items.{leading, takePreds, takeSteps, takeOperand, takeWithin, decode};
-ghost use Rattle.paper.specs.Measures.{nestExpr, nestSteps, nestPreds, heightExpr, heightSteps, heightPreds};
-ghost use Rattle.paper.proofs.Decoding.{orsFrom, andsFrom};
-ghost use Rattle.shape.specs.Walks.{Small, raisedBy, Walks, nestTerm, nestOperand, shapeOf};
+ghost use Rattle.paper.specs.Measures.{nestSteps, nestPreds, heightExpr, heightSteps, heightPreds};
+ghost use Rattle.shape.specs.Operators.{Operator, takeChain, takePart};
+ghost use Rattle.shape.specs.Walks.{Small, raisedBy, Walks, nestChain, nestPart, nestOperand, shapeOf};
 
 // What a walk over items finds: where it ends, with nesting and height, or that the items are malformed.
 pub enum Walked {
@@ -65,85 +65,51 @@ pub fn run_of(items: &[u32], at: usize, item: u32) -> usize
     end - at
 }
 
-// An expression, of whose `or` items so many stand before `at`.
-fn expression(items: &[u32], at: usize, counted: usize, depth: usize) -> Walked
-    requires { ⌜ (at ≤ length (now items)) × (counted ≤ 1) × (depth ≤ 64) ⌝ }
-    ensures { λ r. ⌜ Walks (now (items .entry)) at counted depth (orsFrom (takeWithin depth) counted (drop at (now (items .entry)))) nestExpr heightExpr r ⌝ }
+// A run of an operator, of whose items so many stand before `at`, with its parts.
+fn chain(items: &[u32], at: usize, operator: u32, counted: usize, depth: usize) -> Walked
+    requires { ⌜ Operator operator × (at ≤ length (now items)) × (counted ≤ 1) × (depth ≤ 64) ⌝ }
+    ensures { λ r. ⌜ Walks (now (items .entry)) at counted depth (takeChain operator (takeWithin depth) counted (drop at (now (items .entry)))) (nestChain operator) heightExpr r ⌝ }
 {
-    let run = run_of(items, at, item::OR);
-    let first = term(items, at + run, 0, depth);
-    let Walked::Done {
-        next,
-        nesting,
-        height,
-    } = first
-    else {
-        return Walked::Malformed;
-    };
-    let mut place = next;
-    let mut deep = nesting;
-    let mut high = height;
+    let run = run_of(items, at, operator);
+    let mut place = at + run;
+    let mut deep = 0;
+    let mut high = 0;
+    let mut joined = 0;
     let mut owed = run + counted;
-    while 0 < owed {
-        let more = term(items, place, 0, depth);
+    loop {
+        let one = part(items, place, operator, depth);
         let Walked::Done {
             next,
             nesting,
             height,
-        } = more
+        } = one
         else {
             return Walked::Malformed;
         };
-        place = next;
         deep = larger(deep, nesting);
-        high = larger(high, height) + 1;
+        high = larger(high, height) + joined;
+        if owed == 0 {
+            return Walked::Done {
+                next,
+                nesting: deep,
+                height: high,
+            };
+        }
+        place = next;
+        joined = 1;
         owed -= 1;
-    }
-    Walked::Done {
-        next: place,
-        nesting: deep,
-        height: high,
     }
 }
 
-// A term of `or`, of whose `and` items so many stand before `at`.
-fn term(items: &[u32], at: usize, counted: usize, depth: usize) -> Walked
-    requires { ⌜ (at ≤ length (now items)) × (counted ≤ 1) × (depth ≤ 64) ⌝ }
-    ensures { λ r. ⌜ Walks (now (items .entry)) at counted depth (andsFrom (takeWithin depth) counted (drop at (now (items .entry)))) nestTerm heightExpr r ⌝ }
+// A part of a run: a chain of `and` in one of `or`, and an operand in one of `and`.
+fn part(items: &[u32], at: usize, operator: u32, depth: usize) -> Walked
+    requires { ⌜ Operator operator × (at ≤ length (now items)) × (depth ≤ 64) ⌝ }
+    ensures { λ r. ⌜ Walks (now (items .entry)) at 0 depth (takePart operator (takeWithin depth) (drop at (now (items .entry)))) (nestPart operator) heightExpr r ⌝ }
 {
-    let run = run_of(items, at, item::AND);
-    let first = operand(items, at + run, depth);
-    let Walked::Done {
-        next,
-        nesting,
-        height,
-    } = first
-    else {
-        return Walked::Malformed;
-    };
-    let mut place = next;
-    let mut deep = nesting;
-    let mut high = height;
-    let mut owed = run + counted;
-    while 0 < owed {
-        let more = operand(items, place, depth);
-        let Walked::Done {
-            next,
-            nesting,
-            height,
-        } = more
-        else {
-            return Walked::Malformed;
-        };
-        place = next;
-        deep = larger(deep, nesting);
-        high = larger(high, height) + 1;
-        owed -= 1;
-    }
-    Walked::Done {
-        next: place,
-        nesting: deep,
-        height: high,
+    if operator == item::OR {
+        chain(items, at, item::AND, 0, depth)
+    } else {
+        operand(items, at, depth)
     }
 }
 
@@ -155,7 +121,8 @@ fn operand(items: &[u32], at: usize, depth: usize) -> Walked
     if items.len() <= at {
         return Walked::Malformed;
     }
-    let item = item::unpack(items[at]);
+    let word = items[at];
+    let item = item::unpack(word);
     if let Item::Path(count) = item {
         if count == 0 {
             return Walked::Malformed;
@@ -166,9 +133,8 @@ fn operand(items: &[u32], at: usize, depth: usize) -> Walked
         return Walked::Malformed;
     }
     match item {
-        Item::And => raised(term(items, at + 1, 1, depth - 1), 1, 0),
-        Item::Or => raised(expression(items, at + 1, 1, depth - 1), 1, 0),
-        Item::Not => raised(expression(items, at + 1, 0, depth - 1), 1, 1),
+        Item::And | Item::Or => raised(chain(items, at + 1, word, 1, depth - 1), 1, 0),
+        Item::Not => raised(chain(items, at + 1, item::OR, 0, depth - 1), 1, 1),
         _ => Walked::Malformed,
     }
 }
@@ -224,7 +190,7 @@ fn predicates(items: &[u32], at: usize, count: usize, depth: usize) -> Walked
         if depth == 0 {
             return Walked::Malformed;
         }
-        let more = expression(items, place, 0, depth - 1);
+        let more = chain(items, place, item::OR, 0, depth - 1);
         let Walked::Done {
             next,
             nesting,
