@@ -1,22 +1,20 @@
 -- Printing a left-grouped run of operators: what is read so far is printed, and what is left to read gives the answer of the whole. Assumes nothing.
-use Prim.Native.Nat.{ℕ, zero, suc, _+_, _-_, _*_, _≤_, _<_}
+use Prim.Native.Nat.{ℕ, zero, suc, _+_, _-_, _*_, _≤_}
 use native.Mathlib.Omega.{arith}
 use mathlib.Core.Path.{_≡_, refl, sym, _∙_, ap}
 use mathlib.Core.Bool.{Bool, true, false, _||_}
 use mathlib.Core.List.{List, [], _∷_, _++_, append-assoc}
-use mathlib.Core.Option.{some}
 use lib.ListN.{length, drop}
-use lib.Seq.{drop-drop}
 use Rattle.paper.specs.Tools.{found}
-use Rattle.paper.specs.Query.{Expr, both, either}
-use Rattle.paper.specs.Items.{andItem, orItem, leading, Taken, takeOperand, takeAnds, takeTerm, takeOrs, takeWithin}
+use Rattle.paper.specs.Query.{Expr}
+use Rattle.paper.specs.Items.{leading, Taken, takeWithin}
 use Rattle.paper.specs.Measures.{isOr}
 use Rattle.paper.specs.Printing.{Piece, andWord, orWord, pieceText, grouped, exprPieces, textOf}
 use Rattle.paper.proofs.Tests.{found-some}
-use Rattle.paper.proofs.Decoding.{orsFrom, andsFrom, term}
-use Rattle.shape.proofs.Walking.{ors-go, run, first-alone}
+use Rattle.shape.specs.Operators.{Operator, takeChain, takePart, takeMore, joinBy, isJoined}
+use Rattle.shape.proofs.Walking.{Run, each, chain-starts, first-alone}
 use Rattle.print.specs.declared.Reached.{Reached}
-use Rattle.print.specs.Writing.{Puts, termPieces, operandPieces, Some, Prints}
+use Rattle.print.specs.Writing.{Puts, operatorText, chainPieces, partPieces, termPieces, operandPieces, Some, Prints}
 use Rattle.print.proofs.Putting.{puts-both, puts-as, puts-long}
 
 -- The text of pieces and others after them.
@@ -29,160 +27,115 @@ pub prints-long : {A : Type 0} {names : List (List ℕ)} {items : List ℕ} {at 
     → Prints names items at pen spare taken piecesOf old new r → length new ≡ length old
 prints-long w = puts-long (w .puts)
 
--- A run of operators: `one` reads an operand, `more n e` reads n more and joins each to e; each is printed after the sign.
-pub record Run (names : List (List ℕ)) : Type 0 where
-  pub one : List ℕ → Taken Expr
-  pub more : ℕ → Expr → List ℕ → Taken Expr
-  pub join : Expr → Expr → Expr
-  pub leftPieces : Expr → List Piece
-  pub rightPieces : Expr → List Piece
-  pub sign : Piece
-  pub stops : (e : Expr) (ws : List ℕ) → more 0 e ws ≡ some (e, ws)
-  pub goes : (n : ℕ) (e : Expr) (ws : List ℕ) → more (suc n) e ws ≡ found (one ws) (λ r. more n (join e (r .0)) (r .1))
-  pub pieces-join : (a b : Expr) → leftPieces (join a b) ≡ leftPieces a ++ sign ∷ rightPieces b
-  pub brief : length (pieceText names sign) ≤ 64
+-- The text of a run and a part joined to it, and of what stands as a part as it stands as a run.
+pub record Joined (names : List (List ℕ)) (operator : ℕ) : Type 0 where
+  pub text-join : (a b : Expr)
+      → textOf names (chainPieces operator a) ++ operatorText operator ++ textOf names (partPieces operator b) ≡ textOf names (chainPieces operator (joinBy operator a b))
+  pub text-alone : (e : Expr) → isJoined operator e ≡ false → textOf names (partPieces operator e) ≡ textOf names (chainPieces operator e)
+  pub brief : length (operatorText operator) ≤ 64
 
--- The two runs.
-abbrev pub ands : (names : List (List ℕ)) → ℕ → Run names
-ands names depth =
-    record {
-      one = takeOperand (takeWithin depth);
-      more = takeAnds (takeWithin depth);
-      join = both;
-      leftPieces = termPieces;
-      rightPieces = operandPieces;
-      sign = andWord;
-      stops = λ e ws. refl;
-      goes = λ n e ws. refl;
-      pieces-join = λ a b. refl;
+pub joined : (names : List (List ℕ)) (operator : ℕ) → Operator operator → Joined names operator
+joined names =
+    each (Joined names)
+    (record {
+      text-join = λ a b. between-text (termPieces a) andWord (operandPieces b);
+      text-alone = λ e h. rw h (ap (textOf names) (plain (isOr e) (exprPieces e)));
       brief = omega arith;
-    }
-
-abbrev pub ors : (names : List (List ℕ)) → ℕ → Run names
-ors names depth =
-    record {
-      one = andsFrom (takeWithin depth) 0;
-      more = takeOrs (takeWithin depth);
-      join = either;
-      leftPieces = exprPieces;
-      rightPieces = termPieces;
-      sign = orWord;
-      stops = λ e ws. refl;
-      goes = ors-go depth;
-      pieces-join = λ a b. refl;
+    })
+    (record {
+      text-join = λ a b. between-text (exprPieces a) orWord (termPieces b);
+      text-alone = λ e h. rw h;
       brief = omega arith;
-    }
+    })
+  where
+    between-text : (ps : List Piece) (sign : Piece) (qs : List Piece) → textOf names ps ++ pieceText names sign ++ textOf names qs ≡ textOf names (ps ++ sign ∷ qs)
+    between-text ps sign qs = append-assoc (textOf names ps) (pieceText names sign) (textOf names qs) ∙ sym (text-append names ps (sign ∷ qs))
 
--- What has been read and printed of the run, with so many operands owed.
-pub record Left {names : List (List ℕ)} (k : Run names) (items : List ℕ) (at pen : ℕ) (whole : Taken Expr) (old out : List ℕ) (place byte owed : ℕ) : Type 0 where
-  pub so-far : Expr
-  pub goes-on : whole ≡ k .more owed so-far (drop place items)
-  pub puts : Puts (textOf names (k .leftPieces so-far)) pen old out byte
-  pub onward : at ≤ place
-  pub inside : place ≤ length items
-  pub low : byte + 16384 * at + 64 ≤ pen + 16384 * place
+    plain : (b : Bool) (ps : List Piece) → grouped (b || false) ps ≡ grouped b ps
+    plain true ps = refl
+    plain false ps = refl
 
-module _ {names : List (List ℕ)} (k : Run names) (items : List ℕ) (at pen : ℕ) (whole : Taken Expr) (old out : List ℕ) (place byte : ℕ) where
-  -- There is an operand where one is owed.
-  pub left-some : (owed : ℕ) → 0 < owed → Left k items at pen whole old out place byte owed → Some whole → Some (k .one (drop place items))
-  left-some zero z l s = absurd (omega arith)
-  left-some (suc owed) z l s =
-      found-some (k .one (drop place items)) (λ r. k .more owed (k .join (l .so-far) (r .0)) (r .1)) (s .tree)
-      (sym (k .goes owed (l .so-far) (drop place items)) ∙ sym (l .goes-on) ∙ s .taken-whole) (λ a p q. record { tree = a; taken-whole = p })
+-- Printing a run of operator items that begins at `at`, where so many of its items were counted before, from `pen` on.
+module _ (names : List (List ℕ)) (operator depth : ℕ) (items : List ℕ) (at counted pen : ℕ) (old : List ℕ) where
+  -- What has been read and printed of the run, with so many parts owed.
+  pub record Left (out : List ℕ) (place byte owed : ℕ) : Type 0 where
+    pub so-far : Expr
+    pub goes-on : takeChain operator (takeWithin depth) counted (drop at items) ≡ takeMore operator (takeWithin depth) owed so-far (drop place items)
+    pub puts : Puts (textOf names (chainPieces operator so-far)) pen old out byte
+    pub onward : at ≤ place
+    pub inside : place ≤ length items
+    pub low : byte + 16384 * at + 64 ≤ pen + 16384 * place
 
-  -- One operand more.
-  pub left-more : (mid new : List ℕ) (owed ready : ℕ) (r : Reached) → 0 < owed → Left k items at pen whole old out place byte owed → Puts (pieceText names (k .sign)) byte out mid ready
-      → Prints names items place ready 64 (k .one (drop place items)) (k .rightPieces) mid new r → Left k items at pen whole old new (r .item) (r .byte) (owed - 1)
-  left-more mid new zero ready r z l s w = absurd (omega arith)
-  left-more mid new (suc owed) ready r z l s w =
-      record {
-        so-far = k .join (l .so-far) (w .what);
-        goes-on =
-            l .goes-on ∙ k .goes owed (l .so-far) (drop place items) ∙ ap (λ (o : Taken Expr). found o (λ t. k .more owed (k .join (l .so-far) (t .0)) (t .1))) (w .reads) ∙
-            ap (λ (n : ℕ). k .more n (k .join (l .so-far) (w .what)) (drop (r .item) items)) (let e : owed ≡ suc owed - 1 = omega arith in e);
-        puts = puts-as text (puts-both (puts-both (l .puts) s) (w .puts));
-        onward = omega (arith, l .onward, w .onward);
-        inside = w .inside;
-        low = omega (arith, l .low, w .low, s .moved, k .brief);
-      }
-    where
-      text : textOf names (k .leftPieces (l .so-far)) ++ pieceText names (k .sign) ++ textOf names (k .rightPieces (w .what)) ≡ textOf names (k .leftPieces (k .join (l .so-far) (w .what)))
-      text =
-          append-assoc (textOf names (k .leftPieces (l .so-far))) (pieceText names (k .sign)) (textOf names (k .rightPieces (w .what))) ∙
-          sym (text-append names (k .leftPieces (l .so-far)) (k .sign ∷ k .rightPieces (w .what))) ∙ ap (textOf names) (sym (k .pieces-join (l .so-far) (w .what)))
+  -- A part is to be printed next: it is there, and what printing it makes of the run.
+  pub record Awaits (out : List ℕ) (place byte owed : ℕ) : Type 0 where
+    pub there : Some (takePart operator (takeWithin depth) (drop place items))
+    pub gives : (new : List ℕ) (r : Reached) → Prints names items place byte 64 (takePart operator (takeWithin depth) (drop place items)) (partPieces operator) out new r
+        → Left new (r .item) (r .byte) owed
+    pub onward : at ≤ place
+    pub inside : place ≤ length items
+    pub low : byte + 16384 * at ≤ pen + 16384 * place
+    pub long : length out ≡ length old
 
-  -- Nothing more owed.
-  pub left-done : (owed : ℕ) → owed ≤ 0 → Left k items at pen whole old out place byte owed
-      → Prints names items at pen 64 whole (k .leftPieces) old out (record { item = place; byte = byte })
-  left-done zero z l =
-      record {
-        what = l .so-far;
-        reads = l .goes-on ∙ k .stops (l .so-far) (drop place items);
-        puts = l .puts;
-        onward = l .onward;
-        inside = l .inside;
-        low = l .low;
-      }
-  left-done (suc owed) z l = absurd (omega arith)
+  module _ (l : Run depth operator) (j : Joined names operator) (s : Some (takeChain operator (takeWithin depth) counted (drop at items))) where
+    -- The first part.
+    pub awaits-first : (count : ℕ) → count ≡ leading operator (drop at items) → at + count ≤ length items → Awaits old (at + count) pen (count + counted)
+    awaits-first count e inside =
+        record {
+          there = found-some (takePart operator (takeWithin depth) (drop (at + count) items)) _ (s .tree) (sym starts ∙ s .taken-whole) (λ a p q. record { tree = a; taken-whole = p });
+          gives = λ new r w.
+              record {
+                so-far = w .what;
+                goes-on = starts ∙ ap (λ (o : Taken Expr). found o (λ t. takeMore operator (takeWithin depth) (count + counted) (t .0) (t .1))) (w .reads);
+                puts = puts-as (j .text-alone (w .what) (first-alone operator depth l items at counted count e (w .what, drop (r .item) items) (w .reads))) (w .puts);
+                onward = omega (arith, w .onward);
+                inside = w .inside;
+                low = omega (arith, w .low);
+              };
+          onward = omega arith;
+          inside = inside;
+          low = omega arith;
+          long = refl;
+        }
+      where
+        starts : takeChain operator (takeWithin depth) counted (drop at items) ≡ found (takePart operator (takeWithin depth) (drop (at + count) items)) (λ t. takeMore operator (takeWithin depth) (count + counted) (t .0) (t .1))
+        starts = chain-starts operator depth l items at counted count e
 
--- Where a run starts: what is read after its operators is no operator of the same kind, so it stands without a bracket.
-module _ (depth : ℕ) (items : List ℕ) (at counted count : ℕ) where
-  and-there : count ≡ leading andItem (drop at items) → drop (leading andItem (drop at items)) (drop at items) ≡ drop (at + count) items
-  and-there e = ap (λ (k : ℕ). drop k (drop at items)) (sym e) ∙ drop-drop count at items
+    -- The next part, where one is owed, after the operator's word.
+    pub awaits-next : (out mid : List ℕ) (place byte ready owed : ℕ) → (owed ≡ 0 → ⊥) → Left out place byte owed → Puts (operatorText operator) byte out mid ready → Awaits mid place ready (owed - 1)
+    awaits-next out mid place byte ready zero z left p = absurd (z refl)
+    awaits-next out mid place byte ready (suc owed) z left p =
+        record {
+          there = found-some (takePart operator (takeWithin depth) (drop place items)) _ (s .tree) (sym goes ∙ s .taken-whole) (λ a q r. record { tree = a; taken-whole = q });
+          gives = λ new r w.
+              record {
+                so-far = joinBy operator (left .so-far) (w .what);
+                goes-on = goes ∙ ap (λ (o : Taken Expr). found o (λ t. takeMore operator (takeWithin depth) (suc owed - 1) (joinBy operator (left .so-far) (t .0)) (t .1))) (w .reads);
+                puts = puts-as (j .text-join (left .so-far) (w .what)) (puts-both (puts-both (left .puts) p) (w .puts));
+                onward = omega (arith, left .onward, w .onward);
+                inside = w .inside;
+                low = omega (arith, left .low, w .low, p .moved, j .brief);
+              };
+          onward = left .onward;
+          inside = left .inside;
+          low = omega (arith, left .low, p .moved, j .brief);
+          long = puts-long p ∙ puts-long (left .puts);
+        }
+      where
+        goes : takeChain operator (takeWithin depth) counted (drop at items) ≡ found (takePart operator (takeWithin depth) (drop place items)) (λ t. takeMore operator (takeWithin depth) (suc owed - 1) (joinBy operator (left .so-far) (t .0)) (t .1))
+        goes =
+            left .goes-on ∙ l .goes owed (left .so-far) (drop place items) ∙
+            ap (λ (n : ℕ). found (takePart operator (takeWithin depth) (drop place items)) (λ t. takeMore operator (takeWithin depth) n (joinBy operator (left .so-far) (t .0)) (t .1)))
+            (let k : owed ≡ suc owed - 1 = omega arith in k)
 
-  or-there : count ≡ leading orItem (drop at items) → drop (leading orItem (drop at items)) (drop at items) ≡ drop (at + count) items
-  or-there e = ap (λ (k : ℕ). drop k (drop at items)) (sym e) ∙ drop-drop count at items
-
-  pub ands-first : count ≡ leading andItem (drop at items) → Some (andsFrom (takeWithin depth) counted (drop at items)) → Some (takeOperand (takeWithin depth) (drop (at + count) items))
-  unfolding andsFrom
-  ands-first e s =
-      found-some (takeOperand (takeWithin depth) (drop (leading andItem (drop at items)) (drop at items))) (λ r. takeAnds (takeWithin depth) (leading andItem (drop at items) + counted) (r .0) (r .1)) (s .tree) (s .taken-whole)
-      (λ a p q. record { tree = a; taken-whole = ap (takeOperand (takeWithin depth)) (sym (and-there e)) ∙ p })
-
-  pub ors-first : count ≡ leading orItem (drop at items) → Some (orsFrom (takeWithin depth) counted (drop at items)) → Some (andsFrom (takeWithin depth) 0 (drop (at + count) items))
-  unfolding orsFrom
-  ors-first e s =
-      found-some (takeTerm (takeWithin depth) (drop (leading orItem (drop at items)) (drop at items))) (λ r. takeOrs (takeWithin depth) (leading orItem (drop at items) + counted) (r .0) (r .1)) (s .tree) (s .taken-whole)
-      (λ a p q.
-      record { tree = a; taken-whole = ap (andsFrom (takeWithin depth) 0) (sym (or-there e)) ∙ sym (term (takeWithin depth) (drop (leading orItem (drop at items)) (drop at items))) ∙ p })
-
-  pub ands-start : (names : List (List ℕ)) (pen : ℕ) (old out : List ℕ) (r : Reached) → count ≡ leading andItem (drop at items)
-      → Prints names items (at + count) pen 64 (takeOperand (takeWithin depth) (drop (at + count) items)) operandPieces old out r
-      → Left (ands names depth) items at pen (andsFrom (takeWithin depth) counted (drop at items)) old out (r .item) (r .byte) (count + counted)
-  unfolding andsFrom
-  ands-start names pen old out r e w =
-      let read : takeOperand (takeWithin depth) (drop (leading andItem (drop at items)) (drop at items)) ≡ some (w .what, drop (r .item) items) =
-      ap (takeOperand (takeWithin depth)) (and-there e) ∙ w .reads in
-      let pieces : operandPieces (w .what) ≡ termPieces (w .what) =
-      rw (first-alone andItem depth (run depth andItem (omega arith, omega arith)) items at counted count e (w .what, drop (r .item) items) (w .reads)) (plain (isOr (w .what)) (exprPieces (w .what))) in
-      record {
-        so-far = w .what;
-        goes-on = rw (read, ← e);
-        puts = puts-as (ap (textOf names) pieces) (w .puts);
-        onward = omega (arith, w .onward);
-        inside = w .inside;
-        low = omega (arith, w .low);
-      }
-    where
-      plain : (b : Bool) (ps : List Piece) → grouped (b || false) ps ≡ grouped b ps
-      plain true ps = refl
-      plain false ps = refl
-
-  pub ors-start : (names : List (List ℕ)) (pen : ℕ) (old out : List ℕ) (r : Reached) → count ≡ leading orItem (drop at items)
-      → Prints names items (at + count) pen 64 (andsFrom (takeWithin depth) 0 (drop (at + count) items)) termPieces old out r
-      → Left (ors names depth) items at pen (orsFrom (takeWithin depth) counted (drop at items)) old out (r .item) (r .byte) (count + counted)
-  unfolding orsFrom
-  ors-start names pen old out r e w =
-      let read : andsFrom (takeWithin depth) 0 (drop (leading orItem (drop at items)) (drop at items)) ≡ some (w .what, drop (r .item) items) =
-      ap (andsFrom (takeWithin depth) 0) (or-there e) ∙ w .reads in
-      let taken : takeTerm (takeWithin depth) (drop (leading orItem (drop at items)) (drop at items)) ≡ some (w .what, drop (r .item) items) =
-      term (takeWithin depth) (drop (leading orItem (drop at items)) (drop at items)) ∙ read in
-      let pieces : termPieces (w .what) ≡ exprPieces (w .what) = rw (first-alone orItem depth (run depth orItem (omega arith, omega arith)) items at counted count e (w .what, drop (r .item) items) (w .reads)) in
-      record {
-        so-far = w .what;
-        goes-on = rw (taken, ← e);
-        puts = puts-as (ap (textOf names) pieces) (w .puts);
-        onward = omega (arith, w .onward);
-        inside = w .inside;
-        low = omega (arith, w .low);
-      }
+    -- No part is owed.
+    pub left-done : (out : List ℕ) (r : Reached) (owed : ℕ) → owed ≡ 0 → Left out (r .item) (r .byte) owed
+        → Prints names items at pen 64 (takeChain operator (takeWithin depth) counted (drop at items)) (chainPieces operator) old out r
+    left-done out r owed z left =
+        record {
+          what = left .so-far;
+          reads = left .goes-on ∙ ap (λ (n : ℕ). takeMore operator (takeWithin depth) n (left .so-far) (drop (r .item) items)) z ∙ l .stops (left .so-far) (drop (r .item) items);
+          puts = left .puts;
+          onward = left .onward;
+          inside = left .inside;
+          low = left .low;
+        }

@@ -15,12 +15,12 @@ ghost use Rattle.paper.specs.Limits.{namesLimit, listLimit};
 ghost use Rattle.paper.specs.Query.{Axis, Test};
 ghost use Rattle.paper.specs.Names.{namesOf};
 ghost use Rattle.paper.specs.Items.{axisNumber, testNumber, goodTest, stepAt, takePreds, takeSteps, takeOperand, takeWithin, decode};
-ghost use Rattle.paper.specs.Printing.{axisText, testText, exprPieces, relativePieces, predsPieces, textOf};
+ghost use Rattle.paper.specs.Printing.{axisText, testText, relativePieces, predsPieces, textOf};
 ghost use Rattle.paper.specs.Answers.{unknownItem, unknownFrom, printAnswer, textGot, printOut};
 ghost use Rattle.paper.specs.Told.{told};
-ghost use Rattle.paper.proofs.Decoding.{orsFrom, andsFrom};
 ghost use Rattle.names.specs.Listing.{Indexed};
-ghost use Rattle.print.specs.Writing.{Puts, between, termPieces, operandPieces, headPieces, Known, Names, Some, Prints, Query};
+ghost use Rattle.shape.specs.Operators.{Operator, takeChain, takePart};
+ghost use Rattle.print.specs.Writing.{Puts, between, operatorText, chainPieces, partPieces, operandPieces, headPieces, Known, Names, Some, Prints, Query};
 
 // How far printing has come: the next item, and the place of the next byte.
 struct Reached {
@@ -98,20 +98,16 @@ fn closed(out: &mut [u8], reached: Reached) -> Reached
     }
 }
 
-// Puts ` or `.
-fn put_or(out: &mut [u8], pen: usize) -> usize
+// Puts the word of an operator, ` or ` or ` and `.
+fn put_operator(out: &mut [u8], pen: usize, operator: u32) -> usize
     requires { ⌜ pen < 2 ^ 39 ⌝ }
-    ensures { λ r. ⌜ Puts (ascii " or ") pen (now (out .entry)) (now (out .exit)) r ⌝ }
+    ensures { λ r. ⌜ Puts (operatorText operator) pen (now (out .entry)) (now (out .exit)) r ⌝ }
 {
-    put(out, pen, b" or ")
-}
-
-// Puts ` and `.
-fn put_and(out: &mut [u8], pen: usize) -> usize
-    requires { ⌜ pen < 2 ^ 39 ⌝ }
-    ensures { λ r. ⌜ Puts (ascii " and ") pen (now (out .entry)) (now (out .exit)) r ⌝ }
-{
-    put(out, pen, b" and ")
+    if operator == item::OR {
+        put(out, pen, b" or ")
+    } else {
+        put(out, pen, b" and ")
+    }
 }
 
 // Puts `not(`.
@@ -200,8 +196,8 @@ fn put_head(
     put_test(list, starts, count, out, ready, test)
 }
 
-// Prints an expression, of whose `or` items so many stand before `at`; so many brackets may still be opened.
-fn expression(
+// Prints a run of an operator, of whose items so many stand before `at`, with its parts; so many brackets may still be opened.
+fn chain(
     items: &[u32],
     list: &[u8],
     starts: &[u16; 257],
@@ -209,31 +205,42 @@ fn expression(
     out: &mut [u8],
     at: usize,
     pen: usize,
+    operator: u32,
     counted: usize,
     depth: usize,
 ) -> Reached
     requires { ⌜ Names (now list) (now starts) count (now items) ⌝ }
-    requires { ⌜ (at ≤ length (now items)) × (counted ≤ 1) × (pen + 16384 * length (now items) ≤ 2 ^ 38 + 16384 * at) ⌝ }
-    requires { ⌜ Some (orsFrom (takeWithin depth) counted (drop at (now items))) ⌝ }
-    ensures { λ r. ⌜ Prints (namesOf (now (list .entry))) (now (items .entry)) at pen 64 (orsFrom (takeWithin depth) counted (drop at (now (items .entry)))) exprPieces (now (out .entry)) (now (out .exit)) r ⌝ }
+    requires { ⌜ Operator operator × (at ≤ length (now items)) × (counted ≤ 1) × (pen + 16384 * length (now items) ≤ 2 ^ 38 + 16384 * at) ⌝ }
+    requires { ⌜ Some (takeChain operator (takeWithin depth) counted (drop at (now items))) ⌝ }
+    ensures { λ r. ⌜ Prints (namesOf (now (list .entry))) (now (items .entry)) at pen 64 (takeChain operator (takeWithin depth) counted (drop at (now (items .entry)))) (chainPieces operator) (now (out .entry)) (now (out .exit)) r ⌝ }
 {
-    let run = shape::run_of(items, at, item::OR);
-    let first = term(items, list, starts, count, out, at + run, pen, 0, depth);
-    let mut place = first.item;
-    let mut byte = first.byte;
+    let run = shape::run_of(items, at, operator);
+    let mut place = at + run;
+    let mut byte = pen;
     let mut owed = run + counted;
-    while 0 < owed {
-        let ready = put_or(out, byte);
-        let more = term(items, list, starts, count, out, place, ready, 0, depth);
-        place = more.item;
-        byte = more.byte;
+    loop {
+        let one = part(
+            items,
+            list,
+            starts,
+            count,
+            out,
+            place,
+            byte,
+            operator,
+            depth,
+        );
+        if owed == 0 {
+            return one;
+        }
+        place = one.item;
+        byte = put_operator(out, one.byte, operator);
         owed -= 1;
     }
-    Reached { item: place, byte }
 }
 
-// Prints a term of `or`, of whose `and` items so many stand before `at`.
-fn term(
+// Prints a part of a run: a chain of `and` in one of `or`, and an operand in one of `and`.
+fn part(
     items: &[u32],
     list: &[u8],
     starts: &[u16; 257],
@@ -241,27 +248,30 @@ fn term(
     out: &mut [u8],
     at: usize,
     pen: usize,
-    counted: usize,
+    operator: u32,
     depth: usize,
 ) -> Reached
     requires { ⌜ Names (now list) (now starts) count (now items) ⌝ }
-    requires { ⌜ (at ≤ length (now items)) × (counted ≤ 1) × (pen + 16384 * length (now items) ≤ 2 ^ 38 + 16384 * at) ⌝ }
-    requires { ⌜ Some (andsFrom (takeWithin depth) counted (drop at (now items))) ⌝ }
-    ensures { λ r. ⌜ Prints (namesOf (now (list .entry))) (now (items .entry)) at pen 64 (andsFrom (takeWithin depth) counted (drop at (now (items .entry)))) termPieces (now (out .entry)) (now (out .exit)) r ⌝ }
+    requires { ⌜ Operator operator × (at ≤ length (now items)) × (pen + 16384 * length (now items) ≤ 2 ^ 38 + 16384 * at) ⌝ }
+    requires { ⌜ Some (takePart operator (takeWithin depth) (drop at (now items))) ⌝ }
+    ensures { λ r. ⌜ Prints (namesOf (now (list .entry))) (now (items .entry)) at pen 64 (takePart operator (takeWithin depth) (drop at (now (items .entry)))) (partPieces operator) (now (out .entry)) (now (out .exit)) r ⌝ }
 {
-    let run = shape::run_of(items, at, item::AND);
-    let first = operand(items, list, starts, count, out, at + run, pen, depth);
-    let mut place = first.item;
-    let mut byte = first.byte;
-    let mut owed = run + counted;
-    while 0 < owed {
-        let ready = put_and(out, byte);
-        let more = operand(items, list, starts, count, out, place, ready, depth);
-        place = more.item;
-        byte = more.byte;
-        owed -= 1;
+    if operator == item::OR {
+        chain(
+            items,
+            list,
+            starts,
+            count,
+            out,
+            at,
+            pen,
+            item::AND,
+            0,
+            depth,
+        )
+    } else {
+        operand(items, list, starts, count, out, at, pen, depth)
     }
-    Reached { item: place, byte }
 }
 
 // Prints an operand of `and`: a path, or what stands in a bracket of `not`, `and` or `or`.
@@ -280,13 +290,14 @@ fn operand(
     requires { ⌜ Some (takeOperand (takeWithin depth) (drop at (now items))) ⌝ }
     ensures { λ r. ⌜ Prints (namesOf (now (list .entry))) (now (items .entry)) at pen 64 (takeOperand (takeWithin depth) (drop at (now (items .entry)))) operandPieces (now (out .entry)) (now (out .exit)) r ⌝ }
 {
-    let item = item::unpack(items[at]);
+    let word = items[at];
+    let item = item::unpack(word);
     if let Item::Path(number) = item {
         return steps(items, list, starts, count, out, at + 1, pen, number, depth);
     }
     if let Item::Not = item {
         let opened = put_not(out, pen);
-        let denied = expression(
+        let denied = chain(
             items,
             list,
             starts,
@@ -294,27 +305,14 @@ fn operand(
             out,
             at + 1,
             opened,
+            item::OR,
             0,
             depth - 1,
         );
         return closed(out, denied);
     }
     let opened = put_open(out, pen);
-    if let Item::Or = item {
-        let inner = expression(
-            items,
-            list,
-            starts,
-            count,
-            out,
-            at + 1,
-            opened,
-            1,
-            depth - 1,
-        );
-        return closed(out, inner);
-    }
-    let inner = term(
+    let inner = chain(
         items,
         list,
         starts,
@@ -322,6 +320,7 @@ fn operand(
         out,
         at + 1,
         opened,
+        word,
         1,
         depth - 1,
     );
@@ -394,7 +393,18 @@ fn predicates(
     let mut owed = number;
     while 0 < owed {
         let opened = put_byte(out, byte, b'[');
-        let more = expression(items, list, starts, count, out, place, opened, 0, depth - 1);
+        let more = chain(
+            items,
+            list,
+            starts,
+            count,
+            out,
+            place,
+            opened,
+            item::OR,
+            0,
+            depth - 1,
+        );
         place = more.item;
         byte = put_byte(out, more.byte, b']');
         owed -= 1;
