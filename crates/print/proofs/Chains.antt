@@ -1,20 +1,22 @@
--- Printing a left-grouped run of operators: what is read so far is printed, and what is left to read gives the answer of the whole. Assumes nothing.
-use Prim.Native.Nat.{ℕ, zero, suc, _+_, _-_, _*_, _≤_}
+-- Printing an expression, a run of `or` with runs of `and` in it: what is read so far is printed, and what is left to read gives the answer of the whole.
+-- Both runs go by the same laws over the operator. Assumes nothing.
+use Prim.Native.Nat.{ℕ, zero, suc, _+_, _-_, _*_, _≤_, _<_}
 use native.Mathlib.Omega.{arith}
 use mathlib.Core.Path.{_≡_, refl, sym, _∙_, ap}
 use mathlib.Core.Bool.{Bool, true, false, _||_}
 use mathlib.Core.List.{List, [], _∷_, _++_, append-assoc}
 use lib.ListN.{length, drop}
-use Rattle.paper.specs.Tools.{found}
+use Rattle.paper.specs.Tools.{found, ascii}
 use Rattle.paper.specs.Query.{Expr}
-use Rattle.paper.specs.Items.{leading, Taken, takeWithin}
+use Rattle.paper.specs.Items.{andItem, orItem, leading, Taken, takeOperand, takeTerm, takeExpr, takeWithin}
 use Rattle.paper.specs.Measures.{isOr}
 use Rattle.paper.specs.Printing.{Piece, andWord, orWord, pieceText, grouped, exprPieces, textOf}
 use Rattle.paper.proofs.Tests.{found-some}
-use Rattle.shape.specs.Operators.{Operator, takeChain, takePart, takeMore, joinBy, isJoined}
-use Rattle.shape.proofs.Walking.{Run, each, chain-starts, first-alone}
+use Rattle.shape.proofs.Operators.{byOperator, takeRun, takePart, takeMore, joinBy, isJoined, Run, run-starts, first-alone, operators-run}
+use Rattle.shape.specs.Walks.{operators}
+use Rattle.shape.proofs.Operators.{ands as ands-laws, ors as ors-laws}
 use Rattle.print.specs.declared.Reached.{Reached}
-use Rattle.print.specs.Writing.{Puts, operatorText, chainPieces, partPieces, termPieces, operandPieces, Some, Prints}
+use Rattle.print.specs.Writing.{Puts, termPieces, operandPieces, Some, Prints}
 use Rattle.print.proofs.Putting.{puts-both, puts-as, puts-long}
 
 -- The text of pieces and others after them.
@@ -27,115 +29,214 @@ pub prints-long : {A : Type 0} {names : List (List ℕ)} {items : List ℕ} {at 
     → Prints names items at pen spare taken piecesOf old new r → length new ≡ length old
 prints-long w = puts-long (w .puts)
 
--- The text of a run and a part joined to it, and of what stands as a part as it stands as a run.
-pub record Joined (names : List (List ℕ)) (operator : ℕ) : Type 0 where
-  pub text-join : (a b : Expr)
-      → textOf names (chainPieces operator a) ++ operatorText operator ++ textOf names (partPieces operator b) ≡ textOf names (chainPieces operator (joinBy operator a b))
-  pub text-alone : (e : Expr) → isJoined operator e ≡ false → textOf names (partPieces operator e) ≡ textOf names (chainPieces operator e)
-  pub brief : length (operatorText operator) ≤ 64
+-- An expression as a run of the operator, and as a part of one; and the text between two parts.
+abbrev runPieces : ℕ → Expr → List Piece
+runPieces operator = byOperator operator exprPieces termPieces
 
-pub joined : (names : List (List ℕ)) (operator : ℕ) → Operator operator → Joined names operator
-joined names =
-    each (Joined names)
-    (record {
-      text-join = λ a b. between-text (termPieces a) andWord (operandPieces b);
+abbrev partPieces : ℕ → Expr → List Piece
+partPieces operator = byOperator operator termPieces operandPieces
+
+abbrev operatorText : ℕ → List ℕ
+operatorText operator = byOperator operator (ascii " or ") (ascii " and ")
+
+-- Where the first operand of a part stands, after the operators that the part begins with.
+abbrev partBase : ℕ → List ℕ → ℕ → ℕ
+partBase operator items place = byOperator operator (place + leading andItem (drop place items)) place
+
+-- The text of a run and a part joined to it, and of what stands as a part as it stands as a run.
+record Joined (names : List (List ℕ)) (operator : ℕ) : Type 0 where
+  text-join : (a b : Expr)
+      → textOf names (runPieces operator a) ++ operatorText operator ++ textOf names (partPieces operator b) ≡ textOf names (runPieces operator (joinBy operator a b))
+  text-alone : (e : Expr) → isJoined operator e ≡ false → textOf names (partPieces operator e) ≡ textOf names (runPieces operator e)
+  brief : length (operatorText operator) ≤ 64
+  ahead : (items : List ℕ) (place : ℕ) → place ≤ partBase operator items place
+
+-- The text of pieces with a sign between them.
+between-text : (names : List (List ℕ)) (ps : List Piece) (sign : Piece) (qs : List Piece) → textOf names ps ++ pieceText names sign ++ textOf names qs ≡ textOf names (ps ++ sign ∷ qs)
+between-text names ps sign qs = append-assoc (textOf names ps) (pieceText names sign) (textOf names qs) ∙ sym (text-append names ps (sign ∷ qs))
+
+ands-text : (names : List (List ℕ)) → Joined names andItem
+ands-text names =
+    record {
+      text-join = λ a b. between-text names (termPieces a) andWord (operandPieces b);
       text-alone = λ e h. rw h (ap (textOf names) (plain (isOr e) (exprPieces e)));
       brief = omega arith;
-    })
-    (record {
-      text-join = λ a b. between-text (exprPieces a) orWord (termPieces b);
-      text-alone = λ e h. rw h;
-      brief = omega arith;
-    })
+      ahead = λ items place. omega arith;
+    }
   where
-    between-text : (ps : List Piece) (sign : Piece) (qs : List Piece) → textOf names ps ++ pieceText names sign ++ textOf names qs ≡ textOf names (ps ++ sign ∷ qs)
-    between-text ps sign qs = append-assoc (textOf names ps) (pieceText names sign) (textOf names qs) ∙ sym (text-append names ps (sign ∷ qs))
-
     plain : (b : Bool) (ps : List Piece) → grouped (b || false) ps ≡ grouped b ps
     plain true ps = refl
     plain false ps = refl
 
--- Printing a run of operator items that begins at `at`, where so many of its items were counted before, from `pen` on.
-module _ (names : List (List ℕ)) (operator depth : ℕ) (items : List ℕ) (at counted pen : ℕ) (old : List ℕ) where
+ors-text : (names : List (List ℕ)) → Joined names orItem
+ors-text names =
+    record {
+      text-join = λ a b. between-text names (exprPieces a) orWord (termPieces b);
+      text-alone = λ e h. rw h;
+      brief = omega arith;
+      ahead = λ items place. omega arith;
+    }
+
+-- Printing a run of operator items that begins at `at`, from `pen` on; its first operand stands at `base`.
+module _ (names : List (List ℕ)) (operator depth : ℕ) (items : List ℕ) (at base pen : ℕ) (old : List ℕ) where
   -- What has been read and printed of the run, with so many parts owed.
   pub record Left (out : List ℕ) (place byte owed : ℕ) : Type 0 where
     pub so-far : Expr
-    pub goes-on : takeChain operator (takeWithin depth) counted (drop at items) ≡ takeMore operator (takeWithin depth) owed so-far (drop place items)
-    pub puts : Puts (textOf names (chainPieces operator so-far)) pen old out byte
-    pub onward : at ≤ place
+    pub goes-on : takeRun operator (takeWithin depth) (drop at items) ≡ takeMore operator (takeWithin depth) owed so-far (drop place items)
+    pub puts : Puts (textOf names (runPieces operator so-far)) pen old out byte
+    pub onward : base ≤ place
     pub inside : place ≤ length items
-    pub low : byte + 16384 * at + 64 ≤ pen + 16384 * place
+    pub low : byte + 16384 * base + 64 ≤ pen + 16384 * place
 
   -- A part is to be printed next: it is there, and what printing it makes of the run.
   pub record Awaits (out : List ℕ) (place byte owed : ℕ) : Type 0 where
     pub there : Some (takePart operator (takeWithin depth) (drop place items))
-    pub gives : (new : List ℕ) (r : Reached) → Prints names items place byte 64 (takePart operator (takeWithin depth) (drop place items)) (partPieces operator) out new r
+    pub gives : (new : List ℕ) (r : Reached) → Prints names items (partBase operator items place) byte 64 (takePart operator (takeWithin depth) (drop place items)) (partPieces operator) out new r
         → Left new (r .item) (r .byte) owed
-    pub onward : at ≤ place
     pub inside : place ≤ length items
-    pub low : byte + 16384 * at ≤ pen + 16384 * place
+    pub low : byte + 16384 * base ≤ pen + 16384 * partBase operator items place
     pub long : length out ≡ length old
 
-  module _ (l : Run depth operator) (j : Joined names operator) (s : Some (takeChain operator (takeWithin depth) counted (drop at items))) where
-    -- The first part.
-    pub awaits-first : (count : ℕ) → count ≡ leading operator (drop at items) → at + count ≤ length items → Awaits old (at + count) pen (count + counted)
-    awaits-first count e inside =
-        record {
-          there = found-some (takePart operator (takeWithin depth) (drop (at + count) items)) _ (s .tree) (sym starts ∙ s .taken-whole) (λ a p q. record { tree = a; taken-whole = p });
-          gives = λ new r w.
-              record {
-                so-far = w .what;
-                goes-on = starts ∙ ap (λ (o : Taken Expr). found o (λ t. takeMore operator (takeWithin depth) (count + counted) (t .0) (t .1))) (w .reads);
-                puts = puts-as (j .text-alone (w .what) (first-alone operator depth l items at counted count e (w .what, drop (r .item) items) (w .reads))) (w .puts);
-                onward = omega (arith, w .onward);
-                inside = w .inside;
-                low = omega (arith, w .low);
-              };
-          onward = omega arith;
-          inside = inside;
-          low = omega arith;
-          long = refl;
-        }
-      where
-        starts : takeChain operator (takeWithin depth) counted (drop at items) ≡ found (takePart operator (takeWithin depth) (drop (at + count) items)) (λ t. takeMore operator (takeWithin depth) (count + counted) (t .0) (t .1))
-        starts = chain-starts operator depth l items at counted count e
+  module _ (l : Run depth operator) (j : Joined names operator) where
+    module _ (s : Some (takeRun operator (takeWithin depth) (drop at items))) where
+      -- The first part.
+      awaits-first : (count : ℕ) → count ≡ leading operator (drop at items) → base ≡ partBase operator items (at + count) → at + count ≤ length items → Awaits old (at + count) pen count
+      awaits-first count e b inside =
+          record {
+            there = found-some (takePart operator (takeWithin depth) (drop (at + count) items)) _ (s .tree) (sym starts ∙ s .taken-whole) (λ a p q. record { tree = a; taken-whole = p });
+            gives = λ new r w.
+                record {
+                  so-far = w .what;
+                  goes-on = starts ∙ ap (λ (o : Taken Expr). found o (λ t. takeMore operator (takeWithin depth) count (t .0) (t .1))) (w .reads);
+                  puts = puts-as (j .text-alone (w .what) (first-alone operator depth l items at count e (w .what, drop (r .item) items) (w .reads))) (w .puts);
+                  onward = omega (arith, b, w .onward);
+                  inside = w .inside;
+                  low = omega (arith, b, w .low);
+                };
+            inside = inside;
+            low = omega (arith, b);
+            long = refl;
+          }
+        where
+          starts : takeRun operator (takeWithin depth) (drop at items) ≡ found (takePart operator (takeWithin depth) (drop (at + count) items)) (λ t. takeMore operator (takeWithin depth) count (t .0) (t .1))
+          starts = run-starts operator depth l items at count e
 
-    -- The next part, where one is owed, after the operator's word.
-    pub awaits-next : (out mid : List ℕ) (place byte ready owed : ℕ) → (owed ≡ 0 → ⊥) → Left out place byte owed → Puts (operatorText operator) byte out mid ready → Awaits mid place ready (owed - 1)
-    awaits-next out mid place byte ready zero z left p = absurd (z refl)
-    awaits-next out mid place byte ready (suc owed) z left p =
-        record {
-          there = found-some (takePart operator (takeWithin depth) (drop place items)) _ (s .tree) (sym goes ∙ s .taken-whole) (λ a q r. record { tree = a; taken-whole = q });
-          gives = λ new r w.
-              record {
-                so-far = joinBy operator (left .so-far) (w .what);
-                goes-on = goes ∙ ap (λ (o : Taken Expr). found o (λ t. takeMore operator (takeWithin depth) (suc owed - 1) (joinBy operator (left .so-far) (t .0)) (t .1))) (w .reads);
-                puts = puts-as (j .text-join (left .so-far) (w .what)) (puts-both (puts-both (left .puts) p) (w .puts));
-                onward = omega (arith, left .onward, w .onward);
-                inside = w .inside;
-                low = omega (arith, left .low, w .low, p .moved, j .brief);
-              };
-          onward = left .onward;
-          inside = left .inside;
-          low = omega (arith, left .low, p .moved, j .brief);
-          long = puts-long p ∙ puts-long (left .puts);
-        }
-      where
-        goes : takeChain operator (takeWithin depth) counted (drop at items) ≡ found (takePart operator (takeWithin depth) (drop place items)) (λ t. takeMore operator (takeWithin depth) (suc owed - 1) (joinBy operator (left .so-far) (t .0)) (t .1))
-        goes =
-            left .goes-on ∙ l .goes owed (left .so-far) (drop place items) ∙
-            ap (λ (n : ℕ). found (takePart operator (takeWithin depth) (drop place items)) (λ t. takeMore operator (takeWithin depth) n (joinBy operator (left .so-far) (t .0)) (t .1)))
-            (let k : owed ≡ suc owed - 1 = omega arith in k)
+      -- The next part, where one is owed, after the operator's word.
+      awaits-next : (out mid : List ℕ) (place byte ready owed : ℕ) → 0 < owed → Left out place byte owed → Puts (operatorText operator) byte out mid ready → Awaits mid place ready (owed - 1)
+      awaits-next out mid place byte ready zero z left p = absurd (omega arith)
+      awaits-next out mid place byte ready (suc owed) z left p =
+          record {
+            there = found-some (takePart operator (takeWithin depth) (drop place items)) _ (s .tree) (sym goes ∙ s .taken-whole) (λ a q r. record { tree = a; taken-whole = q });
+            gives = λ new r w.
+                record {
+                  so-far = joinBy operator (left .so-far) (w .what);
+                  goes-on = goes ∙ ap (λ (o : Taken Expr). found o (λ t. takeMore operator (takeWithin depth) (suc owed - 1) (joinBy operator (left .so-far) (t .0)) (t .1))) (w .reads);
+                  puts = puts-as (j .text-join (left .so-far) (w .what)) (puts-both (puts-both (left .puts) p) (w .puts));
+                  onward = omega (arith, left .onward, w .onward, j .ahead items place);
+                  inside = w .inside;
+                  low = omega (arith, left .low, w .low, p .moved, j .brief, j .ahead items place);
+                };
+            inside = left .inside;
+            low = omega (arith, left .low, p .moved, j .brief, j .ahead items place);
+            long = puts-long p ∙ puts-long (left .puts);
+          }
+        where
+          goes : takeRun operator (takeWithin depth) (drop at items) ≡ found (takePart operator (takeWithin depth) (drop place items)) (λ t. takeMore operator (takeWithin depth) (suc owed - 1) (joinBy operator (left .so-far) (t .0)) (t .1))
+          goes =
+              left .goes-on ∙ l .goes owed (left .so-far) (drop place items) ∙
+              ap (λ (n : ℕ). found (takePart operator (takeWithin depth) (drop place items)) (λ t. takeMore operator (takeWithin depth) n (joinBy operator (left .so-far) (t .0)) (t .1)))
+              (let k : owed ≡ suc owed - 1 = omega arith in k)
 
     -- No part is owed.
-    pub left-done : (out : List ℕ) (r : Reached) (owed : ℕ) → owed ≡ 0 → Left out (r .item) (r .byte) owed
-        → Prints names items at pen 64 (takeChain operator (takeWithin depth) counted (drop at items)) (chainPieces operator) old out r
-    left-done out r owed z left =
+    left-done : (out : List ℕ) (r : Reached) (owed : ℕ) → owed ≤ 0 → Left out (r .item) (r .byte) owed
+        → Prints names items base pen 64 (takeRun operator (takeWithin depth) (drop at items)) (runPieces operator) old out r
+    left-done out r zero z left =
         record {
           what = left .so-far;
-          reads = left .goes-on ∙ ap (λ (n : ℕ). takeMore operator (takeWithin depth) n (left .so-far) (drop (r .item) items)) z ∙ l .stops (left .so-far) (drop (r .item) items);
+          reads = left .goes-on ∙ l .stops (left .so-far) (drop (r .item) items);
           puts = left .puts;
           onward = left .onward;
           inside = left .inside;
           low = left .low;
         }
+    left-done out r (suc owed) z left = absurd (omega arith)
+
+-- Printing an expression that begins at `at`: an operand of `and` is to be printed next, in a term that an `or` awaits.
+-- The term began at `since` in the items and at `begun` in the text, where `mid` had been written.
+module _ (names : List (List ℕ)) (depth : ℕ) (items : List ℕ) (at pen : ℕ) (old : List ℕ) where
+  pub record Turn (out : List ℕ) (place byte ands ors : ℕ) : Type 0 where
+    pub since : ℕ
+    pub begun : ℕ
+    pub mid : List ℕ
+    pub outer : Awaits names orItem depth items at (at + operators (drop at items)) pen old mid since begun ors
+    pub inner : Awaits names andItem depth items since (since + leading andItem (drop since items)) begun mid out place byte ands
+    pub past : at + operators (drop at items) ≤ place
+
+  ands-first : (since begun : ℕ) (mid : List ℕ) → Some (takeTerm (takeWithin depth) (drop since items)) → (count : ℕ) → count ≡ leading andItem (drop since items) → since + count ≤ length items
+      → Awaits names andItem depth items since (since + leading andItem (drop since items)) begun mid mid (since + count) begun count
+  ands-first since begun mid s count e inside =
+      awaits-first names andItem depth items since (since + leading andItem (drop since items)) begun mid (ands-laws depth) (ands-text names) s count e (omega (arith, e)) inside
+
+  pub turn-start : Some (takeExpr (takeWithin depth) (drop at items)) → (ors ands : ℕ) → ors ≡ leading orItem (drop at items) → ands ≡ leading andItem (drop (at + ors) items) → at + ors ≤ length items
+      → at + ors + ands ≤ length items → Turn old (at + ors + ands) pen ands ors
+  turn-start s ors ands o a lo la =
+      let first : at + operators (drop at items) ≡ at + ors + leading andItem (drop (at + ors) items) = omega (arith, operators-run items at ors ands o a, a) in
+      let outer = awaits-first names orItem depth items at (at + operators (drop at items)) pen old (ors-laws depth) (ors-text names) s ors o first lo in
+      record {
+        since = at + ors;
+        begun = pen;
+        mid = old;
+        outer = outer;
+        inner = ands-first (at + ors) pen old (outer .there) ands a la;
+        past = omega (arith, operators-run items at ors ands o a);
+      }
+
+  module _ (out : List ℕ) (place byte ands ors : ℕ) (t : Turn out place byte ands ors) where
+    pub turn-low : byte + 16384 * (at + operators (drop at items)) ≤ pen + 16384 * place
+    turn-low = omega (arith, t .outer .low, t .inner .low)
+
+    pub turn-long : length out ≡ length old
+    turn-long = t .inner .long ∙ t .outer .long
+
+    -- The operand is printed.
+    module _ (new : List ℕ) (r : Reached) (w : Prints names items place byte 64 (takeOperand (takeWithin depth) (drop place items)) operandPieces out new r) where
+      pub turn-onward : place < r .item
+      turn-onward = omega (arith, w .low, w .puts .moved)
+
+      operands : Left names andItem depth items (t .since) (t .since + leading andItem (drop (t .since) items)) (t .begun) (t .mid) new (r .item) (r .byte) ands
+      operands = t .inner .gives new r w
+
+      -- It is not its term's last.
+      pub turn-and : (last : List ℕ) (ready : ℕ) → 0 < ands → Puts (ascii " and ") (r .byte) new last ready → Turn last (r .item) ready (ands - 1) ors
+      turn-and last ready z p =
+          record {
+            since = t .since;
+            begun = t .begun;
+            mid = t .mid;
+            outer = t .outer;
+            inner =
+                awaits-next names andItem depth items (t .since) (t .since + leading andItem (drop (t .since) items)) (t .begun) (t .mid) (ands-laws depth) (ands-text names) (t .outer .there)
+                new last (r .item) (r .byte) ready ands z operands p;
+            past = omega (arith, t .past, w .onward);
+          }
+
+      -- The term is printed.
+      module _ (z : ands ≤ 0) where
+        terms : Left names orItem depth items at (at + operators (drop at items)) pen old new (r .item) (r .byte) ors
+        terms = t .outer .gives new r (left-done names andItem depth items (t .since) (t .since + leading andItem (drop (t .since) items)) (t .begun) (t .mid) (ands-laws depth) (ands-text names) new r ands z operands)
+
+        pub turn-or : Some (takeExpr (takeWithin depth) (drop at items)) → (last : List ℕ) (ready : ℕ) → 0 < ors → Puts (ascii " or ") (r .byte) new last ready
+            → (count : ℕ) → count ≡ leading andItem (drop (r .item) items) → r .item + count ≤ length items → Turn last (r .item + count) ready count (ors - 1)
+        turn-or s last ready y p count e inside =
+            let outer = awaits-next names orItem depth items at (at + operators (drop at items)) pen old (ors-laws depth) (ors-text names) s new last (r .item) (r .byte) ready ors y terms p in
+            record {
+              since = r .item;
+              begun = ready;
+              mid = last;
+              outer = outer;
+              inner = ands-first (r .item) ready last (outer .there) count e inside;
+              past = omega (arith, t .past, w .onward);
+            }
+
+        pub turn-done : ors ≤ 0 → Prints names items (at + operators (drop at items)) pen 64 (takeExpr (takeWithin depth) (drop at items)) exprPieces old new r
+        turn-done y = left-done names orItem depth items at (at + operators (drop at items)) pen old (ors-laws depth) (ors-text names) new r ors y terms

@@ -2,7 +2,6 @@
 use Prim.Native.Nat.{ℕ, zero, suc, _+_, _-_, _≤_, _<_}
 use native.Mathlib.Omega.{arith}
 use mathlib.Core.Path.{_≡_, refl, sym, _∙_, ap, subst}
-use mathlib.Core.Bool.{true, false≢true}
 use mathlib.Core.List.{List, [], _∷_, _++_, append-assoc}
 use mathlib.Core.Logic.{⊎-elim}
 use mathlib.Core.Option.{none, some}
@@ -10,21 +9,19 @@ use lib.ListN.{length, getD, drop}
 use denote.Enum.Declared.{tagOf}
 use types.Run.{OneOf, miss}
 use Rattle.paper.specs.Tools.{found, ascii}
-use Rattle.paper.specs.Query.{Expr, path, both, either, negated}
-use Rattle.paper.specs.Items.{notItem, pathAt, Taken, takeSteps, takeOperand, takeWithin}
-use Rattle.paper.specs.Measures.{isAnd}
+use Rattle.paper.specs.Query.{path, negated}
+use Rattle.paper.specs.Items.{notItem, pathAt, Taken, takeSteps, takeOperand, takeExpr, takeWithin}
 use Rattle.paper.specs.Printing.{Piece, openGroup, closeRound, exprPieces, relativePieces, textOf}
 use Rattle.paper.proofs.Tests.{found-some, none-some}
-use Rattle.paper.proofs.Decoding.{orsFrom}
 use Rattle.item.specs.declared.Item.{Item}
 use Rattle.item.specs.declared.Item.the-variants.{Path, Step as StepItem, And, Or, Not, Bad}
 use Rattle.item.proofs.Saying.{Said}
 use Rattle.item.proofs.Item.{the-type}
-use Rattle.shape.specs.Operators.{Operator, takeChain, isJoined}
-use Rattle.shape.proofs.Walking.{each}
-use Rattle.shape.proofs.Operands.{at-place, operand-past, operand-path, operand-bare, operand-other, operand-step, operand-joined, operand-not, joined-there}
+use Rattle.shape.specs.Walks.{operators}
+use Rattle.shape.proofs.Operators.{Operator, each}
+use Rattle.shape.proofs.Operands.{at-place, operand-past, operand-path, operand-bare, operand-other, operand-step, operand-denied, operand-same, joined-there, in-bracket, operators-there}
 use Rattle.print.specs.declared.Reached.{Reached}
-use Rattle.print.specs.Writing.{Puts, termPieces, operandPieces, chainPieces, Some, Prints}
+use Rattle.print.specs.Writing.{Puts, operandPieces, Some, Prints}
 use Rattle.print.proofs.Putting.{puts-both, puts-as}
 use Rattle.print.proofs.Chains.{text-append}
 use Rattle.print.proofs.Rows.{within}
@@ -103,16 +100,6 @@ is-operator depth w Bad ws s p n t = none-some (sym (operand-other (takeWithin d
 close-text : (names : List (List ℕ)) (ps : List Piece) (opening : List ℕ) → opening ++ textOf names ps ++ (41 ∷ []) ≡ opening ++ textOf names (ps ++ (closeRound ∷ []))
 close-text names ps opening = append-assoc opening (textOf names ps) (41 ∷ []) ∙ ap (λ (x : List ℕ). opening ++ x) (sym (text-append names ps (closeRound ∷ [])))
 
--- What is joined by an operator gets a bracket as an operand.
-bracketed : (operator : ℕ) → Operator operator → (e : Expr) → isJoined operator e ≡ true → operandPieces e ≡ openGroup ∷ chainPieces operator e ++ (closeRound ∷ [])
-bracketed = each (λ operator. (e : Expr) → isJoined operator e ≡ true → operandPieces e ≡ openGroup ∷ chainPieces operator e ++ (closeRound ∷ [])) of-and (λ e h. rw h)
-  where
-    of-and : (e : Expr) → isAnd e ≡ true → operandPieces e ≡ openGroup ∷ termPieces e ++ (closeRound ∷ [])
-    of-and (path s) h = absurd (false≢true h)
-    of-and (both a b) h = refl
-    of-and (either a b) h = absurd (false≢true h)
-    of-and (negated a) h = absurd (false≢true h)
-
 -- What stands in a bracket, which is one that may be opened.
 module _ (items : List ℕ) (at depth : ℕ) (s : Some (takeOperand (takeWithin depth) (drop at items))) where
   there : at < length items
@@ -128,34 +115,34 @@ module _ (items : List ℕ) (at depth : ℕ) (s : Some (takeOperand (takeWithin 
   pub joined-deep : Operator (getD items at 0) → 1 ≤ depth
   joined-deep o = deep-enough depth items at there (shut-joined (drop (at + 1) items) (getD items at 0) o) s
 
-  pub not-opens : getD items at 0 ≡ notItem → Some (orsFrom (takeWithin (depth - 1)) 0 (drop (at + 1) items))
+  pub not-opens : getD items at 0 ≡ notItem → Some (takeExpr (takeWithin (depth - 1)) (drop (at + 1) items))
   not-opens e =
-      deeper (λ less d. Some (takeOperand (takeWithin d) (drop at items)) → Some (orsFrom (takeWithin less) 0 (drop (at + 1) items)))
+      deeper (λ less d. Some (takeOperand (takeWithin d) (drop at items)) → Some (takeExpr (takeWithin less) (drop (at + 1) items)))
       (λ d t.
-      some-found (orsFrom (takeWithin d) 0 (drop (at + 1) items)) (λ r. some (negated (r .0), r .1))
-      (some-same (rw (at-place items at there, e) (operand-not d (drop (at + 1) items))) t))
+      some-found (takeExpr (takeWithin d) (drop (at + 1) items)) (λ r. some (negated (r .0), r .1))
+      (some-same (rw (at-place items at there, e) (operand-denied (takeWithin (suc d)) (drop (at + 1) items))) t))
       depth (not-deep e) s
 
-  pub joined-opens : Operator (getD items at 0) → Some (takeChain (getD items at 0) (takeWithin (depth - 1)) 1 (drop (at + 1) items))
+  pub joined-opens : Operator (getD items at 0) → Some (takeExpr (takeWithin (depth - 1)) (drop at items))
   joined-opens o =
-      deeper (λ less d. Some (takeOperand (takeWithin d) (drop at items)) → Some (takeChain (getD items at 0) (takeWithin less) 1 (drop (at + 1) items)))
-      (λ d t. some-same (ap (takeOperand (takeWithin (suc d))) (at-place items at there) ∙ operand-joined (getD items at 0) o d (drop (at + 1) items)) t)
+      deeper (λ less d. Some (takeOperand (takeWithin d) (drop at items)) → Some (takeExpr (takeWithin less) (drop at items)))
+      (λ d t. some-same (operand-same items at d there o) t)
       depth (joined-deep o) s
 
   module _ (names : List (List ℕ)) (pen opened : ℕ) (old mid new last : List ℕ) (inner r : Reached) where
     pub not-prints : getD items at 0 ≡ notItem → Puts (ascii "not(") pen old mid opened
-        → Prints names items (at + 1) opened 64 (orsFrom (takeWithin (depth - 1)) 0 (drop (at + 1) items)) exprPieces mid new inner
+        → Prints names items (at + 1 + operators (drop (at + 1) items)) opened 64 (takeExpr (takeWithin (depth - 1)) (drop (at + 1) items)) exprPieces mid new inner
         → Puts (41 ∷ []) (inner .byte) new last (r .byte) → r .item ≡ inner .item
         → Prints names items at pen 64 (takeOperand (takeWithin depth) (drop at items)) operandPieces old last r
     not-prints e p w q i =
         deeper
         (λ less d.
-        Prints names items (at + 1) opened 64 (orsFrom (takeWithin less) 0 (drop (at + 1) items)) exprPieces mid new inner
+        Prints names items (at + 1 + operators (drop (at + 1) items)) opened 64 (takeExpr (takeWithin less) (drop (at + 1) items)) exprPieces mid new inner
         → Prints names items at pen 64 (takeOperand (takeWithin d) (drop at items)) operandPieces old last r)
         (λ d v.
         record {
           what = negated (v .what);
-          reads = rw (at-place items at there, e, operand-not d (drop (at + 1) items), v .reads, i);
+          reads = rw (at-place items at there, e, operand-denied (takeWithin (suc d)) (drop (at + 1) items), v .reads, i);
           puts = puts-as (close-text names (exprPieces (v .what)) (ascii "not(")) (puts-both (puts-both p (v .puts)) q);
           onward = omega (arith, v .onward);
           inside = omega (arith, v .inside);
@@ -164,28 +151,25 @@ module _ (items : List ℕ) (at depth : ℕ) (s : Some (takeOperand (takeWithin 
         depth (not-deep e) w
 
     pub joined-prints : Operator (getD items at 0) → Puts (40 ∷ []) pen old mid opened
-        → Prints names items (at + 1) opened 64 (takeChain (getD items at 0) (takeWithin (depth - 1)) 1 (drop (at + 1) items)) (chainPieces (getD items at 0)) mid new inner
+        → Prints names items (at + operators (drop at items)) opened 64 (takeExpr (takeWithin (depth - 1)) (drop at items)) exprPieces mid new inner
         → Puts (41 ∷ []) (inner .byte) new last (r .byte) → r .item ≡ inner .item
         → Prints names items at pen 64 (takeOperand (takeWithin depth) (drop at items)) operandPieces old last r
     joined-prints o p w q i =
         deeper
         (λ less d.
-        Prints names items (at + 1) opened 64 (takeChain (getD items at 0) (takeWithin less) 1 (drop (at + 1) items)) (chainPieces (getD items at 0)) mid new inner
+        Prints names items (at + operators (drop at items)) opened 64 (takeExpr (takeWithin less) (drop at items)) exprPieces mid new inner
         → Prints names items at pen 64 (takeOperand (takeWithin d) (drop at items)) operandPieces old last r)
         (λ d v.
         let read : takeOperand (takeWithin (suc d)) (drop at items) ≡ some (v .what, drop (r .item) items) =
-        ap (takeOperand (takeWithin (suc d))) (at-place items at there) ∙ operand-joined (getD items at 0) o d (drop (at + 1) items) ∙ v .reads ∙
-        ap (λ (k : ℕ). some (v .what, drop k items)) (sym i) in
+        operand-same items at d there o ∙ v .reads ∙ ap (λ (k : ℕ). some (v .what, drop k items)) (sym i) in
+        let grouped-so : operandPieces (v .what) ≡ openGroup ∷ exprPieces (v .what) ++ (closeRound ∷ []) =
+        rw (in-bracket (getD items at 0) o (v .what) (joined-there items at d there o (v .what) (r .item) read)) in
         record {
           what = v .what;
           reads = read;
-          puts =
-              puts-as
-              (close-text names (chainPieces (getD items at 0) (v .what)) (ascii "(") ∙
-              ap (textOf names) (sym (bracketed (getD items at 0) o (v .what) (joined-there items at d there o (v .what) (r .item) read))))
-              (puts-both (puts-both p (v .puts)) q);
+          puts = puts-as (close-text names (exprPieces (v .what)) (ascii "(") ∙ ap (textOf names) (sym grouped-so)) (puts-both (puts-both p (v .puts)) q);
           onward = omega (arith, v .onward);
           inside = omega (arith, v .inside);
-          low = omega (arith, v .low, p .moved, q .moved);
+          low = omega (arith, v .low, p .moved, q .moved, operators-there items at d there o);
         })
         depth (joined-deep o) w

@@ -7,7 +7,6 @@ use mathlib.Core.Option.{some}
 use lib.Dec.{ltb}
 use lib.ListN.{length, getD, drop}
 use lib.Seq.{sets}
-use Rattle.paper.specs.Tools.{ascii}
 use Rattle.paper.specs.Limits.{listLimit, itemLimit}
 use Rattle.paper.specs.Query.{Axis, Test, Expr}
 use Rattle.paper.specs.Query.{Query as Queried}
@@ -16,7 +15,6 @@ use Rattle.paper.specs.Measures.{isOr, isAnd}
 use Rattle.paper.specs.Printing.{Piece, colonsSign, axisWord, testWord, grouped, exprPieces, textOf}
 use Rattle.paper.specs.Answers.{unknownItem}
 use Rattle.names.specs.Listing.{Indexed}
-use Rattle.shape.specs.Operators.{byOperator}
 use Rattle.print.specs.declared.Reached.{Reached}
 
 -- The text is put from `pen` on; what does not fit is only counted. With no room this is a count, with room enough the text stands there.
@@ -34,16 +32,6 @@ termPieces e = grouped (isOr e) (exprPieces e)
 
 abbrev pub operandPieces : Expr → List Piece
 operandPieces e = grouped (isOr e || isAnd e) (exprPieces e)
-
--- An expression as a run of the operator, and as a part of one; and the text between two parts.
-abbrev pub chainPieces : ℕ → Expr → List Piece
-chainPieces operator = byOperator operator exprPieces termPieces
-
-abbrev pub partPieces : ℕ → Expr → List Piece
-partPieces operator = byOperator operator termPieces operandPieces
-
-abbrev pub operatorText : ℕ → List ℕ
-operatorText operator = byOperator operator (ascii " or ") (ascii " and ")
 
 -- A step without its predicates.
 abbrev pub headPieces : Axis → Test → List Piece

@@ -14,13 +14,13 @@ ghost use Rattle.paper.specs.Tools.{ascii, when};
 ghost use Rattle.paper.specs.Limits.{namesLimit, listLimit};
 ghost use Rattle.paper.specs.Query.{Axis, Test};
 ghost use Rattle.paper.specs.Names.{namesOf};
-ghost use Rattle.paper.specs.Items.{axisNumber, testNumber, goodTest, stepAt, takePreds, takeSteps, takeOperand, takeWithin, decode};
-ghost use Rattle.paper.specs.Printing.{axisText, testText, relativePieces, predsPieces, textOf};
+ghost use Rattle.paper.specs.Items.{axisNumber, testNumber, goodTest, stepAt, takePreds, takeSteps, takeOperand, takeExpr, takeWithin, decode};
+ghost use Rattle.paper.specs.Printing.{axisText, testText, exprPieces, relativePieces, predsPieces, textOf};
 ghost use Rattle.paper.specs.Answers.{unknownItem, unknownFrom, printAnswer, textGot, printOut};
 ghost use Rattle.paper.specs.Told.{told};
 ghost use Rattle.names.specs.Listing.{Indexed};
-ghost use Rattle.shape.specs.Operators.{Operator, takeChain, takePart};
-ghost use Rattle.print.specs.Writing.{Puts, between, operatorText, chainPieces, partPieces, operandPieces, headPieces, Known, Names, Some, Prints, Query};
+ghost use Rattle.shape.specs.Walks.{operators};
+ghost use Rattle.print.specs.Writing.{Puts, between, operandPieces, headPieces, Known, Names, Some, Prints, Query};
 
 // How far printing has come: the next item, and the place of the next byte.
 struct Reached {
@@ -98,16 +98,20 @@ fn closed(out: &mut [u8], reached: Reached) -> Reached
     }
 }
 
-// Puts the word of an operator, ` or ` or ` and `.
-fn put_operator(out: &mut [u8], pen: usize, operator: u32) -> usize
+// Puts ` or `.
+fn put_or(out: &mut [u8], pen: usize) -> usize
     requires { ⌜ pen < 2 ^ 39 ⌝ }
-    ensures { λ r. ⌜ Puts (operatorText operator) pen (now (out .entry)) (now (out .exit)) r ⌝ }
+    ensures { λ r. ⌜ Puts (ascii " or ") pen (now (out .entry)) (now (out .exit)) r ⌝ }
 {
-    if operator == item::OR {
-        put(out, pen, b" or ")
-    } else {
-        put(out, pen, b" and ")
-    }
+    put(out, pen, b" or ")
+}
+
+// Puts ` and `.
+fn put_and(out: &mut [u8], pen: usize) -> usize
+    requires { ⌜ pen < 2 ^ 39 ⌝ }
+    ensures { λ r. ⌜ Puts (ascii " and ") pen (now (out .entry)) (now (out .exit)) r ⌝ }
+{
+    put(out, pen, b" and ")
 }
 
 // Puts `not(`.
@@ -196,8 +200,8 @@ fn put_head(
     put_test(list, starts, count, out, ready, test)
 }
 
-// Prints a run of an operator, of whose items so many stand before `at`, with its parts; so many brackets may still be opened.
-fn chain(
+// Prints an expression, terms of `or`, each of them operands of `and`; so many brackets may still be opened.
+fn expression(
     items: &[u32],
     list: &[u8],
     starts: &[u16; 257],
@@ -205,72 +209,32 @@ fn chain(
     out: &mut [u8],
     at: usize,
     pen: usize,
-    operator: u32,
-    counted: usize,
     depth: usize,
 ) -> Reached
     requires { ⌜ Names (now list) (now starts) count (now items) ⌝ }
-    requires { ⌜ Operator operator × (at ≤ length (now items)) × (counted ≤ 1) × (pen + 16384 * length (now items) ≤ 2 ^ 38 + 16384 * at) ⌝ }
-    requires { ⌜ Some (takeChain operator (takeWithin depth) counted (drop at (now items))) ⌝ }
-    ensures { λ r. ⌜ Prints (namesOf (now (list .entry))) (now (items .entry)) at pen 64 (takeChain operator (takeWithin depth) counted (drop at (now (items .entry)))) (chainPieces operator) (now (out .entry)) (now (out .exit)) r ⌝ }
+    requires { ⌜ (at ≤ length (now items)) × (pen + 16384 * length (now items) ≤ 2 ^ 38 + 16384 * (at + operators (drop at (now items)))) ⌝ }
+    requires { ⌜ Some (takeExpr (takeWithin depth) (drop at (now items))) ⌝ }
+    ensures { λ r. ⌜ Prints (namesOf (now (list .entry))) (now (items .entry)) (at + operators (drop at (now (items .entry)))) pen 64 (takeExpr (takeWithin depth) (drop at (now (items .entry)))) exprPieces (now (out .entry)) (now (out .exit)) r ⌝ }
 {
-    let run = shape::run_of(items, at, operator);
-    let mut place = at + run;
+    let mut ors = shape::run_of(items, at, item::OR);
+    let mut ands = shape::run_of(items, at + ors, item::AND);
+    let mut place = at + ors + ands;
     let mut byte = pen;
-    let mut owed = run + counted;
     loop {
-        let one = part(
-            items,
-            list,
-            starts,
-            count,
-            out,
-            place,
-            byte,
-            operator,
-            depth,
-        );
-        if owed == 0 {
-            return one;
-        }
+        let one = operand(items, list, starts, count, out, place, byte, depth);
         place = one.item;
-        byte = put_operator(out, one.byte, operator);
-        owed -= 1;
-    }
-}
-
-// Prints a part of a run: a chain of `and` in one of `or`, and an operand in one of `and`.
-fn part(
-    items: &[u32],
-    list: &[u8],
-    starts: &[u16; 257],
-    count: usize,
-    out: &mut [u8],
-    at: usize,
-    pen: usize,
-    operator: u32,
-    depth: usize,
-) -> Reached
-    requires { ⌜ Names (now list) (now starts) count (now items) ⌝ }
-    requires { ⌜ Operator operator × (at ≤ length (now items)) × (pen + 16384 * length (now items) ≤ 2 ^ 38 + 16384 * at) ⌝ }
-    requires { ⌜ Some (takePart operator (takeWithin depth) (drop at (now items))) ⌝ }
-    ensures { λ r. ⌜ Prints (namesOf (now (list .entry))) (now (items .entry)) at pen 64 (takePart operator (takeWithin depth) (drop at (now (items .entry)))) (partPieces operator) (now (out .entry)) (now (out .exit)) r ⌝ }
-{
-    if operator == item::OR {
-        chain(
-            items,
-            list,
-            starts,
-            count,
-            out,
-            at,
-            pen,
-            item::AND,
-            0,
-            depth,
-        )
-    } else {
-        operand(items, list, starts, count, out, at, pen, depth)
+        if 0 < ands {
+            byte = put_and(out, one.byte);
+            ands -= 1;
+        } else {
+            if ors == 0 {
+                return one;
+            }
+            byte = put_or(out, one.byte);
+            ors -= 1;
+            ands = shape::run_of(items, place, item::AND);
+            place += ands;
+        }
     }
 }
 
@@ -290,40 +254,17 @@ fn operand(
     requires { ⌜ Some (takeOperand (takeWithin depth) (drop at (now items))) ⌝ }
     ensures { λ r. ⌜ Prints (namesOf (now (list .entry))) (now (items .entry)) at pen 64 (takeOperand (takeWithin depth) (drop at (now (items .entry)))) operandPieces (now (out .entry)) (now (out .exit)) r ⌝ }
 {
-    let word = items[at];
-    let item = item::unpack(word);
+    let item = item::unpack(items[at]);
     if let Item::Path(number) = item {
         return steps(items, list, starts, count, out, at + 1, pen, number, depth);
     }
     if let Item::Not = item {
         let opened = put_not(out, pen);
-        let denied = chain(
-            items,
-            list,
-            starts,
-            count,
-            out,
-            at + 1,
-            opened,
-            item::OR,
-            0,
-            depth - 1,
-        );
+        let denied = expression(items, list, starts, count, out, at + 1, opened, depth - 1);
         return closed(out, denied);
     }
     let opened = put_open(out, pen);
-    let inner = chain(
-        items,
-        list,
-        starts,
-        count,
-        out,
-        at + 1,
-        opened,
-        word,
-        1,
-        depth - 1,
-    );
+    let inner = expression(items, list, starts, count, out, at, opened, depth - 1);
     closed(out, inner)
 }
 
@@ -393,18 +334,7 @@ fn predicates(
     let mut owed = number;
     while 0 < owed {
         let opened = put_byte(out, byte, b'[');
-        let more = chain(
-            items,
-            list,
-            starts,
-            count,
-            out,
-            place,
-            opened,
-            item::OR,
-            0,
-            depth - 1,
-        );
+        let more = expression(items, list, starts, count, out, place, opened, depth - 1);
         place = more.item;
         byte = put_byte(out, more.byte, b']');
         owed -= 1;

@@ -1,154 +1,74 @@
 -- Walking over a left-grouped run, over steps and over predicates: what was read so far, and how one thing more changes it.
 -- The idea is the same each time: what is left to read gives the answer of the whole. Assumes nothing.
-use Prim.Native.Nat.{ℕ, zero, suc, _+_, _-_, _*_, _≤_, _<_, max}
+use Prim.Native.Nat.{ℕ, zero, suc, _+_, _-_, _≤_, _<_, max}
 use native.Mathlib.Omega.{arith}
-use mathlib.Core.Path.{_≡_, refl, sym, _∙_, ap, ap₂, subst}
-use mathlib.Core.Bool.{Bool, true, false, _||_}
-use mathlib.Core.List.{List, [], _∷_, _++_}
+use mathlib.Core.Path.{_≡_, refl, sym, _∙_, ap, ap₂}
+use mathlib.Core.List.{List}
 use mathlib.Core.Option.{none, some}
-use lib.Dec.{eqb}
 use lib.ListN.{length, getD, drop, drop-of-length-le}
-use lib.Seq.{drop-cons, drop-drop}
+use lib.Seq.{drop-cons}
 use native.Mathlib.Numerals.{add-one}
-use borrow.Author.Tests.{ne-eqb, eqb-false}
-use native.Mathlib.Decide.{ℕ-discrete}
-use mathlib.Core.Logic.{⊎-elim, by-cases}
-use Rattle.paper.proofs.Tests.{decide}
-use Rattle.paper.specs.Tools.{found, begins}
+use Rattle.paper.specs.Tools.{found}
 use Rattle.paper.specs.Query.{Expr, path, both, either, negated, Steps, stop, step, Preds, bare, pred}
-use Rattle.paper.specs.Items.{andItem, orItem, stepCount, Head, stepAt, encodeExpr, leading, Taken, takePreds, takeSteps, takeOrs, takeWithin}
-use Rattle.paper.specs.Measures.{isAnd, isOr, inBrackets, nestExpr, nestSteps, nestPreds, heightExpr, heightSteps, heightPreds}
+use Rattle.paper.specs.Items.{andItem, orItem, Head, stepAt, leading, Taken, takePreds, takeSteps, takeOperand, takeOrs, takeExpr, takeWithin}
+use Rattle.paper.specs.Measures.{nestExpr, nestSteps, nestPreds, heightExpr, heightSteps, heightPreds}
 use Rattle.paper.specs.Composition.{append}
 use Rattle.paper.proofs.Decoding.{orsFrom, andsFrom, whole, term}
-use Rattle.paper.proofs.Encoding.{from-operand, from-term, from-within}
-use Rattle.shape.specs.Operators.{Operator, takeChain, takePart, takeMore, joinBy, isJoined}
-use Rattle.shape.specs.Walks.{nestChain, nestPart, Walk}
-
--- An encoded expression begins with an operator's item exactly if it is joined by that operator.
-begins-and : (e : Expr) (rest : List ℕ) → begins andItem (encodeExpr e ++ rest) ≡ isAnd e
-begins-and (path s) rest = ne-eqb 2 (stepCount s * 8) (λ e. omega arith)
-begins-and (both a b) rest = refl
-begins-and (either a b) rest = refl
-begins-and (negated a) rest = refl
-
-begins-or : (e : Expr) (rest : List ℕ) → begins orItem (encodeExpr e ++ rest) ≡ isOr e
-begins-or (path s) rest = ne-eqb 3 (stepCount s * 8) (λ e. omega arith)
-begins-or (both a b) rest = refl
-begins-or (either a b) rest = refl
-begins-or (negated a) rest = refl
+use Rattle.shape.specs.Walks.{nestOperand, operators, joinedHeight, Walk}
+use Rattle.shape.proofs.Operators.{takeRun, takePart, takeMore, joinBy, nestRun, nestPart, Run, run-starts, first-alone, operators-run}
+use Rattle.shape.proofs.Operators.{ands as ands-laws, ors as ors-laws}
 
 -- A term is read with none counted before.
 pub ors-go : (depth n : ℕ) (e : Expr) (ws : List ℕ)
     → takeOrs (takeWithin depth) (suc n) e ws ≡ found (andsFrom (takeWithin depth) 0 ws) (λ r. takeOrs (takeWithin depth) n (either e (r .0)) (r .1))
 ors-go depth n e ws = ap (λ (o : Taken Expr). found o (λ r. takeOrs (takeWithin depth) n (either e (r .0)) (r .1))) (term (takeWithin depth) ws)
 
--- AN OPERATOR: how a run of it begins, goes on and stops, what its parts are encoded as, and how it measures.
-pub record Run (depth operator : ℕ) : Type 0 where
-  pub starts : (counted : ℕ) (ws : List ℕ)
-      → takeChain operator (takeWithin depth) counted ws ≡ found (takePart operator (takeWithin depth) (drop (leading operator ws) ws)) (λ r. takeMore operator (takeWithin depth) (leading operator ws + counted) (r .0) (r .1))
-  pub goes : (n : ℕ) (e : Expr) (ws : List ℕ)
-      → takeMore operator (takeWithin depth) (suc n) e ws ≡ found (takePart operator (takeWithin depth) ws) (λ r. takeMore operator (takeWithin depth) n (joinBy operator e (r .0)) (r .1))
-  pub stops : (e : Expr) (ws : List ℕ) → takeMore operator (takeWithin depth) 0 e ws ≡ some (e, ws)
-  pub encoded : (ws : List ℕ) (r : Expr × List ℕ) → takePart operator (takeWithin depth) ws ≡ some r → ws ≡ encodeExpr (r .0) ++ r .1
-  pub begins-with : (e : Expr) (rest : List ℕ) → begins operator (encodeExpr e ++ rest) ≡ isJoined operator e
-  pub nest-join : (a b : Expr) → nestChain operator (joinBy operator a b) ≡ max (nestChain operator a) (nestPart operator b)
-  pub nest-alone : (e : Expr) → isJoined operator e ≡ false → nestPart operator e ≡ nestChain operator e
-  pub height-join : (a b : Expr) → heightExpr (joinBy operator a b) ≡ 1 + max (heightExpr a) (heightExpr b)
+-- Every expression has a height.
+some-height : (e : Expr) → 1 ≤ heightExpr e
+some-height (path s) = omega arith
+some-height (both a b) = omega arith
+some-height (either a b) = omega arith
+some-height (negated a) = omega arith
 
-ands : (depth : ℕ) → Run depth andItem
-unfolding andsFrom
-ands depth =
-    record {
-      starts = λ counted ws. refl;
-      goes = λ n e ws. refl;
-      stops = λ e ws. refl;
-      encoded = λ ws r h. from-operand depth (takeWithin depth) (from-within depth) ws r h .items;
-      begins-with = begins-and;
-      nest-join = λ a b. refl;
-      nest-alone = λ e h. rw h (plain (isOr e) (nestExpr e));
-      height-join = λ a b. refl;
-    }
-  where
-    plain : (b : Bool) (n : ℕ) → inBrackets (b || false) n ≡ inBrackets b n
-    plain true n = refl
-    plain false n = refl
+-- What is joined to something is one higher than the higher of the two.
+pub joined-more : (high height : ℕ) → 1 ≤ high → joinedHeight high height ≡ 1 + max high height
+joined-more zero height z = absurd (omega arith)
+joined-more (suc high) height z = refl
 
-ors : (depth : ℕ) → Run depth orItem
-unfolding orsFrom
-ors depth =
-    record {
-      starts = λ counted ws. rw (term (takeWithin depth) (drop (leading orItem ws) ws));
-      goes = ors-go depth;
-      stops = λ e ws. refl;
-      encoded = λ ws r h. from-term depth (takeWithin depth) (from-within depth) ws r (term (takeWithin depth) ws ∙ h) .items;
-      begins-with = begins-or;
-      nest-join = λ a b. refl;
-      nest-alone = λ e h. rw h;
-      height-join = λ a b. refl;
-    }
-
--- What holds of both operators holds of each.
-pub each : (P : ℕ → Type 0) → P andItem → P orItem → (operator : ℕ) → Operator operator → P operator
-each P ofAnd ofOr operator o =
-    by-cases (ℕ-discrete operator orItem) (λ e. subst P (sym e) ofOr) (λ n. subst P (let e : andItem ≡ operator = omega arith in e) ofAnd)
-
-pub run : (depth operator : ℕ) → Operator operator → Run depth operator
-run depth = each (Run depth) (ands depth) (ors depth)
-
--- After a run its item does not come again.
-run-over : (w : ℕ) (ws : List ℕ) → begins w (drop (leading w ws) ws) ≡ false
-run-over w [] = refl
-run-over w (x ∷ xs) = ⊎-elim (λ p. rw p (run-over w xs)) (λ p. rw p (ne-eqb w x (λ e. eqb-false x w p (sym e)))) (decide (eqb x w))
-
--- A run in the items, from `at` on: its first part stands after it, and is not joined by its operator.
-module _ (operator depth : ℕ) (l : Run depth operator) (items : List ℕ) (at counted count : ℕ) (e : count ≡ leading operator (drop at items)) where
-  after : drop (leading operator (drop at items)) (drop at items) ≡ drop (at + count) items
-  after = ap (λ (k : ℕ). drop k (drop at items)) (sym e) ∙ drop-drop count at items
-
-  pub chain-starts : takeChain operator (takeWithin depth) counted (drop at items) ≡ found (takePart operator (takeWithin depth) (drop (at + count) items)) (λ r. takeMore operator (takeWithin depth) (count + counted) (r .0) (r .1))
-  chain-starts =
-      l .starts counted (drop at items) ∙
-      ap₂ (λ (ws : List ℕ) (n : ℕ). found (takePart operator (takeWithin depth) ws) (λ r. takeMore operator (takeWithin depth) (n + counted) (r .0) (r .1))) after (sym e)
-
-  pub first-alone : (r : Expr × List ℕ) → takePart operator (takeWithin depth) (drop (at + count) items) ≡ some r → isJoined operator (r .0) ≡ false
-  first-alone r h =
-      sym (l .begins-with (r .0) (r .1)) ∙ ap (begins operator) (sym (l .encoded (drop (at + count) items) r h) ∙ sym after) ∙ run-over operator (drop at items)
-
--- Walking over a run of operator items that begins at `at`, where so many of its items were counted before.
-module _ (operator depth : ℕ) (items : List ℕ) (at counted : ℕ) where
+-- Walking over a run of operator items that begins at `at`.
+module _ (operator depth : ℕ) (items : List ℕ) (at : ℕ) where
   -- What has been read of the run, with so many parts owed.
   pub record Left (place deep high owed : ℕ) : Type 0 where
     pub so-far : Expr
-    pub goes-on : takeChain operator (takeWithin depth) counted (drop at items) ≡ takeMore operator (takeWithin depth) owed so-far (drop place items)
-    pub nests : deep ≡ nestChain operator so-far
+    pub goes-on : takeRun operator (takeWithin depth) (drop at items) ≡ takeMore operator (takeWithin depth) owed so-far (drop place items)
+    pub nests : deep ≡ nestRun operator so-far
     pub heights : high ≡ heightExpr so-far
     pub onward : at ≤ place
     pub inside : place ≤ length items
     pub shallow : deep ≤ depth
-    pub low : high + owed + at ≤ place + counted
+    pub low : high + owed + at ≤ place
 
-  -- A part is to be read at `place`: what its answer makes of the run. Joining it adds `joined` to the height, 0 for the first.
-  pub record Awaits (place deep high joined owed : ℕ) : Type 0 where
-    pub stuck : takePart operator (takeWithin depth) (drop place items) ≡ none → takeChain operator (takeWithin depth) counted (drop at items) ≡ none
+  -- A part is to be read at `place`: what its answer makes of the run.
+  pub record Awaits (place deep high owed : ℕ) : Type 0 where
+    pub stuck : takePart operator (takeWithin depth) (drop place items) ≡ none → takeRun operator (takeWithin depth) (drop at items) ≡ none
     pub gives : (next nesting height deep′ high′ : ℕ) → Walk items place 0 depth (takePart operator (takeWithin depth) (drop place items)) (nestPart operator) heightExpr next nesting height
-        → deep′ ≡ max deep nesting → high′ ≡ max high height → Left next deep′ (high′ + joined) owed
+        → deep′ ≡ max deep nesting → high′ ≡ joinedHeight high height → Left next deep′ high′ owed
     pub onward : at ≤ place
     pub inside : place ≤ length items
-    pub once : joined ≤ 1
-    pub low : high + owed + at + joined ≤ place + counted
+    pub low : high + owed + at ≤ place
 
   module _ (l : Run depth operator) where
     -- The first part.
-    pub awaits-first : (count : ℕ) → count ≡ leading operator (drop at items) → at + count ≤ length items → Awaits (at + count) 0 0 0 (count + counted)
+    pub awaits-first : (count : ℕ) → count ≡ leading operator (drop at items) → at + count ≤ length items → Awaits (at + count) 0 0 count
     awaits-first count e inside =
         record {
-          stuck = λ h. starts ∙ ap (λ (o : Taken Expr). found o (λ r. takeMore operator (takeWithin depth) (count + counted) (r .0) (r .1))) h;
+          stuck = λ h. starts ∙ ap (λ (o : Taken Expr). found o (λ r. takeMore operator (takeWithin depth) count (r .0) (r .1))) h;
           gives = λ next nesting height deep′ high′ w ed eh.
               record {
                 so-far = w .what;
-                goes-on = starts ∙ ap (λ (o : Taken Expr). found o (λ r. takeMore operator (takeWithin depth) (count + counted) (r .0) (r .1))) (w .reads);
-                nests = omega (arith, ed, w .nests, l .nest-alone (w .what) (first-alone operator depth l items at counted count e (w .what, drop next items) (w .reads)));
-                heights = omega (arith, eh, w .heights);
+                goes-on = starts ∙ ap (λ (o : Taken Expr). found o (λ r. takeMore operator (takeWithin depth) count (r .0) (r .1))) (w .reads);
+                nests = omega (arith, ed, w .nests, l .nest-alone (w .what) (first-alone operator depth l items at count e (w .what, drop next items) (w .reads)));
+                heights = eh ∙ w .heights;
                 onward = omega (arith, w .onward);
                 inside = w .inside;
                 shallow = omega (arith, ed, w .shallow);
@@ -156,49 +76,48 @@ module _ (operator depth : ℕ) (items : List ℕ) (at counted : ℕ) where
               };
           onward = omega arith;
           inside = inside;
-          once = omega arith;
           low = omega arith;
         }
       where
-        starts : takeChain operator (takeWithin depth) counted (drop at items) ≡ found (takePart operator (takeWithin depth) (drop (at + count) items)) (λ r. takeMore operator (takeWithin depth) (count + counted) (r .0) (r .1))
-        starts = chain-starts operator depth l items at counted count e
+        starts : takeRun operator (takeWithin depth) (drop at items) ≡ found (takePart operator (takeWithin depth) (drop (at + count) items)) (λ r. takeMore operator (takeWithin depth) count (r .0) (r .1))
+        starts = run-starts operator depth l items at count e
 
     -- The next part, where one is owed.
-    pub awaits-next : (place deep high owed : ℕ) → (owed ≡ 0 → ⊥) → Left place deep high owed → Awaits place deep high 1 (owed - 1)
-    awaits-next place deep high zero z left = absurd (z refl)
+    pub awaits-next : (place deep high owed : ℕ) → 0 < owed → Left place deep high owed → Awaits place deep high (owed - 1)
+    awaits-next place deep high zero z left = absurd (omega arith)
     awaits-next place deep high (suc owed) z left =
         record {
           stuck = λ h. goes ∙ ap (λ (o : Taken Expr). found o (λ r. takeMore operator (takeWithin depth) (suc owed - 1) (joinBy operator (left .so-far) (r .0)) (r .1))) h;
           gives = λ next nesting height deep′ high′ w ed eh.
+              let taller : high′ ≡ 1 + max high height = eh ∙ joined-more high height (omega (arith, left .heights, some-height (left .so-far))) in
               record {
                 so-far = joinBy operator (left .so-far) (w .what);
                 goes-on = goes ∙ ap (λ (o : Taken Expr). found o (λ r. takeMore operator (takeWithin depth) (suc owed - 1) (joinBy operator (left .so-far) (r .0)) (r .1))) (w .reads);
                 nests = ed ∙ ap₂ max (left .nests) (w .nests) ∙ sym (l .nest-join (left .so-far) (w .what));
-                heights = omega (arith, eh, left .heights, w .heights, l .height-join (left .so-far) (w .what));
+                heights = omega (arith, taller, left .heights, w .heights, l .height-join (left .so-far) (w .what));
                 onward = omega (arith, left .onward, w .onward);
                 inside = w .inside;
                 shallow = omega (arith, ed, left .shallow, w .shallow);
-                low = omega (arith, eh, left .low, w .low, w .onward);
+                low = omega (arith, taller, left .low, w .low, w .onward, w .heights, some-height (w .what));
               };
           onward = left .onward;
           inside = left .inside;
-          once = omega arith;
           low = omega (arith, left .low);
         }
       where
-        goes : takeChain operator (takeWithin depth) counted (drop at items) ≡ found (takePart operator (takeWithin depth) (drop place items)) (λ r. takeMore operator (takeWithin depth) (suc owed - 1) (joinBy operator (left .so-far) (r .0)) (r .1))
+        goes : takeRun operator (takeWithin depth) (drop at items) ≡ found (takePart operator (takeWithin depth) (drop place items)) (λ r. takeMore operator (takeWithin depth) (suc owed - 1) (joinBy operator (left .so-far) (r .0)) (r .1))
         goes =
             left .goes-on ∙ l .goes owed (left .so-far) (drop place items) ∙
             ap (λ (n : ℕ). found (takePart operator (takeWithin depth) (drop place items)) (λ r. takeMore operator (takeWithin depth) n (joinBy operator (left .so-far) (r .0)) (r .1)))
             (let k : owed ≡ suc owed - 1 = omega arith in k)
 
     -- No part is owed.
-    pub left-done : (place deep high owed : ℕ) → owed ≡ 0 → Left place deep high owed
-        → Walk items at counted depth (takeChain operator (takeWithin depth) counted (drop at items)) (nestChain operator) heightExpr place deep high
-    left-done place deep high owed z left =
+    pub left-done : (place deep high owed : ℕ) → owed ≤ 0 → Left place deep high owed
+        → Walk items at 0 depth (takeRun operator (takeWithin depth) (drop at items)) (nestRun operator) heightExpr place deep high
+    left-done place deep high zero z left =
         record {
           what = left .so-far;
-          reads = left .goes-on ∙ ap (λ (n : ℕ). takeMore operator (takeWithin depth) n (left .so-far) (drop place items)) z ∙ l .stops (left .so-far) (drop place items);
+          reads = left .goes-on ∙ l .stops (left .so-far) (drop place items);
           nests = left .nests;
           heights = left .heights;
           onward = left .onward;
@@ -206,6 +125,82 @@ module _ (operator depth : ℕ) (items : List ℕ) (at counted : ℕ) where
           shallow = left .shallow;
           low = omega (arith, left .low);
         }
+    left-done place deep high (suc owed) z left = absurd (omega arith)
+
+-- Walking over an expression that begins at `at`: an operand of `and` is to be read at `place`, in a term that an `or` awaits and that began at `since`.
+module _ (depth : ℕ) (items : List ℕ) (at : ℕ) where
+  pub record Turn (place deep high term ands ors : ℕ) : Type 0 where
+    pub since : ℕ
+    pub outer-deep : ℕ
+    pub inner-deep : ℕ
+    pub deepest : deep ≡ max outer-deep inner-deep
+    pub outer : Awaits orItem depth items at since outer-deep high ors
+    pub inner : Awaits andItem depth items since place inner-deep term ands
+    pub past : at + operators (drop at items) ≤ place
+
+  pub turn-start : (ors ands : ℕ) → ors ≡ leading orItem (drop at items) → ands ≡ leading andItem (drop (at + ors) items) → at + ors ≤ length items → at + ors + ands ≤ length items
+      → Turn (at + ors + ands) 0 0 0 ands ors
+  turn-start ors ands o a lo la =
+      record {
+        since = at + ors;
+        outer-deep = 0;
+        inner-deep = 0;
+        deepest = refl;
+        outer = awaits-first orItem depth items at (ors-laws depth) ors o lo;
+        inner = awaits-first andItem depth items (at + ors) (ands-laws depth) ands a la;
+        past = omega (arith, operators-run items at ors ands o a);
+      }
+
+  module _ (place deep high term ands ors : ℕ) (t : Turn place deep high term ands ors) where
+    pub turn-stuck : takeOperand (takeWithin depth) (drop place items) ≡ none → takeExpr (takeWithin depth) (drop at items) ≡ none
+    turn-stuck h = t .outer .stuck (t .inner .stuck h)
+
+    -- The operand is read.
+    module _ (next nesting height deep′ term′ : ℕ) (w : Walk items place 0 depth (takeOperand (takeWithin depth) (drop place items)) nestOperand heightExpr next nesting height)
+        (ed : deep′ ≡ max deep nesting) (et : term′ ≡ joinedHeight term height) where
+      pub turn-onward : place < next
+      turn-onward = omega (arith, w .low, w .heights, some-height (w .what))
+
+      operands : Left andItem depth items (t .since) next (max (t .inner-deep) nesting) term′ ands
+      operands = t .inner .gives next nesting height (max (t .inner-deep) nesting) term′ w refl et
+
+      pub term-low : term′ ≤ next
+      term-low = omega (arith, operands .low)
+
+      -- It is not its term's last.
+      pub turn-and : 0 < ands → Turn next deep′ high term′ (ands - 1) ors
+      turn-and z =
+          record {
+            since = t .since;
+            outer-deep = t .outer-deep;
+            inner-deep = max (t .inner-deep) nesting;
+            deepest = omega (arith, ed, t .deepest);
+            outer = t .outer;
+            inner = awaits-next andItem depth items (t .since) (ands-laws depth) next (max (t .inner-deep) nesting) term′ ands z operands;
+            past = omega (arith, t .past, w .onward);
+          }
+
+      -- The term is read.
+      module _ (high′ : ℕ) (z : ands ≤ 0) (eh : high′ ≡ joinedHeight high term′) where
+        terms : Left orItem depth items at next deep′ high′ ors
+        terms =
+            t .outer .gives next (max (t .inner-deep) nesting) term′ deep′ high′
+            (left-done andItem depth items (t .since) (ands-laws depth) next (max (t .inner-deep) nesting) term′ ands z operands) (omega (arith, ed, t .deepest)) eh
+
+        pub turn-or : 0 < ors → (count : ℕ) → count ≡ leading andItem (drop next items) → next + count ≤ length items → Turn (next + count) deep′ high′ 0 count (ors - 1)
+        turn-or y count e inside =
+            record {
+              since = next;
+              outer-deep = deep′;
+              inner-deep = 0;
+              deepest = omega arith;
+              outer = awaits-next orItem depth items at (ors-laws depth) next deep′ high′ ors y terms;
+              inner = awaits-first andItem depth items next (ands-laws depth) count e inside;
+              past = omega (arith, t .past, w .onward);
+            }
+
+        pub turn-done : ors ≤ 0 → Walk items at 0 depth (takeExpr (takeWithin depth) (drop at items)) nestExpr heightExpr next deep′ high′
+        turn-done y = left-done orItem depth items at (ors-laws depth) next deep′ high′ ors y terms
 
 -- What is taken, with more put before it.
 abbrev pub ahead : {A : Type 0} → (A → A) → Taken A → Taken A

@@ -1,2 +1,1 @@
-pub mod Operators
 pub mod Walks

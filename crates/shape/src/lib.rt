@@ -1,12 +1,11 @@
 // A query in memory: is it one, and then its nesting and height. Recursion opens a bracket each time, so at most 65 deep.
 use item::Item;
 ghost use mathlib.Core.Path.{_≡_};
-ghost use Prim.Native.Nat.{_+_, _≤_, max};
+ghost use Prim.Native.Nat.{_+_, _^_, _≤_, _<_, max};
 ghost use lib.ListN.{length, drop};
-ghost use Rattle.paper.specs.Items.{leading, takePreds, takeSteps, takeOperand, takeWithin, decode};
-ghost use Rattle.paper.specs.Measures.{nestSteps, nestPreds, heightExpr, heightSteps, heightPreds};
-ghost use Rattle.shape.specs.Operators.{Operator, takeChain, takePart};
-ghost use Rattle.shape.specs.Walks.{Small, raisedBy, Walks, nestChain, nestPart, nestOperand, shapeOf};
+ghost use Rattle.paper.specs.Items.{leading, takePreds, takeSteps, takeOperand, takeExpr, takeWithin, decode};
+ghost use Rattle.paper.specs.Measures.{nestExpr, nestSteps, nestPreds, heightExpr, heightSteps, heightPreds};
+ghost use Rattle.shape.specs.Walks.{Small, raisedBy, joinedHeight, Walks, nestOperand, shapeOf};
 
 // What a walk over items finds: where it ends, with nesting and height, or that the items are malformed.
 pub enum Walked {
@@ -65,19 +64,31 @@ pub fn run_of(items: &[u32], at: usize, item: u32) -> usize
     end - at
 }
 
-// A run of an operator, of whose items so many stand before `at`, with its parts.
-fn chain(items: &[u32], at: usize, operator: u32, counted: usize, depth: usize) -> Walked
-    requires { ⌜ Operator operator × (at ≤ length (now items)) × (counted ≤ 1) × (depth ≤ 64) ⌝ }
-    ensures { λ r. ⌜ Walks (now (items .entry)) at counted depth (takeChain operator (takeWithin depth) counted (drop at (now (items .entry)))) (nestChain operator) heightExpr r ⌝ }
+// The height of a part joined to what was read before it, whose height is 0 where nothing was.
+fn joined(high: usize, height: usize) -> usize
+    requires { ⌜ (high < 2 ^ 63) × (height < 2 ^ 63) ⌝ }
+    ensures { λ r. ⌜ r ≡ joinedHeight high height ⌝ }
 {
-    let run = run_of(items, at, operator);
-    let mut place = at + run;
+    if high == 0 {
+        height
+    } else {
+        larger(high, height) + 1
+    }
+}
+
+// An expression: terms of `or`, each of them operands of `and`.
+fn expression(items: &[u32], at: usize, depth: usize) -> Walked
+    requires { ⌜ (at ≤ length (now items)) × (depth ≤ 64) ⌝ }
+    ensures { λ r. ⌜ Walks (now (items .entry)) at 0 depth (takeExpr (takeWithin depth) (drop at (now (items .entry)))) nestExpr heightExpr r ⌝ }
+{
+    let mut ors = run_of(items, at, item::OR);
+    let mut ands = run_of(items, at + ors, item::AND);
+    let mut place = at + ors + ands;
     let mut deep = 0;
     let mut high = 0;
-    let mut joined = 0;
-    let mut owed = run + counted;
+    let mut term = 0;
     loop {
-        let one = part(items, place, operator, depth);
+        let one = operand(items, place, depth);
         let Walked::Done {
             next,
             nesting,
@@ -86,30 +97,25 @@ fn chain(items: &[u32], at: usize, operator: u32, counted: usize, depth: usize) 
         else {
             return Walked::Malformed;
         };
-        deep = larger(deep, nesting);
-        high = larger(high, height) + joined;
-        if owed == 0 {
-            return Walked::Done {
-                next,
-                nesting: deep,
-                height: high,
-            };
-        }
         place = next;
-        joined = 1;
-        owed -= 1;
-    }
-}
-
-// A part of a run: a chain of `and` in one of `or`, and an operand in one of `and`.
-fn part(items: &[u32], at: usize, operator: u32, depth: usize) -> Walked
-    requires { ⌜ Operator operator × (at ≤ length (now items)) × (depth ≤ 64) ⌝ }
-    ensures { λ r. ⌜ Walks (now (items .entry)) at 0 depth (takePart operator (takeWithin depth) (drop at (now (items .entry)))) (nestPart operator) heightExpr r ⌝ }
-{
-    if operator == item::OR {
-        chain(items, at, item::AND, 0, depth)
-    } else {
-        operand(items, at, depth)
+        deep = larger(deep, nesting);
+        term = joined(term, height);
+        if 0 < ands {
+            ands -= 1;
+        } else {
+            high = joined(high, term);
+            if ors == 0 {
+                return Walked::Done {
+                    next: place,
+                    nesting: deep,
+                    height: high,
+                };
+            }
+            ors -= 1;
+            ands = run_of(items, place, item::AND);
+            place += ands;
+            term = 0;
+        }
     }
 }
 
@@ -121,8 +127,7 @@ fn operand(items: &[u32], at: usize, depth: usize) -> Walked
     if items.len() <= at {
         return Walked::Malformed;
     }
-    let word = items[at];
-    let item = item::unpack(word);
+    let item = item::unpack(items[at]);
     if let Item::Path(count) = item {
         if count == 0 {
             return Walked::Malformed;
@@ -133,8 +138,8 @@ fn operand(items: &[u32], at: usize, depth: usize) -> Walked
         return Walked::Malformed;
     }
     match item {
-        Item::And | Item::Or => raised(chain(items, at + 1, word, 1, depth - 1), 1, 0),
-        Item::Not => raised(chain(items, at + 1, item::OR, 0, depth - 1), 1, 1),
+        Item::And | Item::Or => raised(expression(items, at, depth - 1), 1, 0),
+        Item::Not => raised(expression(items, at + 1, depth - 1), 1, 1),
         _ => Walked::Malformed,
     }
 }
@@ -190,7 +195,7 @@ fn predicates(items: &[u32], at: usize, count: usize, depth: usize) -> Walked
         if depth == 0 {
             return Walked::Malformed;
         }
-        let more = chain(items, place, item::OR, 0, depth - 1);
+        let more = expression(items, place, depth - 1);
         let Walked::Done {
             next,
             nesting,

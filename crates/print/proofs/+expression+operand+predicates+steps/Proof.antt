@@ -1,13 +1,12 @@
 -- The functions of `print` that call each other meet their contracts: path, step and expression, with falling remaining items.
--- Each loop's invariant is that what is left to print gives the text of the whole (`Awaits` of a run of an operator, `Rest` of steps and of predicates).
--- The measure of a call is the number of items left, then the order predicates, chain and part of `or`, chain and part of `and`, operand and steps. Assumes nothing.
+-- Each loop's invariant is that what is left to print gives the text of the whole (`Turn` of an expression, `Rest` of steps and of predicates).
+-- The measure of a call is the number of items left, an expression's after the operators that it begins with, then the order predicates, expression, operand, steps. Assumes nothing.
 use Prim.Native.Nat.{_+_, _-_, _*_}
 use native.Mathlib.Omega.{arith}
 use mathlib.Core.Path.{_≡_, refl, sym, _∙_, ap}
 use mathlib.Core.Bool.{false}
 use lib.ListN.{length, getD, drop}
 use borrow.Author.Needs.{needs}
-use borrow.Author.Tests.{ne-eqb}
 use denote.Ref.{now}
 use Rattle.paper.specs.Names.{namesOf}
 use Rattle.paper.specs.Query.{stop, bare}
@@ -17,76 +16,67 @@ use Rattle.paper.specs.Answers.{unknownTest}
 use Rattle.paper.proofs.Tests.{none-some, some-inj}
 use Rattle.paper.proofs.Fields.{step-found}
 use Rattle.item.proofs.Saying.{said}
-use Rattle.shape.specs.Operators.{Operator}
-use Rattle.shape.proofs.Walking.{run}
-use Rattle.shape.proofs.Operands.{not-step}
+use Rattle.shape.specs.Walks.{operators}
+use Rattle.shape.proofs.Operators.{Operator}
+use Rattle.shape.proofs.Operands.{not-step, operators-there}
 use Rattle.print.proofs.Putting.{puts-long}
 use Rattle.print.proofs.Words.{known-test}
-use Rattle.print.proofs.Chains.{Awaits, joined, awaits-first, awaits-next, left-done}
+use Rattle.print.proofs.Chains.{Turn, turn-start, turn-low, turn-long, turn-onward, turn-and, turn-or, turn-done}
 use Rattle.print.proofs.Rows.{Rest, rest-start, rest-done, pred-opens, pred-turn, step-there, step-head, step-turn}
 use Rattle.print.proofs.Operands.{operand-there, path-opens, path-prints, operator-there, not-deep, joined-deep, not-opens, joined-opens, not-prints, joined-prints}
 use Prim.Native.Nat.{ℕ, _<_}
 use borrow.Fn.Kinds.{In}
 use borrow.Fn.PlainCycle.{Measures, is, falls, and}
-use Rattle.print.proofs.chain.Reads as chain
-use Rattle.print.proofs.chain.Kinds as chain-kinds
-use Rattle.print.proofs.+chain+operand+part+predicates+steps.Lts-chain as chain-lts
+use Rattle.print.proofs.expression.Reads as expression
+use Rattle.print.proofs.expression.Kinds as expression-kinds
+use Rattle.print.proofs.+expression+operand+predicates+steps.Lts-expression as expression-lts
 use Rattle.print.proofs.operand.Reads as operand
 use Rattle.print.proofs.operand.Kinds as operand-kinds
-use Rattle.print.proofs.+chain+operand+part+predicates+steps.Lts-operand as operand-lts
-use Rattle.print.proofs.part.Reads as part
-use Rattle.print.proofs.part.Kinds as part-kinds
-use Rattle.print.proofs.+chain+operand+part+predicates+steps.Lts-part as part-lts
+use Rattle.print.proofs.+expression+operand+predicates+steps.Lts-operand as operand-lts
 use Rattle.print.proofs.predicates.Reads as predicates
 use Rattle.print.proofs.predicates.Kinds as predicates-kinds
-use Rattle.print.proofs.+chain+operand+part+predicates+steps.Lts-predicates as predicates-lts
+use Rattle.print.proofs.+expression+operand+predicates+steps.Lts-predicates as predicates-lts
 use Rattle.print.proofs.steps.Reads as steps
 use Rattle.print.proofs.steps.Kinds as steps-kinds
-use Rattle.print.proofs.+chain+operand+part+predicates+steps.Lts-steps as steps-lts
+use Rattle.print.proofs.+expression+operand+predicates+steps.Lts-steps as steps-lts
 use Rattle.item.proofs.unpack.Reads as unpack-reads
 use Rattle.print.proofs.closed.Reads as closed-reads
+use Rattle.print.proofs.put_and.Reads as put-and-reads
 use Rattle.print.proofs.put_byte.Reads as put-byte-reads
 use Rattle.print.proofs.put_head.Reads as put-head-reads
 use Rattle.print.proofs.put_not.Reads as put-not-reads
 use Rattle.print.proofs.put_open.Reads as put-open-reads
-use Rattle.print.proofs.put_operator.Reads as put-operator-reads
+use Rattle.print.proofs.put_or.Reads as put-or-reads
 use Rattle.print.proofs.put_slash.Reads as put-slash-reads
 use Rattle.shape.proofs.run_of.Reads as run-of-reads
-use Rattle.print.proofs.+chain+operand+part+predicates+steps.{statement}
-use Rattle.print.proofs.+chain+operand+part+predicates+steps.Tie.{close}
+use Rattle.print.proofs.+expression+operand+predicates+steps.{statement}
+use Rattle.print.proofs.+expression+operand+predicates+steps.Tie.{close}
 
-abbrev μ-chain : Measures 4 chain-kinds.ps ℕ
-μ-chain κs a = (length (now (a .0)) - a .1 .1 .1 .1 .1 .0) * 16 + a .1 .1 .1 .1 .1 .1 .1 .0 * 2 + 2
+abbrev μ-expression : Measures 4 expression-kinds.ps ℕ
+μ-expression κs a = (length (now (a .0)) - a .1 .1 .1 .1 .1 .0 - operators (drop (a .1 .1 .1 .1 .1 .0) (now (a .0)))) * 4 + 2
 
 abbrev μ-operand : Measures 4 operand-kinds.ps ℕ
-μ-operand κs a = (length (now (a .0)) - a .1 .1 .1 .1 .1 .0) * 16
-
-abbrev μ-part : Measures 4 part-kinds.ps ℕ
-μ-part κs a = (length (now (a .0)) - a .1 .1 .1 .1 .1 .0) * 16 + a .1 .1 .1 .1 .1 .1 .1 .0 * 2 + 1
+μ-operand κs a = (length (now (a .0)) - a .1 .1 .1 .1 .1 .0) * 4 + 1
 
 abbrev μ-predicates : Measures 4 predicates-kinds.ps ℕ
-μ-predicates κs a = (length (now (a .0)) - a .1 .1 .1 .1 .1 .0) * 16 + 9
+μ-predicates κs a = (length (now (a .0)) - a .1 .1 .1 .1 .1 .0) * 4 + 3
 
 abbrev μ-steps : Measures 4 steps-kinds.ps ℕ
-μ-steps κs a = (length (now (a .0)) - a .1 .1 .1 .1 .1 .0) * 16
+μ-steps κs a = (length (now (a .0)) - a .1 .1 .1 .1 .1 .0) * 4
 
-abbrev chain-at : ℕ → In 4 chain-kinds.ps
-chain-at t = and 4 chain-kinds.ps (is 4 chain-kinds.ps μ-chain t) chain.Pre
+abbrev expression-at : ℕ → In 4 expression-kinds.ps
+expression-at t =
+    and 4 expression-kinds.ps (is 4 expression-kinds.ps μ-expression t) expression.Pre
 
-abbrev chain-below : ℕ → In 4 chain-kinds.ps
-chain-below t = and 4 chain-kinds.ps (falls 4 chain-kinds.ps _<_ μ-chain t) chain.Pre
+abbrev expression-below : ℕ → In 4 expression-kinds.ps
+expression-below t =
+    and 4 expression-kinds.ps (falls 4 expression-kinds.ps _<_ μ-expression t) expression.Pre
 
 abbrev operand-at : ℕ → In 4 operand-kinds.ps
 operand-at t = and 4 operand-kinds.ps (is 4 operand-kinds.ps μ-operand t) operand.Pre
 
 abbrev operand-below : ℕ → In 4 operand-kinds.ps
 operand-below t = and 4 operand-kinds.ps (falls 4 operand-kinds.ps _<_ μ-operand t) operand.Pre
-
-abbrev part-at : ℕ → In 4 part-kinds.ps
-part-at t = and 4 part-kinds.ps (is 4 part-kinds.ps μ-part t) part.Pre
-
-abbrev part-below : ℕ → In 4 part-kinds.ps
-part-below t = and 4 part-kinds.ps (falls 4 part-kinds.ps _<_ μ-part t) part.Pre
 
 abbrev predicates-at : ℕ → In 4 predicates-kinds.ps
 predicates-at t =
@@ -103,70 +93,113 @@ abbrev steps-below : ℕ → In 4 steps-kinds.ps
 steps-below t = and 4 steps-kinds.ps (falls 4 steps-kinds.ps _<_ μ-steps t) steps.Pre
 
 -- What each function asks of those that it calls, and learns from them.
-abbrev chain-claims : ℕ → chain-lts.Claims
-chain-claims t = (run-of-reads.Asked, run-of-reads.Learnt, part-below t, part.Post, put-operator-reads.Asked, put-operator-reads.Learnt)
+abbrev expression-claims : ℕ → expression-lts.Claims
+expression-claims t = (run-of-reads.Asked, run-of-reads.Learnt, operand-below t, operand.Post, put-and-reads.Asked, put-and-reads.Learnt, put-or-reads.Asked, put-or-reads.Learnt)
 
 abbrev operand-claims : ℕ → operand-lts.Claims
-operand-claims t = (unpack-reads.Asked, unpack-reads.Learnt, steps-below t, steps.Post, put-not-reads.Asked, put-not-reads.Learnt, chain-below t, chain.Post, closed-reads.Asked, closed-reads.Learnt, put-open-reads.Asked, put-open-reads.Learnt)
-
-abbrev part-claims : ℕ → part-lts.Claims
-part-claims t = (chain-below t, chain.Post, operand-below t, operand.Post)
+operand-claims t = (unpack-reads.Asked, unpack-reads.Learnt, steps-below t, steps.Post, put-not-reads.Asked, put-not-reads.Learnt, expression-below t, expression.Post, closed-reads.Asked, closed-reads.Learnt, put-open-reads.Asked, put-open-reads.Learnt)
 
 abbrev predicates-claims : ℕ → predicates-lts.Claims
-predicates-claims t = (put-byte-reads.Asked, put-byte-reads.Learnt, chain-below t, chain.Post)
+predicates-claims t = (put-byte-reads.Asked, put-byte-reads.Learnt, expression-below t, expression.Post)
 
 abbrev steps-claims : ℕ → steps-lts.Claims
 steps-claims t = (unpack-reads.Asked, unpack-reads.Learnt, put-head-reads.Asked, put-head-reads.Learnt, predicates-below t, predicates.Post, put-slash-reads.Asked, put-slash-reads.Learnt)
 
-abbrev chain-Inv-loop : chain-lts.InvT-loop
-chain-Inv-loop items list starts count out₀ at pen operator counted depth run place₀ byte₀ owed₀ out place byte owed =
-    Awaits (namesOf list) operator depth items at counted pen out₀ out place byte owed
+abbrev expression-Inv-loop : expression-lts.InvT-loop
+expression-Inv-loop items list starts count out₀ at pen depth ors₀ ands₀ place₀ byte₀ out ors ands place byte =
+    Turn (namesOf list) depth items at pen out₀ out place byte ands ors
 
-abbrev chain-μ-loop : chain-lts.MeasureT-loop
-chain-μ-loop items list starts count out₀ at pen operator counted depth run place₀ byte₀ owed₀ out place byte owed = owed
+abbrev expression-μ-loop : expression-lts.MeasureT-loop
+expression-μ-loop items list starts count out₀ at pen depth ors₀ ands₀ place₀ byte₀ out ors ands place byte = length items - place
 
-chain-run-of-requires : (t : ℕ) → chain-lts.Need-run-of-requires (chain-claims t) (chain-at t) chain.Post chain-Inv-loop chain-μ-loop
-chain-run-of-requires t c κs = search needs
+expression-run-of-requires : (t : ℕ) → expression-lts.Need-run-of-requires (expression-claims t) (expression-at t) expression.Post expression-Inv-loop expression-μ-loop
+expression-run-of-requires t c κs = search needs
 
-chain-add-place : (t : ℕ) → chain-lts.Need-add-place (chain-claims t) (chain-at t) chain.Post chain-Inv-loop chain-μ-loop
-chain-add-place t c = omega (arith, c .run-of .ensures .1, c .before .before .before .before .good .0 .1)
+expression-add-run-of : (t : ℕ) → expression-lts.Need-add-run-of (expression-claims t) (expression-at t) expression.Post expression-Inv-loop expression-μ-loop
+expression-add-run-of t c = omega (arith, c .run-of .ensures .1, c .before .before .before .before .good .0 .1)
 
-chain-add-owed : (t : ℕ) → chain-lts.Need-add-owed (chain-claims t) (chain-at t) chain.Post chain-Inv-loop chain-μ-loop
-chain-add-owed t c = omega (arith, c .run-of .ensures .1, c .before .before .before .before .good .0 .1, c .before .before .before .before .pre .1 .1 .0 .2)
+expression-run-of-requires-2 : (t : ℕ) → expression-lts.Need-run-of-requires-2 (expression-claims t) (expression-at t) expression.Post expression-Inv-loop expression-μ-loop
+expression-run-of-requires-2 t c κs = search needs
 
-chain-loop-holds : (t : ℕ) → chain-lts.Need-loop-holds (chain-claims t) (chain-at t) chain.Post chain-Inv-loop chain-μ-loop
-chain-loop-holds t c =
-    let a = c .before .before .before .before .args in
-    awaits-first (namesOf (now (a .list))) (a .operator) (a .depth) (now (a .items)) (a .at) (a .counted) (a .pen) (now (a .out)) (run (a .depth) (a .operator) (c .before .before .before .before .pre .1 .1 .0 .0)) (joined (namesOf (now (a .list))) (a .operator) (c .before .before .before .before .pre .1 .1 .0 .0)) (c .before .before .before .before .pre .1 .1 .1) (c .run-of .result) (c .run-of .ensures .0) (c .run-of .ensures .1)
+expression-add-place : (t : ℕ) → expression-lts.Need-add-place (expression-claims t) (expression-at t) expression.Post expression-Inv-loop expression-μ-loop
+expression-add-place t c = omega (arith, c .run-of2 .ensures .1, c .before .before .before .before .before .good .0 .1)
 
-chain-part-requires : (t : ℕ) → chain-lts.Need-part-requires (chain-claims t) (chain-at t) chain.Post chain-Inv-loop chain-μ-loop
-chain-part-requires t c κs =
-    let p = c .before .before .before .before .before .before .pre .1 in
-    let i = c .before .loop .inv in (omega (arith, c .before .before .before .before .before .before .pre .0, i .onward), (p .0, ((p .1 .0 .0, i .inside, omega (arith, i .low, p .1 .0 .3)), i .there)))
+expression-add-place-2 : (t : ℕ) → expression-lts.Need-add-place-2 (expression-claims t) (expression-at t) expression.Post expression-Inv-loop expression-μ-loop
+expression-add-place-2 t c = omega (arith, c .run-of2 .ensures .1, c .before .before .before .before .before .good .0 .1)
 
-chain-same-length : (t : ℕ) → chain-lts.Need-same-length (chain-claims t) (chain-at t) chain.Post chain-Inv-loop chain-μ-loop
-chain-same-length t c = puts-long (c .before .before .before .part .ensures .puts) ∙ c .before .before .before .before .before .loop .inv .long
+expression-loop-holds : (t : ℕ) → expression-lts.Need-loop-holds (expression-claims t) (expression-at t) expression.Post expression-Inv-loop expression-μ-loop
+expression-loop-holds t c =
+    let a = c .before .before .before .before .before .args in
+    turn-start (namesOf (now (a .list))) (a .depth) (now (a .items)) (a .at) (a .pen) (now (a .out)) (c .before .before .before .before .before .pre .1 .1 .1) (c .before .run-of .result) (c .run-of2 .result) (c .before .run-of .ensures .0) (c .run-of2 .ensures .0) (c .before .run-of .ensures .1) (c .run-of2 .ensures .1)
 
-chain-returns : (t : ℕ) → chain-lts.Need-returns (chain-claims t) (chain-at t) chain.Post chain-Inv-loop chain-μ-loop
-chain-returns t c =
-    let a = c .before .before .before .before .before .before .before .before .before .before .args in
-    left-done (namesOf (now (a .list))) (a .operator) (a .depth) (now (a .items)) (a .at) (a .counted) (a .pen) (now (a .out)) (run (a .depth) (a .operator) (c .before .before .before .before .before .before .before .before .before .before .pre .1 .1 .0 .0)) (joined (namesOf (now (a .list))) (a .operator) (c .before .before .before .before .before .before .before .before .before .before .pre .1 .1 .0 .0)) (c .before .before .before .before .before .before .before .before .before .before .pre .1 .1 .1) _ (c .before .before .before .part .result) _ (c .if1 .taken) (c .before .before .before .before .before .loop .inv .gives _ (c .before .before .before .part .result) (c .before .before .before .part .ensures))
+expression-operand-requires : (t : ℕ) → expression-lts.Need-operand-requires (expression-claims t) (expression-at t) expression.Post expression-Inv-loop expression-μ-loop
+expression-operand-requires t c κs =
+    let a = c .before .before .before .before .before .before .before .args in
+    let l = c .before .loop in
+    let p = c .before .before .before .before .before .before .before .pre .1 in
+    let i = l .inv in (omega (arith, c .before .before .before .before .before .before .before .pre .0, i .past), (p .0, ((i .inner .inside, omega (arith, turn-low (namesOf (now (a .list))) (a .depth) (now (a .items)) (a .at) (a .pen) (now (a .out)) _ (l .place) (l .byte) (l .ands) (l .ors) (l .inv), p .1 .0 .1)), i .inner .there)))
 
-chain-put-operator-requires : (t : ℕ) → chain-lts.Need-put-operator-requires (chain-claims t) (chain-at t) chain.Post chain-Inv-loop chain-μ-loop
-chain-put-operator-requires t c κs =
-    let w = c .before .before .before .before .part .ensures in
-    omega (arith, w .low, w .inside, c .before .before .before .before .before .before .loop .inv .low, c .before .before .before .before .before .before .before .before .before .before .before .pre .1 .1 .0 .3)
+expression-put-and-requires : (t : ℕ) → expression-lts.Need-put-and-requires (expression-claims t) (expression-at t) expression.Post expression-Inv-loop expression-μ-loop
+expression-put-and-requires t c κs =
+    let a = c .before .before .before .before .before .before .before .before .before .before .before .before .args in
+    let l = c .before .before .before .before .before .before .loop in
+    let w = c .before .before .before .before .operand .ensures in
+    omega (arith, w .low, w .inside, turn-low (namesOf (now (a .list))) (a .depth) (now (a .items)) (a .at) (a .pen) (now (a .out)) _ (l .place) (l .byte) (l .ands) (l .ors) (l .inv), c .before .before .before .before .before .before .before .before .before .before .before .before .pre .1 .1 .0 .1)
 
-chain-sub-owed : (t : ℕ) → chain-lts.Need-sub-owed (chain-claims t) (chain-at t) chain.Post chain-Inv-loop chain-μ-loop
-chain-sub-owed t c = omega (arith, c .before .before .before .before .if1 .left)
+expression-sub-ands : (t : ℕ) → expression-lts.Need-sub-ands (expression-claims t) (expression-at t) expression.Post expression-Inv-loop expression-μ-loop
+expression-sub-ands t c = omega (arith, c .before .before .before .before .if1 .taken)
 
-chain-loop-less : (t : ℕ) → chain-lts.Need-loop-less (chain-claims t) (chain-at t) chain.Post chain-Inv-loop chain-μ-loop
-chain-loop-less t c = omega (arith, c .before .before .before .before .if1 .left)
+expression-loop-less : (t : ℕ) → expression-lts.Need-loop-less (expression-claims t) (expression-at t) expression.Post expression-Inv-loop expression-μ-loop
+expression-loop-less t c =
+    let a = c .before .before .before .before .before .before .before .before .before .before .before .before .before .before .before .args in
+    let l = c .before .before .before .before .before .before .before .before .before .loop in
+    omega (arith, turn-onward (namesOf (now (a .list))) (a .depth) (now (a .items)) (a .at) (a .pen) (now (a .out)) _ (l .place) (l .byte) (l .ands) (l .ors) (l .inv) _ (c .before .before .before .before .before .before .before .operand .result) (c .before .before .before .before .before .before .before .operand .ensures), c .before .before .before .before .before .before .before .operand .ensures .inside)
 
-chain-loop-again : (t : ℕ) → chain-lts.Need-loop-again (chain-claims t) (chain-at t) chain.Post chain-Inv-loop chain-μ-loop
-chain-loop-again t c =
-    let a = c .before .before .before .before .before .before .before .before .before .before .before .before .before .before .args in
-    awaits-next (namesOf (now (a .list))) (a .operator) (a .depth) (now (a .items)) (a .at) (a .counted) (a .pen) (now (a .out)) (run (a .depth) (a .operator) (c .before .before .before .before .before .before .before .before .before .before .before .before .before .before .pre .1 .1 .0 .0)) (joined (namesOf (now (a .list))) (a .operator) (c .before .before .before .before .before .before .before .before .before .before .before .before .before .before .pre .1 .1 .0 .0)) (c .before .before .before .before .before .before .before .before .before .before .before .before .before .before .pre .1 .1 .1) _ _ _ _ _ (c .before .before .before .before .before .before .before .before .before .loop .owed) (c .before .before .before .before .if1 .left) (c .before .before .before .before .before .before .before .before .before .loop .inv .gives _ (c .before .before .before .before .before .before .before .part .result) (c .before .before .before .before .before .before .before .part .ensures)) (c .before .before .put-operator .ensures)
+expression-loop-again : (t : ℕ) → expression-lts.Need-loop-again (expression-claims t) (expression-at t) expression.Post expression-Inv-loop expression-μ-loop
+expression-loop-again t c =
+    let a = c .before .before .before .before .before .before .before .before .before .before .before .before .before .before .before .args in
+    let l = c .before .before .before .before .before .before .before .before .before .loop in
+    turn-and (namesOf (now (a .list))) (a .depth) (now (a .items)) (a .at) (a .pen) (now (a .out)) _ (l .place) (l .byte) (l .ands) (l .ors) (l .inv) _ (c .before .before .before .before .before .before .before .operand .result) (c .before .before .before .before .before .before .before .operand .ensures) _ _ (c .before .before .before .before .if1 .taken) (c .before .before .put-and .ensures)
+
+expression-same-length : (t : ℕ) → expression-lts.Need-same-length (expression-claims t) (expression-at t) expression.Post expression-Inv-loop expression-μ-loop
+expression-same-length t c =
+    let a = c .before .before .before .before .before .before .before .before .before .before .before .before .args in
+    let l = c .before .before .before .before .before .before .loop in
+    puts-long (c .before .before .before .before .operand .ensures .puts) ∙ turn-long (namesOf (now (a .list))) (a .depth) (now (a .items)) (a .at) (a .pen) (now (a .out)) _ (l .place) (l .byte) (l .ands) (l .ors) (l .inv)
+
+expression-returns : (t : ℕ) → expression-lts.Need-returns (expression-claims t) (expression-at t) expression.Post expression-Inv-loop expression-μ-loop
+expression-returns t c =
+    let a = c .before .before .before .before .before .before .before .before .before .before .before .before .args in
+    let l = c .before .before .before .before .before .before .loop in
+    turn-done (namesOf (now (a .list))) (a .depth) (now (a .items)) (a .at) (a .pen) (now (a .out)) _ (l .place) (l .byte) (l .ands) (l .ors) (l .inv) _ (c .before .before .before .before .operand .result) (c .before .before .before .before .operand .ensures) (c .before .if1 .left) (omega (arith, c .if2 .taken))
+
+expression-put-or-requires : (t : ℕ) → expression-lts.Need-put-or-requires (expression-claims t) (expression-at t) expression.Post expression-Inv-loop expression-μ-loop
+expression-put-or-requires t c κs =
+    let a = c .before .before .before .before .before .before .before .before .before .before .before .before .before .args in
+    let l = c .before .before .before .before .before .before .before .loop in
+    let w = c .before .before .before .before .before .operand .ensures in
+    omega (arith, w .low, w .inside, turn-low (namesOf (now (a .list))) (a .depth) (now (a .items)) (a .at) (a .pen) (now (a .out)) _ (l .place) (l .byte) (l .ands) (l .ors) (l .inv), c .before .before .before .before .before .before .before .before .before .before .before .before .before .pre .1 .1 .0 .1)
+
+expression-sub-ors : (t : ℕ) → expression-lts.Need-sub-ors (expression-claims t) (expression-at t) expression.Post expression-Inv-loop expression-μ-loop
+expression-sub-ors t c = omega (arith, c .before .before .before .before .if2 .left)
+
+expression-run-of-requires-3 : (t : ℕ) → expression-lts.Need-run-of-requires-3 (expression-claims t) (expression-at t) expression.Post expression-Inv-loop expression-μ-loop
+expression-run-of-requires-3 t c κs = c .before .before .before .before .before .before .before .before .operand .ensures .inside
+
+expression-add-place-3 : (t : ℕ) → expression-lts.Need-add-place-3 (expression-claims t) (expression-at t) expression.Post expression-Inv-loop expression-μ-loop
+expression-add-place-3 t c = omega (arith, c .run-of3 .ensures .1, c .before .before .before .before .before .before .before .before .before .before .before .before .before .before .before .before .before .good .0 .1)
+
+expression-loop-less-2 : (t : ℕ) → expression-lts.Need-loop-less-2 (expression-claims t) (expression-at t) expression.Post expression-Inv-loop expression-μ-loop
+expression-loop-less-2 t c =
+    let a = c .before .before .before .before .before .before .before .before .before .before .before .before .before .before .before .before .before .args in
+    let l = c .before .before .before .before .before .before .before .before .before .before .before .loop in
+    omega (arith, turn-onward (namesOf (now (a .list))) (a .depth) (now (a .items)) (a .at) (a .pen) (now (a .out)) _ (l .place) (l .byte) (l .ands) (l .ors) (l .inv) _ (c .before .before .before .before .before .before .before .before .before .operand .result) (c .before .before .before .before .before .before .before .before .before .operand .ensures), c .before .before .before .before .before .before .before .before .before .operand .ensures .inside, c .run-of3 .ensures .1)
+
+expression-loop-again-2 : (t : ℕ) → expression-lts.Need-loop-again-2 (expression-claims t) (expression-at t) expression.Post expression-Inv-loop expression-μ-loop
+expression-loop-again-2 t c =
+    let a = c .before .before .before .before .before .before .before .before .before .before .before .before .before .before .before .before .before .args in
+    let l = c .before .before .before .before .before .before .before .before .before .before .before .loop in
+    turn-or (namesOf (now (a .list))) (a .depth) (now (a .items)) (a .at) (a .pen) (now (a .out)) _ (l .place) (l .byte) (l .ands) (l .ors) (l .inv) _ (c .before .before .before .before .before .before .before .before .before .operand .result) (c .before .before .before .before .before .before .before .before .before .operand .ensures) (c .before .before .before .before .before .before .if1 .left) (c .before .before .before .before .before .before .before .before .before .before .before .before .before .before .before .before .before .pre .1 .1 .1) _ _ (omega (arith, c .before .before .before .before .before .if2 .left)) (c .before .before .before .put-or .ensures) _ (c .run-of3 .ensures .0) (c .run-of3 .ensures .1)
 
 -- Where the item is that of `not`.
 operand-not : (t : ℕ) (c : operand-lts.After-enum-told (operand-claims t) (operand-at t) operand.Post) →
@@ -185,13 +218,13 @@ operand-operator t c =
     let u = c .before .before .unpack in
     operator-there (now (a .items)) (a .at) (a .depth) (c .before .before .before .before .before .before .before .pre .1 .1 .1) (u .result) (said _ (u .result) (u .ensures)) (c .before .match .keys2) (c .match2 .keys2)
 
-operand-mul-word : (t : ℕ) → operand-lts.Need-mul-word (operand-claims t) (operand-at t) operand.Post
-operand-mul-word t c =
+operand-mul-unpack : (t : ℕ) → operand-lts.Need-mul-unpack (operand-claims t) (operand-at t) operand.Post
+operand-mul-unpack t c =
     let a = c .before .before .before .args in
     omega (arith, operand-there (a .depth) (now (a .items)) (a .at) (c .before .before .before .pre .1 .1 .1), c .before .before .before .good .0 .1)
 
-operand-shared-slice-read-word : (t : ℕ) → operand-lts.Need-shared-slice-read-word (operand-claims t) (operand-at t) operand.Post
-operand-shared-slice-read-word t c =
+operand-shared-slice-read-unpack : (t : ℕ) → operand-lts.Need-shared-slice-read-unpack (operand-claims t) (operand-at t) operand.Post
+operand-shared-slice-read-unpack t c =
     let a = c .before .before .before .before .args in
     operand-there (a .depth) (now (a .items)) (a .at) (c .before .before .before .before .pre .1 .1 .1)
 
@@ -239,114 +272,68 @@ operand-enum-told t c = search needs
 operand-put-not-requires : (t : ℕ) → operand-lts.Need-put-not-requires (operand-claims t) (operand-at t) operand.Post
 operand-put-not-requires t c κs = omega (arith, c .before .before .before .before .before .before .before .before .before .pre .1 .1 .0 .0, c .before .before .before .before .before .before .before .before .before .pre .1 .1 .0 .1)
 
-operand-add-chain : (t : ℕ) → operand-lts.Need-add-chain (operand-claims t) (operand-at t) operand.Post
-operand-add-chain t c =
+operand-add-expression : (t : ℕ) → operand-lts.Need-add-expression (operand-claims t) (operand-at t) operand.Post
+operand-add-expression t c =
     let a = c .before .before .before .before .before .before .before .before .before .before .before .before .before .args in
     omega (arith, operand-there (a .depth) (now (a .items)) (a .at) (c .before .before .before .before .before .before .before .before .before .before .before .before .before .pre .1 .1 .1), c .before .before .before .before .before .before .before .before .before .before .before .before .before .good .0 .1)
 
-operand-sub-chain : (t : ℕ) → operand-lts.Need-sub-chain (operand-claims t) (operand-at t) operand.Post
-operand-sub-chain t c =
+operand-sub-expression : (t : ℕ) → operand-lts.Need-sub-expression (operand-claims t) (operand-at t) operand.Post
+operand-sub-expression t c =
     let a = c .before .before .before .before .before .before .before .before .before .before .before .before .before .args in
     omega (arith, not-deep (now (a .items)) (a .at) (a .depth) (c .before .before .before .before .before .before .before .before .before .before .before .before .before .pre .1 .1 .1) (operand-not t (c .before .before .before .before .before)))
 
-operand-chain-requires : (t : ℕ) → operand-lts.Need-chain-requires (operand-claims t) (operand-at t) operand.Post
-operand-chain-requires t c κs =
+operand-expression-requires : (t : ℕ) → operand-lts.Need-expression-requires (operand-claims t) (operand-at t) operand.Post
+operand-expression-requires t c κs =
     let a = c .before .before .before .before .before .before .before .before .before .before .before .before .before .args in
     let p = c .before .before .before .before .before .before .before .before .before .before .before .before .before .pre .1 in
     let there = operand-there (a .depth) (now (a .items)) (a .at) (p .1 .1) in (
       omega (arith, c .before .before .before .before .before .before .before .before .before .before .before .before .before .pre .0, there),
-      (
-        p .0,
-        (
-          ((omega arith, omega arith), omega (arith, there), omega arith, omega (arith, p .1 .0 .1, c .before .before .before .put-not .ensures .moved)),
-          not-opens (now (a .items)) (a .at) (a .depth) (p .1 .1) (operand-not t (c .before .before .before .before .before)),
-        ),
-      ),
+      (p .0, ((omega (arith, there), omega (arith, p .1 .0 .1, c .before .before .before .put-not .ensures .moved)), not-opens (now (a .items)) (a .at) (a .depth) (p .1 .1) (operand-not t (c .before .before .before .before .before)))),
     )
 
 operand-closed-requires : (t : ℕ) → operand-lts.Need-closed-requires (operand-claims t) (operand-at t) operand.Post
 operand-closed-requires t c κs =
-    let v = c .before .before .before .chain .ensures in
+    let v = c .before .before .before .expression .ensures in
     omega (arith, v .low, v .inside, c .before .before .before .before .before .before .before .before .before .before .before .before .before .before .before .before .before .pre .1 .1 .0 .1, c .before .before .before .before .before .before .before .put-not .ensures .moved)
 
 operand-same-length-2 : (t : ℕ) → operand-lts.Need-same-length-2 (operand-claims t) (operand-at t) operand.Post
-operand-same-length-2 t c = puts-long (c .before .before .closed .ensures .0) ∙ puts-long (c .before .before .before .before .before .before .chain .ensures .puts) ∙ puts-long (c .before .before .before .before .before .before .before .before .before .before .put-not .ensures)
+operand-same-length-2 t c = puts-long (c .before .before .closed .ensures .0) ∙ puts-long (c .before .before .before .before .before .before .expression .ensures .puts) ∙ puts-long (c .before .before .before .before .before .before .before .before .before .before .put-not .ensures)
 
 operand-returns-2 : (t : ℕ) → operand-lts.Need-returns-2 (operand-claims t) (operand-at t) operand.Post
 operand-returns-2 t c =
     let a = c .before .before .before .before .before .before .before .before .before .before .before .before .before .before .before .before .before .before .before .before .args in
-    not-prints (now (a .items)) (a .at) (a .depth) (c .before .before .before .before .before .before .before .before .before .before .before .before .before .before .before .before .before .before .before .before .pre .1 .1 .1) _ _ _ _ _ _ _ _ _ (operand-not t (c .before .before .before .before .before .before .before .before .before .before .before .before)) (c .before .before .before .before .before .before .before .before .before .before .put-not .ensures) (c .before .before .before .before .before .before .chain .ensures) (c .before .before .closed .ensures .0) (c .before .before .closed .ensures .1)
+    not-prints (now (a .items)) (a .at) (a .depth) (c .before .before .before .before .before .before .before .before .before .before .before .before .before .before .before .before .before .before .before .before .pre .1 .1 .1) _ _ _ _ _ _ _ _ _ (operand-not t (c .before .before .before .before .before .before .before .before .before .before .before .before)) (c .before .before .before .before .before .before .before .before .before .before .put-not .ensures) (c .before .before .before .before .before .before .expression .ensures) (c .before .before .closed .ensures .0) (c .before .before .closed .ensures .1)
 
 operand-put-open-requires : (t : ℕ) → operand-lts.Need-put-open-requires (operand-claims t) (operand-at t) operand.Post
 operand-put-open-requires t c κs = omega (arith, c .before .before .before .before .before .before .before .before .pre .1 .1 .0 .0, c .before .before .before .before .before .before .before .before .pre .1 .1 .0 .1)
 
-operand-add-chain-2 : (t : ℕ) → operand-lts.Need-add-chain-2 (operand-claims t) (operand-at t) operand.Post
-operand-add-chain-2 t c =
-    let a = c .before .before .before .before .before .before .before .before .before .before .before .before .args in
-    omega (arith, operand-there (a .depth) (now (a .items)) (a .at) (c .before .before .before .before .before .before .before .before .before .before .before .before .pre .1 .1 .1), c .before .before .before .before .before .before .before .before .before .before .before .before .good .0 .1)
-
-operand-sub-chain-2 : (t : ℕ) → operand-lts.Need-sub-chain-2 (operand-claims t) (operand-at t) operand.Post
-operand-sub-chain-2 t c =
+operand-sub-expression-2 : (t : ℕ) → operand-lts.Need-sub-expression-2 (operand-claims t) (operand-at t) operand.Post
+operand-sub-expression-2 t c =
     let a = c .before .before .before .before .before .before .before .before .before .before .before .before .args in
     omega (arith, joined-deep (now (a .items)) (a .at) (a .depth) (c .before .before .before .before .before .before .before .before .before .before .before .before .pre .1 .1 .1) (operand-operator t (c .before .before .before .before .before)))
 
-operand-chain-requires-2 : (t : ℕ) → operand-lts.Need-chain-requires-2 (operand-claims t) (operand-at t) operand.Post
-operand-chain-requires-2 t c κs =
+operand-expression-requires-2 : (t : ℕ) → operand-lts.Need-expression-requires-2 (operand-claims t) (operand-at t) operand.Post
+operand-expression-requires-2 t c κs =
     let a = c .before .before .before .before .before .before .before .before .before .before .before .before .args in
     let p = c .before .before .before .before .before .before .before .before .before .before .before .before .pre .1 in
     let there = operand-there (a .depth) (now (a .items)) (a .at) (p .1 .1) in
     let o = operand-operator t (c .before .before .before .before .before) in (
-      omega (arith, c .before .before .before .before .before .before .before .before .before .before .before .before .pre .0, there, o .1),
-      (
-        p .0,
-        (
-          (o, omega (arith, there), omega arith, omega (arith, p .1 .0 .1, c .before .before .before .put-open .ensures .moved)),
-          joined-opens (now (a .items)) (a .at) (a .depth) (p .1 .1) o,
-        ),
-      ),
+      omega (arith, c .before .before .before .before .before .before .before .before .before .before .before .before .pre .0, there, operators-there (now (a .items)) (a .at) (a .depth) there o),
+      (p .0, ((p .1 .0 .0, omega (arith, p .1 .0 .1, c .before .before .before .put-open .ensures .moved, operators-there (now (a .items)) (a .at) (a .depth) there o)), joined-opens (now (a .items)) (a .at) (a .depth) (p .1 .1) o)),
     )
 
 operand-closed-requires-2 : (t : ℕ) → operand-lts.Need-closed-requires-2 (operand-claims t) (operand-at t) operand.Post
 operand-closed-requires-2 t c κs =
-    let v = c .before .before .before .chain2 .ensures in
+    let v = c .before .before .before .expression2 .ensures in
     omega (arith, v .low, v .inside, c .before .before .before .before .before .before .before .before .before .before .before .before .before .before .before .before .pre .1 .1 .0 .1, c .before .before .before .before .before .before .before .put-open .ensures .moved)
 
 operand-same-length-3 : (t : ℕ) → operand-lts.Need-same-length-3 (operand-claims t) (operand-at t) operand.Post
-operand-same-length-3 t c = puts-long (c .before .before .closed2 .ensures .0) ∙ puts-long (c .before .before .before .before .before .before .chain2 .ensures .puts) ∙ puts-long (c .before .before .before .before .before .before .before .before .before .before .put-open .ensures)
+operand-same-length-3 t c = puts-long (c .before .before .closed2 .ensures .0) ∙ puts-long (c .before .before .before .before .before .before .expression2 .ensures .puts) ∙ puts-long (c .before .before .before .before .before .before .before .before .before .before .put-open .ensures)
 
 operand-returns-3 : (t : ℕ) → operand-lts.Need-returns-3 (operand-claims t) (operand-at t) operand.Post
 operand-returns-3 t c =
     let a = c .before .before .before .before .before .before .before .before .before .before .before .before .before .before .before .before .before .before .before .args in
-    joined-prints (now (a .items)) (a .at) (a .depth) (c .before .before .before .before .before .before .before .before .before .before .before .before .before .before .before .before .before .before .before .pre .1 .1 .1) _ _ _ _ _ _ _ _ _ (operand-operator t (c .before .before .before .before .before .before .before .before .before .before .before .before)) (c .before .before .before .before .before .before .before .before .before .before .put-open .ensures) (c .before .before .before .before .before .before .chain2 .ensures) (c .before .before .closed2 .ensures .0) (c .before .before .closed2 .ensures .1)
-
-part-chain-requires : (t : ℕ) → part-lts.Need-chain-requires (part-claims t) (part-at t) part.Post
-part-chain-requires t c κs =
-    let p = c .before .before .before .before .before .pre .1 in (
-      omega (arith, c .before .before .before .before .before .pre .0, c .before .if1 .taken),
-      (p .0, (((omega arith, omega arith), p .1 .0 .1, omega arith, p .1 .0 .2), rw (c .before .if1 .taken) at (p .1 .1))),
-    )
-
-part-operand-requires : (t : ℕ) → part-lts.Need-operand-requires (part-claims t) (part-at t) part.Post
-part-operand-requires t c κs =
-    let a = c .before .before .before .before .before .args in
-    let p = c .before .before .before .before .before .pre .1 in (
-      omega (arith, c .before .before .before .before .before .pre .0),
-      (p .0, ((p .1 .0 .1, p .1 .0 .2), rw (ne-eqb (a .operator) 3 (c .before .if1 .left)) at (p .1 .1))),
-    )
-
-part-same-length : (t : ℕ) → part-lts.Need-same-length (part-claims t) (part-at t) part.Post
-part-same-length t c = puts-long (c .before .before .chain .ensures .puts)
-
-part-returns : (t : ℕ) → part-lts.Need-returns (part-claims t) (part-at t) part.Post
-part-returns t c = rw (c .before .before .before .before .if1 .taken) (c .before .before .chain .ensures)
-
-part-same-length-2 : (t : ℕ) → part-lts.Need-same-length-2 (part-claims t) (part-at t) part.Post
-part-same-length-2 t c = puts-long (c .before .before .operand .ensures .puts)
-
-part-returns-2 : (t : ℕ) → part-lts.Need-returns-2 (part-claims t) (part-at t) part.Post
-part-returns-2 t c =
-    let a = c .before .before .before .before .before .before .before .before .args in
-    rw (ne-eqb (a .operator) 3 (c .before .before .before .before .if1 .left)) (c .before .before .operand .ensures)
+    joined-prints (now (a .items)) (a .at) (a .depth) (c .before .before .before .before .before .before .before .before .before .before .before .before .before .before .before .before .before .before .before .pre .1 .1 .1) _ _ _ _ _ _ _ _ _ (operand-operator t (c .before .before .before .before .before .before .before .before .before .before .before .before)) (c .before .before .before .before .before .before .before .before .before .before .put-open .ensures) (c .before .before .before .before .before .before .expression2 .ensures) (c .before .before .closed2 .ensures .0) (c .before .before .closed2 .ensures .1)
 
 abbrev predicates-Inv-loop : predicates-lts.InvT-loop
 predicates-Inv-loop items list starts count out₀ at pen number depth place₀ byte₀ owed₀ out place byte owed =
@@ -363,30 +350,24 @@ predicates-loop-holds t c =
 predicates-put-byte-requires : (t : ℕ) → predicates-lts.Need-put-byte-requires (predicates-claims t) (predicates-at t) predicates.Post predicates-Inv-loop predicates-μ-loop
 predicates-put-byte-requires t c κs = omega (arith, c .before .before .loop .inv .low, c .before .before .loop .inv .inside, c .before .before .before .before .before .before .pre .1 .1 .0 .1)
 
-predicates-sub-chain : (t : ℕ) → predicates-lts.Need-sub-chain (predicates-claims t) (predicates-at t) predicates.Post predicates-Inv-loop predicates-μ-loop
-predicates-sub-chain t c =
+predicates-sub-expression : (t : ℕ) → predicates-lts.Need-sub-expression (predicates-claims t) (predicates-at t) predicates.Post predicates-Inv-loop predicates-μ-loop
+predicates-sub-expression t c =
     let a = c .before .before .before .before .before .before .before .before .before .before .args in
     let l = c .before .before .before .before .before .before .loop in
     omega (arith, pred-opens (a .depth) (now (a .items)) (l .place) (l .owed) (l .inv .rest, l .inv .left) (c .before .before .before .before .before .loop-test .taken) (l .inv .takes) .0)
 
-predicates-chain-requires : (t : ℕ) → predicates-lts.Need-chain-requires (predicates-claims t) (predicates-at t) predicates.Post predicates-Inv-loop predicates-μ-loop
-predicates-chain-requires t c κs =
+predicates-expression-requires : (t : ℕ) → predicates-lts.Need-expression-requires (predicates-claims t) (predicates-at t) predicates.Post predicates-Inv-loop predicates-μ-loop
+predicates-expression-requires t c κs =
     let a = c .before .before .before .before .before .before .before .before .before .before .args in
     let p = c .before .before .before .before .before .before .before .before .before .before .pre .1 in
     let l = c .before .before .before .before .before .before .loop in (
       omega (arith, c .before .before .before .before .before .before .before .before .before .before .pre .0, l .inv .onward),
-      (
-        p .0,
-        (
-          ((omega arith, omega arith), l .inv .inside, omega arith, omega (arith, l .inv .low, c .before .before .before .put-byte .ensures .moved, p .1 .0 .1)),
-          pred-opens (a .depth) (now (a .items)) (l .place) (l .owed) (l .inv .rest, l .inv .left) (c .before .before .before .before .before .loop-test .taken) (l .inv .takes) .1,
-        ),
-      ),
+      (p .0, ((l .inv .inside, omega (arith, l .inv .low, c .before .before .before .put-byte .ensures .moved, p .1 .0 .1)), pred-opens (a .depth) (now (a .items)) (l .place) (l .owed) (l .inv .rest, l .inv .left) (c .before .before .before .before .before .loop-test .taken) (l .inv .takes) .1)),
     )
 
 predicates-put-byte-requires-2 : (t : ℕ) → predicates-lts.Need-put-byte-requires-2 (predicates-claims t) (predicates-at t) predicates.Post predicates-Inv-loop predicates-μ-loop
 predicates-put-byte-requires-2 t c κs =
-    let w = c .before .before .before .chain .ensures in
+    let w = c .before .before .before .expression .ensures in
     omega (arith, w .low, w .inside, c .before .before .before .before .before .before .before .before .before .before .loop .inv .low, c .before .before .before .before .before .before .before .put-byte .ensures .moved, c .before .before .before .before .before .before .before .before .before .before .before .before .before .before .pre .1 .1 .0 .1)
 
 predicates-sub-owed : (t : ℕ) → predicates-lts.Need-sub-owed (predicates-claims t) (predicates-at t) predicates.Post predicates-Inv-loop predicates-μ-loop
@@ -397,7 +378,7 @@ predicates-loop-less t c = omega (arith, c .before .before .before .before .befo
 
 predicates-loop-again : (t : ℕ) → predicates-lts.Need-loop-again (predicates-claims t) (predicates-at t) predicates.Post predicates-Inv-loop predicates-μ-loop
 predicates-loop-again t c =
-    pred-turn _ (c .before .before .before .before .before .before .before .before .before .before .before .before .before .before .before .before .before .args .depth) _ _ _ _ _ _ _ _ _ _ _ _ _ _ _ (c .before .before .before .before .before .before .before .before .before .before .before .before .loop-test .taken) (c .before .before .before .before .before .before .before .before .before .before .before .before .before .loop .inv) (c .before .before .before .before .before .before .before .before .before .before .put-byte .ensures) (c .before .before .before .before .before .before .chain .ensures) (c .before .before .put-byte2 .ensures)
+    pred-turn _ (c .before .before .before .before .before .before .before .before .before .before .before .before .before .before .before .before .before .args .depth) _ _ _ _ _ _ _ _ _ _ _ _ _ _ _ (c .before .before .before .before .before .before .before .before .before .before .before .before .loop-test .taken) (c .before .before .before .before .before .before .before .before .before .before .before .before .before .loop .inv) (c .before .before .before .before .before .before .before .before .before .before .put-byte .ensures) (c .before .before .before .before .before .before .expression .ensures) (c .before .before .put-byte2 .ensures)
 
 predicates-same-length : (t : ℕ) → predicates-lts.Need-same-length (predicates-claims t) (predicates-at t) predicates.Post predicates-Inv-loop predicates-μ-loop
 predicates-same-length t c = puts-long (c .before .loop .inv .puts)
@@ -519,29 +500,37 @@ steps-same-length-2 t c = puts-long (c .before .loop .inv .puts)
 steps-returns-2 : (t : ℕ) → steps-lts.Need-returns-2 (steps-claims t) (steps-at t) steps.Post steps-Inv-loop steps-μ-loop
 steps-returns-2 t c = rest-done _ _ _ _ _ _ _ _ _ _ _ _ stop (λ ws. refl) refl (c .loop-test .left) (c .before .loop .inv)
 
-pub +chain+operand+part+predicates+steps-spec : {M : Type 1} → statement M
-+chain+operand+part+predicates+steps-spec =
-    close μ-chain μ-operand μ-part μ-predicates μ-steps (λ t. chain-lts.spec (chain-claims t)
-    (chain-at t)
-    chain.Post
-    chain-Inv-loop
-    chain-μ-loop
-    (chain-run-of-requires t)
-    (chain-add-place t)
-    (chain-add-owed t)
-    (chain-loop-holds t)
-    (chain-part-requires t)
-    (chain-same-length t)
-    (chain-returns t)
-    (chain-put-operator-requires t)
-    (chain-sub-owed t)
-    (chain-loop-less t)
-    (chain-loop-again t))
+pub +expression+operand+predicates+steps-spec : {M : Type 1} → statement M
++expression+operand+predicates+steps-spec =
+    close μ-expression μ-operand μ-predicates μ-steps (λ t. expression-lts.spec (expression-claims t)
+    (expression-at t)
+    expression.Post
+    expression-Inv-loop
+    expression-μ-loop
+    (expression-run-of-requires t)
+    (expression-add-run-of t)
+    (expression-run-of-requires-2 t)
+    (expression-add-place t)
+    (expression-add-place-2 t)
+    (expression-loop-holds t)
+    (expression-operand-requires t)
+    (expression-put-and-requires t)
+    (expression-sub-ands t)
+    (expression-loop-less t)
+    (expression-loop-again t)
+    (expression-same-length t)
+    (expression-returns t)
+    (expression-put-or-requires t)
+    (expression-sub-ors t)
+    (expression-run-of-requires-3 t)
+    (expression-add-place-3 t)
+    (expression-loop-less-2 t)
+    (expression-loop-again-2 t))
     (λ t. operand-lts.spec (operand-claims t)
     (operand-at t)
     operand.Post
-    (operand-mul-word t)
-    (operand-shared-slice-read-word t)
+    (operand-mul-unpack t)
+    (operand-shared-slice-read-unpack t)
     (operand-unpack-requires t)
     (operand-enum-known-item t)
     (operand-add-steps t)
@@ -550,29 +539,18 @@ pub +chain+operand+part+predicates+steps-spec : {M : Type 1} → statement M
     (operand-returns t)
     (operand-enum-told t)
     (operand-put-not-requires t)
-    (operand-add-chain t)
-    (operand-sub-chain t)
-    (operand-chain-requires t)
+    (operand-add-expression t)
+    (operand-sub-expression t)
+    (operand-expression-requires t)
     (operand-closed-requires t)
     (operand-same-length-2 t)
     (operand-returns-2 t)
     (operand-put-open-requires t)
-    (operand-add-chain-2 t)
-    (operand-sub-chain-2 t)
-    (operand-chain-requires-2 t)
+    (operand-sub-expression-2 t)
+    (operand-expression-requires-2 t)
     (operand-closed-requires-2 t)
     (operand-same-length-3 t)
     (operand-returns-3 t))
-    (λ t. part-lts.spec
-    (chain-below t, chain.Post, operand-below t, operand.Post)
-    (part-at t)
-    part.Post
-    (part-chain-requires t)
-    (part-operand-requires t)
-    (part-same-length t)
-    (part-returns t)
-    (part-same-length-2 t)
-    (part-returns-2 t))
     (λ t. predicates-lts.spec (predicates-claims t)
     (predicates-at t)
     predicates.Post
@@ -580,8 +558,8 @@ pub +chain+operand+part+predicates+steps-spec : {M : Type 1} → statement M
     predicates-μ-loop
     (predicates-loop-holds t)
     (predicates-put-byte-requires t)
-    (predicates-sub-chain t)
-    (predicates-chain-requires t)
+    (predicates-sub-expression t)
+    (predicates-expression-requires t)
     (predicates-put-byte-requires-2 t)
     (predicates-sub-owed t)
     (predicates-loop-less t)

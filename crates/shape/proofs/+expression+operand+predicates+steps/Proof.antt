@@ -1,77 +1,69 @@
 -- The functions of `shape` that call each other meet their contracts: path, step and expression, with falling remaining items.
--- Each loop's invariant is that what is left to read gives the answer of the whole (`Awaits` of a run of an operator, `Row` of steps and of predicates).
--- The measure of a call is the number of items left, then the order predicates, chain and part of `or`, chain and part of `and`, operand and steps. Assumes nothing.
+-- Each loop's invariant is that what is left to read gives the answer of the whole (`Turn` of an expression, `Row` of steps and of predicates).
+-- The measure of a call is the number of items left, an expression's after the operators that it begins with, then the order predicates, expression, operand, steps. Assumes nothing.
 use Prim.Native.Nat.{_+_, _-_, _*_}
-use mathlib.Core.Path.{ap}
+use mathlib.Core.Path.{sym, _∙_, ap}
 use native.Mathlib.Omega.{arith}
 use borrow.Author.Needs.{needs}
 use denote.Ref.{now}
 use lib.ListN.{length, getD, drop}
-use borrow.Author.Tests.{ne-eqb}
 use Rattle.paper.specs.Items.{takePreds, takeSteps, takeWithin}
 use Rattle.paper.specs.Query.{stop, step, bare, pred}
+use Rattle.paper.proofs.Decoding.{whole}
 use Rattle.item.proofs.Saying.{said}
-use Rattle.shape.proofs.Walking.{Awaits, run, awaits-first, awaits-next, left-done}
+use Rattle.shape.specs.Walks.{operators}
+use Rattle.shape.proofs.Walking.{Turn, turn-start, turn-stuck, turn-onward, term-low, turn-and, turn-or, turn-done}
 use Rattle.shape.proofs.Walking.{StepRow, steps-start, steps-more, steps-halt, steps-done, step-row, no-step-row, bad-step-row, past-step-row}
 use Rattle.shape.proofs.Walking.{PredRow, preds-start, preds-more, preds-halt, preds-done, pred-row, bad-pred-row}
-use Rattle.shape.proofs.Operands.{operand-past, not-step, operand-deep, operand-rest, operator-item, walk-path, opens-joined, opens-not, walk-none, operand-bare, small}
+use Rattle.shape.proofs.Operands.{operand-past, not-step, operand-deep, operand-rest, operator-item, operators-there, walk-path, opens-joined, opens-not, walk-none, operand-bare, small}
 use Prim.Native.Nat.{ℕ, _<_}
 use borrow.Fn.Kinds.{In}
 use borrow.Fn.PlainCycle.{Measures, is, falls, and}
-use Rattle.shape.proofs.chain.Reads as chain
-use Rattle.shape.proofs.chain.Kinds as chain-kinds
-use Rattle.shape.proofs.+chain+operand+part+predicates+steps.Lts-chain as chain-lts
+use Rattle.shape.proofs.expression.Reads as expression
+use Rattle.shape.proofs.expression.Kinds as expression-kinds
+use Rattle.shape.proofs.+expression+operand+predicates+steps.Lts-expression as expression-lts
 use Rattle.shape.proofs.operand.Reads as operand
 use Rattle.shape.proofs.operand.Kinds as operand-kinds
-use Rattle.shape.proofs.+chain+operand+part+predicates+steps.Lts-operand as operand-lts
-use Rattle.shape.proofs.part.Reads as part
-use Rattle.shape.proofs.part.Kinds as part-kinds
-use Rattle.shape.proofs.+chain+operand+part+predicates+steps.Lts-part as part-lts
+use Rattle.shape.proofs.+expression+operand+predicates+steps.Lts-operand as operand-lts
 use Rattle.shape.proofs.predicates.Reads as predicates
 use Rattle.shape.proofs.predicates.Kinds as predicates-kinds
-use Rattle.shape.proofs.+chain+operand+part+predicates+steps.Lts-predicates as predicates-lts
+use Rattle.shape.proofs.+expression+operand+predicates+steps.Lts-predicates as predicates-lts
 use Rattle.shape.proofs.steps.Reads as steps
 use Rattle.shape.proofs.steps.Kinds as steps-kinds
-use Rattle.shape.proofs.+chain+operand+part+predicates+steps.Lts-steps as steps-lts
+use Rattle.shape.proofs.+expression+operand+predicates+steps.Lts-steps as steps-lts
 use Rattle.item.proofs.unpack.Reads as unpack-reads
+use Rattle.shape.proofs.joined.Reads as joined-reads
 use Rattle.shape.proofs.larger.Reads as larger-reads
 use Rattle.shape.proofs.raised.Reads as raised-reads
 use Rattle.shape.proofs.run_of.Reads as run-of-reads
-use Rattle.shape.proofs.+chain+operand+part+predicates+steps.{statement}
-use Rattle.shape.proofs.+chain+operand+part+predicates+steps.Tie.{close}
+use Rattle.shape.proofs.+expression+operand+predicates+steps.{statement}
+use Rattle.shape.proofs.+expression+operand+predicates+steps.Tie.{close}
 
-abbrev μ-chain : Measures 1 chain-kinds.ps ℕ
-μ-chain κs a = (length (now (a .0)) - a .1 .0) * 16 + a .1 .1 .0 * 2 + 2
+abbrev μ-expression : Measures 1 expression-kinds.ps ℕ
+μ-expression κs a = (length (now (a .0)) - a .1 .0 - operators (drop (a .1 .0) (now (a .0)))) * 4 + 2
 
 abbrev μ-operand : Measures 1 operand-kinds.ps ℕ
-μ-operand κs a = (length (now (a .0)) - a .1 .0) * 16
-
-abbrev μ-part : Measures 1 part-kinds.ps ℕ
-μ-part κs a = (length (now (a .0)) - a .1 .0) * 16 + a .1 .1 .0 * 2 + 1
+μ-operand κs a = (length (now (a .0)) - a .1 .0) * 4 + 1
 
 abbrev μ-predicates : Measures 1 predicates-kinds.ps ℕ
-μ-predicates κs a = (length (now (a .0)) - a .1 .0) * 16 + 9
+μ-predicates κs a = (length (now (a .0)) - a .1 .0) * 4 + 3
 
 abbrev μ-steps : Measures 1 steps-kinds.ps ℕ
-μ-steps κs a = (length (now (a .0)) - a .1 .0) * 16
+μ-steps κs a = (length (now (a .0)) - a .1 .0) * 4
 
-abbrev chain-at : ℕ → In 1 chain-kinds.ps
-chain-at t = and 1 chain-kinds.ps (is 1 chain-kinds.ps μ-chain t) chain.Pre
+abbrev expression-at : ℕ → In 1 expression-kinds.ps
+expression-at t =
+    and 1 expression-kinds.ps (is 1 expression-kinds.ps μ-expression t) expression.Pre
 
-abbrev chain-below : ℕ → In 1 chain-kinds.ps
-chain-below t = and 1 chain-kinds.ps (falls 1 chain-kinds.ps _<_ μ-chain t) chain.Pre
+abbrev expression-below : ℕ → In 1 expression-kinds.ps
+expression-below t =
+    and 1 expression-kinds.ps (falls 1 expression-kinds.ps _<_ μ-expression t) expression.Pre
 
 abbrev operand-at : ℕ → In 1 operand-kinds.ps
 operand-at t = and 1 operand-kinds.ps (is 1 operand-kinds.ps μ-operand t) operand.Pre
 
 abbrev operand-below : ℕ → In 1 operand-kinds.ps
 operand-below t = and 1 operand-kinds.ps (falls 1 operand-kinds.ps _<_ μ-operand t) operand.Pre
-
-abbrev part-at : ℕ → In 1 part-kinds.ps
-part-at t = and 1 part-kinds.ps (is 1 part-kinds.ps μ-part t) part.Pre
-
-abbrev part-below : ℕ → In 1 part-kinds.ps
-part-below t = and 1 part-kinds.ps (falls 1 part-kinds.ps _<_ μ-part t) part.Pre
 
 abbrev predicates-at : ℕ → In 1 predicates-kinds.ps
 predicates-at t =
@@ -88,99 +80,136 @@ abbrev steps-below : ℕ → In 1 steps-kinds.ps
 steps-below t = and 1 steps-kinds.ps (falls 1 steps-kinds.ps _<_ μ-steps t) steps.Pre
 
 -- What each function asks of those that it calls, and learns from them.
-abbrev chain-claims : ℕ → chain-lts.Claims
-chain-claims t = (run-of-reads.Asked, run-of-reads.Learnt, part-below t, part.Post, larger-reads.Asked, larger-reads.Learnt)
+abbrev expression-claims : ℕ → expression-lts.Claims
+expression-claims t = (run-of-reads.Asked, run-of-reads.Learnt, operand-below t, operand.Post, larger-reads.Asked, larger-reads.Learnt, joined-reads.Asked, joined-reads.Learnt)
 
 abbrev operand-claims : ℕ → operand-lts.Claims
-operand-claims t = (unpack-reads.Asked, unpack-reads.Learnt, steps-below t, steps.Post, raised-reads.Asked, raised-reads.Learnt, chain-below t, chain.Post)
-
-abbrev part-claims : ℕ → part-lts.Claims
-part-claims t = (chain-below t, chain.Post, operand-below t, operand.Post)
+operand-claims t = (unpack-reads.Asked, unpack-reads.Learnt, steps-below t, steps.Post, raised-reads.Asked, raised-reads.Learnt, expression-below t, expression.Post)
 
 abbrev predicates-claims : ℕ → predicates-lts.Claims
-predicates-claims t = (chain-below t, chain.Post, larger-reads.Asked, larger-reads.Learnt)
+predicates-claims t = (expression-below t, expression.Post, larger-reads.Asked, larger-reads.Learnt)
 
 abbrev steps-claims : ℕ → steps-lts.Claims
 steps-claims t = (unpack-reads.Asked, unpack-reads.Learnt, predicates-below t, predicates.Post, larger-reads.Asked, larger-reads.Learnt)
 
-abbrev chain-Inv-loop : chain-lts.InvT-loop
-chain-Inv-loop items at operator counted depth run place₀ deep₀ high₀ joined₀ owed₀ place deep high joined owed =
-    Awaits operator depth items at counted place deep high joined owed
+abbrev expression-Inv-loop : expression-lts.InvT-loop
+expression-Inv-loop items at depth ors₀ ands₀ place₀ deep₀ high₀ term₀ ors ands place deep high term =
+    Turn depth items at place deep high term ands ors
 
-abbrev chain-μ-loop : chain-lts.MeasureT-loop
-chain-μ-loop items at operator counted depth run place₀ deep₀ high₀ joined₀ owed₀ place deep high joined owed = owed
+abbrev expression-μ-loop : expression-lts.MeasureT-loop
+expression-μ-loop items at depth ors₀ ands₀ place₀ deep₀ high₀ term₀ ors ands place deep high term = length items - place
 
-chain-run-of-requires : (t : ℕ) → chain-lts.Need-run-of-requires (chain-claims t) (chain-at t) chain.Post chain-Inv-loop chain-μ-loop
-chain-run-of-requires t c κs = search needs
+expression-run-of-requires : (t : ℕ) → expression-lts.Need-run-of-requires (expression-claims t) (expression-at t) expression.Post expression-Inv-loop expression-μ-loop
+expression-run-of-requires t c κs = search needs
 
-chain-add-place : (t : ℕ) → chain-lts.Need-add-place (chain-claims t) (chain-at t) chain.Post chain-Inv-loop chain-μ-loop
-chain-add-place t c = search needs
+expression-add-run-of : (t : ℕ) → expression-lts.Need-add-run-of (expression-claims t) (expression-at t) expression.Post expression-Inv-loop expression-μ-loop
+expression-add-run-of t c = omega (arith, c .run-of .ensures .1, c .before .before .good .0 .1)
 
-chain-add-owed : (t : ℕ) → chain-lts.Need-add-owed (chain-claims t) (chain-at t) chain.Post chain-Inv-loop chain-μ-loop
-chain-add-owed t c = search needs
+expression-run-of-requires-2 : (t : ℕ) → expression-lts.Need-run-of-requires-2 (expression-claims t) (expression-at t) expression.Post expression-Inv-loop expression-μ-loop
+expression-run-of-requires-2 t c κs = search needs
 
-chain-loop-holds : (t : ℕ) → chain-lts.Need-loop-holds (chain-claims t) (chain-at t) chain.Post chain-Inv-loop chain-μ-loop
-chain-loop-holds t c =
-    let a = c .before .before .args in
-    awaits-first (a .operator) (a .depth) (now (a .items)) (a .at) (a .counted) (run (a .depth) (a .operator) (c .before .before .pre .1 .0)) (c .run-of .result) (c .run-of .ensures .0) (c .run-of .ensures .1)
+expression-add-place : (t : ℕ) → expression-lts.Need-add-place (expression-claims t) (expression-at t) expression.Post expression-Inv-loop expression-μ-loop
+expression-add-place t c = omega (arith, c .run-of2 .ensures .1, c .before .before .before .good .0 .1)
 
-chain-part-requires : (t : ℕ) → chain-lts.Need-part-requires (chain-claims t) (chain-at t) chain.Post chain-Inv-loop chain-μ-loop
-chain-part-requires t c κs = search needs
+expression-add-place-2 : (t : ℕ) → expression-lts.Need-add-place-2 (expression-claims t) (expression-at t) expression.Post expression-Inv-loop expression-μ-loop
+expression-add-place-2 t c = omega (arith, c .run-of2 .ensures .1, c .before .before .before .good .0 .1)
 
-chain-enum-known-one : (t : ℕ) → chain-lts.Need-enum-known-one (chain-claims t) (chain-at t) chain.Post chain-Inv-loop chain-μ-loop
-chain-enum-known-one t c = search needs
+expression-loop-holds : (t : ℕ) → expression-lts.Need-loop-holds (expression-claims t) (expression-at t) expression.Post expression-Inv-loop expression-μ-loop
+expression-loop-holds t c =
+    let a = c .before .before .before .args in
+    turn-start (a .depth) (now (a .items)) (a .at) (c .before .run-of .result) (c .run-of2 .result) (c .before .run-of .ensures .0) (c .run-of2 .ensures .0) (c .before .run-of .ensures .1) (c .run-of2 .ensures .1)
 
-chain-enum-told : (t : ℕ) → chain-lts.Need-enum-told (chain-claims t) (chain-at t) chain.Post chain-Inv-loop chain-μ-loop
-chain-enum-told t c = search needs
+expression-operand-requires : (t : ℕ) → expression-lts.Need-operand-requires (expression-claims t) (expression-at t) expression.Post expression-Inv-loop expression-μ-loop
+expression-operand-requires t c κs =
+    let i = c .loop .inv in (omega (arith, c .before .before .before .before .pre .0, i .past), (i .inner .inside, c .before .before .before .before .pre .1 .1))
 
-chain-returns : (t : ℕ) → chain-lts.Need-returns (chain-claims t) (chain-at t) chain.Post chain-Inv-loop chain-μ-loop
-chain-returns t c = c .before .before .before .loop .inv .stuck (rw (c .enum-told .given .1) at (c .before .before .part .ensures))
+expression-enum-known-one : (t : ℕ) → expression-lts.Need-enum-known-one (expression-claims t) (expression-at t) expression.Post expression-Inv-loop expression-μ-loop
+expression-enum-known-one t c = search needs
 
-chain-larger-requires : (t : ℕ) → chain-lts.Need-larger-requires (chain-claims t) (chain-at t) chain.Post chain-Inv-loop chain-μ-loop
-chain-larger-requires t c κs = search needs
+expression-enum-told : (t : ℕ) → expression-lts.Need-enum-told (expression-claims t) (expression-at t) expression.Post expression-Inv-loop expression-μ-loop
+expression-enum-told t c = search needs
 
-chain-larger-requires-2 : (t : ℕ) → chain-lts.Need-larger-requires-2 (chain-claims t) (chain-at t) chain.Post chain-Inv-loop chain-μ-loop
-chain-larger-requires-2 t c κs = search needs
+expression-returns : (t : ℕ) → expression-lts.Need-returns (expression-claims t) (expression-at t) expression.Post expression-Inv-loop expression-μ-loop
+expression-returns t c =
+    let a = c .before .before .before .before .before .before .before .args in
+    let l = c .before .before .before .loop in
+    turn-stuck (a .depth) (now (a .items)) (a .at) (l .place) (l .deep) (l .high) (l .term) (l .ands) (l .ors) (l .inv) (rw (c .enum-told .given .1) at (c .before .before .operand .ensures))
 
-chain-add-high : (t : ℕ) → chain-lts.Need-add-high (chain-claims t) (chain-at t) chain.Post chain-Inv-loop chain-μ-loop
-chain-add-high t c =
-    let i = c .before .before .before .before .before .before .loop .inv in
-    let w = rw (c .before .before .before .one .given .1) at (c .before .before .before .before .before .part .ensures) in
-    let start = c .before .before .before .before .before .before .before .before .before in
-    omega (arith, c .larger2 .ensures, i .low, i .inside, i .once, w .low, w .inside, start .pre .1, start .good .0 .1)
+expression-larger-requires : (t : ℕ) → expression-lts.Need-larger-requires (expression-claims t) (expression-at t) expression.Post expression-Inv-loop expression-μ-loop
+expression-larger-requires t c κs = search needs
 
-chain-returns-2 : (t : ℕ) → chain-lts.Need-returns-2 (chain-claims t) (chain-at t) chain.Post chain-Inv-loop chain-μ-loop
-chain-returns-2 t c =
-    let a = c .before .before .before .before .before .before .before .before .before .before .args in
+expression-joined-requires : (t : ℕ) → expression-lts.Need-joined-requires (expression-claims t) (expression-at t) expression.Post expression-Inv-loop expression-μ-loop
+expression-joined-requires t c κs =
+    let i = c .before .before .before .before .before .loop .inv in
+    let w = rw (c .before .before .one .given .1) at (c .before .before .before .before .operand .ensures) in
+    let long = c .before .before .before .before .before .before .before .before .before .good .0 .1 in (omega (arith, long, i .inner .low, i .inner .inside), omega (arith, long, w .low, w .inside))
+
+expression-sub-ands : (t : ℕ) → expression-lts.Need-sub-ands (expression-claims t) (expression-at t) expression.Post expression-Inv-loop expression-μ-loop
+expression-sub-ands t c = omega (arith, c .if1 .taken)
+
+expression-loop-less : (t : ℕ) → expression-lts.Need-loop-less (expression-claims t) (expression-at t) expression.Post expression-Inv-loop expression-μ-loop
+expression-loop-less t c =
+    let a = c .before .before .before .before .before .before .before .before .before .before .before .args in
     let l = c .before .before .before .before .before .before .before .loop in
-    let w = rw (c .before .before .before .before .one .given .1) at (c .before .before .before .before .before .before .part .ensures) in
-    left-done (a .operator) (a .depth) (now (a .items)) (a .at) (a .counted) (run (a .depth) (a .operator) (c .before .before .before .before .before .before .before .before .before .before .pre .1 .0)) _ _ _ (l .owed) (c .if1 .taken)
-    (l .inv .gives _ _ _ _ _ w (c .before .before .larger .ensures) (c .before .larger2 .ensures))
+    let w = rw (c .before .before .before .before .one .given .1) at (c .before .before .before .before .before .before .operand .ensures) in
+    omega (arith, turn-onward (a .depth) (now (a .items)) (a .at) (l .place) (l .deep) (l .high) (l .term) (l .ands) (l .ors) (l .inv) _ _ _ _ _ w (c .before .before .larger .ensures) (c .before .joined .ensures), w .inside)
 
-chain-sub-owed : (t : ℕ) → chain-lts.Need-sub-owed (chain-claims t) (chain-at t) chain.Post chain-Inv-loop chain-μ-loop
-chain-sub-owed t c = search needs
-
-chain-loop-less : (t : ℕ) → chain-lts.Need-loop-less (chain-claims t) (chain-at t) chain.Post chain-Inv-loop chain-μ-loop
-chain-loop-less t c = search needs
-
-chain-loop-again : (t : ℕ) → chain-lts.Need-loop-again (chain-claims t) (chain-at t) chain.Post chain-Inv-loop chain-μ-loop
-chain-loop-again t c =
-    let a = c .before .before .before .before .before .before .before .before .before .before .args in
+expression-loop-again : (t : ℕ) → expression-lts.Need-loop-again (expression-claims t) (expression-at t) expression.Post expression-Inv-loop expression-μ-loop
+expression-loop-again t c =
+    let a = c .before .before .before .before .before .before .before .before .before .before .before .args in
     let l = c .before .before .before .before .before .before .before .loop in
-    let w = rw (c .before .before .before .before .one .given .1) at (c .before .before .before .before .before .before .part .ensures) in
-    awaits-next (a .operator) (a .depth) (now (a .items)) (a .at) (a .counted) (run (a .depth) (a .operator) (c .before .before .before .before .before .before .before .before .before .before .pre .1 .0)) _ _ _ (l .owed) (c .if1 .left)
-    (l .inv .gives _ _ _ _ _ w (c .before .before .larger .ensures) (c .before .larger2 .ensures))
+    let w = rw (c .before .before .before .before .one .given .1) at (c .before .before .before .before .before .before .operand .ensures) in
+    turn-and (a .depth) (now (a .items)) (a .at) (l .place) (l .deep) (l .high) (l .term) (l .ands) (l .ors) (l .inv) _ _ _ _ _ w (c .before .before .larger .ensures) (c .before .joined .ensures) (c .if1 .taken)
+
+expression-joined-requires-2 : (t : ℕ) → expression-lts.Need-joined-requires-2 (expression-claims t) (expression-at t) expression.Post expression-Inv-loop expression-μ-loop
+expression-joined-requires-2 t c κs =
+    let a = c .before .before .before .before .before .before .before .before .before .before .before .args in
+    let l = c .before .before .before .before .before .before .before .loop in
+    let w = rw (c .before .before .before .before .one .given .1) at (c .before .before .before .before .before .before .operand .ensures) in
+    let long = c .before .before .before .before .before .before .before .before .before .before .before .good .0 .1 in (omega (arith, long, l .inv .outer .low, l .inv .inner .onward, l .inv .inner .inside), omega (arith, long, term-low (a .depth) (now (a .items)) (a .at) (l .place) (l .deep) (l .high) (l .term) (l .ands) (l .ors) (l .inv) _ _ _ _ _ w (c .before .before .larger .ensures) (c .before .joined .ensures), w .inside))
+
+expression-returns-2 : (t : ℕ) → expression-lts.Need-returns-2 (expression-claims t) (expression-at t) expression.Post expression-Inv-loop expression-μ-loop
+expression-returns-2 t c =
+    let a = c .before .before .before .before .before .before .before .before .before .before .before .before .before .args in
+    let l = c .before .before .before .before .before .before .before .before .before .loop in
+    let w = rw (c .before .before .before .before .before .before .one .given .1) at (c .before .before .before .before .before .before .before .before .operand .ensures) in
+    turn-done (a .depth) (now (a .items)) (a .at) (l .place) (l .deep) (l .high) (l .term) (l .ands) (l .ors) (l .inv) _ _ _ _ _ w (c .before .before .before .before .larger .ensures) (c .before .before .before .joined .ensures) _ (c .before .before .if1 .left) (c .before .joined2 .ensures) (omega (arith, c .if2 .taken))
+
+expression-sub-ors : (t : ℕ) → expression-lts.Need-sub-ors (expression-claims t) (expression-at t) expression.Post expression-Inv-loop expression-μ-loop
+expression-sub-ors t c = omega (arith, c .if2 .left)
+
+expression-run-of-requires-3 : (t : ℕ) → expression-lts.Need-run-of-requires-3 (expression-claims t) (expression-at t) expression.Post expression-Inv-loop expression-μ-loop
+expression-run-of-requires-3 t c κs =
+    let w = rw (c .before .before .before .before .before .before .one .given .1) at (c .before .before .before .before .before .before .before .before .operand .ensures) in
+    w .inside
+
+expression-add-place-3 : (t : ℕ) → expression-lts.Need-add-place-3 (expression-claims t) (expression-at t) expression.Post expression-Inv-loop expression-μ-loop
+expression-add-place-3 t c = omega (arith, c .run-of3 .ensures .1, c .before .before .before .before .before .before .before .before .before .before .before .before .before .before .good .0 .1)
+
+expression-loop-less-2 : (t : ℕ) → expression-lts.Need-loop-less-2 (expression-claims t) (expression-at t) expression.Post expression-Inv-loop expression-μ-loop
+expression-loop-less-2 t c =
+    let a = c .before .before .before .before .before .before .before .before .before .before .before .before .before .before .args in
+    let l = c .before .before .before .before .before .before .before .before .before .before .loop in
+    let w = rw (c .before .before .before .before .before .before .before .one .given .1) at (c .before .before .before .before .before .before .before .before .before .operand .ensures) in
+    omega (arith, turn-onward (a .depth) (now (a .items)) (a .at) (l .place) (l .deep) (l .high) (l .term) (l .ands) (l .ors) (l .inv) _ _ _ _ _ w (c .before .before .before .before .before .larger .ensures) (c .before .before .before .before .joined .ensures), c .run-of3 .ensures .1, w .inside)
+
+expression-loop-again-2 : (t : ℕ) → expression-lts.Need-loop-again-2 (expression-claims t) (expression-at t) expression.Post expression-Inv-loop expression-μ-loop
+expression-loop-again-2 t c =
+    let a = c .before .before .before .before .before .before .before .before .before .before .before .before .before .before .args in
+    let l = c .before .before .before .before .before .before .before .before .before .before .loop in
+    let w = rw (c .before .before .before .before .before .before .before .one .given .1) at (c .before .before .before .before .before .before .before .before .before .operand .ensures) in
+    turn-or (a .depth) (now (a .items)) (a .at) (l .place) (l .deep) (l .high) (l .term) (l .ands) (l .ors) (l .inv) _ _ _ _ _ w (c .before .before .before .before .before .larger .ensures) (c .before .before .before .before .joined .ensures) _ (c .before .before .before .if1 .left) (c .before .before .joined2 .ensures) (omega (arith, c .before .if2 .left)) _ (c .run-of3 .ensures .0) (c .run-of3 .ensures .1)
 
 operand-returns : (t : ℕ) → operand-lts.Need-returns (operand-claims t) (operand-at t) operand.Post
 operand-returns t c =
     let a = c .before .before .args in
     operand-past (takeWithin (a .depth)) (now (a .items)) (a .at) (c .if1 .taken)
 
-operand-mul-word : (t : ℕ) → operand-lts.Need-mul-word (operand-claims t) (operand-at t) operand.Post
-operand-mul-word t c = search needs
+operand-mul-unpack : (t : ℕ) → operand-lts.Need-mul-unpack (operand-claims t) (operand-at t) operand.Post
+operand-mul-unpack t c = search needs
 
-operand-shared-slice-read-word : (t : ℕ) → operand-lts.Need-shared-slice-read-word (operand-claims t) (operand-at t) operand.Post
-operand-shared-slice-read-word t c = search needs
+operand-shared-slice-read-unpack : (t : ℕ) → operand-lts.Need-shared-slice-read-unpack (operand-claims t) (operand-at t) operand.Post
+operand-shared-slice-read-unpack t c = search needs
 
 operand-unpack-requires : (t : ℕ) → operand-lts.Need-unpack-requires (operand-claims t) (operand-at t) operand.Post
 operand-unpack-requires t c κs = search needs
@@ -224,40 +253,38 @@ operand-returns-4 t c =
     walk-none (now (a .items)) (a .at) (a .depth) (c .before .before .before .before .if1 .left) (a .depth)
     (rw (c .if3 .taken) (operand-deep w (u .result) _ (said w (u .result) (u .ensures)) (c .before .match .keys2)))
 
-operand-add-chain : (t : ℕ) → operand-lts.Need-add-chain (operand-claims t) (operand-at t) operand.Post
-operand-add-chain t c = search needs
+operand-sub-expression : (t : ℕ) → operand-lts.Need-sub-expression (operand-claims t) (operand-at t) operand.Post
+operand-sub-expression t c = search needs
 
-operand-sub-chain : (t : ℕ) → operand-lts.Need-sub-chain (operand-claims t) (operand-at t) operand.Post
-operand-sub-chain t c = search needs
-
-operand-chain-requires : (t : ℕ) → operand-lts.Need-chain-requires (operand-claims t) (operand-at t) operand.Post
-operand-chain-requires t c κs =
+operand-expression-requires : (t : ℕ) → operand-lts.Need-expression-requires (operand-claims t) (operand-at t) operand.Post
+operand-expression-requires t c κs =
     let a = c .before .before .before .before .before .before .before .args in
     let u = c .before .before .before .unpack in
     let o = operator-item (getD (now (a .items)) (a .at) 0) (u .result) (said _ (u .result) (u .ensures)) (c .match2 .keys1) in
-    search needs
+    let p = c .before .before .before .before .before .before .before .pre in (omega (arith, p .0, c .before .before .before .before .before .if1 .left, operators-there (now (a .items)) (a .at) (a .depth) (c .before .before .before .before .before .if1 .left) o), (p .1 .0, omega (arith, p .1 .1)))
 
 operand-raised-requires-2 : (t : ℕ) → operand-lts.Need-raised-requires-2 (operand-claims t) (operand-at t) operand.Post
 operand-raised-requires-2 t c κs =
     let start = c .before .before .before .before .before .before .before .before in
-    (small _ _ 1 _ _ _ _ (c .chain .result) (omega (arith, start .pre .1)) (start .good .0 .1) (omega arith) (c .chain .ensures), omega arith, omega arith)
+    (small _ _ 0 _ _ _ _ (c .expression .result) (omega (arith, start .pre .1)) (start .good .0 .1) (omega arith) (c .expression .ensures), omega arith, omega arith)
 
 operand-enum-told : (t : ℕ) → operand-lts.Need-enum-told (operand-claims t) (operand-at t) operand.Post
 operand-enum-told t c = search needs
 
-operand-add-chain-2 : (t : ℕ) → operand-lts.Need-add-chain-2 (operand-claims t) (operand-at t) operand.Post
-operand-add-chain-2 t c = search needs
+operand-add-expression : (t : ℕ) → operand-lts.Need-add-expression (operand-claims t) (operand-at t) operand.Post
+operand-add-expression t c = search needs
 
-operand-sub-chain-2 : (t : ℕ) → operand-lts.Need-sub-chain-2 (operand-claims t) (operand-at t) operand.Post
-operand-sub-chain-2 t c = search needs
+operand-sub-expression-2 : (t : ℕ) → operand-lts.Need-sub-expression-2 (operand-claims t) (operand-at t) operand.Post
+operand-sub-expression-2 t c = search needs
 
-operand-chain-requires-2 : (t : ℕ) → operand-lts.Need-chain-requires-2 (operand-claims t) (operand-at t) operand.Post
-operand-chain-requires-2 t c κs = search needs
+operand-expression-requires-2 : (t : ℕ) → operand-lts.Need-expression-requires-2 (operand-claims t) (operand-at t) operand.Post
+operand-expression-requires-2 t c κs =
+    let p = c .before .before .before .before .before .before .before .before .pre in (omega (arith, p .0, c .before .before .before .before .before .before .if1 .left), (omega (arith, c .before .before .before .before .before .before .if1 .left), omega (arith, p .1 .1)))
 
 operand-raised-requires-3 : (t : ℕ) → operand-lts.Need-raised-requires-3 (operand-claims t) (operand-at t) operand.Post
 operand-raised-requires-3 t c κs =
     let start = c .before .before .before .before .before .before .before .before .before in
-    (small _ _ 0 _ _ _ _ (c .chain2 .result) (omega (arith, start .pre .1)) (start .good .0 .1) (omega arith) (c .chain2 .ensures), omega arith, omega arith)
+    (small _ _ 0 _ _ _ _ (c .expression2 .result) (omega (arith, start .pre .1)) (start .good .0 .1) (omega arith) (c .expression2 .ensures), omega arith, omega arith)
 
 operand-returns-5 : (t : ℕ) → operand-lts.Need-returns-5 (operand-claims t) (operand-at t) operand.Post
 operand-returns-5 t c =
@@ -265,7 +292,7 @@ operand-returns-5 t c =
     let u = c .before .before .before .before .before .unpack in
     let o = operator-item (getD (now (a .items)) (a .at) 0) (u .result) (said _ (u .result) (u .ensures)) (c .before .before .match2 .keys1) in
     rw (c .raised2 .ensures)
-    (opens-joined (now (a .items)) (a .at) (a .depth) (c .before .before .before .before .before .before .before .if1 .left) (c .before .before .before .if3 .left) (c .before .chain .result) o (c .before .chain .ensures))
+    (opens-joined (now (a .items)) (a .at) (a .depth) (c .before .before .before .before .before .before .before .if1 .left) (c .before .before .before .if3 .left) (c .before .expression .result) o (c .before .expression .ensures))
 
 operand-returns-6 : (t : ℕ) → operand-lts.Need-returns-6 (operand-claims t) (operand-at t) operand.Post
 operand-returns-6 t c =
@@ -274,7 +301,7 @@ operand-returns-6 t c =
     let w = getD (now (a .items)) (a .at) 0 in
     let s = rw (c .before .before .enum-told .given .1) at (said w (u .result) (u .ensures)) in
     rw (c .raised3 .ensures)
-    (opens-not (now (a .items)) (a .at) (a .depth) (c .before .before .before .before .before .before .before .before .if1 .left) (c .before .before .before .before .if3 .left) (c .before .chain2 .result) s (c .before .chain2 .ensures))
+    (opens-not (now (a .items)) (a .at) (a .depth) (c .before .before .before .before .before .before .before .before .if1 .left) (c .before .before .before .before .if3 .left) (c .before .expression2 .result) s (c .before .expression2 .ensures))
 
 operand-returns-7 : (t : ℕ) → operand-lts.Need-returns-7 (operand-claims t) (operand-at t) operand.Post
 operand-returns-7 t c =
@@ -283,20 +310,6 @@ operand-returns-7 t c =
     let w = getD (now (a .items)) (a .at) 0 in
     walk-none (now (a .items)) (a .at) (a .depth) (c .before .before .before .before .before .if1 .left) (a .depth)
     (operand-rest (takeWithin (a .depth)) w (u .result) _ (said w (u .result) (u .ensures)) (c .before .before .match .keys2) (c .match2 .keys3))
-
-part-chain-requires : (t : ℕ) → part-lts.Need-chain-requires (part-claims t) (part-at t) part.Post
-part-chain-requires t c κs = search needs
-
-part-operand-requires : (t : ℕ) → part-lts.Need-operand-requires (part-claims t) (part-at t) part.Post
-part-operand-requires t c κs = search needs
-
-part-returns : (t : ℕ) → part-lts.Need-returns (part-claims t) (part-at t) part.Post
-part-returns t c = rw (c .before .if1 .taken) (c .chain .ensures)
-
-part-returns-2 : (t : ℕ) → part-lts.Need-returns-2 (part-claims t) (part-at t) part.Post
-part-returns-2 t c =
-    let a = c .before .before .before .args in
-    rw (ne-eqb (a .operator) 3 (c .before .if1 .left)) (c .operand .ensures)
 
 abbrev predicates-Inv-loop : predicates-lts.InvT-loop
 predicates-Inv-loop items at count depth place₀ deep₀ high₀ owed₀ place deep high owed =
@@ -316,11 +329,11 @@ predicates-returns t c =
     let l = c .before .before .loop in
     preds-halt (a .depth) _ _ _ (l .place) (l .deep) (l .high) (l .owed) (c .before .loop-test .taken) (l .inv) (λ n. rw (c .if1 .taken))
 
-predicates-sub-chain : (t : ℕ) → predicates-lts.Need-sub-chain (predicates-claims t) (predicates-at t) predicates.Post predicates-Inv-loop predicates-μ-loop
-predicates-sub-chain t c = search needs
+predicates-sub-expression : (t : ℕ) → predicates-lts.Need-sub-expression (predicates-claims t) (predicates-at t) predicates.Post predicates-Inv-loop predicates-μ-loop
+predicates-sub-expression t c = search needs
 
-predicates-chain-requires : (t : ℕ) → predicates-lts.Need-chain-requires (predicates-claims t) (predicates-at t) predicates.Post predicates-Inv-loop predicates-μ-loop
-predicates-chain-requires t c κs = search needs
+predicates-expression-requires : (t : ℕ) → predicates-lts.Need-expression-requires (predicates-claims t) (predicates-at t) predicates.Post predicates-Inv-loop predicates-μ-loop
+predicates-expression-requires t c κs = search needs
 
 predicates-enum-known-more : (t : ℕ) → predicates-lts.Need-enum-known-more (predicates-claims t) (predicates-at t) predicates.Post predicates-Inv-loop predicates-μ-loop
 predicates-enum-known-more t c = search needs
@@ -333,11 +346,11 @@ predicates-returns-2 t c =
     let a = c .before .before .before .before .before .before .before .args in
     let l = c .before .before .before .before .before .loop in
     preds-halt (a .depth) _ _ _ (l .place) (l .deep) (l .high) (l .owed) (c .before .before .before .before .loop-test .taken) (l .inv)
-    (bad-pred-row (a .depth) (now (a .items)) (l .place) (c .before .before .before .if1 .left) (rw (c .enum-told .given .1) at (c .before .before .chain .ensures)))
+    (bad-pred-row (a .depth) (now (a .items)) (l .place) (c .before .before .before .if1 .left) (sym (whole _ _) ∙ (rw (c .enum-told .given .1) at (c .before .before .expression .ensures))))
 
 predicates-add-larger : (t : ℕ) → predicates-lts.Need-add-larger (predicates-claims t) (predicates-at t) predicates.Post predicates-Inv-loop predicates-μ-loop
 predicates-add-larger t c =
-    let w = rw (c .before .more .given .1) at (c .before .before .before .chain .ensures) in
+    let w = rw (c .before .more .given .1) at (c .before .before .before .expression .ensures) in
     omega (arith, w .shallow, c .before .before .before .before .before .before .before .before .pre .1)
 
 predicates-larger-requires : (t : ℕ) → predicates-lts.Need-larger-requires (predicates-claims t) (predicates-at t) predicates.Post predicates-Inv-loop predicates-μ-loop
@@ -357,9 +370,9 @@ predicates-loop-again t c =
     let a = c .before .before .before .before .before .before .before .before .before .before .args in
     let l = c .before .before .before .before .before .before .before .before .loop in
     let m = c .before .before .before .more .given in
-    let w = rw (m .1) at (c .before .before .before .before .before .chain .ensures) in
+    let w = rw (m .1) at (c .before .before .before .before .before .expression .ensures) in
     preds-more (a .depth) (now (a .items)) (a .at) _ (l .place) (l .deep) (l .high) (l .owed) (m .0 .0) (m .0 .1 .0 + 1) (m .0 .1 .1 .0) _ _ (pred (w .what) bare)
-    (c .before .before .before .before .before .before .before .loop-test .taken) (l .inv) (pred-row (a .depth) (now (a .items)) (l .place) (w .what) (m .0 .0) (c .before .before .before .before .before .before .if1 .left) (w .reads)) (w .onward) (w .inside)
+    (c .before .before .before .before .before .before .before .loop-test .taken) (l .inv) (pred-row (a .depth) (now (a .items)) (l .place) (w .what) (m .0 .0) (c .before .before .before .before .before .before .if1 .left) (sym (whole _ _) ∙ w .reads)) (w .onward) (w .inside)
     (omega (arith, w .nests)) (omega (arith, w .heights)) (omega (arith, w .shallow, c .before .before .before .before .before .before .if1 .left)) (omega (arith, w .low)) (c .before .larger .ensures) (c .larger2 .ensures)
 
 predicates-returns-3 : (t : ℕ) → predicates-lts.Need-returns-3 (predicates-claims t) (predicates-at t) predicates.Post predicates-Inv-loop predicates-μ-loop
@@ -459,34 +472,41 @@ steps-returns-4 t c =
     let l = c .before .loop in
     steps-done _ _ _ _ (l .place) (l .deep) (l .high) (l .owed) (c .loop-test .left) (l .inv)
 
-pub +chain+operand+part+predicates+steps-spec : {M : Type 1} → statement M
-+chain+operand+part+predicates+steps-spec =
-    close μ-chain μ-operand μ-part μ-predicates μ-steps (λ t. chain-lts.spec (chain-claims t)
-    (chain-at t)
-    chain.Post
-    chain-Inv-loop
-    chain-μ-loop
-    (chain-run-of-requires t)
-    (chain-add-place t)
-    (chain-add-owed t)
-    (chain-loop-holds t)
-    (chain-part-requires t)
-    (chain-enum-known-one t)
-    (chain-enum-told t)
-    (chain-returns t)
-    (chain-larger-requires t)
-    (chain-larger-requires-2 t)
-    (chain-add-high t)
-    (chain-returns-2 t)
-    (chain-sub-owed t)
-    (chain-loop-less t)
-    (chain-loop-again t))
+pub +expression+operand+predicates+steps-spec : {M : Type 1} → statement M
++expression+operand+predicates+steps-spec =
+    close μ-expression μ-operand μ-predicates μ-steps (λ t. expression-lts.spec (expression-claims t)
+    (expression-at t)
+    expression.Post
+    expression-Inv-loop
+    expression-μ-loop
+    (expression-run-of-requires t)
+    (expression-add-run-of t)
+    (expression-run-of-requires-2 t)
+    (expression-add-place t)
+    (expression-add-place-2 t)
+    (expression-loop-holds t)
+    (expression-operand-requires t)
+    (expression-enum-known-one t)
+    (expression-enum-told t)
+    (expression-returns t)
+    (expression-larger-requires t)
+    (expression-joined-requires t)
+    (expression-sub-ands t)
+    (expression-loop-less t)
+    (expression-loop-again t)
+    (expression-joined-requires-2 t)
+    (expression-returns-2 t)
+    (expression-sub-ors t)
+    (expression-run-of-requires-3 t)
+    (expression-add-place-3 t)
+    (expression-loop-less-2 t)
+    (expression-loop-again-2 t))
     (λ t. operand-lts.spec (operand-claims t)
     (operand-at t)
     operand.Post
     (operand-returns t)
-    (operand-mul-word t)
-    (operand-shared-slice-read-word t)
+    (operand-mul-unpack t)
+    (operand-shared-slice-read-unpack t)
     (operand-unpack-requires t)
     (operand-enum-known-item t)
     (operand-returns-2 t)
@@ -495,36 +515,26 @@ pub +chain+operand+part+predicates+steps-spec : {M : Type 1} → statement M
     (operand-raised-requires t)
     (operand-returns-3 t)
     (operand-returns-4 t)
-    (operand-add-chain t)
-    (operand-sub-chain t)
-    (operand-chain-requires t)
+    (operand-sub-expression t)
+    (operand-expression-requires t)
     (operand-raised-requires-2 t)
     (operand-enum-told t)
-    (operand-add-chain-2 t)
-    (operand-sub-chain-2 t)
-    (operand-chain-requires-2 t)
+    (operand-add-expression t)
+    (operand-sub-expression-2 t)
+    (operand-expression-requires-2 t)
     (operand-raised-requires-3 t)
     (operand-returns-5 t)
     (operand-returns-6 t)
     (operand-returns-7 t))
-    (λ t. part-lts.spec
-    (chain-below t, chain.Post, operand-below t, operand.Post)
-    (part-at t)
-    part.Post
-    (part-chain-requires t)
-    (part-operand-requires t)
-    (part-returns t)
-    (part-returns-2 t))
-    (λ t. predicates-lts.spec
-    (chain-below t, chain.Post, larger-reads.Asked, larger-reads.Learnt)
+    (λ t. predicates-lts.spec (predicates-claims t)
     (predicates-at t)
     predicates.Post
     predicates-Inv-loop
     predicates-μ-loop
     (predicates-loop-holds t)
     (predicates-returns t)
-    (predicates-sub-chain t)
-    (predicates-chain-requires t)
+    (predicates-sub-expression t)
+    (predicates-expression-requires t)
     (predicates-enum-known-more t)
     (predicates-enum-told t)
     (predicates-returns-2 t)
