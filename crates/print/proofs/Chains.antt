@@ -13,8 +13,8 @@ use Rattle.paper.specs.Measures.{isOr}
 use Rattle.paper.specs.Printing.{Piece, andWord, orWord, pieceText, grouped, exprPieces, textOf}
 use Rattle.paper.proofs.Tests.{found-some}
 use Rattle.shape.proofs.Operators.{byOperator, takeRun, takePart, takeMore, joinBy, isJoined, Run, run-starts, first-alone, operators-run}
-use Rattle.shape.specs.Walks.{operators}
 use Rattle.shape.proofs.Operators.{ands as ands-laws, ors as ors-laws}
+use Rattle.shape.specs.Walks.{operators}
 use Rattle.print.specs.declared.Reached.{Reached}
 use Rattle.print.specs.Writing.{Puts, termPieces, operandPieces, Some, Prints}
 use Rattle.print.proofs.Putting.{puts-both, puts-as, puts-long}
@@ -23,11 +23,6 @@ use Rattle.print.proofs.Putting.{puts-both, puts-as, puts-long}
 pub text-append : (names : List (List ℕ)) (ps qs : List Piece) → textOf names (ps ++ qs) ≡ textOf names ps ++ textOf names qs
 text-append names [] qs = refl
 text-append names (p ∷ ps) qs = ap (λ (t : List ℕ). pieceText names p ++ t) (text-append names ps qs) ∙ sym (append-assoc (pieceText names p) (textOf names ps) (textOf names qs))
-
--- A slice that is printed to keeps its length.
-pub prints-long : {A : Type 0} {names : List (List ℕ)} {items : List ℕ} {at pen spare : ℕ} {taken : Taken A} {piecesOf : A → List Piece} {old new : List ℕ} {r : Reached}
-    → Prints names items at pen spare taken piecesOf old new r → length new ≡ length old
-prints-long w = puts-long (w .puts)
 
 -- An expression as a run of the operator, and as a part of one; and the text between two parts.
 abbrev runPieces : ℕ → Expr → List Piece
@@ -77,7 +72,7 @@ ors-text names =
       ahead = λ items place. omega arith;
     }
 
--- Printing a run of operator items that begins at `at`, from `pen` on; its first operand stands at `base`.
+-- Printing a run of an operator that begins at `at`, from `pen` on; its first operand stands at `base`.
 module _ (names : List (List ℕ)) (operator depth : ℕ) (items : List ℕ) (at base pen : ℕ) (old : List ℕ) where
   -- What has been read and printed of the run, with so many parts owed.
   pub record Left (out : List ℕ) (place byte owed : ℕ) : Type 0 where

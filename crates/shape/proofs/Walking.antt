@@ -1,4 +1,4 @@
--- Walking over a left-grouped run, over steps and over predicates: what was read so far, and how one thing more changes it.
+-- Walking over an expression, over steps and over predicates: what was read so far, and how one thing more changes it.
 -- The idea is the same each time: what is left to read gives the answer of the whole. Assumes nothing.
 use Prim.Native.Nat.{ℕ, zero, suc, _+_, _-_, _≤_, _<_, max}
 use native.Mathlib.Omega.{arith}
@@ -35,7 +35,7 @@ pub joined-more : (high height : ℕ) → 1 ≤ high → joinedHeight high heigh
 joined-more zero height z = absurd (omega arith)
 joined-more (suc high) height z = refl
 
--- Walking over a run of operator items that begins at `at`.
+-- Walking over a run of an operator that begins at `at`.
 module _ (operator depth : ℕ) (items : List ℕ) (at : ℕ) where
   -- What has been read of the run, with so many parts owed.
   pub record Left (place deep high owed : ℕ) : Type 0 where
@@ -208,80 +208,92 @@ ahead put none = none
 ahead put (some r) = some (put (r .0), r .1)
 
 -- A row of steps or of predicates: `rows n` reads n of them, and `join` puts one row before another.
-module _ {A : Type 0} (rows : ℕ → List ℕ → Taken A) (join : A → A → A) (nestOf heightOf : A → ℕ)
-    (empty : A) (stops : (ws : List ℕ) → rows 0 ws ≡ some (empty, ws)) (join-empty : (a : A) → join a empty ≡ a)
-    (join-join : (a b c : A) → join (join a b) c ≡ join a (join b c)) (empty-join : (a : A) → join empty a ≡ a)
-    (nest-join : (a b : A) → nestOf (join a b) ≡ max (nestOf a) (nestOf b)) (height-join : (a b : A) → heightOf (join a b) ≡ max (heightOf a) (heightOf b)) where
+pub record Rows (A : Type 0) : Type 0 where
+  pub rows : ℕ → List ℕ → Taken A
+  pub join : A → A → A
+  pub nestOf : A → ℕ
+  pub heightOf : A → ℕ
+  pub empty : A
+  pub stops : (ws : List ℕ) → rows 0 ws ≡ some (empty, ws)
+  pub nest-empty : nestOf empty ≡ 0
+  pub height-empty : heightOf empty ≡ 0
+  pub join-empty : (a : A) → join a empty ≡ a
+  pub empty-join : (a : A) → join empty a ≡ a
+  pub join-join : (a b c : A) → join (join a b) c ≡ join a (join b c)
+  pub nest-join : (a b : A) → nestOf (join a b) ≡ max (nestOf a) (nestOf b)
+  pub height-join : (a b : A) → heightOf (join a b) ≡ max (heightOf a) (heightOf b)
+
+module _ {A : Type 0} (k : Rows A) where
   -- What has been read of the row, with so many owed.
   pub record Row (items : List ℕ) (at depth : ℕ) (whole : Taken A) (place deep high owed : ℕ) : Type 0 where
     pub so-far : A
-    pub goes-on : whole ≡ ahead (join so-far) (rows owed (drop place items))
-    pub nests : deep ≡ nestOf so-far
-    pub heights : high ≡ heightOf so-far
+    pub goes-on : whole ≡ ahead (k .join so-far) (k .rows owed (drop place items))
+    pub nests : deep ≡ k .nestOf so-far
+    pub heights : high ≡ k .heightOf so-far
     pub onward : at ≤ place
     pub inside : place ≤ length items
     pub shallow : deep ≤ depth
     pub low : high + at ≤ place
 
   -- Nothing read yet.
-  pub row-start : (items : List ℕ) (at depth count : ℕ) → at ≤ length items → nestOf empty ≡ 0 → heightOf empty ≡ 0
-      → Row items at depth (rows count (drop at items)) at 0 0 count
-  row-start items at depth count l en eh =
+  pub row-start : (items : List ℕ) (at depth count : ℕ) → at ≤ length items
+      → Row items at depth (k .rows count (drop at items)) at 0 0 count
+  row-start items at depth count l =
       record {
-        so-far = empty;
-        goes-on = go (rows count (drop at items));
-        nests = sym en;
-        heights = sym eh;
+        so-far = k .empty;
+        goes-on = go (k .rows count (drop at items));
+        nests = sym (k .nest-empty);
+        heights = sym (k .height-empty);
         onward = omega arith;
         inside = l;
         shallow = omega arith;
         low = omega arith;
       }
     where
-      go : (o : Taken A) → o ≡ ahead (join empty) o
+      go : (o : Taken A) → o ≡ ahead (k .join (k .empty)) o
       go none = refl
-      go (some r) = ap (λ (a : A). some (a, r .1)) (sym (empty-join (r .0)))
+      go (some r) = ap (λ (a : A). some (a, r .1)) (sym (k .empty-join (r .0)))
 
   -- One more: `rest` is what reading one then goes on with.
   pub row-more : (items : List ℕ) (at depth : ℕ) (whole : Taken A) (place deep high owed next nesting height deep′ high′ : ℕ) (one : A) → 0 < owed
       → Row items at depth whole place deep high owed
-      → ((n : ℕ) → rows (suc n) (drop place items) ≡ ahead (join one) (rows n (drop next items)))
-      → place ≤ next → next ≤ length items → nesting ≡ nestOf one → height ≡ heightOf one → nesting ≤ depth → height + place ≤ next
+      → ((n : ℕ) → k .rows (suc n) (drop place items) ≡ ahead (k .join one) (k .rows n (drop next items)))
+      → place ≤ next → next ≤ length items → nesting ≡ k .nestOf one → height ≡ k .heightOf one → nesting ≤ depth → height + place ≤ next
       → deep′ ≡ max deep nesting → high′ ≡ max high height → Row items at depth whole next deep′ high′ (owed - 1)
   row-more items at depth whole place deep high zero next nesting height deep′ high′ one z l goes o i en eh s b ed ei = absurd (omega arith)
   row-more items at depth whole place deep high (suc owed) next nesting height deep′ high′ one z l goes o i en eh s b ed ei =
       record {
-        so-far = join (l .so-far) one;
+        so-far = k .join (l .so-far) one;
         goes-on =
-            l .goes-on ∙ ap (ahead (join (l .so-far))) (goes owed) ∙ go (rows owed (drop next items)) ∙
-            ap (λ (n : ℕ). ahead (join (join (l .so-far) one)) (rows n (drop next items))) (let e : owed ≡ suc owed - 1 = omega arith in e);
-        nests = ed ∙ ap₂ max (l .nests) en ∙ sym (nest-join (l .so-far) one);
-        heights = ei ∙ ap₂ max (l .heights) eh ∙ sym (height-join (l .so-far) one);
+            l .goes-on ∙ ap (ahead (k .join (l .so-far))) (goes owed) ∙ go (k .rows owed (drop next items)) ∙
+            ap (λ (n : ℕ). ahead (k .join (k .join (l .so-far) one)) (k .rows n (drop next items))) (let e : owed ≡ suc owed - 1 = omega arith in e);
+        nests = ed ∙ ap₂ max (l .nests) en ∙ sym (k .nest-join (l .so-far) one);
+        heights = ei ∙ ap₂ max (l .heights) eh ∙ sym (k .height-join (l .so-far) one);
         onward = omega (arith, l .onward);
         inside = i;
         shallow = omega (arith, l .shallow);
         low = omega (arith, l .low, l .onward);
       }
     where
-      go : (t : Taken A) → ahead (join (l .so-far)) (ahead (join one) t) ≡ ahead (join (join (l .so-far) one)) t
+      go : (t : Taken A) → ahead (k .join (l .so-far)) (ahead (k .join one) t) ≡ ahead (k .join (k .join (l .so-far) one)) t
       go none = refl
-      go (some r) = ap (λ (a : A). some (a, r .1)) (sym (join-join (l .so-far) one (r .0)))
+      go (some r) = ap (λ (a : A). some (a, r .1)) (sym (k .join-join (l .so-far) one (r .0)))
 
   -- One that is malformed.
   pub row-stuck : (items : List ℕ) (at depth : ℕ) (whole : Taken A) (place deep high owed : ℕ) → 0 < owed → Row items at depth whole place deep high owed
-      → ((n : ℕ) → rows (suc n) (drop place items) ≡ none) → whole ≡ none
+      → ((n : ℕ) → k .rows (suc n) (drop place items) ≡ none) → whole ≡ none
   row-stuck items at depth whole place deep high zero z l stuck = absurd (omega arith)
-  row-stuck items at depth whole place deep high (suc owed) z l stuck = l .goes-on ∙ ap (ahead (join (l .so-far))) (stuck owed)
+  row-stuck items at depth whole place deep high (suc owed) z l stuck = l .goes-on ∙ ap (ahead (k .join (l .so-far))) (stuck owed)
 
   -- None owed.
   pub row-done : (items : List ℕ) (at depth : ℕ) (whole : Taken A) (place deep high owed : ℕ) → owed ≤ 0 → Row items at depth whole place deep high owed
-      → Walk items at 0 depth whole nestOf heightOf place deep high
+      → Walk items at 0 depth whole (k .nestOf) (k .heightOf) place deep high
   row-done items at depth whole place deep high zero z l =
       record {
         what = l .so-far;
         reads =
-            l .goes-on ∙ ap (ahead (join (l .so-far))) (stops (drop place items)) ∙
-            ap (λ (a : A). some (a, drop place items)) (join-empty (l .so-far));
+            l .goes-on ∙ ap (ahead (k .join (l .so-far))) (k .stops (drop place items)) ∙
+            ap (λ (a : A). some (a, drop place items)) (k .join-empty (l .so-far));
         nests = l .nests;
         heights = l .heights;
         onward = l .onward;
@@ -338,15 +350,41 @@ height-preds bare qs = omega arith
 height-preds (pred e ps) qs = omega (arith, height-preds ps qs)
 
 -- The row of steps and the row of predicates.
-abbrev pub StepRow : ℕ → List ℕ → ℕ → Taken Steps → ℕ → ℕ → ℕ → ℕ → Type 0
-StepRow depth items at whole place deep high owed =
-    Row (takeSteps (takeWithin depth)) append nestSteps heightSteps stop (λ ws. refl) append-stop append-append (λ a. refl) nest-append height-append
-    items at depth whole place deep high owed
+abbrev pub stepRows : ℕ → Rows Steps
+stepRows depth =
+    record {
+      rows = takeSteps (takeWithin depth);
+      join = append;
+      nestOf = nestSteps;
+      heightOf = heightSteps;
+      empty = stop;
+      stops = λ ws. refl;
+      nest-empty = refl;
+      height-empty = refl;
+      join-empty = append-stop;
+      empty-join = λ a. refl;
+      join-join = append-append;
+      nest-join = nest-append;
+      height-join = height-append;
+    }
 
-abbrev pub PredRow : ℕ → List ℕ → ℕ → Taken Preds → ℕ → ℕ → ℕ → ℕ → Type 0
-PredRow depth items at whole place deep high owed =
-    Row (takePreds (takeWithin depth)) appendPreds nestPreds heightPreds bare (λ ws. refl) preds-bare preds-append bare-preds nest-preds height-preds
-    items at depth whole place deep high owed
+abbrev pub predRows : ℕ → Rows Preds
+predRows depth =
+    record {
+      rows = takePreds (takeWithin depth);
+      join = appendPreds;
+      nestOf = nestPreds;
+      heightOf = heightPreds;
+      empty = bare;
+      stops = λ ws. refl;
+      nest-empty = refl;
+      height-empty = refl;
+      join-empty = preds-bare;
+      empty-join = bare-preds;
+      join-join = preds-append;
+      nest-join = nest-preds;
+      height-join = height-preds;
+    }
 
 -- What is found and put behind something is what is taken with that ahead.
 pub found-ahead : {A : Type 0} (put : A → A) (o : Taken A) → found o (λ r. some (put (r .0), r .1)) ≡ ahead put o
@@ -373,58 +411,23 @@ pub past-step-row : (depth : ℕ) (items : List ℕ) (place : ℕ) → length it
 past-step-row depth items place l n = rw (drop-of-length-le items l)
 
 -- One predicate more, in its bracket.
-pub pred-row : (depth : ℕ) (items : List ℕ) (place : ℕ) (e : Expr) (next : ℕ) → (depth ≡ 0 → ⊥) → orsFrom (takeWithin (depth - 1)) 0 (drop place items) ≡ some (e, drop next items) → (n : ℕ)
+pub pred-next : (depth : ℕ) (items : List ℕ) (place : ℕ) (e : Expr) (next : ℕ) → (depth ≡ 0 → ⊥) → takeExpr (takeWithin (depth - 1)) (drop place items) ≡ some (e, drop next items) → (n : ℕ)
     → takePreds (takeWithin depth) (suc n) (drop place items) ≡ ahead (appendPreds (pred e bare)) (takePreds (takeWithin depth) n (drop next items))
 unfolding appendPreds
-pred-row zero items place e next d p n = absurd (d refl)
-pred-row (suc depth) items place e next d p n =
-    let q : orsFrom (takeWithin depth) 0 (drop place items) ≡ some (e, drop next items) =
-    ap (λ (k : ℕ). orsFrom (takeWithin k) 0 (drop place items)) (let k : depth ≡ suc depth - 1 = omega arith in k) ∙ p in
-    rw (whole (takeWithin depth) (drop place items), q) (found-ahead (pred e) (takePreds (takeWithin (suc depth)) n (drop next items)))
+pred-next zero items place e next d p n = absurd (d refl)
+pred-next (suc depth) items place e next d p n =
+    let q : takeExpr (takeWithin depth) (drop place items) ≡ some (e, drop next items) =
+    ap (λ (k : ℕ). takeExpr (takeWithin k) (drop place items)) (let k : depth ≡ suc depth - 1 = omega arith in k) ∙ p in
+    rw q (found-ahead (pred e) (takePreds (takeWithin (suc depth)) n (drop next items)))
 
-pub bad-pred-row : (depth : ℕ) (items : List ℕ) (place : ℕ) → (depth ≡ 0 → ⊥) → orsFrom (takeWithin (depth - 1)) 0 (drop place items) ≡ none → (n : ℕ)
+pub pred-row : (depth : ℕ) (items : List ℕ) (place : ℕ) (e : Expr) (next : ℕ) → (depth ≡ 0 → ⊥) → orsFrom (takeWithin (depth - 1)) 0 (drop place items) ≡ some (e, drop next items) → (n : ℕ)
+    → takePreds (takeWithin depth) (suc n) (drop place items) ≡ ahead (appendPreds (pred e bare)) (takePreds (takeWithin depth) n (drop next items))
+pred-row depth items place e next d p n = pred-next depth items place e next d (whole (takeWithin (depth - 1)) (drop place items) ∙ p) n
+
+pub bad-pred-row : (depth : ℕ) (items : List ℕ) (place : ℕ) → (depth ≡ 0 → ⊥) → takeExpr (takeWithin (depth - 1)) (drop place items) ≡ none → (n : ℕ)
     → takePreds (takeWithin depth) (suc n) (drop place items) ≡ none
 bad-pred-row zero items place d p n = absurd (d refl)
 bad-pred-row (suc depth) items place d p n =
-    let q : orsFrom (takeWithin depth) 0 (drop place items) ≡ none =
-    ap (λ (k : ℕ). orsFrom (takeWithin k) 0 (drop place items)) (let k : depth ≡ suc depth - 1 = omega arith in k) ∙ p in
-    rw (whole (takeWithin depth) (drop place items), q)
-
--- How each begins, goes on and ends.
-pub steps-start : (depth : ℕ) (items : List ℕ) (at count : ℕ) → at ≤ length items → StepRow depth items at (takeSteps (takeWithin depth) count (drop at items)) at 0 0 count
-steps-start depth items at count l = row-start (takeSteps (takeWithin depth)) append nestSteps heightSteps stop (λ ws. refl) append-stop append-append (λ a. refl) nest-append height-append items at depth count l refl refl
-
-pub steps-more : (depth : ℕ) (items : List ℕ) (at : ℕ) (whole : Taken Steps) (place deep high owed next nesting height deep′ high′ : ℕ) (one : Steps) → 0 < owed
-    → StepRow depth items at whole place deep high owed
-    → ((n : ℕ) → takeSteps (takeWithin depth) (suc n) (drop place items) ≡ ahead (append one) (takeSteps (takeWithin depth) n (drop next items)))
-    → place ≤ next → next ≤ length items → nesting ≡ nestSteps one → height ≡ heightSteps one → nesting ≤ depth → height + place ≤ next
-    → deep′ ≡ max deep nesting → high′ ≡ max high height → StepRow depth items at whole next deep′ high′ (owed - 1)
-steps-more depth items at whole place deep high owed next nesting height deep′ high′ one z l goes o i en eh s b ed ei =
-    row-more (takeSteps (takeWithin depth)) append nestSteps heightSteps stop (λ ws. refl) append-stop append-append (λ a. refl) nest-append height-append items at depth whole place deep high owed next nesting height deep′ high′ one z l goes o i en eh s b ed ei
-
-pub steps-halt : (depth : ℕ) (items : List ℕ) (at : ℕ) (whole : Taken Steps) (place deep high owed : ℕ) → 0 < owed → StepRow depth items at whole place deep high owed
-    → ((n : ℕ) → takeSteps (takeWithin depth) (suc n) (drop place items) ≡ none) → whole ≡ none
-steps-halt depth items at whole place deep high owed z l h = row-stuck (takeSteps (takeWithin depth)) append nestSteps heightSteps stop (λ ws. refl) append-stop append-append (λ a. refl) nest-append height-append items at depth whole place deep high owed z l h
-
-pub steps-done : (depth : ℕ) (items : List ℕ) (at : ℕ) (whole : Taken Steps) (place deep high owed : ℕ) → owed ≤ 0 → StepRow depth items at whole place deep high owed
-    → Walk items at 0 depth whole nestSteps heightSteps place deep high
-steps-done depth items at whole place deep high owed z l = row-done (takeSteps (takeWithin depth)) append nestSteps heightSteps stop (λ ws. refl) append-stop append-append (λ a. refl) nest-append height-append items at depth whole place deep high owed z l
-
-pub preds-start : (depth : ℕ) (items : List ℕ) (at count : ℕ) → at ≤ length items → PredRow depth items at (takePreds (takeWithin depth) count (drop at items)) at 0 0 count
-preds-start depth items at count l = row-start (takePreds (takeWithin depth)) appendPreds nestPreds heightPreds bare (λ ws. refl) preds-bare preds-append bare-preds nest-preds height-preds items at depth count l refl refl
-
-pub preds-more : (depth : ℕ) (items : List ℕ) (at : ℕ) (whole : Taken Preds) (place deep high owed next nesting height deep′ high′ : ℕ) (one : Preds) → 0 < owed
-    → PredRow depth items at whole place deep high owed
-    → ((n : ℕ) → takePreds (takeWithin depth) (suc n) (drop place items) ≡ ahead (appendPreds one) (takePreds (takeWithin depth) n (drop next items)))
-    → place ≤ next → next ≤ length items → nesting ≡ nestPreds one → height ≡ heightPreds one → nesting ≤ depth → height + place ≤ next
-    → deep′ ≡ max deep nesting → high′ ≡ max high height → PredRow depth items at whole next deep′ high′ (owed - 1)
-preds-more depth items at whole place deep high owed next nesting height deep′ high′ one z l goes o i en eh s b ed ei =
-    row-more (takePreds (takeWithin depth)) appendPreds nestPreds heightPreds bare (λ ws. refl) preds-bare preds-append bare-preds nest-preds height-preds items at depth whole place deep high owed next nesting height deep′ high′ one z l goes o i en eh s b ed ei
-
-pub preds-halt : (depth : ℕ) (items : List ℕ) (at : ℕ) (whole : Taken Preds) (place deep high owed : ℕ) → 0 < owed → PredRow depth items at whole place deep high owed
-    → ((n : ℕ) → takePreds (takeWithin depth) (suc n) (drop place items) ≡ none) → whole ≡ none
-preds-halt depth items at whole place deep high owed z l h = row-stuck (takePreds (takeWithin depth)) appendPreds nestPreds heightPreds bare (λ ws. refl) preds-bare preds-append bare-preds nest-preds height-preds items at depth whole place deep high owed z l h
-
-pub preds-done : (depth : ℕ) (items : List ℕ) (at : ℕ) (whole : Taken Preds) (place deep high owed : ℕ) → owed ≤ 0 → PredRow depth items at whole place deep high owed
-    → Walk items at 0 depth whole nestPreds heightPreds place deep high
-preds-done depth items at whole place deep high owed z l = row-done (takePreds (takeWithin depth)) appendPreds nestPreds heightPreds bare (λ ws. refl) preds-bare preds-append bare-preds nest-preds height-preds items at depth whole place deep high owed z l
+    let q : takeExpr (takeWithin depth) (drop place items) ≡ none =
+    ap (λ (k : ℕ). takeExpr (takeWithin k) (drop place items)) (let k : depth ≡ suc depth - 1 = omega arith in k) ∙ p in
+    rw q

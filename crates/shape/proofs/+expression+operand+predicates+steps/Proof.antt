@@ -2,19 +2,18 @@
 -- Each loop's invariant is that what is left to read gives the answer of the whole (`Turn` of an expression, `Row` of steps and of predicates).
 -- The measure of a call is the number of items left, an expression's after the operators that it begins with, then the order predicates, expression, operand, steps. Assumes nothing.
 use Prim.Native.Nat.{_+_, _-_, _*_}
-use mathlib.Core.Path.{sym, _∙_, ap}
+use mathlib.Core.Path.{ap}
 use native.Mathlib.Omega.{arith}
 use borrow.Author.Needs.{needs}
 use denote.Ref.{now}
 use lib.ListN.{length, getD, drop}
 use Rattle.paper.specs.Items.{takePreds, takeSteps, takeWithin}
 use Rattle.paper.specs.Query.{stop, step, bare, pred}
-use Rattle.paper.proofs.Decoding.{whole}
 use Rattle.item.proofs.Saying.{said}
 use Rattle.shape.specs.Walks.{operators}
 use Rattle.shape.proofs.Walking.{Turn, turn-start, turn-stuck, turn-onward, term-low, turn-and, turn-or, turn-done}
-use Rattle.shape.proofs.Walking.{StepRow, steps-start, steps-more, steps-halt, steps-done, step-row, no-step-row, bad-step-row, past-step-row}
-use Rattle.shape.proofs.Walking.{PredRow, preds-start, preds-more, preds-halt, preds-done, pred-row, bad-pred-row}
+use Rattle.shape.proofs.Walking.{Row, row-start, row-more, row-stuck, row-done, stepRows, step-row, no-step-row, bad-step-row, past-step-row}
+use Rattle.shape.proofs.Walking.{predRows, pred-next, bad-pred-row}
 use Rattle.shape.proofs.Operands.{operand-past, not-step, operand-deep, operand-rest, operator-item, operators-there, walk-path, opens-joined, opens-not, walk-none, operand-bare, small}
 use Prim.Native.Nat.{ℕ, _<_}
 use borrow.Fn.Kinds.{In}
@@ -313,7 +312,7 @@ operand-returns-7 t c =
 
 abbrev predicates-Inv-loop : predicates-lts.InvT-loop
 predicates-Inv-loop items at count depth place₀ deep₀ high₀ owed₀ place deep high owed =
-    PredRow depth items at (takePreds (takeWithin depth) count (drop at items)) place deep high owed
+    Row (predRows depth) items at depth (takePreds (takeWithin depth) count (drop at items)) place deep high owed
 
 abbrev predicates-μ-loop : predicates-lts.MeasureT-loop
 predicates-μ-loop items at count depth place₀ deep₀ high₀ owed₀ place deep high owed = owed
@@ -321,13 +320,13 @@ predicates-μ-loop items at count depth place₀ deep₀ high₀ owed₀ place d
 predicates-loop-holds : (t : ℕ) → predicates-lts.Need-loop-holds (predicates-claims t) (predicates-at t) predicates.Post predicates-Inv-loop predicates-μ-loop
 predicates-loop-holds t c =
     let a = c .before .args in
-    preds-start (a .depth) (now (a .items)) (a .at) (a .count) (c .before .pre .1 .0)
+    row-start (predRows (a .depth)) (now (a .items)) (a .at) (a .depth) (a .count) (c .before .pre .1 .0)
 
 predicates-returns : (t : ℕ) → predicates-lts.Need-returns (predicates-claims t) (predicates-at t) predicates.Post predicates-Inv-loop predicates-μ-loop
 predicates-returns t c =
     let a = c .before .before .before .before .args in
     let l = c .before .before .loop in
-    preds-halt (a .depth) _ _ _ (l .place) (l .deep) (l .high) (l .owed) (c .before .loop-test .taken) (l .inv) (λ n. rw (c .if1 .taken))
+    row-stuck (predRows (a .depth)) _ _ _ _ (l .place) (l .deep) (l .high) (l .owed) (c .before .loop-test .taken) (l .inv) (λ n. rw (c .if1 .taken))
 
 predicates-sub-expression : (t : ℕ) → predicates-lts.Need-sub-expression (predicates-claims t) (predicates-at t) predicates.Post predicates-Inv-loop predicates-μ-loop
 predicates-sub-expression t c = search needs
@@ -345,8 +344,8 @@ predicates-returns-2 : (t : ℕ) → predicates-lts.Need-returns-2 (predicates-c
 predicates-returns-2 t c =
     let a = c .before .before .before .before .before .before .before .args in
     let l = c .before .before .before .before .before .loop in
-    preds-halt (a .depth) _ _ _ (l .place) (l .deep) (l .high) (l .owed) (c .before .before .before .before .loop-test .taken) (l .inv)
-    (bad-pred-row (a .depth) (now (a .items)) (l .place) (c .before .before .before .if1 .left) (sym (whole _ _) ∙ (rw (c .enum-told .given .1) at (c .before .before .expression .ensures))))
+    row-stuck (predRows (a .depth)) _ _ _ _ (l .place) (l .deep) (l .high) (l .owed) (c .before .before .before .before .loop-test .taken) (l .inv)
+    (bad-pred-row (a .depth) (now (a .items)) (l .place) (c .before .before .before .if1 .left) (rw (c .enum-told .given .1) at (c .before .before .expression .ensures)))
 
 predicates-add-larger : (t : ℕ) → predicates-lts.Need-add-larger (predicates-claims t) (predicates-at t) predicates.Post predicates-Inv-loop predicates-μ-loop
 predicates-add-larger t c =
@@ -371,18 +370,18 @@ predicates-loop-again t c =
     let l = c .before .before .before .before .before .before .before .before .loop in
     let m = c .before .before .before .more .given in
     let w = rw (m .1) at (c .before .before .before .before .before .expression .ensures) in
-    preds-more (a .depth) (now (a .items)) (a .at) _ (l .place) (l .deep) (l .high) (l .owed) (m .0 .0) (m .0 .1 .0 + 1) (m .0 .1 .1 .0) _ _ (pred (w .what) bare)
-    (c .before .before .before .before .before .before .before .loop-test .taken) (l .inv) (pred-row (a .depth) (now (a .items)) (l .place) (w .what) (m .0 .0) (c .before .before .before .before .before .before .if1 .left) (sym (whole _ _) ∙ w .reads)) (w .onward) (w .inside)
+    row-more (predRows (a .depth)) (now (a .items)) (a .at) (a .depth) _ (l .place) (l .deep) (l .high) (l .owed) (m .0 .0) (m .0 .1 .0 + 1) (m .0 .1 .1 .0) _ _ (pred (w .what) bare)
+    (c .before .before .before .before .before .before .before .loop-test .taken) (l .inv) (pred-next (a .depth) (now (a .items)) (l .place) (w .what) (m .0 .0) (c .before .before .before .before .before .before .if1 .left) (w .reads)) (w .onward) (w .inside)
     (omega (arith, w .nests)) (omega (arith, w .heights)) (omega (arith, w .shallow, c .before .before .before .before .before .before .if1 .left)) (omega (arith, w .low)) (c .before .larger .ensures) (c .larger2 .ensures)
 
 predicates-returns-3 : (t : ℕ) → predicates-lts.Need-returns-3 (predicates-claims t) (predicates-at t) predicates.Post predicates-Inv-loop predicates-μ-loop
 predicates-returns-3 t c =
     let l = c .before .loop in
-    preds-done _ _ _ _ (l .place) (l .deep) (l .high) (l .owed) (c .loop-test .left) (l .inv)
+    row-done (predRows (c .before .before .before .args .depth)) _ _ _ _ (l .place) (l .deep) (l .high) (l .owed) (c .loop-test .left) (l .inv)
 
 abbrev steps-Inv-loop : steps-lts.InvT-loop
 steps-Inv-loop items at count depth place₀ deep₀ high₀ owed₀ place deep high owed =
-    StepRow depth items at (takeSteps (takeWithin depth) count (drop at items)) place deep high owed
+    Row (stepRows depth) items at depth (takeSteps (takeWithin depth) count (drop at items)) place deep high owed
 
 abbrev steps-μ-loop : steps-lts.MeasureT-loop
 steps-μ-loop items at count depth place₀ deep₀ high₀ owed₀ place deep high owed = owed
@@ -390,13 +389,13 @@ steps-μ-loop items at count depth place₀ deep₀ high₀ owed₀ place deep h
 steps-loop-holds : (t : ℕ) → steps-lts.Need-loop-holds (steps-claims t) (steps-at t) steps.Post steps-Inv-loop steps-μ-loop
 steps-loop-holds t c =
     let a = c .before .args in
-    steps-start (a .depth) (now (a .items)) (a .at) (a .count) (c .before .pre .1 .0)
+    row-start (stepRows (a .depth)) (now (a .items)) (a .at) (a .depth) (a .count) (c .before .pre .1 .0)
 
 steps-returns : (t : ℕ) → steps-lts.Need-returns (steps-claims t) (steps-at t) steps.Post steps-Inv-loop steps-μ-loop
 steps-returns t c =
     let a = c .before .before .before .before .args in
     let l = c .before .before .loop in
-    steps-halt (a .depth) _ _ _ (l .place) (l .deep) (l .high) (l .owed) (c .before .loop-test .taken) (l .inv) (past-step-row (a .depth) (now (a .items)) (l .place) (c .if1 .taken))
+    row-stuck (stepRows (a .depth)) _ _ _ _ (l .place) (l .deep) (l .high) (l .owed) (c .before .loop-test .taken) (l .inv) (past-step-row (a .depth) (now (a .items)) (l .place) (c .if1 .taken))
 
 steps-mul-unpack : (t : ℕ) → steps-lts.Need-mul-unpack (steps-claims t) (steps-at t) steps.Post steps-Inv-loop steps-μ-loop
 steps-mul-unpack t c = search needs
@@ -416,7 +415,7 @@ steps-returns-2 t c =
     let l = c .before .before .before .before .before .loop in
     let u = c .before .unpack in
     let w = getD (now (a .items)) (l .place) 0 in
-    steps-halt (a .depth) _ _ _ (l .place) (l .deep) (l .high) (l .owed) (c .before .before .before .before .loop-test .taken) (l .inv)
+    row-stuck (stepRows (a .depth)) _ _ _ _ (l .place) (l .deep) (l .high) (l .owed) (c .before .before .before .before .loop-test .taken) (l .inv)
     (no-step-row (a .depth) (now (a .items)) (l .place) (c .before .before .before .if1 .left) (not-step w (u .result) (said w (u .result) (u .ensures)) (c .match .keys2)))
 
 steps-add-predicates : (t : ℕ) → steps-lts.Need-add-predicates (steps-claims t) (steps-at t) steps.Post steps-Inv-loop steps-μ-loop
@@ -438,7 +437,7 @@ steps-returns-3 t c =
     let u = c .before .before .before .before .before .before .unpack in
     let w = getD (now (a .items)) (l .place) 0 in
     let s = rw (c .before .before .before .before .item .given .1) at (said w (u .result) (u .ensures)) in
-    steps-halt (a .depth) _ _ _ (l .place) (l .deep) (l .high) (l .owed) (c .before .before .before .before .before .before .before .before .before .loop-test .taken) (l .inv)
+    row-stuck (stepRows (a .depth)) _ _ _ _ (l .place) (l .deep) (l .high) (l .owed) (c .before .before .before .before .before .before .before .before .before .loop-test .taken) (l .inv)
     (bad-step-row (a .depth) (now (a .items)) (l .place) (s .0) _ (c .before .before .before .before .before .before .before .before .if1 .left) (s .1) (ap (λ x. x .count) (s .2)) (rw (c .enum-told .given .1) at (c .before .before .predicates .ensures)))
 
 steps-larger-requires : (t : ℕ) → steps-lts.Need-larger-requires (steps-claims t) (steps-at t) steps.Post steps-Inv-loop steps-μ-loop
@@ -462,7 +461,7 @@ steps-loop-again t c =
     let s = rw (c .before .before .before .before .before .before .before .item .given .1) at (said w (u .result) (u .ensures)) in
     let m = c .before .before .before .more .given in
     let p = rw (m .1) at (c .before .before .before .before .before .predicates .ensures) in
-    steps-more (a .depth) (now (a .items)) (a .at) _ (l .place) (l .deep) (l .high) (l .owed) (m .0 .0) (m .0 .1 .0) (m .0 .1 .1 .0) _ _ (step (s .0 .axis) (s .0 .test) (p .what) stop)
+    row-more (stepRows (a .depth)) (now (a .items)) (a .at) (a .depth) _ (l .place) (l .deep) (l .high) (l .owed) (m .0 .0) (m .0 .1 .0) (m .0 .1 .1 .0) _ _ (step (s .0 .axis) (s .0 .test) (p .what) stop)
     (c .before .before .before .before .before .before .before .before .before .before .before .before .loop-test .taken) (l .inv)
     (step-row (a .depth) (now (a .items)) (l .place) (s .0) _ (p .what) (m .0 .0) (c .before .before .before .before .before .before .before .before .before .before .before .if1 .left) (s .1) (ap (λ x. x .count) (s .2)) (p .reads)) (omega (arith, p .onward)) (p .inside)
     (omega (arith, p .nests)) (omega (arith, p .heights)) (p .shallow) (omega (arith, p .low)) (c .before .larger .ensures) (c .larger2 .ensures)
@@ -470,7 +469,7 @@ steps-loop-again t c =
 steps-returns-4 : (t : ℕ) → steps-lts.Need-returns-4 (steps-claims t) (steps-at t) steps.Post steps-Inv-loop steps-μ-loop
 steps-returns-4 t c =
     let l = c .before .loop in
-    steps-done _ _ _ _ (l .place) (l .deep) (l .high) (l .owed) (c .loop-test .left) (l .inv)
+    row-done (stepRows (c .before .before .before .args .depth)) _ _ _ _ (l .place) (l .deep) (l .high) (l .owed) (c .loop-test .left) (l .inv)
 
 pub +expression+operand+predicates+steps-spec : {M : Type 1} → statement M
 +expression+operand+predicates+steps-spec =
