@@ -186,52 +186,52 @@ module _ (names : List (List ℕ)) (depth : ℕ) (items : List ℕ) (at pen : �
         past = omega (arith, operators-run items at ors ands o a);
       }
 
-  module _ (out : List ℕ) (place byte ands ors : ℕ) (t : Turn out place byte ands ors) where
-    pub turn-low : byte + 16384 * (at + operators (drop at items)) ≤ pen + 16384 * place
-    turn-low = omega (arith, t .outer .low, t .inner .low)
+module _ {names : List (List ℕ)} {depth : ℕ} {items : List ℕ} {at pen : ℕ} {old out : List ℕ} {place byte ands ors : ℕ} (t : Turn names depth items at pen old out place byte ands ors) where
+  pub turn-low : byte + 16384 * (at + operators (drop at items)) ≤ pen + 16384 * place
+  turn-low = omega (arith, t .outer .low, t .inner .low)
 
-    pub turn-long : length out ≡ length old
-    turn-long = t .inner .long ∙ t .outer .long
+  pub turn-long : length out ≡ length old
+  turn-long = t .inner .long ∙ t .outer .long
 
-    -- The operand is printed.
-    module _ (new : List ℕ) (r : Reached) (w : Prints names items place byte 64 (takeOperand (takeWithin depth) (drop place items)) operandPieces out new r) where
-      pub turn-onward : place < r .item
-      turn-onward = omega (arith, w .low, w .puts .moved)
+  -- The operand is printed.
+  module _ {new : List ℕ} {r : Reached} (w : Prints names items place byte 64 (takeOperand (takeWithin depth) (drop place items)) operandPieces out new r) where
+    pub turn-onward : place < r .item
+    turn-onward = omega (arith, w .low, w .puts .moved)
 
-      operands : Left names andItem depth items (t .since) (t .since + leading andItem (drop (t .since) items)) (t .begun) (t .mid) new (r .item) (r .byte) ands
-      operands = t .inner .gives new r w
+    operands : Left names andItem depth items (t .since) (t .since + leading andItem (drop (t .since) items)) (t .begun) (t .mid) new (r .item) (r .byte) ands
+    operands = t .inner .gives new r w
 
-      -- It is not its term's last.
-      pub turn-and : (last : List ℕ) (ready : ℕ) → 0 < ands → Puts (ascii " and ") (r .byte) new last ready → Turn last (r .item) ready (ands - 1) ors
-      turn-and last ready z p =
+    -- It is not its term's last.
+    pub turn-and : {last : List ℕ} {ready : ℕ} → 0 < ands → Puts (ascii " and ") (r .byte) new last ready → Turn names depth items at pen old last (r .item) ready (ands - 1) ors
+    turn-and {last} {ready} z p =
+        record {
+          since = t .since;
+          begun = t .begun;
+          mid = t .mid;
+          outer = t .outer;
+          inner =
+              awaits-next names andItem depth items (t .since) (t .since + leading andItem (drop (t .since) items)) (t .begun) (t .mid) (ands-laws depth) (ands-text names) (t .outer .there)
+              new last (r .item) (r .byte) ready ands z operands p;
+          past = omega (arith, t .past, w .onward);
+        }
+
+    -- The term is printed.
+    module _ (z : ands ≤ 0) where
+      terms : Left names orItem depth items at (at + operators (drop at items)) pen old new (r .item) (r .byte) ors
+      terms = t .outer .gives new r (left-done names andItem depth items (t .since) (t .since + leading andItem (drop (t .since) items)) (t .begun) (t .mid) (ands-laws depth) (ands-text names) new r ands z operands)
+
+      pub turn-or : {last : List ℕ} {ready count : ℕ} → Some (takeExpr (takeWithin depth) (drop at items)) → 0 < ors → Puts (ascii " or ") (r .byte) new last ready
+          → count ≡ leading andItem (drop (r .item) items) → r .item + count ≤ length items → Turn names depth items at pen old last (r .item + count) ready count (ors - 1)
+      turn-or {last} {ready} {count} s y p e inside =
+          let outer = awaits-next names orItem depth items at (at + operators (drop at items)) pen old (ors-laws depth) (ors-text names) s new last (r .item) (r .byte) ready ors y terms p in
           record {
-            since = t .since;
-            begun = t .begun;
-            mid = t .mid;
-            outer = t .outer;
-            inner =
-                awaits-next names andItem depth items (t .since) (t .since + leading andItem (drop (t .since) items)) (t .begun) (t .mid) (ands-laws depth) (ands-text names) (t .outer .there)
-                new last (r .item) (r .byte) ready ands z operands p;
+            since = r .item;
+            begun = ready;
+            mid = last;
+            outer = outer;
+            inner = ands-first names depth items at pen old (r .item) ready last (outer .there) count e inside;
             past = omega (arith, t .past, w .onward);
           }
 
-      -- The term is printed.
-      module _ (z : ands ≤ 0) where
-        terms : Left names orItem depth items at (at + operators (drop at items)) pen old new (r .item) (r .byte) ors
-        terms = t .outer .gives new r (left-done names andItem depth items (t .since) (t .since + leading andItem (drop (t .since) items)) (t .begun) (t .mid) (ands-laws depth) (ands-text names) new r ands z operands)
-
-        pub turn-or : Some (takeExpr (takeWithin depth) (drop at items)) → (last : List ℕ) (ready : ℕ) → 0 < ors → Puts (ascii " or ") (r .byte) new last ready
-            → (count : ℕ) → count ≡ leading andItem (drop (r .item) items) → r .item + count ≤ length items → Turn last (r .item + count) ready count (ors - 1)
-        turn-or s last ready y p count e inside =
-            let outer = awaits-next names orItem depth items at (at + operators (drop at items)) pen old (ors-laws depth) (ors-text names) s new last (r .item) (r .byte) ready ors y terms p in
-            record {
-              since = r .item;
-              begun = ready;
-              mid = last;
-              outer = outer;
-              inner = ands-first (r .item) ready last (outer .there) count e inside;
-              past = omega (arith, t .past, w .onward);
-            }
-
-        pub turn-done : ors ≤ 0 → Prints names items (at + operators (drop at items)) pen 64 (takeExpr (takeWithin depth) (drop at items)) exprPieces old new r
-        turn-done y = left-done names orItem depth items at (at + operators (drop at items)) pen old (ors-laws depth) (ors-text names) new r ors y terms
+      pub turn-done : ors ≤ 0 → Prints names items (at + operators (drop at items)) pen 64 (takeExpr (takeWithin depth) (drop at items)) exprPieces old new r
+      turn-done y = left-done names orItem depth items at (at + operators (drop at items)) pen old (ors-laws depth) (ors-text names) new r ors y terms

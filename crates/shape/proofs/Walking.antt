@@ -151,56 +151,56 @@ module _ (depth : ℕ) (items : List ℕ) (at : ℕ) where
         past = omega (arith, operators-run items at ors ands o a);
       }
 
-  module _ (place deep high term ands ors : ℕ) (t : Turn place deep high term ands ors) where
-    pub turn-stuck : takeOperand (takeWithin depth) (drop place items) ≡ none → takeExpr (takeWithin depth) (drop at items) ≡ none
-    turn-stuck h = t .outer .stuck (t .inner .stuck h)
+module _ {depth : ℕ} {items : List ℕ} {at place deep high term ands ors : ℕ} (t : Turn depth items at place deep high term ands ors) where
+  pub turn-stuck : takeOperand (takeWithin depth) (drop place items) ≡ none → takeExpr (takeWithin depth) (drop at items) ≡ none
+  turn-stuck h = t .outer .stuck (t .inner .stuck h)
 
-    -- The operand is read.
-    module _ (next nesting height deep′ term′ : ℕ) (w : Walk items place 0 depth (takeOperand (takeWithin depth) (drop place items)) nestOperand heightExpr next nesting height)
-        (ed : deep′ ≡ max deep nesting) (et : term′ ≡ joinedHeight term height) where
-      pub turn-onward : place < next
-      turn-onward = omega (arith, w .low, w .heights, some-height (w .what))
+  -- The operand is read.
+  module _ {next nesting height deep′ term′ : ℕ} (w : Walk items place 0 depth (takeOperand (takeWithin depth) (drop place items)) nestOperand heightExpr next nesting height)
+      (ed : deep′ ≡ max deep nesting) (et : term′ ≡ joinedHeight term height) where
+    pub turn-onward : place < next
+    turn-onward = omega (arith, w .low, w .heights, some-height (w .what))
 
-      operands : Left andItem depth items (t .since) next (max (t .inner-deep) nesting) term′ ands
-      operands = t .inner .gives next nesting height (max (t .inner-deep) nesting) term′ w refl et
+    operands : Left andItem depth items (t .since) next (max (t .inner-deep) nesting) term′ ands
+    operands = t .inner .gives next nesting height (max (t .inner-deep) nesting) term′ w refl et
 
-      pub term-low : term′ ≤ next
-      term-low = omega (arith, operands .low)
+    pub term-low : term′ ≤ next
+    term-low = omega (arith, operands .low)
 
-      -- It is not its term's last.
-      pub turn-and : 0 < ands → Turn next deep′ high term′ (ands - 1) ors
-      turn-and z =
+    -- It is not its term's last.
+    pub turn-and : 0 < ands → Turn depth items at next deep′ high term′ (ands - 1) ors
+    turn-and z =
+        record {
+          since = t .since;
+          outer-deep = t .outer-deep;
+          inner-deep = max (t .inner-deep) nesting;
+          deepest = omega (arith, ed, t .deepest);
+          outer = t .outer;
+          inner = awaits-next andItem depth items (t .since) (ands-laws depth) next (max (t .inner-deep) nesting) term′ ands z operands;
+          past = omega (arith, t .past, w .onward);
+        }
+
+    -- The term is read.
+    module _ {high′ : ℕ} (z : ands ≤ 0) (eh : high′ ≡ joinedHeight high term′) where
+      terms : Left orItem depth items at next deep′ high′ ors
+      terms =
+          t .outer .gives next (max (t .inner-deep) nesting) term′ deep′ high′
+          (left-done andItem depth items (t .since) (ands-laws depth) next (max (t .inner-deep) nesting) term′ ands z operands) (omega (arith, ed, t .deepest)) eh
+
+      pub turn-or : {count : ℕ} → 0 < ors → count ≡ leading andItem (drop next items) → next + count ≤ length items → Turn depth items at (next + count) deep′ high′ 0 count (ors - 1)
+      turn-or {count} y e inside =
           record {
-            since = t .since;
-            outer-deep = t .outer-deep;
-            inner-deep = max (t .inner-deep) nesting;
-            deepest = omega (arith, ed, t .deepest);
-            outer = t .outer;
-            inner = awaits-next andItem depth items (t .since) (ands-laws depth) next (max (t .inner-deep) nesting) term′ ands z operands;
+            since = next;
+            outer-deep = deep′;
+            inner-deep = 0;
+            deepest = omega arith;
+            outer = awaits-next orItem depth items at (ors-laws depth) next deep′ high′ ors y terms;
+            inner = awaits-first andItem depth items next (ands-laws depth) count e inside;
             past = omega (arith, t .past, w .onward);
           }
 
-      -- The term is read.
-      module _ (high′ : ℕ) (z : ands ≤ 0) (eh : high′ ≡ joinedHeight high term′) where
-        terms : Left orItem depth items at next deep′ high′ ors
-        terms =
-            t .outer .gives next (max (t .inner-deep) nesting) term′ deep′ high′
-            (left-done andItem depth items (t .since) (ands-laws depth) next (max (t .inner-deep) nesting) term′ ands z operands) (omega (arith, ed, t .deepest)) eh
-
-        pub turn-or : 0 < ors → (count : ℕ) → count ≡ leading andItem (drop next items) → next + count ≤ length items → Turn (next + count) deep′ high′ 0 count (ors - 1)
-        turn-or y count e inside =
-            record {
-              since = next;
-              outer-deep = deep′;
-              inner-deep = 0;
-              deepest = omega arith;
-              outer = awaits-next orItem depth items at (ors-laws depth) next deep′ high′ ors y terms;
-              inner = awaits-first andItem depth items next (ands-laws depth) count e inside;
-              past = omega (arith, t .past, w .onward);
-            }
-
-        pub turn-done : ors ≤ 0 → Walk items at 0 depth (takeExpr (takeWithin depth) (drop at items)) nestExpr heightExpr next deep′ high′
-        turn-done y = left-done orItem depth items at (ors-laws depth) next deep′ high′ ors y terms
+      pub turn-done : ors ≤ 0 → Walk items at 0 depth (takeExpr (takeWithin depth) (drop at items)) nestExpr heightExpr next deep′ high′
+      turn-done y = left-done orItem depth items at (ors-laws depth) next deep′ high′ ors y terms
 
 -- What is taken, with more put before it.
 abbrev pub ahead : {A : Type 0} → (A → A) → Taken A → Taken A

@@ -134,51 +134,44 @@ expression-loop-holds t c =
 
 expression-operand-requires : (t : ℕ) → expression-lts.Need-operand-requires (expression-claims t) (expression-at t) expression.Post expression-Inv-loop expression-μ-loop
 expression-operand-requires t c κs =
-    let a = c .before .before .before .before .before .before .before .args in
     let l = c .before .loop in
     let p = c .before .before .before .before .before .before .before .pre .1 in
-    let i = l .inv in (omega (arith, c .before .before .before .before .before .before .before .pre .0, i .past), (p .0, ((i .inner .inside, omega (arith, turn-low (namesOf (now (a .list))) (a .depth) (now (a .items)) (a .at) (a .pen) (now (a .out)) _ (l .place) (l .byte) (l .ands) (l .ors) (l .inv), p .1 .0 .1)), i .inner .there)))
+    let i = l .inv in (omega (arith, c .before .before .before .before .before .before .before .pre .0, i .past), (p .0, ((i .inner .inside, omega (arith, turn-low (l .inv), p .1 .0 .1)), i .inner .there)))
 
 expression-put-and-requires : (t : ℕ) → expression-lts.Need-put-and-requires (expression-claims t) (expression-at t) expression.Post expression-Inv-loop expression-μ-loop
 expression-put-and-requires t c κs =
-    let a = c .before .before .before .before .before .before .before .before .before .before .before .before .args in
     let l = c .before .before .before .before .before .before .loop in
     let w = c .before .before .before .before .operand .ensures in
-    omega (arith, w .low, w .inside, turn-low (namesOf (now (a .list))) (a .depth) (now (a .items)) (a .at) (a .pen) (now (a .out)) _ (l .place) (l .byte) (l .ands) (l .ors) (l .inv), c .before .before .before .before .before .before .before .before .before .before .before .before .pre .1 .1 .0 .1)
+    omega (arith, w .low, w .inside, turn-low (l .inv), c .before .before .before .before .before .before .before .before .before .before .before .before .pre .1 .1 .0 .1)
 
 expression-sub-ands : (t : ℕ) → expression-lts.Need-sub-ands (expression-claims t) (expression-at t) expression.Post expression-Inv-loop expression-μ-loop
 expression-sub-ands t c = omega (arith, c .before .before .before .before .if1 .taken)
 
 expression-loop-less : (t : ℕ) → expression-lts.Need-loop-less (expression-claims t) (expression-at t) expression.Post expression-Inv-loop expression-μ-loop
 expression-loop-less t c =
-    let a = c .before .before .before .before .before .before .before .before .before .before .before .before .before .before .before .args in
     let l = c .before .before .before .before .before .before .before .before .before .loop in
-    omega (arith, turn-onward (namesOf (now (a .list))) (a .depth) (now (a .items)) (a .at) (a .pen) (now (a .out)) _ (l .place) (l .byte) (l .ands) (l .ors) (l .inv) _ (c .before .before .before .before .before .before .before .operand .result) (c .before .before .before .before .before .before .before .operand .ensures), c .before .before .before .before .before .before .before .operand .ensures .inside)
+    omega (arith, turn-onward (l .inv) (c .before .before .before .before .before .before .before .operand .ensures), c .before .before .before .before .before .before .before .operand .ensures .inside)
 
 expression-loop-again : (t : ℕ) → expression-lts.Need-loop-again (expression-claims t) (expression-at t) expression.Post expression-Inv-loop expression-μ-loop
 expression-loop-again t c =
-    let a = c .before .before .before .before .before .before .before .before .before .before .before .before .before .before .before .args in
     let l = c .before .before .before .before .before .before .before .before .before .loop in
-    turn-and (namesOf (now (a .list))) (a .depth) (now (a .items)) (a .at) (a .pen) (now (a .out)) _ (l .place) (l .byte) (l .ands) (l .ors) (l .inv) _ (c .before .before .before .before .before .before .before .operand .result) (c .before .before .before .before .before .before .before .operand .ensures) _ _ (c .before .before .before .before .if1 .taken) (c .before .before .put-and .ensures)
+    turn-and (l .inv) (c .before .before .before .before .before .before .before .operand .ensures) (c .before .before .before .before .if1 .taken) (c .before .before .put-and .ensures)
 
 expression-same-length : (t : ℕ) → expression-lts.Need-same-length (expression-claims t) (expression-at t) expression.Post expression-Inv-loop expression-μ-loop
 expression-same-length t c =
-    let a = c .before .before .before .before .before .before .before .before .before .before .before .before .args in
     let l = c .before .before .before .before .before .before .loop in
-    puts-long (c .before .before .before .before .operand .ensures .puts) ∙ turn-long (namesOf (now (a .list))) (a .depth) (now (a .items)) (a .at) (a .pen) (now (a .out)) _ (l .place) (l .byte) (l .ands) (l .ors) (l .inv)
+    puts-long (c .before .before .before .before .operand .ensures .puts) ∙ turn-long (l .inv)
 
 expression-returns : (t : ℕ) → expression-lts.Need-returns (expression-claims t) (expression-at t) expression.Post expression-Inv-loop expression-μ-loop
 expression-returns t c =
-    let a = c .before .before .before .before .before .before .before .before .before .before .before .before .args in
     let l = c .before .before .before .before .before .before .loop in
-    turn-done (namesOf (now (a .list))) (a .depth) (now (a .items)) (a .at) (a .pen) (now (a .out)) _ (l .place) (l .byte) (l .ands) (l .ors) (l .inv) _ (c .before .before .before .before .operand .result) (c .before .before .before .before .operand .ensures) (c .before .if1 .left) (omega (arith, c .if2 .taken))
+    turn-done (l .inv) (c .before .before .before .before .operand .ensures) (c .before .if1 .left) (omega (arith, c .if2 .taken))
 
 expression-put-or-requires : (t : ℕ) → expression-lts.Need-put-or-requires (expression-claims t) (expression-at t) expression.Post expression-Inv-loop expression-μ-loop
 expression-put-or-requires t c κs =
-    let a = c .before .before .before .before .before .before .before .before .before .before .before .before .before .args in
     let l = c .before .before .before .before .before .before .before .loop in
     let w = c .before .before .before .before .before .operand .ensures in
-    omega (arith, w .low, w .inside, turn-low (namesOf (now (a .list))) (a .depth) (now (a .items)) (a .at) (a .pen) (now (a .out)) _ (l .place) (l .byte) (l .ands) (l .ors) (l .inv), c .before .before .before .before .before .before .before .before .before .before .before .before .before .pre .1 .1 .0 .1)
+    omega (arith, w .low, w .inside, turn-low (l .inv), c .before .before .before .before .before .before .before .before .before .before .before .before .before .pre .1 .1 .0 .1)
 
 expression-sub-ors : (t : ℕ) → expression-lts.Need-sub-ors (expression-claims t) (expression-at t) expression.Post expression-Inv-loop expression-μ-loop
 expression-sub-ors t c = omega (arith, c .before .before .before .before .if2 .left)
@@ -191,15 +184,13 @@ expression-add-place-3 t c = omega (arith, c .run-of3 .ensures .1, c .before .be
 
 expression-loop-less-2 : (t : ℕ) → expression-lts.Need-loop-less-2 (expression-claims t) (expression-at t) expression.Post expression-Inv-loop expression-μ-loop
 expression-loop-less-2 t c =
-    let a = c .before .before .before .before .before .before .before .before .before .before .before .before .before .before .before .before .before .args in
     let l = c .before .before .before .before .before .before .before .before .before .before .before .loop in
-    omega (arith, turn-onward (namesOf (now (a .list))) (a .depth) (now (a .items)) (a .at) (a .pen) (now (a .out)) _ (l .place) (l .byte) (l .ands) (l .ors) (l .inv) _ (c .before .before .before .before .before .before .before .before .before .operand .result) (c .before .before .before .before .before .before .before .before .before .operand .ensures), c .before .before .before .before .before .before .before .before .before .operand .ensures .inside, c .run-of3 .ensures .1)
+    omega (arith, turn-onward (l .inv) (c .before .before .before .before .before .before .before .before .before .operand .ensures), c .before .before .before .before .before .before .before .before .before .operand .ensures .inside, c .run-of3 .ensures .1)
 
 expression-loop-again-2 : (t : ℕ) → expression-lts.Need-loop-again-2 (expression-claims t) (expression-at t) expression.Post expression-Inv-loop expression-μ-loop
 expression-loop-again-2 t c =
-    let a = c .before .before .before .before .before .before .before .before .before .before .before .before .before .before .before .before .before .args in
     let l = c .before .before .before .before .before .before .before .before .before .before .before .loop in
-    turn-or (namesOf (now (a .list))) (a .depth) (now (a .items)) (a .at) (a .pen) (now (a .out)) _ (l .place) (l .byte) (l .ands) (l .ors) (l .inv) _ (c .before .before .before .before .before .before .before .before .before .operand .result) (c .before .before .before .before .before .before .before .before .before .operand .ensures) (c .before .before .before .before .before .before .if1 .left) (c .before .before .before .before .before .before .before .before .before .before .before .before .before .before .before .before .before .pre .1 .1 .1) _ _ (omega (arith, c .before .before .before .before .before .if2 .left)) (c .before .before .before .put-or .ensures) _ (c .run-of3 .ensures .0) (c .run-of3 .ensures .1)
+    turn-or (l .inv) (c .before .before .before .before .before .before .before .before .before .operand .ensures) (c .before .before .before .before .before .before .if1 .left) (c .before .before .before .before .before .before .before .before .before .before .before .before .before .before .before .before .before .pre .1 .1 .1) (omega (arith, c .before .before .before .before .before .if2 .left)) (c .before .before .before .put-or .ensures) (c .run-of3 .ensures .0) (c .run-of3 .ensures .1)
 
 -- Where the item is that of `not`.
 operand-not : (t : ℕ) (c : operand-lts.After-enum-told (operand-claims t) (operand-at t) operand.Post) →

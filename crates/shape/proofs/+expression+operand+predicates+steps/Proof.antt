@@ -130,9 +130,8 @@ expression-enum-told t c = search needs
 
 expression-returns : (t : ℕ) → expression-lts.Need-returns (expression-claims t) (expression-at t) expression.Post expression-Inv-loop expression-μ-loop
 expression-returns t c =
-    let a = c .before .before .before .before .before .before .before .args in
     let l = c .before .before .before .loop in
-    turn-stuck (a .depth) (now (a .items)) (a .at) (l .place) (l .deep) (l .high) (l .term) (l .ands) (l .ors) (l .inv) (rw (c .enum-told .given .1) at (c .before .before .operand .ensures))
+    turn-stuck (l .inv) (rw (c .enum-told .given .1) at (c .before .before .operand .ensures))
 
 expression-larger-requires : (t : ℕ) → expression-lts.Need-larger-requires (expression-claims t) (expression-at t) expression.Post expression-Inv-loop expression-μ-loop
 expression-larger-requires t c κs = search needs
@@ -148,31 +147,27 @@ expression-sub-ands t c = omega (arith, c .if1 .taken)
 
 expression-loop-less : (t : ℕ) → expression-lts.Need-loop-less (expression-claims t) (expression-at t) expression.Post expression-Inv-loop expression-μ-loop
 expression-loop-less t c =
-    let a = c .before .before .before .before .before .before .before .before .before .before .before .args in
     let l = c .before .before .before .before .before .before .before .loop in
     let w = rw (c .before .before .before .before .one .given .1) at (c .before .before .before .before .before .before .operand .ensures) in
-    omega (arith, turn-onward (a .depth) (now (a .items)) (a .at) (l .place) (l .deep) (l .high) (l .term) (l .ands) (l .ors) (l .inv) _ _ _ _ _ w (c .before .before .larger .ensures) (c .before .joined .ensures), w .inside)
+    omega (arith, turn-onward (l .inv) w (c .before .before .larger .ensures) (c .before .joined .ensures), w .inside)
 
 expression-loop-again : (t : ℕ) → expression-lts.Need-loop-again (expression-claims t) (expression-at t) expression.Post expression-Inv-loop expression-μ-loop
 expression-loop-again t c =
-    let a = c .before .before .before .before .before .before .before .before .before .before .before .args in
     let l = c .before .before .before .before .before .before .before .loop in
     let w = rw (c .before .before .before .before .one .given .1) at (c .before .before .before .before .before .before .operand .ensures) in
-    turn-and (a .depth) (now (a .items)) (a .at) (l .place) (l .deep) (l .high) (l .term) (l .ands) (l .ors) (l .inv) _ _ _ _ _ w (c .before .before .larger .ensures) (c .before .joined .ensures) (c .if1 .taken)
+    turn-and (l .inv) w (c .before .before .larger .ensures) (c .before .joined .ensures) (c .if1 .taken)
 
 expression-joined-requires-2 : (t : ℕ) → expression-lts.Need-joined-requires-2 (expression-claims t) (expression-at t) expression.Post expression-Inv-loop expression-μ-loop
 expression-joined-requires-2 t c κs =
-    let a = c .before .before .before .before .before .before .before .before .before .before .before .args in
     let l = c .before .before .before .before .before .before .before .loop in
     let w = rw (c .before .before .before .before .one .given .1) at (c .before .before .before .before .before .before .operand .ensures) in
-    let long = c .before .before .before .before .before .before .before .before .before .before .before .good .0 .1 in (omega (arith, long, l .inv .outer .low, l .inv .inner .onward, l .inv .inner .inside), omega (arith, long, term-low (a .depth) (now (a .items)) (a .at) (l .place) (l .deep) (l .high) (l .term) (l .ands) (l .ors) (l .inv) _ _ _ _ _ w (c .before .before .larger .ensures) (c .before .joined .ensures), w .inside))
+    let long = c .before .before .before .before .before .before .before .before .before .before .before .good .0 .1 in (omega (arith, long, l .inv .outer .low, l .inv .inner .onward, l .inv .inner .inside), omega (arith, long, term-low (l .inv) w (c .before .before .larger .ensures) (c .before .joined .ensures), w .inside))
 
 expression-returns-2 : (t : ℕ) → expression-lts.Need-returns-2 (expression-claims t) (expression-at t) expression.Post expression-Inv-loop expression-μ-loop
 expression-returns-2 t c =
-    let a = c .before .before .before .before .before .before .before .before .before .before .before .before .before .args in
     let l = c .before .before .before .before .before .before .before .before .before .loop in
     let w = rw (c .before .before .before .before .before .before .one .given .1) at (c .before .before .before .before .before .before .before .before .operand .ensures) in
-    turn-done (a .depth) (now (a .items)) (a .at) (l .place) (l .deep) (l .high) (l .term) (l .ands) (l .ors) (l .inv) _ _ _ _ _ w (c .before .before .before .before .larger .ensures) (c .before .before .before .joined .ensures) _ (c .before .before .if1 .left) (c .before .joined2 .ensures) (omega (arith, c .if2 .taken))
+    turn-done (l .inv) w (c .before .before .before .before .larger .ensures) (c .before .before .before .joined .ensures) (c .before .before .if1 .left) (c .before .joined2 .ensures) (omega (arith, c .if2 .taken))
 
 expression-sub-ors : (t : ℕ) → expression-lts.Need-sub-ors (expression-claims t) (expression-at t) expression.Post expression-Inv-loop expression-μ-loop
 expression-sub-ors t c = omega (arith, c .if2 .left)
@@ -187,17 +182,15 @@ expression-add-place-3 t c = omega (arith, c .run-of3 .ensures .1, c .before .be
 
 expression-loop-less-2 : (t : ℕ) → expression-lts.Need-loop-less-2 (expression-claims t) (expression-at t) expression.Post expression-Inv-loop expression-μ-loop
 expression-loop-less-2 t c =
-    let a = c .before .before .before .before .before .before .before .before .before .before .before .before .before .before .args in
     let l = c .before .before .before .before .before .before .before .before .before .before .loop in
     let w = rw (c .before .before .before .before .before .before .before .one .given .1) at (c .before .before .before .before .before .before .before .before .before .operand .ensures) in
-    omega (arith, turn-onward (a .depth) (now (a .items)) (a .at) (l .place) (l .deep) (l .high) (l .term) (l .ands) (l .ors) (l .inv) _ _ _ _ _ w (c .before .before .before .before .before .larger .ensures) (c .before .before .before .before .joined .ensures), c .run-of3 .ensures .1, w .inside)
+    omega (arith, turn-onward (l .inv) w (c .before .before .before .before .before .larger .ensures) (c .before .before .before .before .joined .ensures), c .run-of3 .ensures .1, w .inside)
 
 expression-loop-again-2 : (t : ℕ) → expression-lts.Need-loop-again-2 (expression-claims t) (expression-at t) expression.Post expression-Inv-loop expression-μ-loop
 expression-loop-again-2 t c =
-    let a = c .before .before .before .before .before .before .before .before .before .before .before .before .before .before .args in
     let l = c .before .before .before .before .before .before .before .before .before .before .loop in
     let w = rw (c .before .before .before .before .before .before .before .one .given .1) at (c .before .before .before .before .before .before .before .before .before .operand .ensures) in
-    turn-or (a .depth) (now (a .items)) (a .at) (l .place) (l .deep) (l .high) (l .term) (l .ands) (l .ors) (l .inv) _ _ _ _ _ w (c .before .before .before .before .before .larger .ensures) (c .before .before .before .before .joined .ensures) _ (c .before .before .before .if1 .left) (c .before .before .joined2 .ensures) (omega (arith, c .before .if2 .left)) _ (c .run-of3 .ensures .0) (c .run-of3 .ensures .1)
+    turn-or (l .inv) w (c .before .before .before .before .before .larger .ensures) (c .before .before .before .before .joined .ensures) (c .before .before .before .if1 .left) (c .before .before .joined2 .ensures) (omega (arith, c .before .if2 .left)) (c .run-of3 .ensures .0) (c .run-of3 .ensures .1)
 
 operand-returns : (t : ℕ) → operand-lts.Need-returns (operand-claims t) (operand-at t) operand.Post
 operand-returns t c =
