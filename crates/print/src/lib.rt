@@ -201,6 +201,7 @@ fn put_head(
 }
 
 // Prints an expression, terms of `or`, each of them operands of `and`; so many brackets may still be opened.
+// Its bytes are counted from its first operand on, so that the operators before it pay for a bracket around it.
 fn expression(
     items: &[u32],
     list: &[u8],
