@@ -1,20 +1,20 @@
--- Printing a left-grouped run of operators: what is read so far is printed, and what is left to read gives the answer of the whole. Assumes nothing.
+-- Printing an expression, a run of `or` with runs of `and` in it: what is read so far is printed, and what is left to read gives the answer of the whole.
+-- Both runs go by the same laws over the operator. Assumes nothing.
 use Prim.Native.Nat.{ℕ, zero, suc, _+_, _-_, _*_, _≤_, _<_}
 use native.Mathlib.Omega.{arith}
 use mathlib.Core.Path.{_≡_, refl, sym, _∙_, ap}
 use mathlib.Core.Bool.{Bool, true, false, _||_}
 use mathlib.Core.List.{List, [], _∷_, _++_, append-assoc}
-use mathlib.Core.Option.{some}
 use lib.ListN.{length, drop}
-use lib.Seq.{drop-drop}
-use Rattle.paper.specs.Tools.{found}
-use Rattle.paper.specs.Query.{Expr, both, either}
-use Rattle.paper.specs.Items.{andItem, orItem, leading, Taken, takeOperand, takeAnds, takeTerm, takeOrs, takeWithin}
+use Rattle.paper.specs.Tools.{found, ascii}
+use Rattle.paper.specs.Query.{Expr}
+use Rattle.paper.specs.Items.{andItem, orItem, leading, Taken, takeOperand, takeTerm, takeExpr, takeWithin}
 use Rattle.paper.specs.Measures.{isOr}
 use Rattle.paper.specs.Printing.{Piece, andWord, orWord, pieceText, grouped, exprPieces, textOf}
 use Rattle.paper.proofs.Tests.{found-some}
-use Rattle.paper.proofs.Decoding.{orsFrom, andsFrom, term}
-use Rattle.shape.proofs.Walking.{operand-not-and, term-not-or, ors-go}
+use Rattle.shape.proofs.Operators.{byOperator, takeRun, takePart, takeMore, joinBy, isJoined, Run, run-starts, first-alone, operators-run}
+use Rattle.shape.proofs.Operators.{ands as ands-laws, ors as ors-laws}
+use Rattle.shape.specs.Walks.{operators}
 use Rattle.print.specs.declared.Reached.{Reached}
 use Rattle.print.specs.Writing.{Puts, termPieces, operandPieces, Some, Prints}
 use Rattle.print.proofs.Putting.{puts-both, puts-as, puts-long}
@@ -24,165 +24,214 @@ pub text-append : (names : List (List ℕ)) (ps qs : List Piece) → textOf name
 text-append names [] qs = refl
 text-append names (p ∷ ps) qs = ap (λ (t : List ℕ). pieceText names p ++ t) (text-append names ps qs) ∙ sym (append-assoc (pieceText names p) (textOf names ps) (textOf names qs))
 
--- A slice that is printed to keeps its length.
-pub prints-long : {A : Type 0} {names : List (List ℕ)} {items : List ℕ} {at pen spare : ℕ} {taken : Taken A} {piecesOf : A → List Piece} {old new : List ℕ} {r : Reached}
-    → Prints names items at pen spare taken piecesOf old new r → length new ≡ length old
-prints-long w = puts-long (w .puts)
+-- An expression as a run of the operator, and as a part of one; and the text between two parts.
+abbrev runPieces : ℕ → Expr → List Piece
+runPieces operator = byOperator operator exprPieces termPieces
 
--- A run of operators: `one` reads an operand, `more n e` reads n more and joins each to e; each is printed after the sign.
-pub record Run (names : List (List ℕ)) : Type 0 where
-  pub one : List ℕ → Taken Expr
-  pub more : ℕ → Expr → List ℕ → Taken Expr
-  pub join : Expr → Expr → Expr
-  pub leftPieces : Expr → List Piece
-  pub rightPieces : Expr → List Piece
-  pub sign : Piece
-  pub stops : (e : Expr) (ws : List ℕ) → more 0 e ws ≡ some (e, ws)
-  pub goes : (n : ℕ) (e : Expr) (ws : List ℕ) → more (suc n) e ws ≡ found (one ws) (λ r. more n (join e (r .0)) (r .1))
-  pub pieces-join : (a b : Expr) → leftPieces (join a b) ≡ leftPieces a ++ sign ∷ rightPieces b
-  pub brief : length (pieceText names sign) ≤ 64
+abbrev partPieces : ℕ → Expr → List Piece
+partPieces operator = byOperator operator termPieces operandPieces
 
--- The two runs.
-abbrev pub ands : (names : List (List ℕ)) → ℕ → Run names
-ands names depth =
+abbrev operatorText : ℕ → List ℕ
+operatorText operator = byOperator operator (ascii " or ") (ascii " and ")
+
+-- Where the first operand of a part stands, after the operators that the part begins with.
+abbrev partBase : ℕ → List ℕ → ℕ → ℕ
+partBase operator items place = byOperator operator (place + leading andItem (drop place items)) place
+
+-- The text of a run and a part joined to it, and of what stands as a part as it stands as a run.
+record Joined (names : List (List ℕ)) (operator : ℕ) : Type 0 where
+  text-join : (a b : Expr)
+      → textOf names (runPieces operator a) ++ operatorText operator ++ textOf names (partPieces operator b) ≡ textOf names (runPieces operator (joinBy operator a b))
+  text-alone : (e : Expr) → isJoined operator e ≡ false → textOf names (partPieces operator e) ≡ textOf names (runPieces operator e)
+  brief : length (operatorText operator) ≤ 64
+  ahead : (items : List ℕ) (place : ℕ) → place ≤ partBase operator items place
+
+-- The text of pieces with a sign between them.
+between-text : (names : List (List ℕ)) (ps : List Piece) (sign : Piece) (qs : List Piece) → textOf names ps ++ pieceText names sign ++ textOf names qs ≡ textOf names (ps ++ sign ∷ qs)
+between-text names ps sign qs = append-assoc (textOf names ps) (pieceText names sign) (textOf names qs) ∙ sym (text-append names ps (sign ∷ qs))
+
+ands-text : (names : List (List ℕ)) → Joined names andItem
+ands-text names =
     record {
-      one = takeOperand (takeWithin depth);
-      more = takeAnds (takeWithin depth);
-      join = both;
-      leftPieces = termPieces;
-      rightPieces = operandPieces;
-      sign = andWord;
-      stops = λ e ws. refl;
-      goes = λ n e ws. refl;
-      pieces-join = λ a b. refl;
+      text-join = λ a b. between-text names (termPieces a) andWord (operandPieces b);
+      text-alone = λ e h. rw h (ap (textOf names) (plain (isOr e) (exprPieces e)));
       brief = omega arith;
+      ahead = λ items place. omega arith;
+    }
+  where
+    plain : (b : Bool) (ps : List Piece) → grouped (b || false) ps ≡ grouped b ps
+    plain true ps = refl
+    plain false ps = refl
+
+ors-text : (names : List (List ℕ)) → Joined names orItem
+ors-text names =
+    record {
+      text-join = λ a b. between-text names (exprPieces a) orWord (termPieces b);
+      text-alone = λ e h. rw h;
+      brief = omega arith;
+      ahead = λ items place. omega arith;
     }
 
-abbrev pub ors : (names : List (List ℕ)) → ℕ → Run names
-ors names depth =
-    record {
-      one = andsFrom (takeWithin depth) 0;
-      more = takeOrs (takeWithin depth);
-      join = either;
-      leftPieces = exprPieces;
-      rightPieces = termPieces;
-      sign = orWord;
-      stops = λ e ws. refl;
-      goes = ors-go depth;
-      pieces-join = λ a b. refl;
-      brief = omega arith;
-    }
+-- Printing a run of an operator that begins at `at`, from `pen` on; its first operand stands at `base`.
+module _ (names : List (List ℕ)) (operator depth : ℕ) (items : List ℕ) (at base pen : ℕ) (old : List ℕ) where
+  -- What has been read and printed of the run, with so many parts owed.
+  pub record Left (out : List ℕ) (place byte owed : ℕ) : Type 0 where
+    pub so-far : Expr
+    pub goes-on : takeRun operator (takeWithin depth) (drop at items) ≡ takeMore operator (takeWithin depth) owed so-far (drop place items)
+    pub puts : Puts (textOf names (runPieces operator so-far)) pen old out byte
+    pub onward : base ≤ place
+    pub inside : place ≤ length items
+    pub low : byte + 16384 * base + 64 ≤ pen + 16384 * place
 
--- What has been read and printed of the run, with so many operands owed.
-pub record Left {names : List (List ℕ)} (k : Run names) (items : List ℕ) (at pen : ℕ) (whole : Taken Expr) (old out : List ℕ) (place byte owed : ℕ) : Type 0 where
-  pub so-far : Expr
-  pub goes-on : whole ≡ k .more owed so-far (drop place items)
-  pub puts : Puts (textOf names (k .leftPieces so-far)) pen old out byte
-  pub onward : at ≤ place
-  pub inside : place ≤ length items
-  pub low : byte + 16384 * at + 64 ≤ pen + 16384 * place
+  -- A part is to be printed next: it is there, and what printing it makes of the run.
+  pub record Awaits (out : List ℕ) (place byte owed : ℕ) : Type 0 where
+    pub there : Some (takePart operator (takeWithin depth) (drop place items))
+    pub gives : (new : List ℕ) (r : Reached) → Prints names items (partBase operator items place) byte 64 (takePart operator (takeWithin depth) (drop place items)) (partPieces operator) out new r
+        → Left new (r .item) (r .byte) owed
+    pub inside : place ≤ length items
+    pub low : byte + 16384 * base ≤ pen + 16384 * partBase operator items place
+    pub long : length out ≡ length old
 
-module _ {names : List (List ℕ)} (k : Run names) (items : List ℕ) (at pen : ℕ) (whole : Taken Expr) (old out : List ℕ) (place byte : ℕ) where
-  -- There is an operand where one is owed.
-  pub left-some : (owed : ℕ) → 0 < owed → Left k items at pen whole old out place byte owed → Some whole → Some (k .one (drop place items))
-  left-some zero z l s = absurd (omega arith)
-  left-some (suc owed) z l s =
-      found-some (k .one (drop place items)) (λ r. k .more owed (k .join (l .so-far) (r .0)) (r .1)) (s .tree)
-      (sym (k .goes owed (l .so-far) (drop place items)) ∙ sym (l .goes-on) ∙ s .taken-whole) (λ a p q. record { tree = a; taken-whole = p })
+  module _ (l : Run depth operator) (j : Joined names operator) where
+    module _ (s : Some (takeRun operator (takeWithin depth) (drop at items))) where
+      -- The first part.
+      awaits-first : (count : ℕ) → count ≡ leading operator (drop at items) → base ≡ partBase operator items (at + count) → at + count ≤ length items → Awaits old (at + count) pen count
+      awaits-first count e b inside =
+          record {
+            there = found-some (takePart operator (takeWithin depth) (drop (at + count) items)) _ (s .tree) (sym starts ∙ s .taken-whole) (λ a p q. record { tree = a; taken-whole = p });
+            gives = λ new r w.
+                record {
+                  so-far = w .what;
+                  goes-on = starts ∙ ap (λ (o : Taken Expr). found o (λ t. takeMore operator (takeWithin depth) count (t .0) (t .1))) (w .reads);
+                  puts = puts-as (j .text-alone (w .what) (first-alone operator depth l items at count e (w .what, drop (r .item) items) (w .reads))) (w .puts);
+                  onward = omega (arith, b, w .onward);
+                  inside = w .inside;
+                  low = omega (arith, b, w .low);
+                };
+            inside = inside;
+            low = omega (arith, b);
+            long = refl;
+          }
+        where
+          starts : takeRun operator (takeWithin depth) (drop at items) ≡ found (takePart operator (takeWithin depth) (drop (at + count) items)) (λ t. takeMore operator (takeWithin depth) count (t .0) (t .1))
+          starts = run-starts operator depth l items at count e
 
-  -- One operand more.
-  pub left-more : (mid new : List ℕ) (owed ready : ℕ) (r : Reached) → 0 < owed → Left k items at pen whole old out place byte owed → Puts (pieceText names (k .sign)) byte out mid ready
-      → Prints names items place ready 64 (k .one (drop place items)) (k .rightPieces) mid new r → Left k items at pen whole old new (r .item) (r .byte) (owed - 1)
-  left-more mid new zero ready r z l s w = absurd (omega arith)
-  left-more mid new (suc owed) ready r z l s w =
+      -- The next part, where one is owed, after the operator's word.
+      awaits-next : (out mid : List ℕ) (place byte ready owed : ℕ) → 0 < owed → Left out place byte owed → Puts (operatorText operator) byte out mid ready → Awaits mid place ready (owed - 1)
+      awaits-next out mid place byte ready zero z left p = absurd (omega arith)
+      awaits-next out mid place byte ready (suc owed) z left p =
+          record {
+            there = found-some (takePart operator (takeWithin depth) (drop place items)) _ (s .tree) (sym goes ∙ s .taken-whole) (λ a q r. record { tree = a; taken-whole = q });
+            gives = λ new r w.
+                record {
+                  so-far = joinBy operator (left .so-far) (w .what);
+                  goes-on = goes ∙ ap (λ (o : Taken Expr). found o (λ t. takeMore operator (takeWithin depth) (suc owed - 1) (joinBy operator (left .so-far) (t .0)) (t .1))) (w .reads);
+                  puts = puts-as (j .text-join (left .so-far) (w .what)) (puts-both (puts-both (left .puts) p) (w .puts));
+                  onward = omega (arith, left .onward, w .onward, j .ahead items place);
+                  inside = w .inside;
+                  low = omega (arith, left .low, w .low, p .moved, j .brief, j .ahead items place);
+                };
+            inside = left .inside;
+            low = omega (arith, left .low, p .moved, j .brief, j .ahead items place);
+            long = puts-long p ∙ puts-long (left .puts);
+          }
+        where
+          goes : takeRun operator (takeWithin depth) (drop at items) ≡ found (takePart operator (takeWithin depth) (drop place items)) (λ t. takeMore operator (takeWithin depth) (suc owed - 1) (joinBy operator (left .so-far) (t .0)) (t .1))
+          goes =
+              left .goes-on ∙ l .goes owed (left .so-far) (drop place items) ∙
+              ap (λ (n : ℕ). found (takePart operator (takeWithin depth) (drop place items)) (λ t. takeMore operator (takeWithin depth) n (joinBy operator (left .so-far) (t .0)) (t .1)))
+              (let k : owed ≡ suc owed - 1 = omega arith in k)
+
+    -- No part is owed.
+    left-done : (out : List ℕ) (r : Reached) (owed : ℕ) → owed ≤ 0 → Left out (r .item) (r .byte) owed
+        → Prints names items base pen 64 (takeRun operator (takeWithin depth) (drop at items)) (runPieces operator) old out r
+    left-done out r zero z left =
+        record {
+          what = left .so-far;
+          reads = left .goes-on ∙ l .stops (left .so-far) (drop (r .item) items);
+          puts = left .puts;
+          onward = left .onward;
+          inside = left .inside;
+          low = left .low;
+        }
+    left-done out r (suc owed) z left = absurd (omega arith)
+
+-- Printing an expression that begins at `at`: an operand of `and` is to be printed next, in a term that an `or` awaits.
+-- The term began at `since` in the items and at `begun` in the text, where `mid` had been written.
+module _ (names : List (List ℕ)) (depth : ℕ) (items : List ℕ) (at pen : ℕ) (old : List ℕ) where
+  pub record Turn (out : List ℕ) (place byte ands ors : ℕ) : Type 0 where
+    pub since : ℕ
+    pub begun : ℕ
+    pub mid : List ℕ
+    pub outer : Awaits names orItem depth items at (at + operators (drop at items)) pen old mid since begun ors
+    pub inner : Awaits names andItem depth items since (since + leading andItem (drop since items)) begun mid out place byte ands
+    pub past : at + operators (drop at items) ≤ place
+
+  ands-first : (since begun : ℕ) (mid : List ℕ) → Some (takeTerm (takeWithin depth) (drop since items)) → (count : ℕ) → count ≡ leading andItem (drop since items) → since + count ≤ length items
+      → Awaits names andItem depth items since (since + leading andItem (drop since items)) begun mid mid (since + count) begun count
+  ands-first since begun mid s count e inside =
+      awaits-first names andItem depth items since (since + leading andItem (drop since items)) begun mid (ands-laws depth) (ands-text names) s count e (omega (arith, e)) inside
+
+  pub turn-start : Some (takeExpr (takeWithin depth) (drop at items)) → (ors ands : ℕ) → ors ≡ leading orItem (drop at items) → ands ≡ leading andItem (drop (at + ors) items) → at + ors ≤ length items
+      → at + ors + ands ≤ length items → Turn old (at + ors + ands) pen ands ors
+  turn-start s ors ands o a lo la =
+      let first : at + operators (drop at items) ≡ at + ors + leading andItem (drop (at + ors) items) = omega (arith, operators-run items at ors ands o a, a) in
+      let outer = awaits-first names orItem depth items at (at + operators (drop at items)) pen old (ors-laws depth) (ors-text names) s ors o first lo in
       record {
-        so-far = k .join (l .so-far) (w .what);
-        goes-on =
-            l .goes-on ∙ k .goes owed (l .so-far) (drop place items) ∙ ap (λ (o : Taken Expr). found o (λ t. k .more owed (k .join (l .so-far) (t .0)) (t .1))) (w .reads) ∙
-            ap (λ (n : ℕ). k .more n (k .join (l .so-far) (w .what)) (drop (r .item) items)) (let e : owed ≡ suc owed - 1 = omega arith in e);
-        puts = puts-as text (puts-both (puts-both (l .puts) s) (w .puts));
-        onward = omega (arith, l .onward, w .onward);
-        inside = w .inside;
-        low = omega (arith, l .low, w .low, s .moved, k .brief);
+        since = at + ors;
+        begun = pen;
+        mid = old;
+        outer = outer;
+        inner = ands-first (at + ors) pen old (outer .there) ands a la;
+        past = omega (arith, operators-run items at ors ands o a);
       }
-    where
-      text : textOf names (k .leftPieces (l .so-far)) ++ pieceText names (k .sign) ++ textOf names (k .rightPieces (w .what)) ≡ textOf names (k .leftPieces (k .join (l .so-far) (w .what)))
-      text =
-          append-assoc (textOf names (k .leftPieces (l .so-far))) (pieceText names (k .sign)) (textOf names (k .rightPieces (w .what))) ∙
-          sym (text-append names (k .leftPieces (l .so-far)) (k .sign ∷ k .rightPieces (w .what))) ∙ ap (textOf names) (sym (k .pieces-join (l .so-far) (w .what)))
 
-  -- Nothing more owed.
-  pub left-done : (owed : ℕ) → owed ≤ 0 → Left k items at pen whole old out place byte owed
-      → Prints names items at pen 64 whole (k .leftPieces) old out (record { item = place; byte = byte })
-  left-done zero z l =
-      record {
-        what = l .so-far;
-        reads = l .goes-on ∙ k .stops (l .so-far) (drop place items);
-        puts = l .puts;
-        onward = l .onward;
-        inside = l .inside;
-        low = l .low;
-      }
-  left-done (suc owed) z l = absurd (omega arith)
+module _ {names : List (List ℕ)} {depth : ℕ} {items : List ℕ} {at pen : ℕ} {old out : List ℕ} {place byte ands ors : ℕ} (t : Turn names depth items at pen old out place byte ands ors) where
+  pub turn-low : byte + 16384 * (at + operators (drop at items)) ≤ pen + 16384 * place
+  turn-low = omega (arith, t .outer .low, t .inner .low)
 
--- Where a run starts: what is read after its operators is no operator of the same kind, so it stands without a bracket.
-module _ (depth : ℕ) (items : List ℕ) (at counted run : ℕ) where
-  and-there : run ≡ leading andItem (drop at items) → drop (leading andItem (drop at items)) (drop at items) ≡ drop (at + run) items
-  and-there e = ap (λ (k : ℕ). drop k (drop at items)) (sym e) ∙ drop-drop run at items
+  pub turn-long : length out ≡ length old
+  turn-long = t .inner .long ∙ t .outer .long
 
-  or-there : run ≡ leading orItem (drop at items) → drop (leading orItem (drop at items)) (drop at items) ≡ drop (at + run) items
-  or-there e = ap (λ (k : ℕ). drop k (drop at items)) (sym e) ∙ drop-drop run at items
+  -- The operand is printed.
+  module _ {new : List ℕ} {r : Reached} (w : Prints names items place byte 64 (takeOperand (takeWithin depth) (drop place items)) operandPieces out new r) where
+    pub turn-onward : place < r .item
+    turn-onward = omega (arith, w .low, w .puts .moved)
 
-  pub ands-first : run ≡ leading andItem (drop at items) → Some (andsFrom (takeWithin depth) counted (drop at items)) → Some (takeOperand (takeWithin depth) (drop (at + run) items))
-  unfolding andsFrom
-  ands-first e s =
-      found-some (takeOperand (takeWithin depth) (drop (leading andItem (drop at items)) (drop at items))) (λ r. takeAnds (takeWithin depth) (leading andItem (drop at items) + counted) (r .0) (r .1)) (s .tree) (s .taken-whole)
-      (λ a p q. record { tree = a; taken-whole = ap (takeOperand (takeWithin depth)) (sym (and-there e)) ∙ p })
+    operands : Left names andItem depth items (t .since) (t .since + leading andItem (drop (t .since) items)) (t .begun) (t .mid) new (r .item) (r .byte) ands
+    operands = t .inner .gives new r w
 
-  pub ors-first : run ≡ leading orItem (drop at items) → Some (orsFrom (takeWithin depth) counted (drop at items)) → Some (andsFrom (takeWithin depth) 0 (drop (at + run) items))
-  unfolding orsFrom
-  ors-first e s =
-      found-some (takeTerm (takeWithin depth) (drop (leading orItem (drop at items)) (drop at items))) (λ r. takeOrs (takeWithin depth) (leading orItem (drop at items) + counted) (r .0) (r .1)) (s .tree) (s .taken-whole)
-      (λ a p q.
-      record { tree = a; taken-whole = ap (andsFrom (takeWithin depth) 0) (sym (or-there e)) ∙ sym (term (takeWithin depth) (drop (leading orItem (drop at items)) (drop at items))) ∙ p })
+    -- It is not its term's last.
+    pub turn-and : {last : List ℕ} {ready : ℕ} → 0 < ands → Puts (ascii " and ") (r .byte) new last ready → Turn names depth items at pen old last (r .item) ready (ands - 1) ors
+    turn-and {last} {ready} z p =
+        record {
+          since = t .since;
+          begun = t .begun;
+          mid = t .mid;
+          outer = t .outer;
+          inner =
+              awaits-next names andItem depth items (t .since) (t .since + leading andItem (drop (t .since) items)) (t .begun) (t .mid) (ands-laws depth) (ands-text names) (t .outer .there)
+              new last (r .item) (r .byte) ready ands z operands p;
+          past = omega (arith, t .past, w .onward);
+        }
 
-  pub ands-start : (names : List (List ℕ)) (pen : ℕ) (old out : List ℕ) (r : Reached) → run ≡ leading andItem (drop at items)
-      → Prints names items (at + run) pen 64 (takeOperand (takeWithin depth) (drop (at + run) items)) operandPieces old out r
-      → Left (ands names depth) items at pen (andsFrom (takeWithin depth) counted (drop at items)) old out (r .item) (r .byte) (run + counted)
-  unfolding andsFrom
-  ands-start names pen old out r e w =
-      let read : takeOperand (takeWithin depth) (drop (leading andItem (drop at items)) (drop at items)) ≡ some (w .what, drop (r .item) items) =
-      ap (takeOperand (takeWithin depth)) (and-there e) ∙ w .reads in
-      let pieces : operandPieces (w .what) ≡ termPieces (w .what) =
-      rw (operand-not-and depth (drop at items) (w .what, drop (r .item) items) read) (plain (isOr (w .what)) (exprPieces (w .what))) in
-      record {
-        so-far = w .what;
-        goes-on = rw (read, ← e);
-        puts = puts-as (ap (textOf names) pieces) (w .puts);
-        onward = omega (arith, w .onward);
-        inside = w .inside;
-        low = omega (arith, w .low);
-      }
-    where
-      plain : (b : Bool) (ps : List Piece) → grouped (b || false) ps ≡ grouped b ps
-      plain true ps = refl
-      plain false ps = refl
+    -- The term is printed.
+    module _ (z : ands ≤ 0) where
+      terms : Left names orItem depth items at (at + operators (drop at items)) pen old new (r .item) (r .byte) ors
+      terms = t .outer .gives new r (left-done names andItem depth items (t .since) (t .since + leading andItem (drop (t .since) items)) (t .begun) (t .mid) (ands-laws depth) (ands-text names) new r ands z operands)
 
-  pub ors-start : (names : List (List ℕ)) (pen : ℕ) (old out : List ℕ) (r : Reached) → run ≡ leading orItem (drop at items)
-      → Prints names items (at + run) pen 64 (andsFrom (takeWithin depth) 0 (drop (at + run) items)) termPieces old out r
-      → Left (ors names depth) items at pen (orsFrom (takeWithin depth) counted (drop at items)) old out (r .item) (r .byte) (run + counted)
-  unfolding orsFrom
-  ors-start names pen old out r e w =
-      let read : andsFrom (takeWithin depth) 0 (drop (leading orItem (drop at items)) (drop at items)) ≡ some (w .what, drop (r .item) items) =
-      ap (andsFrom (takeWithin depth) 0) (or-there e) ∙ w .reads in
-      let taken : takeTerm (takeWithin depth) (drop (leading orItem (drop at items)) (drop at items)) ≡ some (w .what, drop (r .item) items) =
-      term (takeWithin depth) (drop (leading orItem (drop at items)) (drop at items)) ∙ read in
-      let pieces : termPieces (w .what) ≡ exprPieces (w .what) = rw (term-not-or depth (drop at items) (w .what, drop (r .item) items) read) in
-      record {
-        so-far = w .what;
-        goes-on = rw (taken, ← e);
-        puts = puts-as (ap (textOf names) pieces) (w .puts);
-        onward = omega (arith, w .onward);
-        inside = w .inside;
-        low = omega (arith, w .low);
-      }
+      pub turn-or : {last : List ℕ} {ready count : ℕ} → Some (takeExpr (takeWithin depth) (drop at items)) → 0 < ors → Puts (ascii " or ") (r .byte) new last ready
+          → count ≡ leading andItem (drop (r .item) items) → r .item + count ≤ length items → Turn names depth items at pen old last (r .item + count) ready count (ors - 1)
+      turn-or {last} {ready} {count} s y p e inside =
+          let outer = awaits-next names orItem depth items at (at + operators (drop at items)) pen old (ors-laws depth) (ors-text names) s new last (r .item) (r .byte) ready ors y terms p in
+          record {
+            since = r .item;
+            begun = ready;
+            mid = last;
+            outer = outer;
+            inner = ands-first names depth items at pen old (r .item) ready last (outer .there) count e inside;
+            past = omega (arith, t .past, w .onward);
+          }
+
+      pub turn-done : ors ≤ 0 → Prints names items (at + operators (drop at items)) pen 64 (takeExpr (takeWithin depth) (drop at items)) exprPieces old new r
+      turn-done y = left-done names orItem depth items at (at + operators (drop at items)) pen old (ors-laws depth) (ors-text names) new r ors y terms

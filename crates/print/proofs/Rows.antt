@@ -13,12 +13,12 @@ use lib.Seq.{drop-cons}
 use borrow.Author.Tests.{ltb-true, ltb-false, lt-ltb}
 use Rattle.paper.specs.Tools.{ascii}
 use Rattle.paper.specs.Query.{Axis, Test, Expr, Steps, stop, step, Preds, pred}
-use Rattle.paper.specs.Items.{Head, stepAt, Taken, takePreds, takeSteps, takeWithin, stepCount}
+use Rattle.paper.specs.Items.{Head, stepAt, Taken, takePreds, takeSteps, takeExpr, takeWithin, stepCount}
 use Rattle.paper.specs.Printing.{Piece, exprPieces, relativePieces, laterPieces, predsPieces, textOf, closePred}
 use Rattle.paper.proofs.Tests.{found-some, some-inj, none-some, decide}
-use Rattle.paper.proofs.Decoding.{orsFrom, whole}
 use Rattle.paper.proofs.Encoding.{from-steps, from-within}
 use Rattle.print.specs.declared.Reached.{Reached}
+use Rattle.shape.specs.Walks.{operators}
 use Rattle.print.specs.Writing.{Puts, Some, Prints, between, headPieces}
 use Rattle.print.proofs.Putting.{puts-none, puts-both, puts-as}
 use Rattle.print.proofs.Chains.{text-append}
@@ -95,19 +95,19 @@ module _ {A : Type 0} (rows : ℕ → List ℕ → Taken A) (piecesOf : A → Li
 
 -- What stands where a predicate is owed: a bracket may be opened, and an expression stands in it.
 module _ (depth : ℕ) (items : List ℕ) (place : ℕ) where
-  pub pred-opens : (owed : ℕ) (t : Preds × List ℕ) → 0 < owed → takePreds (takeWithin depth) owed (drop place items) ≡ some t → (1 ≤ depth) × Some (orsFrom (takeWithin (depth - 1)) 0 (drop place items))
+  pub pred-opens : (owed : ℕ) (t : Preds × List ℕ) → 0 < owed → takePreds (takeWithin depth) owed (drop place items) ≡ some t → (1 ≤ depth) × Some (takeExpr (takeWithin (depth - 1)) (drop place items))
   pred-opens zero t z h = absurd (omega arith)
   pred-opens (suc n) t z h =
       found-some (takeWithin depth (drop place items)) _ t h (λ r p q. within-opens depth r p)
     where
-      within-opens : (d : ℕ) (r : Expr × List ℕ) → takeWithin d (drop place items) ≡ some r → (1 ≤ d) × Some (orsFrom (takeWithin (d - 1)) 0 (drop place items))
+      within-opens : (d : ℕ) (r : Expr × List ℕ) → takeWithin d (drop place items) ≡ some r → (1 ≤ d) × Some (takeExpr (takeWithin (d - 1)) (drop place items))
       within-opens zero r p = none-some p
       within-opens (suc d) r p =
           let e : suc d - 1 ≡ d = omega arith in
-          (omega arith, record { tree = r; taken-whole = rw e (sym (whole (takeWithin d) (drop place items)) ∙ p) })
+          (omega arith, record { tree = r; taken-whole = rw e p })
 
   pred-more : (owed : ℕ) (t : Preds × List ℕ) (e : Expr) (next : ℕ) → 0 < owed → takePreds (takeWithin depth) owed (drop place items) ≡ some t
-      → orsFrom (takeWithin (depth - 1)) 0 (drop place items) ≡ some (e, drop next items)
+      → takeExpr (takeWithin (depth - 1)) (drop place items) ≡ some (e, drop next items)
       → (ps : Preds) × (takePreds (takeWithin depth) (owed - 1) (drop next items) ≡ some (ps, t .1)) × (t .0 ≡ pred e ps)
   pred-more zero t e next z h w = absurd (omega arith)
   pred-more (suc n) t e next z h w =
@@ -126,10 +126,10 @@ module _ (depth : ℕ) (items : List ℕ) (place : ℕ) where
       reads : (d : ℕ) (r : Expr × List ℕ) → takeWithin depth (drop place items) ≡ some r → takeWithin depth (drop place items) ≡ some (e, drop next items)
       reads d r p = go depth w r p
         where
-          go : (d : ℕ) → orsFrom (takeWithin (d - 1)) 0 (drop place items) ≡ some (e, drop next items) → (r : Expr × List ℕ) → takeWithin d (drop place items) ≡ some r
+          go : (d : ℕ) → takeExpr (takeWithin (d - 1)) (drop place items) ≡ some (e, drop next items) → (r : Expr × List ℕ) → takeWithin d (drop place items) ≡ some r
               → takeWithin d (drop place items) ≡ some (e, drop next items)
           go zero w r p = none-some p
-          go (suc d) w r p = let k : suc d - 1 ≡ d = omega arith in whole (takeWithin d) (drop place items) ∙ rw k at w
+          go (suc d) w r p = let k : suc d - 1 ≡ d = omega arith in rw k at w
 
 -- A number is below another or not.
 pub within : (i n : ℕ) → (i < n) ⊎ (n ≤ i)
@@ -201,12 +201,12 @@ pred-text names e ps =
 -- A predicate more, in its bracket.
 pub pred-turn : (names : List (List ℕ)) (depth : ℕ) (items old : List ℕ) (at pen : ℕ) (taken : Taken Preds) (out mid new last : List ℕ) (place byte owed opened byte′ : ℕ) (r : Reached)
     → 0 < owed → Rest (takePreds (takeWithin depth)) predsPieces names items at pen taken old out place byte owed → Puts (91 ∷ []) byte out mid opened
-    → Prints names items place opened 64 (orsFrom (takeWithin (depth - 1)) 0 (drop place items)) exprPieces mid new r → Puts (93 ∷ []) (r .byte) new last byte′
+    → Prints names items (place + operators (drop place items)) opened 64 (takeExpr (takeWithin (depth - 1)) (drop place items)) exprPieces mid new r → Puts (93 ∷ []) (r .byte) new last byte′
     → Rest (takePreds (takeWithin depth)) predsPieces names items at pen taken old last (r .item) byte′ (owed - 1)
 pred-turn names depth items old at pen taken out mid new last place byte owed opened byte′ r z i p w q =
     let m = pred-more depth items place owed (i .rest, i .left) (w .what) (r .item) z (i .takes) (w .reads) in
     rest-more (takePreds (takeWithin depth)) predsPieces names items at pen taken old out last ((91 ∷ []) ++ textOf names (exprPieces (w .what)) ++ (93 ∷ [])) place byte owed (r .item) byte′ (owed - 1)
-    (m .0) i (m .1) (pred-text names (w .what) (m .0) ∙ ap (λ x. textOf names (predsPieces x)) (sym (m .2))) (puts-both (puts-both p (w .puts)) q) (w .onward) (w .inside)
+    (m .0) i (m .1) (pred-text names (w .what) (m .0) ∙ ap (λ x. textOf names (predsPieces x)) (sym (m .2))) (puts-both (puts-both p (w .puts)) q) (omega (arith, w .onward)) (w .inside)
     (omega (arith, w .low, p .moved, q .moved))
 
 -- A step more, and a `/` where another follows.

@@ -14,13 +14,13 @@ ghost use Rattle.paper.specs.Tools.{ascii, when};
 ghost use Rattle.paper.specs.Limits.{namesLimit, listLimit};
 ghost use Rattle.paper.specs.Query.{Axis, Test};
 ghost use Rattle.paper.specs.Names.{namesOf};
-ghost use Rattle.paper.specs.Items.{axisNumber, testNumber, goodTest, stepAt, takePreds, takeSteps, takeOperand, takeWithin, decode};
+ghost use Rattle.paper.specs.Items.{axisNumber, testNumber, goodTest, stepAt, takePreds, takeSteps, takeOperand, takeExpr, takeWithin, decode};
 ghost use Rattle.paper.specs.Printing.{axisText, testText, exprPieces, relativePieces, predsPieces, textOf};
 ghost use Rattle.paper.specs.Answers.{unknownItem, unknownFrom, printAnswer, textGot, printOut};
 ghost use Rattle.paper.specs.Told.{told};
-ghost use Rattle.paper.proofs.Decoding.{orsFrom, andsFrom};
 ghost use Rattle.names.specs.Listing.{Indexed};
-ghost use Rattle.print.specs.Writing.{Puts, between, termPieces, operandPieces, headPieces, Known, Names, Some, Prints, Query};
+ghost use Rattle.shape.specs.Walks.{operators};
+ghost use Rattle.print.specs.Writing.{Puts, between, operandPieces, headPieces, Known, Names, Some, Prints, Query};
 
 // How far printing has come: the next item, and the place of the next byte.
 struct Reached {
@@ -200,7 +200,8 @@ fn put_head(
     put_test(list, starts, count, out, ready, test)
 }
 
-// Prints an expression, of whose `or` items so many stand before `at`; so many brackets may still be opened.
+// Prints an expression, terms of `or`, each of them operands of `and`; so many brackets may still be opened.
+// Its bytes are counted from its first operand on, so that the operators before it pay for a bracket around it.
 fn expression(
     items: &[u32],
     list: &[u8],
@@ -209,59 +210,33 @@ fn expression(
     out: &mut [u8],
     at: usize,
     pen: usize,
-    counted: usize,
     depth: usize,
 ) -> Reached
     requires { ⌜ Names (now list) (now starts) count (now items) ⌝ }
-    requires { ⌜ (at ≤ length (now items)) × (counted ≤ 1) × (pen + 16384 * length (now items) ≤ 2 ^ 38 + 16384 * at) ⌝ }
-    requires { ⌜ Some (orsFrom (takeWithin depth) counted (drop at (now items))) ⌝ }
-    ensures { λ r. ⌜ Prints (namesOf (now (list .entry))) (now (items .entry)) at pen 64 (orsFrom (takeWithin depth) counted (drop at (now (items .entry)))) exprPieces (now (out .entry)) (now (out .exit)) r ⌝ }
+    requires { ⌜ (at ≤ length (now items)) × (pen + 16384 * length (now items) ≤ 2 ^ 38 + 16384 * (at + operators (drop at (now items)))) ⌝ }
+    requires { ⌜ Some (takeExpr (takeWithin depth) (drop at (now items))) ⌝ }
+    ensures { λ r. ⌜ Prints (namesOf (now (list .entry))) (now (items .entry)) (at + operators (drop at (now (items .entry)))) pen 64 (takeExpr (takeWithin depth) (drop at (now (items .entry)))) exprPieces (now (out .entry)) (now (out .exit)) r ⌝ }
 {
-    let run = shape::run_of(items, at, item::OR);
-    let first = term(items, list, starts, count, out, at + run, pen, 0, depth);
-    let mut place = first.item;
-    let mut byte = first.byte;
-    let mut owed = run + counted;
-    while 0 < owed {
-        let ready = put_or(out, byte);
-        let more = term(items, list, starts, count, out, place, ready, 0, depth);
-        place = more.item;
-        byte = more.byte;
-        owed -= 1;
+    let mut ors = shape::run_of(items, at, item::OR);
+    let mut ands = shape::run_of(items, at + ors, item::AND);
+    let mut place = at + ors + ands;
+    let mut byte = pen;
+    loop {
+        let one = operand(items, list, starts, count, out, place, byte, depth);
+        place = one.item;
+        if 0 < ands {
+            byte = put_and(out, one.byte);
+            ands -= 1;
+        } else {
+            if ors == 0 {
+                return one;
+            }
+            byte = put_or(out, one.byte);
+            ors -= 1;
+            ands = shape::run_of(items, place, item::AND);
+            place += ands;
+        }
     }
-    Reached { item: place, byte }
-}
-
-// Prints a term of `or`, of whose `and` items so many stand before `at`.
-fn term(
-    items: &[u32],
-    list: &[u8],
-    starts: &[u16; 257],
-    count: usize,
-    out: &mut [u8],
-    at: usize,
-    pen: usize,
-    counted: usize,
-    depth: usize,
-) -> Reached
-    requires { ⌜ Names (now list) (now starts) count (now items) ⌝ }
-    requires { ⌜ (at ≤ length (now items)) × (counted ≤ 1) × (pen + 16384 * length (now items) ≤ 2 ^ 38 + 16384 * at) ⌝ }
-    requires { ⌜ Some (andsFrom (takeWithin depth) counted (drop at (now items))) ⌝ }
-    ensures { λ r. ⌜ Prints (namesOf (now (list .entry))) (now (items .entry)) at pen 64 (andsFrom (takeWithin depth) counted (drop at (now (items .entry)))) termPieces (now (out .entry)) (now (out .exit)) r ⌝ }
-{
-    let run = shape::run_of(items, at, item::AND);
-    let first = operand(items, list, starts, count, out, at + run, pen, depth);
-    let mut place = first.item;
-    let mut byte = first.byte;
-    let mut owed = run + counted;
-    while 0 < owed {
-        let ready = put_and(out, byte);
-        let more = operand(items, list, starts, count, out, place, ready, depth);
-        place = more.item;
-        byte = more.byte;
-        owed -= 1;
-    }
-    Reached { item: place, byte }
 }
 
 // Prints an operand of `and`: a path, or what stands in a bracket of `not`, `and` or `or`.
@@ -286,45 +261,11 @@ fn operand(
     }
     if let Item::Not = item {
         let opened = put_not(out, pen);
-        let denied = expression(
-            items,
-            list,
-            starts,
-            count,
-            out,
-            at + 1,
-            opened,
-            0,
-            depth - 1,
-        );
+        let denied = expression(items, list, starts, count, out, at + 1, opened, depth - 1);
         return closed(out, denied);
     }
     let opened = put_open(out, pen);
-    if let Item::Or = item {
-        let inner = expression(
-            items,
-            list,
-            starts,
-            count,
-            out,
-            at + 1,
-            opened,
-            1,
-            depth - 1,
-        );
-        return closed(out, inner);
-    }
-    let inner = term(
-        items,
-        list,
-        starts,
-        count,
-        out,
-        at + 1,
-        opened,
-        1,
-        depth - 1,
-    );
+    let inner = expression(items, list, starts, count, out, at, opened, depth - 1);
     closed(out, inner)
 }
 
@@ -394,7 +335,7 @@ fn predicates(
     let mut owed = number;
     while 0 < owed {
         let opened = put_byte(out, byte, b'[');
-        let more = expression(items, list, starts, count, out, place, opened, 0, depth - 1);
+        let more = expression(items, list, starts, count, out, place, opened, depth - 1);
         place = more.item;
         byte = put_byte(out, more.byte, b']');
         owed -= 1;

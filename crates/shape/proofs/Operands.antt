@@ -3,17 +3,18 @@ use Prim.Native.Nat.{ℕ, zero, suc, _+_, _-_, _*_, _^_, _≤_, _<_}
 use native.Mathlib.Omega.{arith}
 use native.Mathlib.Numerals.{add-one}
 use mathlib.Core.Path.{_≡_, refl, sym, _∙_, ap, subst}
-use mathlib.Core.Bool.{true, false, false≢true}
+use mathlib.Core.Bool.{true, false, _||_}
 use mathlib.Core.List.{List, [], _∷_}
 use mathlib.Core.Option.{none, some}
 use lib.Dec.{eqb}
 use lib.ListN.{length, getD, drop, drop-of-length-le}
 use lib.Seq.{drop-cons}
-use borrow.Author.Tests.{ne-eqb, le-leb}
+use borrow.Author.Tests.{eq-eqb, ne-eqb, le-leb}
 use Rattle.paper.specs.Tools.{found, begins}
-use Rattle.paper.specs.Query.{Expr, path, both, either, negated}
+use Rattle.paper.specs.Query.{Expr, path, negated}
 use Rattle.paper.specs.Items.{andItem, orItem, notItem, pathAt, Head, stepAt, Taken, takeSteps, takeOperand, takeTerm, takeOrs, takeExpr, takeWithin}
 use Rattle.paper.specs.Measures.{isAnd, isOr, nestExpr, nestSteps, heightExpr, heightSteps}
+use Rattle.paper.proofs.Tests.{or-right}
 use Rattle.paper.proofs.Fields.{path-found, step-found}
 use Rattle.paper.proofs.Decoding.{orsFrom, andsFrom, whole, term, one-or, one-and}
 use Rattle.paper.proofs.Encoding.{from-operand, from-within}
@@ -26,8 +27,8 @@ use denote.Enum.Declared.{tagOf}
 use types.Run.{OneOf, miss}
 use Rattle.shape.specs.declared.Walked.{Walked}
 use Rattle.shape.specs.declared.Walked.the-variants.{Done, Malformed}
-use Rattle.shape.specs.Walks.{nestTerm, nestOperand, Walks, raisedBy, Small}
-use Rattle.shape.proofs.Walking.{begins-and, begins-or}
+use Rattle.shape.specs.Walks.{nestOperand, operators, Walks, raisedBy, Small}
+use Rattle.shape.proofs.Operators.{Operator, isJoined, each, run, operators-some}
 
 -- A number that is a path's is no operator's and not `not`.
 pub path-other : (w n count : ℕ) → pathAt w ≡ some count → 0 < n → n < 8 → eqb n w ≡ false
@@ -70,6 +71,14 @@ pub operand-or : (d : ℕ) (ws : List ℕ) → takeOperand (takeWithin (suc d)) 
 unfolding takeOperand
 operand-or d ws = whole (takeWithin d) (orItem ∷ ws) ∙ one-or (takeWithin d) 0 ws
 
+pub operand-joined : (operator : ℕ) → Operator operator → (within : List ℕ → Taken Expr) (ws : List ℕ) → takeOperand within (operator ∷ ws) ≡ within (operator ∷ ws)
+unfolding takeOperand
+operand-joined = each (λ operator. (within : List ℕ → Taken Expr) (ws : List ℕ) → takeOperand within (operator ∷ ws) ≡ within (operator ∷ ws)) (λ within ws. refl) (λ within ws. refl)
+
+pub operand-denied : (within : List ℕ → Taken Expr) (ws : List ℕ) → takeOperand within (notItem ∷ ws) ≡ found (within ws) (λ r. some (negated (r .0), r .1))
+unfolding takeOperand
+operand-denied within ws = refl
+
 pub operand-not : (d : ℕ) (ws : List ℕ) → takeOperand (takeWithin (suc d)) (notItem ∷ ws) ≡ found (orsFrom (takeWithin d) 0 ws) (λ r. some (negated (r .0), r .1))
 unfolding takeOperand
 operand-not d ws = rw (whole (takeWithin d) ws)
@@ -94,9 +103,22 @@ operand-rest within w Or ws s k l = absurd (miss (0 ∷ 1 ∷ 5 ∷ []) 3 tt l)
 operand-rest within w Not ws s k l = absurd (miss (0 ∷ 1 ∷ 5 ∷ []) 4 tt l)
 operand-rest within w Bad ws s k l = operand-other within w ws (s .0) (s .2) (s .3) (s .4)
 
+-- The item of `and` or of `or`.
+pub operator-item : (w : ℕ) (i : Item) → Said w i → OneOf (2 ∷ 3 ∷ []) (tagOf the-type i) → Operator w
+operator-item w (Path count) s k = absurd (miss (2 ∷ 3 ∷ []) 0 tt k)
+operator-item w (StepItem st) s k = absurd (miss (2 ∷ 3 ∷ []) 1 tt k)
+operator-item w And s k = (omega arith, omega arith)
+operator-item w Or s k = (omega arith, omega arith)
+operator-item w Not s k = absurd (miss (2 ∷ 3 ∷ []) 4 tt k)
+operator-item w Bad s k = absurd (miss (2 ∷ 3 ∷ []) 5 tt k)
+
 -- What stands at a place of the items.
 pub at-place : (items : List ℕ) (at : ℕ) → at < length items → drop at items ≡ getD items at 0 ∷ drop (at + 1) items
 at-place items at l = drop-cons items at 0 l ∙ ap (λ (k : ℕ). getD items at 0 ∷ drop k items) (sym (add-one at))
+
+-- What is joined by an operator gets a bracket as an operand.
+pub in-bracket : (operator : ℕ) → Operator operator → (e : Expr) → isJoined operator e ≡ true → (isOr e || isAnd e) ≡ true
+in-bracket = each (λ operator. (e : Expr) → isJoined operator e ≡ true → (isOr e || isAnd e) ≡ true) (λ e h. or-right (isOr e) h) (λ e h. rw h)
 
 -- The walks of an operand, from those of what it holds.
 module _ (items : List ℕ) (at depth : ℕ) (l : at < length items) where
@@ -118,12 +140,12 @@ module _ (items : List ℕ) (at depth : ℕ) (l : at < length items) where
       rw (at-place items at l, operand-path (takeWithin depth) (getD items at 0) count (drop (at + 1) items) p some-step, w)
 
   pub walk-not : getD items at 0 ≡ notItem → (r : Walked)
-      → Walks items (at + 1) 0 depth (orsFrom (takeWithin depth) 0 (drop (at + 1) items)) nestExpr heightExpr r
+      → Walks items (at + 1) 0 depth (takeExpr (takeWithin depth) (drop (at + 1) items)) nestExpr heightExpr r
       → Walks items at 0 (suc depth) (takeOperand (takeWithin (suc depth)) (drop at items)) nestOperand heightExpr (raisedBy r 1 1)
   walk-not e (Done next nest high) w =
       record {
         what = negated (w .what);
-        reads = rw (at-place items at l, e, operand-not depth (drop (at + 1) items), w .reads);
+        reads = rw (at-place items at l, e, operand-denied (takeWithin (suc depth)) (drop (at + 1) items), w .reads);
         nests = omega (arith, w .nests);
         heights = omega (arith, w .heights);
         onward = omega (arith, w .onward);
@@ -131,62 +153,39 @@ module _ (items : List ℕ) (at depth : ℕ) (l : at < length items) where
         shallow = omega (arith, w .shallow);
         low = omega (arith, w .low);
       }
-  walk-not e Malformed w = rw (at-place items at l, e, operand-not depth (drop (at + 1) items), w)
+  walk-not e Malformed w = rw (at-place items at l, e, operand-denied (takeWithin (suc depth)) (drop (at + 1) items), w)
 
-  -- A bracket of `and` holds an `and`, a bracket of `or` an `or`.
-  pub and-there : (e : Expr) (next : ℕ) → getD items at 0 ≡ andItem → takeOperand (takeWithin (suc depth)) (drop at items) ≡ some (e, drop next items) → isAnd e ≡ true
-  and-there e next i h =
+  -- A bracket of an operator holds the expression that begins with its item, which is joined by it.
+  pub operand-same : Operator (getD items at 0) → takeOperand (takeWithin (suc depth)) (drop at items) ≡ takeExpr (takeWithin depth) (drop at items)
+  operand-same o =
+      ap (takeOperand (takeWithin (suc depth))) (at-place items at l) ∙ operand-joined (getD items at 0) o (takeWithin (suc depth)) (drop (at + 1) items) ∙
+      ap (takeExpr (takeWithin depth)) (sym (at-place items at l))
+
+  pub joined-there : Operator (getD items at 0) → (e : Expr) (next : ℕ) → takeOperand (takeWithin (suc depth)) (drop at items) ≡ some (e, drop next items) → isJoined (getD items at 0) e ≡ true
+  joined-there o e next h =
+      let w = getD items at 0 in
       let f = from-operand (suc depth) (takeWithin (suc depth)) (from-within (suc depth)) (drop at items) (e, drop next items) h in
-      sym (begins-and e (drop next items)) ∙ ap (begins andItem) (sym (f .items) ∙ at-place items at l) ∙ rw i
+      sym (run depth w o .begins-with e (drop next items)) ∙ ap (begins w) (sym (f .items) ∙ at-place items at l) ∙ eq-eqb w w refl
 
-  pub or-there : (e : Expr) (next : ℕ) → getD items at 0 ≡ orItem → takeOperand (takeWithin (suc depth)) (drop at items) ≡ some (e, drop next items) → isOr e ≡ true
-  or-there e next i h =
-      let f = from-operand (suc depth) (takeWithin (suc depth)) (from-within (suc depth)) (drop at items) (e, drop next items) h in
-      sym (begins-or e (drop next items)) ∙ ap (begins orItem) (sym (f .items) ∙ at-place items at l) ∙ rw i
-
-  pub walk-or : getD items at 0 ≡ orItem → (r : Walked)
-      → Walks items (at + 1) 1 depth (orsFrom (takeWithin depth) 1 (drop (at + 1) items)) nestExpr heightExpr r
+  pub walk-joined : Operator (getD items at 0) → (r : Walked) → Walks items at 0 depth (takeExpr (takeWithin depth) (drop at items)) nestExpr heightExpr r
       → Walks items at 0 (suc depth) (takeOperand (takeWithin (suc depth)) (drop at items)) nestOperand heightExpr (raisedBy r 1 0)
-  walk-or i (Done next nest high) w =
-      let read : takeOperand (takeWithin (suc depth)) (drop at items) ≡ some (w .what, drop next items) =
-      rw (at-place items at l, i, operand-or depth (drop (at + 1) items), w .reads) in
-      let is : isOr (w .what) ≡ true = or-there (w .what) next i read in
+  walk-joined o (Done next nest high) w =
+      let read : takeOperand (takeWithin (suc depth)) (drop at items) ≡ some (w .what, drop next items) = operand-same o ∙ w .reads in
       record {
         what = w .what;
         reads = read;
-        nests = rw is (omega (arith, w .nests));
+        nests = rw (in-bracket (getD items at 0) o (w .what) (joined-there o (w .what) next read)) (omega (arith, w .nests));
         heights = omega (arith, w .heights);
-        onward = omega (arith, w .onward);
+        onward = w .onward;
         inside = w .inside;
         shallow = omega (arith, w .shallow);
         low = omega (arith, w .low);
       }
-  walk-or i Malformed w = rw (at-place items at l, i, operand-or depth (drop (at + 1) items), w)
+  walk-joined o Malformed w = operand-same o ∙ w
 
-  pub walk-and : getD items at 0 ≡ andItem → (r : Walked)
-      → Walks items (at + 1) 1 depth (andsFrom (takeWithin depth) 1 (drop (at + 1) items)) nestTerm heightExpr r
-      → Walks items at 0 (suc depth) (takeOperand (takeWithin (suc depth)) (drop at items)) nestOperand heightExpr (raisedBy r 1 0)
-  walk-and i (Done next nest high) w =
-      let read : takeOperand (takeWithin (suc depth)) (drop at items) ≡ some (w .what, drop next items) =
-      rw (at-place items at l, i, operand-and depth (drop (at + 1) items), w .reads) in
-      let is : isAnd (w .what) ≡ true = and-there (w .what) next i read in
-      record {
-        what = w .what;
-        reads = read;
-        nests = omega (arith, w .nests, lone (w .what) is);
-        heights = omega (arith, w .heights);
-        onward = omega (arith, w .onward);
-        inside = w .inside;
-        shallow = omega (arith, w .shallow);
-        low = omega (arith, w .low);
-      }
-    where
-      lone : (e : Expr) → isAnd e ≡ true → nestOperand e ≡ 1 + nestTerm e
-      lone (path s) h = absurd (false≢true h)
-      lone (both a b) h = refl
-      lone (either a b) h = absurd (false≢true h)
-      lone (negated a) h = absurd (false≢true h)
-  walk-and i Malformed w = rw (at-place items at l, i, operand-and depth (drop (at + 1) items), w)
+  -- The operators that an expression begins with, where an item of one stands.
+  pub operators-there : Operator (getD items at 0) → 1 ≤ operators (drop at items)
+  operators-there o = rw (at-place items at l) (operators-some (getD items at 0) o (drop (at + 1) items))
 
   -- What is no operand.
   pub walk-none : (d : ℕ) → takeOperand (takeWithin d) (getD items at 0 ∷ drop (at + 1) items) ≡ none → takeOperand (takeWithin d) (drop at items) ≡ none
@@ -219,30 +218,21 @@ deeper P next (suc d) z = subst (λ (k : ℕ). P k (suc d)) (let e : d ≡ suc d
 
 -- The brackets, where d brackets may be opened and d is not 0.
 module _ (items : List ℕ) (at depth : ℕ) (l : at < length items) (z : depth ≡ 0 → ⊥) (r : Walked) where
-  pub opens-and : getD items at 0 ≡ andItem → Walks items (at + 1) 1 (depth - 1) (andsFrom (takeWithin (depth - 1)) 1 (drop (at + 1) items)) nestTerm heightExpr r
+  pub opens-joined : Operator (getD items at 0) → Walks items at 0 (depth - 1) (takeExpr (takeWithin (depth - 1)) (drop at items)) nestExpr heightExpr r
       → Walks items at 0 depth (takeOperand (takeWithin depth) (drop at items)) nestOperand heightExpr (raisedBy r 1 0)
-  opens-and e =
+  opens-joined o =
       deeper
       (λ less d.
-      Walks items (at + 1) 1 less (andsFrom (takeWithin less) 1 (drop (at + 1) items)) nestTerm heightExpr r
+      Walks items at 0 less (takeExpr (takeWithin less) (drop at items)) nestExpr heightExpr r
       → Walks items at 0 d (takeOperand (takeWithin d) (drop at items)) nestOperand heightExpr (raisedBy r 1 0))
-      (λ d. walk-and items at d l e r) depth z
+      (λ d. walk-joined items at d l o r) depth z
 
-  pub opens-or : getD items at 0 ≡ orItem → Walks items (at + 1) 1 (depth - 1) (orsFrom (takeWithin (depth - 1)) 1 (drop (at + 1) items)) nestExpr heightExpr r
-      → Walks items at 0 depth (takeOperand (takeWithin depth) (drop at items)) nestOperand heightExpr (raisedBy r 1 0)
-  opens-or e =
-      deeper
-      (λ less d.
-      Walks items (at + 1) 1 less (orsFrom (takeWithin less) 1 (drop (at + 1) items)) nestExpr heightExpr r
-      → Walks items at 0 d (takeOperand (takeWithin d) (drop at items)) nestOperand heightExpr (raisedBy r 1 0))
-      (λ d. walk-or items at d l e r) depth z
-
-  pub opens-not : getD items at 0 ≡ notItem → Walks items (at + 1) 0 (depth - 1) (orsFrom (takeWithin (depth - 1)) 0 (drop (at + 1) items)) nestExpr heightExpr r
+  pub opens-not : getD items at 0 ≡ notItem → Walks items (at + 1) 0 (depth - 1) (takeExpr (takeWithin (depth - 1)) (drop (at + 1) items)) nestExpr heightExpr r
       → Walks items at 0 depth (takeOperand (takeWithin depth) (drop at items)) nestOperand heightExpr (raisedBy r 1 1)
   opens-not e =
       deeper
       (λ less d.
-      Walks items (at + 1) 0 less (orsFrom (takeWithin less) 0 (drop (at + 1) items)) nestExpr heightExpr r
+      Walks items (at + 1) 0 less (takeExpr (takeWithin less) (drop (at + 1) items)) nestExpr heightExpr r
       → Walks items at 0 d (takeOperand (takeWithin d) (drop at items)) nestOperand heightExpr (raisedBy r 1 1))
       (λ d. walk-not items at d l e r) depth z
 

@@ -1,223 +1,206 @@
--- Walking over a left-grouped run, over steps and over predicates: what was read so far, and how one thing more changes it.
+-- Walking over an expression, over steps and over predicates: what was read so far, and how one thing more changes it.
 -- The idea is the same each time: what is left to read gives the answer of the whole. Assumes nothing.
-use Prim.Native.Nat.{ℕ, zero, suc, _+_, _-_, _*_, _≤_, _<_, max}
+use Prim.Native.Nat.{ℕ, zero, suc, _+_, _-_, _≤_, _<_, max}
 use native.Mathlib.Omega.{arith}
 use mathlib.Core.Path.{_≡_, refl, sym, _∙_, ap, ap₂}
-use mathlib.Core.Bool.{Bool, true, false, _||_}
-use mathlib.Core.List.{List, [], _∷_, _++_}
+use mathlib.Core.List.{List}
 use mathlib.Core.Option.{none, some}
-use lib.Dec.{eqb}
 use lib.ListN.{length, getD, drop, drop-of-length-le}
-use lib.Seq.{drop-cons, drop-drop}
+use lib.Seq.{drop-cons}
 use native.Mathlib.Numerals.{add-one}
-use borrow.Author.Tests.{ne-eqb, eqb-false}
-use mathlib.Core.Logic.{⊎-elim}
-use Rattle.paper.proofs.Tests.{decide}
-use Rattle.paper.specs.Tools.{found, begins}
+use Rattle.paper.specs.Tools.{found}
 use Rattle.paper.specs.Query.{Expr, path, both, either, negated, Steps, stop, step, Preds, bare, pred}
-use Rattle.paper.specs.Items.{andItem, orItem, stepCount, Head, stepAt, encodeExpr, leading, Taken, takePreds, takeSteps, takeOperand, takeAnds, takeTerm, takeOrs, takeWithin}
-use Rattle.paper.specs.Measures.{isAnd, isOr, inBrackets, nestExpr, nestSteps, nestPreds, heightExpr, heightSteps, heightPreds}
+use Rattle.paper.specs.Items.{andItem, orItem, Head, stepAt, leading, Taken, takePreds, takeSteps, takeOperand, takeOrs, takeExpr, takeWithin}
+use Rattle.paper.specs.Measures.{nestExpr, nestSteps, nestPreds, heightExpr, heightSteps, heightPreds}
 use Rattle.paper.specs.Composition.{append}
 use Rattle.paper.proofs.Decoding.{orsFrom, andsFrom, whole, term}
-use Rattle.paper.proofs.Encoding.{from-operand, from-term, from-within}
-use Rattle.shape.specs.Walks.{nestTerm, nestOperand, Walk}
-
--- A run of operators: `one` reads an operand, `more n e` reads n more and joins each to e.
-module _ (one : List ℕ → Taken Expr) (more : ℕ → Expr → List ℕ → Taken Expr) (join : Expr → Expr → Expr) (nestLeft nestRight : Expr → ℕ)
-    (stops : (e : Expr) (ws : List ℕ) → more 0 e ws ≡ some (e, ws))
-    (goes : (n : ℕ) (e : Expr) (ws : List ℕ) → more (suc n) e ws ≡ found (one ws) (λ r. more n (join e (r .0)) (r .1)))
-    (nest-join : (a b : Expr) → nestLeft (join a b) ≡ max (nestLeft a) (nestRight b))
-    (height-join : (a b : Expr) → heightExpr (join a b) ≡ 1 + max (heightExpr a) (heightExpr b)) where
-  -- What has been read of the run, with so many operands owed.
-  pub record Left (items : List ℕ) (at counted depth : ℕ) (whole : Taken Expr) (place deep high owed : ℕ) : Type 0 where
-    pub so-far : Expr
-    pub goes-on : whole ≡ more owed so-far (drop place items)
-    pub nests : deep ≡ nestLeft so-far
-    pub heights : high ≡ heightExpr so-far
-    pub onward : at ≤ place
-    pub inside : place ≤ length items
-    pub shallow : deep ≤ depth
-    pub low : high + owed + at ≤ place + counted
-
-  -- One operand more.
-  pub left-more : (items : List ℕ) (at counted depth : ℕ) (whole : Taken Expr) (place deep high owed next nesting height deep′ high′ : ℕ) → 0 < owed
-      → Left items at counted depth whole place deep high owed → Walk items place 0 depth (one (drop place items)) nestRight heightExpr next nesting height
-      → deep′ ≡ max deep nesting → high′ ≡ max high height → Left items at counted depth whole next deep′ (high′ + 1) (owed - 1)
-  left-more items at counted depth whole place deep high zero next nesting height deep′ high′ z l w ed eh = absurd (omega arith)
-  left-more items at counted depth whole place deep high (suc owed) next nesting height deep′ high′ z l w ed eh =
-      record {
-        so-far = join (l .so-far) (w .what);
-        goes-on =
-            l .goes-on ∙ goes owed (l .so-far) (drop place items) ∙ ap (λ (o : Taken Expr). found o (λ r. more owed (join (l .so-far) (r .0)) (r .1))) (w .reads) ∙
-            ap (λ (n : ℕ). more n (join (l .so-far) (w .what)) (drop next items)) (let e : owed ≡ suc owed - 1 = omega arith in e);
-        nests = ed ∙ ap₂ max (l .nests) (w .nests) ∙ sym (nest-join (l .so-far) (w .what));
-        heights = omega (arith, eh, l .heights, w .heights, height-join (l .so-far) (w .what));
-        onward = omega (arith, l .onward, w .onward);
-        inside = w .inside;
-        shallow = omega (arith, l .shallow, w .shallow);
-        low = omega (arith, l .low, w .low, w .onward);
-      }
-
-  -- An operand that is malformed.
-  pub left-stuck : (items : List ℕ) (at counted depth : ℕ) (whole : Taken Expr) (place deep high owed : ℕ) → 0 < owed
-      → Left items at counted depth whole place deep high owed → one (drop place items) ≡ none → whole ≡ none
-  left-stuck items at counted depth whole place deep high zero z l h = absurd (omega arith)
-  left-stuck items at counted depth whole place deep high (suc owed) z l h =
-      l .goes-on ∙ goes owed (l .so-far) (drop place items) ∙ ap (λ (o : Taken Expr). found o (λ r. more owed (join (l .so-far) (r .0)) (r .1))) h
-
-  -- Nothing more owed.
-  pub left-done : (items : List ℕ) (at counted depth : ℕ) (whole : Taken Expr) (place deep high owed : ℕ) → owed ≤ 0
-      → Left items at counted depth whole place deep high owed → Walk items at counted depth whole nestLeft heightExpr place deep high
-  left-done items at counted depth whole place deep high zero z l =
-      record {
-        what = l .so-far;
-        reads = l .goes-on ∙ stops (l .so-far) (drop place items);
-        nests = l .nests;
-        heights = l .heights;
-        onward = l .onward;
-        inside = l .inside;
-        shallow = l .shallow;
-        low = omega (arith, l .low);
-      }
-  left-done items at counted depth whole place deep high (suc owed) z l = absurd (omega arith)
-
--- An encoded expression begins with an operator's item exactly if it is that operator.
-pub begins-and : (e : Expr) (rest : List ℕ) → begins andItem (encodeExpr e ++ rest) ≡ isAnd e
-begins-and (path s) rest = ne-eqb 2 (stepCount s * 8) (λ e. omega arith)
-begins-and (both a b) rest = refl
-begins-and (either a b) rest = refl
-begins-and (negated a) rest = refl
-
-pub begins-or : (e : Expr) (rest : List ℕ) → begins orItem (encodeExpr e ++ rest) ≡ isOr e
-begins-or (path s) rest = ne-eqb 3 (stepCount s * 8) (λ e. omega arith)
-begins-or (both a b) rest = refl
-begins-or (either a b) rest = refl
-begins-or (negated a) rest = refl
-
--- After a run its item does not come again.
-run-over : (w : ℕ) (ws : List ℕ) → begins w (drop (leading w ws) ws) ≡ false
-run-over w [] = refl
-run-over w (x ∷ xs) = ⊎-elim (λ p. rw p (run-over w xs)) (λ p. rw p (ne-eqb w x (λ e. eqb-false x w p (sym e)))) (decide (eqb x w))
-
--- What is read after a run is not of its operator.
-pub operand-not-and : (d : ℕ) (ws : List ℕ) (r : Expr × List ℕ) → takeOperand (takeWithin d) (drop (leading andItem ws) ws) ≡ some r → isAnd (r .0) ≡ false
-operand-not-and d ws r h =
-    let f = from-operand d (takeWithin d) (from-within d) (drop (leading andItem ws) ws) r h in
-    sym (begins-and (r .0) (r .1)) ∙ ap (begins andItem) (sym (f .items)) ∙ run-over andItem ws
-
-pub term-not-or : (d : ℕ) (ws : List ℕ) (r : Expr × List ℕ) → andsFrom (takeWithin d) 0 (drop (leading orItem ws) ws) ≡ some r → isOr (r .0) ≡ false
-term-not-or d ws r h =
-    let f = from-term d (takeWithin d) (from-within d) (drop (leading orItem ws) ws) r (term (takeWithin d) (drop (leading orItem ws) ws) ∙ h) in
-    sym (begins-or (r .0) (r .1)) ∙ ap (begins orItem) (sym (f .items)) ∙ run-over orItem ws
+use Rattle.shape.specs.Walks.{nestOperand, operators, joinedHeight, Walk}
+use Rattle.shape.proofs.Operators.{takeRun, takePart, takeMore, joinBy, nestRun, nestPart, Run, run-starts, first-alone, operators-run}
+use Rattle.shape.proofs.Operators.{ands as ands-laws, ors as ors-laws}
 
 -- A term is read with none counted before.
 pub ors-go : (depth n : ℕ) (e : Expr) (ws : List ℕ)
     → takeOrs (takeWithin depth) (suc n) e ws ≡ found (andsFrom (takeWithin depth) 0 ws) (λ r. takeOrs (takeWithin depth) n (either e (r .0)) (r .1))
 ors-go depth n e ws = ap (λ (o : Taken Expr). found o (λ r. takeOrs (takeWithin depth) n (either e (r .0)) (r .1))) (term (takeWithin depth) ws)
 
--- The two runs.
-abbrev pub Ands : ℕ → List ℕ → ℕ → ℕ → Taken Expr → ℕ → ℕ → ℕ → ℕ → Type 0
-Ands depth items at counted whole place deep high owed =
-    Left (takeOperand (takeWithin depth)) (takeAnds (takeWithin depth)) both nestTerm nestOperand (λ e ws. refl) (λ n e ws. refl) (λ a b. refl) (λ a b. refl)
-    items at counted depth whole place deep high owed
+-- Every expression has a height.
+some-height : (e : Expr) → 1 ≤ heightExpr e
+some-height (path s) = omega arith
+some-height (both a b) = omega arith
+some-height (either a b) = omega arith
+some-height (negated a) = omega arith
 
-abbrev pub Ors : ℕ → List ℕ → ℕ → ℕ → Taken Expr → ℕ → ℕ → ℕ → ℕ → Type 0
-Ors depth items at counted whole place deep high owed =
-    Left (andsFrom (takeWithin depth) 0) (takeOrs (takeWithin depth)) either nestExpr nestTerm (λ e ws. refl) (ors-go depth) (λ a b. refl) (λ a b. refl)
-    items at counted depth whole place deep high owed
+-- What is joined to something is one higher than the higher of the two.
+pub joined-more : (high height : ℕ) → 1 ≤ high → joinedHeight high height ≡ 1 + max high height
+joined-more zero height z = absurd (omega arith)
+joined-more (suc high) height z = refl
 
--- Each begins with what is read after its run.
-pub ands-start : (depth : ℕ) (items : List ℕ) (at counted run next nesting height : ℕ) → run ≡ leading andItem (drop at items)
-    → Walk items (at + run) 0 depth (takeOperand (takeWithin depth) (drop (at + run) items)) nestOperand heightExpr next nesting height
-    → Ands depth items at counted (andsFrom (takeWithin depth) counted (drop at items)) next nesting height (run + counted)
-unfolding andsFrom
-ands-start depth items at counted run next nesting height e w =
-    let there : drop (leading andItem (drop at items)) (drop at items) ≡ drop (at + run) items = ap (λ (k : ℕ). drop k (drop at items)) (sym e) ∙ drop-drop run at items in
-    let read : takeOperand (takeWithin depth) (drop (leading andItem (drop at items)) (drop at items)) ≡ some (w .what, drop next items) =
-    ap (takeOperand (takeWithin depth)) there ∙ w .reads in
-    record {
-      so-far = w .what;
-      goes-on = rw (read, ← e);
-      nests = w .nests ∙ rw (operand-not-and depth (drop at items) (w .what, drop next items) read) (plain (isOr (w .what)) (nestExpr (w .what)));
-      heights = w .heights;
-      onward = omega (arith, w .onward);
-      inside = w .inside;
-      shallow = w .shallow;
-      low = omega (arith, w .low);
-    }
-  where
-    plain : (b : Bool) (n : ℕ) → inBrackets (b || false) n ≡ inBrackets b n
-    plain true n = refl
-    plain false n = refl
+-- Walking over a run of an operator that begins at `at`.
+module _ (operator depth : ℕ) (items : List ℕ) (at : ℕ) where
+  -- What has been read of the run, with so many parts owed.
+  pub record Left (place deep high owed : ℕ) : Type 0 where
+    pub so-far : Expr
+    pub goes-on : takeRun operator (takeWithin depth) (drop at items) ≡ takeMore operator (takeWithin depth) owed so-far (drop place items)
+    pub nests : deep ≡ nestRun operator so-far
+    pub heights : high ≡ heightExpr so-far
+    pub onward : at ≤ place
+    pub inside : place ≤ length items
+    pub shallow : deep ≤ depth
+    pub low : high + owed + at ≤ place
 
-pub ors-start : (depth : ℕ) (items : List ℕ) (at counted run next nesting height : ℕ) → run ≡ leading orItem (drop at items)
-    → Walk items (at + run) 0 depth (andsFrom (takeWithin depth) 0 (drop (at + run) items)) nestTerm heightExpr next nesting height
-    → Ors depth items at counted (orsFrom (takeWithin depth) counted (drop at items)) next nesting height (run + counted)
-unfolding orsFrom
-ors-start depth items at counted run next nesting height e w =
-    let there : drop (leading orItem (drop at items)) (drop at items) ≡ drop (at + run) items = ap (λ (k : ℕ). drop k (drop at items)) (sym e) ∙ drop-drop run at items in
-    let read : andsFrom (takeWithin depth) 0 (drop (leading orItem (drop at items)) (drop at items)) ≡ some (w .what, drop next items) =
-    ap (andsFrom (takeWithin depth) 0) there ∙ w .reads in
-    let taken : takeTerm (takeWithin depth) (drop (leading orItem (drop at items)) (drop at items)) ≡ some (w .what, drop next items) =
-    term (takeWithin depth) (drop (leading orItem (drop at items)) (drop at items)) ∙ read in
-    record {
-      so-far = w .what;
-      goes-on = rw (taken, ← e);
-      nests = w .nests ∙ rw (term-not-or depth (drop at items) (w .what, drop next items) read);
-      heights = w .heights;
-      onward = omega (arith, w .onward);
-      inside = w .inside;
-      shallow = w .shallow;
-      low = omega (arith, w .low);
-    }
+  -- A part is to be read at `place`: what its answer makes of the run.
+  pub record Awaits (place deep high owed : ℕ) : Type 0 where
+    pub stuck : takePart operator (takeWithin depth) (drop place items) ≡ none → takeRun operator (takeWithin depth) (drop at items) ≡ none
+    pub gives : (next nesting height deep′ high′ : ℕ) → Walk items place 0 depth (takePart operator (takeWithin depth) (drop place items)) (nestPart operator) heightExpr next nesting height
+        → deep′ ≡ max deep nesting → high′ ≡ joinedHeight high height → Left next deep′ high′ owed
+    pub onward : at ≤ place
+    pub inside : place ≤ length items
+    pub low : high + owed + at ≤ place
 
--- A run whose first operand is malformed.
-pub ands-stuck : (depth : ℕ) (items : List ℕ) (at counted run : ℕ) → run ≡ leading andItem (drop at items) → takeOperand (takeWithin depth) (drop (at + run) items) ≡ none
-    → andsFrom (takeWithin depth) counted (drop at items) ≡ none
-unfolding andsFrom
-ands-stuck depth items at counted run e h =
-    let there : drop (leading andItem (drop at items)) (drop at items) ≡ drop (at + run) items = ap (λ (k : ℕ). drop k (drop at items)) (sym e) ∙ drop-drop run at items in
-    rw (there, h)
+  module _ (l : Run depth operator) where
+    -- The first part.
+    pub awaits-first : (count : ℕ) → count ≡ leading operator (drop at items) → at + count ≤ length items → Awaits (at + count) 0 0 count
+    awaits-first count e inside =
+        record {
+          stuck = λ h. starts ∙ ap (λ (o : Taken Expr). found o (λ r. takeMore operator (takeWithin depth) count (r .0) (r .1))) h;
+          gives = λ next nesting height deep′ high′ w ed eh.
+              record {
+                so-far = w .what;
+                goes-on = starts ∙ ap (λ (o : Taken Expr). found o (λ r. takeMore operator (takeWithin depth) count (r .0) (r .1))) (w .reads);
+                nests = omega (arith, ed, w .nests, l .nest-alone (w .what) (first-alone operator depth l items at count e (w .what, drop next items) (w .reads)));
+                heights = eh ∙ w .heights;
+                onward = omega (arith, w .onward);
+                inside = w .inside;
+                shallow = omega (arith, ed, w .shallow);
+                low = omega (arith, eh, w .low);
+              };
+          onward = omega arith;
+          inside = inside;
+          low = omega arith;
+        }
+      where
+        starts : takeRun operator (takeWithin depth) (drop at items) ≡ found (takePart operator (takeWithin depth) (drop (at + count) items)) (λ r. takeMore operator (takeWithin depth) count (r .0) (r .1))
+        starts = run-starts operator depth l items at count e
 
-pub ors-stuck : (depth : ℕ) (items : List ℕ) (at counted run : ℕ) → run ≡ leading orItem (drop at items) → andsFrom (takeWithin depth) 0 (drop (at + run) items) ≡ none
-    → orsFrom (takeWithin depth) counted (drop at items) ≡ none
-unfolding orsFrom
-ors-stuck depth items at counted run e h =
-    let there : drop (leading orItem (drop at items)) (drop at items) ≡ drop (at + run) items = ap (λ (k : ℕ). drop k (drop at items)) (sym e) ∙ drop-drop run at items in
-    rw (there, term (takeWithin depth) (drop (at + run) items), h)
+    -- The next part, where one is owed.
+    pub awaits-next : (place deep high owed : ℕ) → 0 < owed → Left place deep high owed → Awaits place deep high (owed - 1)
+    awaits-next place deep high zero z left = absurd (omega arith)
+    awaits-next place deep high (suc owed) z left =
+        record {
+          stuck = λ h. goes ∙ ap (λ (o : Taken Expr). found o (λ r. takeMore operator (takeWithin depth) (suc owed - 1) (joinBy operator (left .so-far) (r .0)) (r .1))) h;
+          gives = λ next nesting height deep′ high′ w ed eh.
+              let taller : high′ ≡ 1 + max high height = eh ∙ joined-more high height (omega (arith, left .heights, some-height (left .so-far))) in
+              record {
+                so-far = joinBy operator (left .so-far) (w .what);
+                goes-on = goes ∙ ap (λ (o : Taken Expr). found o (λ r. takeMore operator (takeWithin depth) (suc owed - 1) (joinBy operator (left .so-far) (r .0)) (r .1))) (w .reads);
+                nests = ed ∙ ap₂ max (left .nests) (w .nests) ∙ sym (l .nest-join (left .so-far) (w .what));
+                heights = omega (arith, taller, left .heights, w .heights, l .height-join (left .so-far) (w .what));
+                onward = omega (arith, left .onward, w .onward);
+                inside = w .inside;
+                shallow = omega (arith, ed, left .shallow, w .shallow);
+                low = omega (arith, taller, left .low, w .low, w .onward, w .heights, some-height (w .what));
+              };
+          onward = left .onward;
+          inside = left .inside;
+          low = omega (arith, left .low);
+        }
+      where
+        goes : takeRun operator (takeWithin depth) (drop at items) ≡ found (takePart operator (takeWithin depth) (drop place items)) (λ r. takeMore operator (takeWithin depth) (suc owed - 1) (joinBy operator (left .so-far) (r .0)) (r .1))
+        goes =
+            left .goes-on ∙ l .goes owed (left .so-far) (drop place items) ∙
+            ap (λ (n : ℕ). found (takePart operator (takeWithin depth) (drop place items)) (λ r. takeMore operator (takeWithin depth) n (joinBy operator (left .so-far) (r .0)) (r .1)))
+            (let k : owed ≡ suc owed - 1 = omega arith in k)
 
--- How each goes on, and ends.
-pub ands-more : (depth : ℕ) (items : List ℕ) (at counted : ℕ) (whole : Taken Expr) (place deep high owed next nesting height deep′ high′ : ℕ) → 0 < owed
-    → Ands depth items at counted whole place deep high owed → Walk items place 0 depth (takeOperand (takeWithin depth) (drop place items)) nestOperand heightExpr next nesting height
-    → deep′ ≡ max deep nesting → high′ ≡ max high height → Ands depth items at counted whole next deep′ (high′ + 1) (owed - 1)
-ands-more depth items at counted whole place deep high owed next nesting height deep′ high′ z l w ed eh =
-    left-more (takeOperand (takeWithin depth)) (takeAnds (takeWithin depth)) both nestTerm nestOperand (λ e ws. refl) (λ n e ws. refl) (λ a b. refl) (λ a b. refl) items at counted depth whole place deep high owed next nesting height deep′ high′ z l w ed eh
+    -- No part is owed.
+    pub left-done : (place deep high owed : ℕ) → owed ≤ 0 → Left place deep high owed
+        → Walk items at 0 depth (takeRun operator (takeWithin depth) (drop at items)) (nestRun operator) heightExpr place deep high
+    left-done place deep high zero z left =
+        record {
+          what = left .so-far;
+          reads = left .goes-on ∙ l .stops (left .so-far) (drop place items);
+          nests = left .nests;
+          heights = left .heights;
+          onward = left .onward;
+          inside = left .inside;
+          shallow = left .shallow;
+          low = omega (arith, left .low);
+        }
+    left-done place deep high (suc owed) z left = absurd (omega arith)
 
-pub ands-halt : (depth : ℕ) (items : List ℕ) (at counted : ℕ) (whole : Taken Expr) (place deep high owed : ℕ) → 0 < owed
-    → Ands depth items at counted whole place deep high owed → takeOperand (takeWithin depth) (drop place items) ≡ none → whole ≡ none
-ands-halt depth items at counted whole place deep high owed z l h =
-    left-stuck (takeOperand (takeWithin depth)) (takeAnds (takeWithin depth)) both nestTerm nestOperand (λ e ws. refl) (λ n e ws. refl) (λ a b. refl) (λ a b. refl) items at counted depth whole place deep high owed z l h
+-- Walking over an expression that begins at `at`: an operand of `and` is to be read at `place`, in a term that an `or` awaits and that began at `since`.
+module _ (depth : ℕ) (items : List ℕ) (at : ℕ) where
+  pub record Turn (place deep high term ands ors : ℕ) : Type 0 where
+    pub since : ℕ
+    pub outer-deep : ℕ
+    pub inner-deep : ℕ
+    pub deepest : deep ≡ max outer-deep inner-deep
+    pub outer : Awaits orItem depth items at since outer-deep high ors
+    pub inner : Awaits andItem depth items since place inner-deep term ands
+    pub past : at + operators (drop at items) ≤ place
 
-pub ands-done : (depth : ℕ) (items : List ℕ) (at counted : ℕ) (whole : Taken Expr) (place deep high owed : ℕ) → owed ≤ 0
-    → Ands depth items at counted whole place deep high owed → Walk items at counted depth whole nestTerm heightExpr place deep high
-ands-done depth items at counted whole place deep high owed z l =
-    left-done (takeOperand (takeWithin depth)) (takeAnds (takeWithin depth)) both nestTerm nestOperand (λ e ws. refl) (λ n e ws. refl) (λ a b. refl) (λ a b. refl) items at counted depth whole place deep high owed z l
+  pub turn-start : (ors ands : ℕ) → ors ≡ leading orItem (drop at items) → ands ≡ leading andItem (drop (at + ors) items) → at + ors ≤ length items → at + ors + ands ≤ length items
+      → Turn (at + ors + ands) 0 0 0 ands ors
+  turn-start ors ands o a lo la =
+      record {
+        since = at + ors;
+        outer-deep = 0;
+        inner-deep = 0;
+        deepest = refl;
+        outer = awaits-first orItem depth items at (ors-laws depth) ors o lo;
+        inner = awaits-first andItem depth items (at + ors) (ands-laws depth) ands a la;
+        past = omega (arith, operators-run items at ors ands o a);
+      }
 
-pub ors-more : (depth : ℕ) (items : List ℕ) (at counted : ℕ) (whole : Taken Expr) (place deep high owed next nesting height deep′ high′ : ℕ) → 0 < owed
-    → Ors depth items at counted whole place deep high owed → Walk items place 0 depth (andsFrom (takeWithin depth) 0 (drop place items)) nestTerm heightExpr next nesting height
-    → deep′ ≡ max deep nesting → high′ ≡ max high height → Ors depth items at counted whole next deep′ (high′ + 1) (owed - 1)
-ors-more depth items at counted whole place deep high owed next nesting height deep′ high′ z l w ed eh =
-    left-more (andsFrom (takeWithin depth) 0) (takeOrs (takeWithin depth)) either nestExpr nestTerm (λ e ws. refl) (ors-go depth) (λ a b. refl) (λ a b. refl) items at counted depth whole place deep high owed next nesting height deep′ high′ z l w ed eh
+module _ {depth : ℕ} {items : List ℕ} {at place deep high term ands ors : ℕ} (t : Turn depth items at place deep high term ands ors) where
+  pub turn-stuck : takeOperand (takeWithin depth) (drop place items) ≡ none → takeExpr (takeWithin depth) (drop at items) ≡ none
+  turn-stuck h = t .outer .stuck (t .inner .stuck h)
 
-pub ors-halt : (depth : ℕ) (items : List ℕ) (at counted : ℕ) (whole : Taken Expr) (place deep high owed : ℕ) → 0 < owed
-    → Ors depth items at counted whole place deep high owed → andsFrom (takeWithin depth) 0 (drop place items) ≡ none → whole ≡ none
-ors-halt depth items at counted whole place deep high owed z l h =
-    left-stuck (andsFrom (takeWithin depth) 0) (takeOrs (takeWithin depth)) either nestExpr nestTerm (λ e ws. refl) (ors-go depth) (λ a b. refl) (λ a b. refl) items at counted depth whole place deep high owed z l h
+  -- The operand is read.
+  module _ {next nesting height deep′ term′ : ℕ} (w : Walk items place 0 depth (takeOperand (takeWithin depth) (drop place items)) nestOperand heightExpr next nesting height)
+      (ed : deep′ ≡ max deep nesting) (et : term′ ≡ joinedHeight term height) where
+    pub turn-onward : place < next
+    turn-onward = omega (arith, w .low, w .heights, some-height (w .what))
 
-pub ors-done : (depth : ℕ) (items : List ℕ) (at counted : ℕ) (whole : Taken Expr) (place deep high owed : ℕ) → owed ≤ 0
-    → Ors depth items at counted whole place deep high owed → Walk items at counted depth whole nestExpr heightExpr place deep high
-ors-done depth items at counted whole place deep high owed z l =
-    left-done (andsFrom (takeWithin depth) 0) (takeOrs (takeWithin depth)) either nestExpr nestTerm (λ e ws. refl) (ors-go depth) (λ a b. refl) (λ a b. refl) items at counted depth whole place deep high owed z l
+    operands : Left andItem depth items (t .since) next (max (t .inner-deep) nesting) term′ ands
+    operands = t .inner .gives next nesting height (max (t .inner-deep) nesting) term′ w refl et
+
+    pub term-low : term′ ≤ next
+    term-low = omega (arith, operands .low)
+
+    -- It is not its term's last.
+    pub turn-and : 0 < ands → Turn depth items at next deep′ high term′ (ands - 1) ors
+    turn-and z =
+        record {
+          since = t .since;
+          outer-deep = t .outer-deep;
+          inner-deep = max (t .inner-deep) nesting;
+          deepest = omega (arith, ed, t .deepest);
+          outer = t .outer;
+          inner = awaits-next andItem depth items (t .since) (ands-laws depth) next (max (t .inner-deep) nesting) term′ ands z operands;
+          past = omega (arith, t .past, w .onward);
+        }
+
+    -- The term is read.
+    module _ {high′ : ℕ} (z : ands ≤ 0) (eh : high′ ≡ joinedHeight high term′) where
+      terms : Left orItem depth items at next deep′ high′ ors
+      terms =
+          t .outer .gives next (max (t .inner-deep) nesting) term′ deep′ high′
+          (left-done andItem depth items (t .since) (ands-laws depth) next (max (t .inner-deep) nesting) term′ ands z operands) (omega (arith, ed, t .deepest)) eh
+
+      pub turn-or : {count : ℕ} → 0 < ors → count ≡ leading andItem (drop next items) → next + count ≤ length items → Turn depth items at (next + count) deep′ high′ 0 count (ors - 1)
+      turn-or {count} y e inside =
+          record {
+            since = next;
+            outer-deep = deep′;
+            inner-deep = 0;
+            deepest = omega arith;
+            outer = awaits-next orItem depth items at (ors-laws depth) next deep′ high′ ors y terms;
+            inner = awaits-first andItem depth items next (ands-laws depth) count e inside;
+            past = omega (arith, t .past, w .onward);
+          }
+
+      pub turn-done : ors ≤ 0 → Walk items at 0 depth (takeExpr (takeWithin depth) (drop at items)) nestExpr heightExpr next deep′ high′
+      turn-done y = left-done orItem depth items at (ors-laws depth) next deep′ high′ ors y terms
 
 -- What is taken, with more put before it.
 abbrev pub ahead : {A : Type 0} → (A → A) → Taken A → Taken A
@@ -225,80 +208,92 @@ ahead put none = none
 ahead put (some r) = some (put (r .0), r .1)
 
 -- A row of steps or of predicates: `rows n` reads n of them, and `join` puts one row before another.
-module _ {A : Type 0} (rows : ℕ → List ℕ → Taken A) (join : A → A → A) (nestOf heightOf : A → ℕ)
-    (empty : A) (stops : (ws : List ℕ) → rows 0 ws ≡ some (empty, ws)) (join-empty : (a : A) → join a empty ≡ a)
-    (join-join : (a b c : A) → join (join a b) c ≡ join a (join b c)) (empty-join : (a : A) → join empty a ≡ a)
-    (nest-join : (a b : A) → nestOf (join a b) ≡ max (nestOf a) (nestOf b)) (height-join : (a b : A) → heightOf (join a b) ≡ max (heightOf a) (heightOf b)) where
+pub record Rows (A : Type 0) : Type 0 where
+  pub rows : ℕ → List ℕ → Taken A
+  pub join : A → A → A
+  pub nestOf : A → ℕ
+  pub heightOf : A → ℕ
+  pub empty : A
+  pub stops : (ws : List ℕ) → rows 0 ws ≡ some (empty, ws)
+  pub nest-empty : nestOf empty ≡ 0
+  pub height-empty : heightOf empty ≡ 0
+  pub join-empty : (a : A) → join a empty ≡ a
+  pub empty-join : (a : A) → join empty a ≡ a
+  pub join-join : (a b c : A) → join (join a b) c ≡ join a (join b c)
+  pub nest-join : (a b : A) → nestOf (join a b) ≡ max (nestOf a) (nestOf b)
+  pub height-join : (a b : A) → heightOf (join a b) ≡ max (heightOf a) (heightOf b)
+
+module _ {A : Type 0} (k : Rows A) where
   -- What has been read of the row, with so many owed.
   pub record Row (items : List ℕ) (at depth : ℕ) (whole : Taken A) (place deep high owed : ℕ) : Type 0 where
     pub so-far : A
-    pub goes-on : whole ≡ ahead (join so-far) (rows owed (drop place items))
-    pub nests : deep ≡ nestOf so-far
-    pub heights : high ≡ heightOf so-far
+    pub goes-on : whole ≡ ahead (k .join so-far) (k .rows owed (drop place items))
+    pub nests : deep ≡ k .nestOf so-far
+    pub heights : high ≡ k .heightOf so-far
     pub onward : at ≤ place
     pub inside : place ≤ length items
     pub shallow : deep ≤ depth
     pub low : high + at ≤ place
 
   -- Nothing read yet.
-  pub row-start : (items : List ℕ) (at depth count : ℕ) → at ≤ length items → nestOf empty ≡ 0 → heightOf empty ≡ 0
-      → Row items at depth (rows count (drop at items)) at 0 0 count
-  row-start items at depth count l en eh =
+  pub row-start : (items : List ℕ) (at depth count : ℕ) → at ≤ length items
+      → Row items at depth (k .rows count (drop at items)) at 0 0 count
+  row-start items at depth count l =
       record {
-        so-far = empty;
-        goes-on = go (rows count (drop at items));
-        nests = sym en;
-        heights = sym eh;
+        so-far = k .empty;
+        goes-on = go (k .rows count (drop at items));
+        nests = sym (k .nest-empty);
+        heights = sym (k .height-empty);
         onward = omega arith;
         inside = l;
         shallow = omega arith;
         low = omega arith;
       }
     where
-      go : (o : Taken A) → o ≡ ahead (join empty) o
+      go : (o : Taken A) → o ≡ ahead (k .join (k .empty)) o
       go none = refl
-      go (some r) = ap (λ (a : A). some (a, r .1)) (sym (empty-join (r .0)))
+      go (some r) = ap (λ (a : A). some (a, r .1)) (sym (k .empty-join (r .0)))
 
   -- One more: `rest` is what reading one then goes on with.
   pub row-more : (items : List ℕ) (at depth : ℕ) (whole : Taken A) (place deep high owed next nesting height deep′ high′ : ℕ) (one : A) → 0 < owed
       → Row items at depth whole place deep high owed
-      → ((n : ℕ) → rows (suc n) (drop place items) ≡ ahead (join one) (rows n (drop next items)))
-      → place ≤ next → next ≤ length items → nesting ≡ nestOf one → height ≡ heightOf one → nesting ≤ depth → height + place ≤ next
+      → ((n : ℕ) → k .rows (suc n) (drop place items) ≡ ahead (k .join one) (k .rows n (drop next items)))
+      → place ≤ next → next ≤ length items → nesting ≡ k .nestOf one → height ≡ k .heightOf one → nesting ≤ depth → height + place ≤ next
       → deep′ ≡ max deep nesting → high′ ≡ max high height → Row items at depth whole next deep′ high′ (owed - 1)
   row-more items at depth whole place deep high zero next nesting height deep′ high′ one z l goes o i en eh s b ed ei = absurd (omega arith)
   row-more items at depth whole place deep high (suc owed) next nesting height deep′ high′ one z l goes o i en eh s b ed ei =
       record {
-        so-far = join (l .so-far) one;
+        so-far = k .join (l .so-far) one;
         goes-on =
-            l .goes-on ∙ ap (ahead (join (l .so-far))) (goes owed) ∙ go (rows owed (drop next items)) ∙
-            ap (λ (n : ℕ). ahead (join (join (l .so-far) one)) (rows n (drop next items))) (let e : owed ≡ suc owed - 1 = omega arith in e);
-        nests = ed ∙ ap₂ max (l .nests) en ∙ sym (nest-join (l .so-far) one);
-        heights = ei ∙ ap₂ max (l .heights) eh ∙ sym (height-join (l .so-far) one);
+            l .goes-on ∙ ap (ahead (k .join (l .so-far))) (goes owed) ∙ go (k .rows owed (drop next items)) ∙
+            ap (λ (n : ℕ). ahead (k .join (k .join (l .so-far) one)) (k .rows n (drop next items))) (let e : owed ≡ suc owed - 1 = omega arith in e);
+        nests = ed ∙ ap₂ max (l .nests) en ∙ sym (k .nest-join (l .so-far) one);
+        heights = ei ∙ ap₂ max (l .heights) eh ∙ sym (k .height-join (l .so-far) one);
         onward = omega (arith, l .onward);
         inside = i;
         shallow = omega (arith, l .shallow);
         low = omega (arith, l .low, l .onward);
       }
     where
-      go : (t : Taken A) → ahead (join (l .so-far)) (ahead (join one) t) ≡ ahead (join (join (l .so-far) one)) t
+      go : (t : Taken A) → ahead (k .join (l .so-far)) (ahead (k .join one) t) ≡ ahead (k .join (k .join (l .so-far) one)) t
       go none = refl
-      go (some r) = ap (λ (a : A). some (a, r .1)) (sym (join-join (l .so-far) one (r .0)))
+      go (some r) = ap (λ (a : A). some (a, r .1)) (sym (k .join-join (l .so-far) one (r .0)))
 
   -- One that is malformed.
   pub row-stuck : (items : List ℕ) (at depth : ℕ) (whole : Taken A) (place deep high owed : ℕ) → 0 < owed → Row items at depth whole place deep high owed
-      → ((n : ℕ) → rows (suc n) (drop place items) ≡ none) → whole ≡ none
+      → ((n : ℕ) → k .rows (suc n) (drop place items) ≡ none) → whole ≡ none
   row-stuck items at depth whole place deep high zero z l stuck = absurd (omega arith)
-  row-stuck items at depth whole place deep high (suc owed) z l stuck = l .goes-on ∙ ap (ahead (join (l .so-far))) (stuck owed)
+  row-stuck items at depth whole place deep high (suc owed) z l stuck = l .goes-on ∙ ap (ahead (k .join (l .so-far))) (stuck owed)
 
   -- None owed.
   pub row-done : (items : List ℕ) (at depth : ℕ) (whole : Taken A) (place deep high owed : ℕ) → owed ≤ 0 → Row items at depth whole place deep high owed
-      → Walk items at 0 depth whole nestOf heightOf place deep high
+      → Walk items at 0 depth whole (k .nestOf) (k .heightOf) place deep high
   row-done items at depth whole place deep high zero z l =
       record {
         what = l .so-far;
         reads =
-            l .goes-on ∙ ap (ahead (join (l .so-far))) (stops (drop place items)) ∙
-            ap (λ (a : A). some (a, drop place items)) (join-empty (l .so-far));
+            l .goes-on ∙ ap (ahead (k .join (l .so-far))) (k .stops (drop place items)) ∙
+            ap (λ (a : A). some (a, drop place items)) (k .join-empty (l .so-far));
         nests = l .nests;
         heights = l .heights;
         onward = l .onward;
@@ -355,15 +350,41 @@ height-preds bare qs = omega arith
 height-preds (pred e ps) qs = omega (arith, height-preds ps qs)
 
 -- The row of steps and the row of predicates.
-abbrev pub StepRow : ℕ → List ℕ → ℕ → Taken Steps → ℕ → ℕ → ℕ → ℕ → Type 0
-StepRow depth items at whole place deep high owed =
-    Row (takeSteps (takeWithin depth)) append nestSteps heightSteps stop (λ ws. refl) append-stop append-append (λ a. refl) nest-append height-append
-    items at depth whole place deep high owed
+abbrev pub stepRows : ℕ → Rows Steps
+stepRows depth =
+    record {
+      rows = takeSteps (takeWithin depth);
+      join = append;
+      nestOf = nestSteps;
+      heightOf = heightSteps;
+      empty = stop;
+      stops = λ ws. refl;
+      nest-empty = refl;
+      height-empty = refl;
+      join-empty = append-stop;
+      empty-join = λ a. refl;
+      join-join = append-append;
+      nest-join = nest-append;
+      height-join = height-append;
+    }
 
-abbrev pub PredRow : ℕ → List ℕ → ℕ → Taken Preds → ℕ → ℕ → ℕ → ℕ → Type 0
-PredRow depth items at whole place deep high owed =
-    Row (takePreds (takeWithin depth)) appendPreds nestPreds heightPreds bare (λ ws. refl) preds-bare preds-append bare-preds nest-preds height-preds
-    items at depth whole place deep high owed
+abbrev pub predRows : ℕ → Rows Preds
+predRows depth =
+    record {
+      rows = takePreds (takeWithin depth);
+      join = appendPreds;
+      nestOf = nestPreds;
+      heightOf = heightPreds;
+      empty = bare;
+      stops = λ ws. refl;
+      nest-empty = refl;
+      height-empty = refl;
+      join-empty = preds-bare;
+      empty-join = bare-preds;
+      join-join = preds-append;
+      nest-join = nest-preds;
+      height-join = height-preds;
+    }
 
 -- What is found and put behind something is what is taken with that ahead.
 pub found-ahead : {A : Type 0} (put : A → A) (o : Taken A) → found o (λ r. some (put (r .0), r .1)) ≡ ahead put o
@@ -390,58 +411,23 @@ pub past-step-row : (depth : ℕ) (items : List ℕ) (place : ℕ) → length it
 past-step-row depth items place l n = rw (drop-of-length-le items l)
 
 -- One predicate more, in its bracket.
-pub pred-row : (depth : ℕ) (items : List ℕ) (place : ℕ) (e : Expr) (next : ℕ) → (depth ≡ 0 → ⊥) → orsFrom (takeWithin (depth - 1)) 0 (drop place items) ≡ some (e, drop next items) → (n : ℕ)
+pub pred-next : (depth : ℕ) (items : List ℕ) (place : ℕ) (e : Expr) (next : ℕ) → (depth ≡ 0 → ⊥) → takeExpr (takeWithin (depth - 1)) (drop place items) ≡ some (e, drop next items) → (n : ℕ)
     → takePreds (takeWithin depth) (suc n) (drop place items) ≡ ahead (appendPreds (pred e bare)) (takePreds (takeWithin depth) n (drop next items))
 unfolding appendPreds
-pred-row zero items place e next d p n = absurd (d refl)
-pred-row (suc depth) items place e next d p n =
-    let q : orsFrom (takeWithin depth) 0 (drop place items) ≡ some (e, drop next items) =
-    ap (λ (k : ℕ). orsFrom (takeWithin k) 0 (drop place items)) (let k : depth ≡ suc depth - 1 = omega arith in k) ∙ p in
-    rw (whole (takeWithin depth) (drop place items), q) (found-ahead (pred e) (takePreds (takeWithin (suc depth)) n (drop next items)))
+pred-next zero items place e next d p n = absurd (d refl)
+pred-next (suc depth) items place e next d p n =
+    let q : takeExpr (takeWithin depth) (drop place items) ≡ some (e, drop next items) =
+    ap (λ (k : ℕ). takeExpr (takeWithin k) (drop place items)) (let k : depth ≡ suc depth - 1 = omega arith in k) ∙ p in
+    rw q (found-ahead (pred e) (takePreds (takeWithin (suc depth)) n (drop next items)))
 
-pub bad-pred-row : (depth : ℕ) (items : List ℕ) (place : ℕ) → (depth ≡ 0 → ⊥) → orsFrom (takeWithin (depth - 1)) 0 (drop place items) ≡ none → (n : ℕ)
+pub pred-row : (depth : ℕ) (items : List ℕ) (place : ℕ) (e : Expr) (next : ℕ) → (depth ≡ 0 → ⊥) → orsFrom (takeWithin (depth - 1)) 0 (drop place items) ≡ some (e, drop next items) → (n : ℕ)
+    → takePreds (takeWithin depth) (suc n) (drop place items) ≡ ahead (appendPreds (pred e bare)) (takePreds (takeWithin depth) n (drop next items))
+pred-row depth items place e next d p n = pred-next depth items place e next d (whole (takeWithin (depth - 1)) (drop place items) ∙ p) n
+
+pub bad-pred-row : (depth : ℕ) (items : List ℕ) (place : ℕ) → (depth ≡ 0 → ⊥) → takeExpr (takeWithin (depth - 1)) (drop place items) ≡ none → (n : ℕ)
     → takePreds (takeWithin depth) (suc n) (drop place items) ≡ none
 bad-pred-row zero items place d p n = absurd (d refl)
 bad-pred-row (suc depth) items place d p n =
-    let q : orsFrom (takeWithin depth) 0 (drop place items) ≡ none =
-    ap (λ (k : ℕ). orsFrom (takeWithin k) 0 (drop place items)) (let k : depth ≡ suc depth - 1 = omega arith in k) ∙ p in
-    rw (whole (takeWithin depth) (drop place items), q)
-
--- How each begins, goes on and ends.
-pub steps-start : (depth : ℕ) (items : List ℕ) (at count : ℕ) → at ≤ length items → StepRow depth items at (takeSteps (takeWithin depth) count (drop at items)) at 0 0 count
-steps-start depth items at count l = row-start (takeSteps (takeWithin depth)) append nestSteps heightSteps stop (λ ws. refl) append-stop append-append (λ a. refl) nest-append height-append items at depth count l refl refl
-
-pub steps-more : (depth : ℕ) (items : List ℕ) (at : ℕ) (whole : Taken Steps) (place deep high owed next nesting height deep′ high′ : ℕ) (one : Steps) → 0 < owed
-    → StepRow depth items at whole place deep high owed
-    → ((n : ℕ) → takeSteps (takeWithin depth) (suc n) (drop place items) ≡ ahead (append one) (takeSteps (takeWithin depth) n (drop next items)))
-    → place ≤ next → next ≤ length items → nesting ≡ nestSteps one → height ≡ heightSteps one → nesting ≤ depth → height + place ≤ next
-    → deep′ ≡ max deep nesting → high′ ≡ max high height → StepRow depth items at whole next deep′ high′ (owed - 1)
-steps-more depth items at whole place deep high owed next nesting height deep′ high′ one z l goes o i en eh s b ed ei =
-    row-more (takeSteps (takeWithin depth)) append nestSteps heightSteps stop (λ ws. refl) append-stop append-append (λ a. refl) nest-append height-append items at depth whole place deep high owed next nesting height deep′ high′ one z l goes o i en eh s b ed ei
-
-pub steps-halt : (depth : ℕ) (items : List ℕ) (at : ℕ) (whole : Taken Steps) (place deep high owed : ℕ) → 0 < owed → StepRow depth items at whole place deep high owed
-    → ((n : ℕ) → takeSteps (takeWithin depth) (suc n) (drop place items) ≡ none) → whole ≡ none
-steps-halt depth items at whole place deep high owed z l h = row-stuck (takeSteps (takeWithin depth)) append nestSteps heightSteps stop (λ ws. refl) append-stop append-append (λ a. refl) nest-append height-append items at depth whole place deep high owed z l h
-
-pub steps-done : (depth : ℕ) (items : List ℕ) (at : ℕ) (whole : Taken Steps) (place deep high owed : ℕ) → owed ≤ 0 → StepRow depth items at whole place deep high owed
-    → Walk items at 0 depth whole nestSteps heightSteps place deep high
-steps-done depth items at whole place deep high owed z l = row-done (takeSteps (takeWithin depth)) append nestSteps heightSteps stop (λ ws. refl) append-stop append-append (λ a. refl) nest-append height-append items at depth whole place deep high owed z l
-
-pub preds-start : (depth : ℕ) (items : List ℕ) (at count : ℕ) → at ≤ length items → PredRow depth items at (takePreds (takeWithin depth) count (drop at items)) at 0 0 count
-preds-start depth items at count l = row-start (takePreds (takeWithin depth)) appendPreds nestPreds heightPreds bare (λ ws. refl) preds-bare preds-append bare-preds nest-preds height-preds items at depth count l refl refl
-
-pub preds-more : (depth : ℕ) (items : List ℕ) (at : ℕ) (whole : Taken Preds) (place deep high owed next nesting height deep′ high′ : ℕ) (one : Preds) → 0 < owed
-    → PredRow depth items at whole place deep high owed
-    → ((n : ℕ) → takePreds (takeWithin depth) (suc n) (drop place items) ≡ ahead (appendPreds one) (takePreds (takeWithin depth) n (drop next items)))
-    → place ≤ next → next ≤ length items → nesting ≡ nestPreds one → height ≡ heightPreds one → nesting ≤ depth → height + place ≤ next
-    → deep′ ≡ max deep nesting → high′ ≡ max high height → PredRow depth items at whole next deep′ high′ (owed - 1)
-preds-more depth items at whole place deep high owed next nesting height deep′ high′ one z l goes o i en eh s b ed ei =
-    row-more (takePreds (takeWithin depth)) appendPreds nestPreds heightPreds bare (λ ws. refl) preds-bare preds-append bare-preds nest-preds height-preds items at depth whole place deep high owed next nesting height deep′ high′ one z l goes o i en eh s b ed ei
-
-pub preds-halt : (depth : ℕ) (items : List ℕ) (at : ℕ) (whole : Taken Preds) (place deep high owed : ℕ) → 0 < owed → PredRow depth items at whole place deep high owed
-    → ((n : ℕ) → takePreds (takeWithin depth) (suc n) (drop place items) ≡ none) → whole ≡ none
-preds-halt depth items at whole place deep high owed z l h = row-stuck (takePreds (takeWithin depth)) appendPreds nestPreds heightPreds bare (λ ws. refl) preds-bare preds-append bare-preds nest-preds height-preds items at depth whole place deep high owed z l h
-
-pub preds-done : (depth : ℕ) (items : List ℕ) (at : ℕ) (whole : Taken Preds) (place deep high owed : ℕ) → owed ≤ 0 → PredRow depth items at whole place deep high owed
-    → Walk items at 0 depth whole nestPreds heightPreds place deep high
-preds-done depth items at whole place deep high owed z l = row-done (takePreds (takeWithin depth)) appendPreds nestPreds heightPreds bare (λ ws. refl) preds-bare preds-append bare-preds nest-preds height-preds items at depth whole place deep high owed z l
+    let q : takeExpr (takeWithin depth) (drop place items) ≡ none =
+    ap (λ (k : ℕ). takeExpr (takeWithin k) (drop place items)) (let k : depth ≡ suc depth - 1 = omega arith in k) ∙ p in
+    rw q

@@ -1,12 +1,12 @@
 -- What walking over items tells: where it ends, and nesting and height of what stands there.
-use Prim.Native.Nat.{ℕ, _+_, _^_, _≤_, _<_}
+use Prim.Native.Nat.{ℕ, zero, suc, _+_, _^_, _≤_, _<_, max}
 use mathlib.Core.Path.{_≡_}
 use mathlib.Core.Bool.{_||_}
 use mathlib.Core.List.{List}
 use mathlib.Core.Option.{Option, none, some}
 use lib.ListN.{length, drop}
 use Rattle.paper.specs.Query.{Expr, Query}
-use Rattle.paper.specs.Items.{Taken}
+use Rattle.paper.specs.Items.{andItem, orItem, leading, Taken}
 use Rattle.paper.specs.Measures.{isOr, isAnd, inBrackets, nestExpr}
 use Rattle.paper.specs.Measures.{nesting as nestingOf, height as heightOf}
 use Rattle.shape.specs.declared.Walked.{Walked}
@@ -20,6 +20,15 @@ nestTerm e = inBrackets (isOr e) (nestExpr e)
 
 abbrev pub nestOperand : Expr → ℕ
 nestOperand e = inBrackets (isOr e || isAnd e) (nestExpr e)
+
+-- How many items of operators an expression begins with: those of `or`, then those of `and`.
+abbrev pub operators : List ℕ → ℕ
+operators ws = leading orItem ws + leading andItem (drop (leading orItem ws) ws)
+
+-- The height of a part joined to what was read before it, whose height is 0 where nothing was.
+abbrev pub joinedHeight : ℕ → ℕ → ℕ
+joinedHeight zero height = height
+joinedHeight (suc high) height = 1 + max (suc high) height
 
 -- The walk from `at` took something, and ended at `next` with these measures of it; `counted` operators stood before `at`.
 pub record Walk {A : Type 0} (items : List ℕ) (at counted depth : ℕ) (taken : Taken A) (nestOf heightOf : A → ℕ) (next nest high : ℕ) : Type 0 where

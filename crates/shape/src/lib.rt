@@ -1,12 +1,11 @@
 // A query in memory: is it one, and then its nesting and height. Recursion opens a bracket each time, so at most 65 deep.
 use item::Item;
 ghost use mathlib.Core.Path.{_≡_};
-ghost use Prim.Native.Nat.{_+_, _≤_, max};
+ghost use Prim.Native.Nat.{_+_, _^_, _≤_, _<_, max};
 ghost use lib.ListN.{length, drop};
-ghost use Rattle.paper.specs.Items.{leading, takePreds, takeSteps, takeOperand, takeWithin, decode};
+ghost use Rattle.paper.specs.Items.{leading, takePreds, takeSteps, takeOperand, takeExpr, takeWithin, decode};
 ghost use Rattle.paper.specs.Measures.{nestExpr, nestSteps, nestPreds, heightExpr, heightSteps, heightPreds};
-ghost use Rattle.paper.proofs.Decoding.{orsFrom, andsFrom};
-ghost use Rattle.shape.specs.Walks.{Small, raisedBy, Walks, nestTerm, nestOperand, shapeOf};
+ghost use Rattle.shape.specs.Walks.{Small, raisedBy, joinedHeight, Walks, nestOperand, shapeOf};
 
 // What a walk over items finds: where it ends, with nesting and height, or that the items are malformed.
 pub enum Walked {
@@ -65,85 +64,58 @@ pub fn run_of(items: &[u32], at: usize, item: u32) -> usize
     end - at
 }
 
-// An expression, of whose `or` items so many stand before `at`.
-fn expression(items: &[u32], at: usize, counted: usize, depth: usize) -> Walked
-    requires { ⌜ (at ≤ length (now items)) × (counted ≤ 1) × (depth ≤ 64) ⌝ }
-    ensures { λ r. ⌜ Walks (now (items .entry)) at counted depth (orsFrom (takeWithin depth) counted (drop at (now (items .entry)))) nestExpr heightExpr r ⌝ }
+// The height of a part joined to what was read before it, whose height is 0 where nothing was.
+fn joined(high: usize, height: usize) -> usize
+    requires { ⌜ (high < 2 ^ 63) × (height < 2 ^ 63) ⌝ }
+    ensures { λ r. ⌜ r ≡ joinedHeight high height ⌝ }
 {
-    let run = run_of(items, at, item::OR);
-    let first = term(items, at + run, 0, depth);
-    let Walked::Done {
-        next,
-        nesting,
-        height,
-    } = first
-    else {
-        return Walked::Malformed;
-    };
-    let mut place = next;
-    let mut deep = nesting;
-    let mut high = height;
-    let mut owed = run + counted;
-    while 0 < owed {
-        let more = term(items, place, 0, depth);
-        let Walked::Done {
-            next,
-            nesting,
-            height,
-        } = more
-        else {
-            return Walked::Malformed;
-        };
-        place = next;
-        deep = larger(deep, nesting);
-        high = larger(high, height) + 1;
-        owed -= 1;
-    }
-    Walked::Done {
-        next: place,
-        nesting: deep,
-        height: high,
+    if high == 0 {
+        height
+    } else {
+        larger(high, height) + 1
     }
 }
 
-// A term of `or`, of whose `and` items so many stand before `at`.
-fn term(items: &[u32], at: usize, counted: usize, depth: usize) -> Walked
-    requires { ⌜ (at ≤ length (now items)) × (counted ≤ 1) × (depth ≤ 64) ⌝ }
-    ensures { λ r. ⌜ Walks (now (items .entry)) at counted depth (andsFrom (takeWithin depth) counted (drop at (now (items .entry)))) nestTerm heightExpr r ⌝ }
+// An expression: terms of `or`, each of them operands of `and`.
+fn expression(items: &[u32], at: usize, depth: usize) -> Walked
+    requires { ⌜ (at ≤ length (now items)) × (depth ≤ 64) ⌝ }
+    ensures { λ r. ⌜ Walks (now (items .entry)) at 0 depth (takeExpr (takeWithin depth) (drop at (now (items .entry)))) nestExpr heightExpr r ⌝ }
 {
-    let run = run_of(items, at, item::AND);
-    let first = operand(items, at + run, depth);
-    let Walked::Done {
-        next,
-        nesting,
-        height,
-    } = first
-    else {
-        return Walked::Malformed;
-    };
-    let mut place = next;
-    let mut deep = nesting;
-    let mut high = height;
-    let mut owed = run + counted;
-    while 0 < owed {
-        let more = operand(items, place, depth);
+    let mut ors = run_of(items, at, item::OR);
+    let mut ands = run_of(items, at + ors, item::AND);
+    let mut place = at + ors + ands;
+    let mut deep = 0;
+    let mut high = 0;
+    let mut term = 0;
+    loop {
+        let one = operand(items, place, depth);
         let Walked::Done {
             next,
             nesting,
             height,
-        } = more
+        } = one
         else {
             return Walked::Malformed;
         };
         place = next;
         deep = larger(deep, nesting);
-        high = larger(high, height) + 1;
-        owed -= 1;
-    }
-    Walked::Done {
-        next: place,
-        nesting: deep,
-        height: high,
+        term = joined(term, height);
+        if 0 < ands {
+            ands -= 1;
+        } else {
+            high = joined(high, term);
+            if ors == 0 {
+                return Walked::Done {
+                    next: place,
+                    nesting: deep,
+                    height: high,
+                };
+            }
+            ors -= 1;
+            ands = run_of(items, place, item::AND);
+            place += ands;
+            term = 0;
+        }
     }
 }
 
@@ -166,9 +138,8 @@ fn operand(items: &[u32], at: usize, depth: usize) -> Walked
         return Walked::Malformed;
     }
     match item {
-        Item::And => raised(term(items, at + 1, 1, depth - 1), 1, 0),
-        Item::Or => raised(expression(items, at + 1, 1, depth - 1), 1, 0),
-        Item::Not => raised(expression(items, at + 1, 0, depth - 1), 1, 1),
+        Item::And | Item::Or => raised(expression(items, at, depth - 1), 1, 0),
+        Item::Not => raised(expression(items, at + 1, depth - 1), 1, 1),
         _ => Walked::Malformed,
     }
 }
@@ -224,7 +195,7 @@ fn predicates(items: &[u32], at: usize, count: usize, depth: usize) -> Walked
         if depth == 0 {
             return Walked::Malformed;
         }
-        let more = expression(items, place, 0, depth - 1);
+        let more = expression(items, place, depth - 1);
         let Walked::Done {
             next,
             nesting,
