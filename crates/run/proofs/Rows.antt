@@ -190,17 +190,20 @@ split within (suc k) (suc count) (w ∷ ws) s rest l h next =
 pub fewer-readable : (items : List ℕ) (at depth k to : ℕ) → k ≤ to → Readable (takeSteps (takeWithin depth) to (drop at items)) → Readable (takeSteps (takeWithin depth) k (drop at items))
 fewer-readable items at depth k to l r = split (takeWithin depth) k to (drop at items) (r .0 .0) (r .0 .1) l (r .1) (λ p mid u v. ((p, mid), u))
 
--- From where k steps end, the others up to `to` can be read, and where those end, `to` steps end.
-module _ (items : List ℕ) (at depth k to place : ℕ) (e : Ends items at (takeSteps (takeWithin depth) k (drop at items)) place) (r : Readable (takeSteps (takeWithin depth) to (drop at items))) (l : k ≤ to) where
-  rest-read : takeSteps (takeWithin depth) (to - k) (drop place items) ≡ some (later k (r .0 .0), r .0 .1)
+-- From where k steps end, so many more can be read, and where those end, all of them end.
+module _ (items : List ℕ) (at depth k more to place : ℕ) (e : Ends items at (takeSteps (takeWithin depth) k (drop at items)) place) (r : Readable (takeSteps (takeWithin depth) to (drop at items))) (l : k + more ≡ to) where
+  rest-read : takeSteps (takeWithin depth) more (drop place items) ≡ some (later k (r .0 .0), r .0 .1)
   rest-read =
-      split (takeWithin depth) k to (drop at items) (r .0 .0) (r .0 .1) l (r .1)
-      (λ p mid u v. ap (takeSteps (takeWithin depth) (to - k)) (ap (λ (z : Steps × List ℕ). z .1) (some-inj (sym (e .reads) ∙ u))) ∙ v)
+      split (takeWithin depth) k to (drop at items) (r .0 .0) (r .0 .1) (omega arith) (r .1)
+      (λ p mid u v.
+      let there : drop place items ≡ mid = ap (λ (z : Steps × List ℕ). z .1) (some-inj (sym (e .reads) ∙ u)) in
+      let left : more ≡ to - k = omega arith in
+      ap₂ (takeSteps (takeWithin depth)) left there ∙ v)
 
-  pub further-readable : Readable (takeSteps (takeWithin depth) (to - k) (drop place items))
+  pub further-readable : Readable (takeSteps (takeWithin depth) more (drop place items))
   further-readable = ((later k (r .0 .0), r .0 .1), rest-read)
 
-  pub further : (next : ℕ) → Ends items place (takeSteps (takeWithin depth) (to - k) (drop place items)) next → Ends items at (takeSteps (takeWithin depth) to (drop at items)) next
+  pub further : (next : ℕ) → Ends items place (takeSteps (takeWithin depth) more (drop place items)) next → Ends items at (takeSteps (takeWithin depth) to (drop at items)) next
   further next f =
       record {
         what = r .0 .0;

@@ -1,5 +1,5 @@
 -- What evaluating items over all nodes at once gives: where it ends, and the set of nodes at which what stands there holds.
-use Prim.Native.Nat.{ℕ, _*_, _≤_}
+use Prim.Native.Nat.{ℕ, _-_, _*_, _%_, _≤_}
 use mathlib.Core.Path.{_≡_}
 use mathlib.Core.Bool.{Bool, not, _&&_, _||_}
 use lib.Dec.{eqb, ltb}
@@ -15,7 +15,6 @@ use Rattle.paper.specs.Answers.{Answer, value, line, lineQuery, tooLong, short,
 use Rattle.paper.specs.Items.{Taken, Head, stepAt, pathAt, takeSteps, takeWithin, decode}
 use Rattle.paper.specs.Document.{Table, nodes, marked, over, tableFault, marksFault, tableOf}
 use Rattle.paper.proofs.Trees.{Tree}
-use Rattle.run.specs.declared.Reached.{Reached}
 use Rattle.run.specs.declared.Places.{Places}
 use Rattle.item.specs.declared.Step.{Step}
 use Rattle.item.proofs.Saying.{numbered}
@@ -51,13 +50,10 @@ pub record Ends {A : Type 0} (items : List ℕ) (at : ℕ) (taken : Taken A) (ne
   pub onward : at ≤ next
   pub inside : next ≤ length items
 
--- The first steps of the path from `at` on, as many as were passed, end at the place reached.
-abbrev pub StepsTo : List ℕ → ℕ → ℕ → Reached → Type 0
-StepsTo items at depth reached = Ends items at (takeSteps (takeWithin depth) (reached .steps) (drop at items)) (reached .place)
-
--- What was reached last are places of the path's steps.
-abbrev pub Known : List ℕ → ℕ → ℕ → Places → Type 0
-Known items at depth places = (StepsTo items at depth (places .far)) × (StepsTo items at depth (places .near))
+-- The places kept for the step after k others: where the last multiple of 256 of them ends, and the last multiple of 16.
+abbrev pub Known : List ℕ → ℕ → ℕ → ℕ → Places → Type 0
+Known items at depth k places =
+    (Ends items at (takeSteps (takeWithin depth) (k - k % 256) (drop at items)) (places .far)) × (Ends items at (takeSteps (takeWithin depth) (k - k % 16) (drop at items)) (places .near))
 
 -- Something can be read.
 abbrev pub Readable : {A : Type 0} → Taken A → Type 0

@@ -5,10 +5,9 @@ use paper::Answer;
 use shape::Shape;
 use shape::Walked;
 use table::Fault;
-ghost use Prim.Native.Nat.{ℕ, _+_, _≤_, _<_};
+ghost use Prim.Native.Nat.{ℕ, suc, _+_, _≤_, _<_};
 ghost use mathlib.Core.Path.{_≡_};
-ghost use mathlib.Core.Bool.{Bool, true, _&&_};
-ghost use mathlib.Core.List.{List};
+ghost use mathlib.Core.Bool.{Bool, true, false, _&&_};
 ghost use mathlib.Core.Option.{some};
 ghost use lib.Dec.{eqb};
 ghost use lib.ListN.{length, getD, drop, replicate};
@@ -21,7 +20,7 @@ ghost use Rattle.paper.specs.Measures.{heightExpr, heightSteps, heightPreds};
 ghost use Rattle.paper.specs.Selection.{meets, holds, finds, allHold, selects, kept};
 ghost use Rattle.paper.proofs.Decoding.{orsFrom, andsFrom};
 ghost use Rattle.sets.specs.Sets.{bits};
-ghost use Rattle.run.specs.Evals.{Ready, Readable, Fits, Ends, StepsTo, Known, StepThere, StepSaid, Evaluates, Narrows, Moves, PathThere, Runs, keepsBy, roomAnswer};
+ghost use Rattle.run.specs.Evals.{Ready, Readable, Fits, Ends, Known, StepThere, StepSaid, Evaluates, Narrows, Moves, PathThere, Runs, keepsBy, roomAnswer};
 
 // Where so many steps end.
 fn past_steps(items: &[u32], at: usize, count: usize, depth: usize) -> usize
@@ -40,74 +39,54 @@ fn past_steps(items: &[u32], at: usize, count: usize, depth: usize) -> usize
     next
 }
 
-// The place of a step of a path, after so many others.
-pub struct Reached {
-    pub steps: usize,
-    pub place: usize,
-}
-
-// The places that were reached last: of a multiple of 256 steps, of a multiple of 16, and of the step looked for.
+// Where steps of a path stand: the last one after a multiple of 256 others, the last one after a multiple of 16, and the one looked for.
 pub struct Places {
-    pub far: Reached,
-    pub near: Reached,
+    pub far: usize,
+    pub near: usize,
     pub place: usize,
 }
 
-// Where step `to` of the path stands: as known, or found from an earlier one.
-fn reach(
-    items: &[u32],
-    at: usize,
-    from: Reached,
-    known: Reached,
-    to: usize,
-    depth: usize,
-) -> Reached
-    requires { ⌜ (from .steps ≤ to) × (depth ≤ 64) ⌝ }
-    requires { ⌜ (StepsTo (now items) at depth from) × (StepsTo (now items) at depth known) ⌝ }
-    requires { ⌜ Readable (takeSteps (takeWithin depth) to (drop at (now items))) ⌝ }
-    ensures { λ r. ⌜ (r .steps ≡ to) × (StepsTo (now (items .entry)) at depth r) ⌝ }
+// Where so many steps from a place on end, or the place known.
+fn reach(items: &[u32], from: usize, count: usize, depth: usize, anew: bool, known: usize) -> usize
+    requires { ⌜ (anew ≡ true → (from ≤ length (now items)) × (depth ≤ 64) × (Readable (takeSteps (takeWithin depth) count (drop from (now items))))) ⌝ }
+    ensures { λ r. ⌜ (anew ≡ true → Ends (now (items .entry)) from (takeSteps (takeWithin depth) count (drop from (now (items .entry)))) r) × (anew ≡ false → r ≡ known) ⌝ }
 {
-    if known.steps == to {
-        return known;
+    if anew {
+        past_steps(items, from, count, depth)
+    } else {
+        known
     }
-    let place = past_steps(items, from.place, to - from.steps, depth);
-    Reached { steps: to, place }
 }
 
-// Looks for step `to` of the path: from the last multiple of 16 steps before it, and for that from the last of 256.
+// Looks for the step after so many others, where the one after it was looked for last.
 fn look(items: &[u32], at: usize, known: Places, to: usize, depth: usize) -> Places
-    requires { ⌜ (at ≤ length (now items)) × (depth ≤ 64) ⌝ }
-    requires { ⌜ Known (now items) at depth known ⌝ }
+    requires { ⌜ (at ≤ length (now items)) × (depth ≤ 64) × (Known (now items) at depth (suc to) known) ⌝ }
     requires { ⌜ Readable (takeSteps (takeWithin depth) to (drop at (now items))) ⌝ }
-    ensures { λ r. ⌜ (Known (now (items .entry)) at depth r) × (Ends (now (items .entry)) at (takeSteps (takeWithin depth) to (drop at (now (items .entry)))) (r .place)) ⌝ }
+    ensures { λ r. ⌜ (Known (now (items .entry)) at depth to r) × (Ends (now (items .entry)) at (takeSteps (takeWithin depth) to (drop at (now (items .entry)))) (r .place)) ⌝ }
 {
-    let start = Reached {
-        steps: 0,
-        place: at,
-    };
-    let far = reach(items, at, start, known.far, to - to % 256, depth);
-    let near = reach(items, at, far, known.near, to - to % 16, depth);
-    let here = reach(items, at, near, near, to, depth);
-    Places {
+    let far = reach(items, at, to - to % 256, depth, to % 256 == 255, known.far);
+    let near = reach(
+        items,
         far,
-        near,
-        place: here.place,
-    }
+        to % 256 - to % 16,
+        depth,
+        to % 16 == 15,
+        known.near,
+    );
+    let place = past_steps(items, near, to % 16, depth);
+    Places { far, near, place }
 }
 
-// No place is reached yet but the path's own.
-fn unlooked(at: usize) -> Places
-    ensures { λ r. ⌜ ((items : List ℕ) (depth : ℕ) → at ≤ length items → Known items at depth r) ⌝ }
+// Looks for the end of so many steps.
+fn look_first(items: &[u32], at: usize, count: usize, depth: usize) -> Places
+    requires { ⌜ (at ≤ length (now items)) × (depth ≤ 64) ⌝ }
+    requires { ⌜ Readable (takeSteps (takeWithin depth) count (drop at (now items))) ⌝ }
+    ensures { λ r. ⌜ (Known (now (items .entry)) at depth count r) × (Ends (now (items .entry)) at (takeSteps (takeWithin depth) count (drop at (now (items .entry)))) (r .place)) ⌝ }
 {
-    let start = Reached {
-        steps: 0,
-        place: at,
-    };
-    Places {
-        far: start,
-        near: start,
-        place: at,
-    }
+    let far = past_steps(items, at, count - count % 256, depth);
+    let near = past_steps(items, far, count % 256 - count % 16, depth);
+    let place = past_steps(items, near, count % 16, depth);
+    Places { far, near, place }
 }
 
 // The step at a place where one stands.
@@ -240,7 +219,8 @@ fn path(
 {
     let n = parent.len();
     sets::fill(&mut sets[..n], 1);
-    let mut places = unlooked(at);
+    let mut places = look_first(items, at, count, depth);
+    let end = places.place;
     let mut left = count;
     while 0 < left {
         left -= 1;
@@ -260,7 +240,7 @@ fn path(
         );
         sets::along(parent, item::turn(step.axis), &mut sets[..n]);
     }
-    past_steps(items, at, count, depth)
+    end
 }
 
 // Keeps of the first set the nodes at which so many predicates hold.

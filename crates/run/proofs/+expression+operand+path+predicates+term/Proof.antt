@@ -49,10 +49,9 @@ use Rattle.run.proofs.+expression+operand+path+predicates+term.Lts-term
 use Rattle.item.proofs.turn.Reads as turn-reads
 use Rattle.item.proofs.unpack.Reads as unpack-reads
 use Rattle.run.proofs.look.Reads as look-reads
-use Rattle.run.proofs.past_steps.Reads as past-steps-reads
+use Rattle.run.proofs.look_first.Reads as look-first-reads
 use Rattle.run.proofs.restrict.Reads as restrict-reads
 use Rattle.run.proofs.step_at.Reads as step-at-reads
-use Rattle.run.proofs.unlooked.Reads as unlooked-reads
 use Rattle.sets.proofs.add_second.Reads as add-second-reads
 use Rattle.sets.proofs.along.Reads as along-reads
 use Rattle.sets.proofs.fill.Reads as fill-reads
@@ -454,8 +453,8 @@ abbrev path-claims : ℕ → path-lts.Claims
 path-claims t = (
   fill-reads.Asked,
   fill-reads.Learnt,
-  unlooked-reads.Asked,
-  unlooked-reads.Learnt,
+  look-first-reads.Asked,
+  look-first-reads.Learnt,
   look-reads.Asked,
   look-reads.Learnt,
   step-at-reads.Asked,
@@ -468,16 +467,14 @@ path-claims t = (
   turn-reads.Learnt,
   along-reads.Asked,
   along-reads.Learnt,
-  past-steps-reads.Asked,
-  past-steps-reads.Learnt,
 )
 
 abbrev path-Inv-loop : path-lts.InvT-loop
-path-Inv-loop items at count depth parent kind given sets₀ n places₀ left₀ sets places left =
-    (length sets ≡ length sets₀) × PathSet (tableOf parent kind) given items at (length parent) depth count left sets × Known items at depth places
+path-Inv-loop items at count depth parent kind given sets₀ n places₀ end left₀ sets places left =
+    (length sets ≡ length sets₀) × PathSet (tableOf parent kind) given items at (length parent) depth count left sets × Known items at depth left places
 
 abbrev path-μ-loop : path-lts.MeasureT-loop
-path-μ-loop items at count depth parent kind given sets₀ n places₀ left₀ sets places left = left
+path-μ-loop items at count depth parent kind given sets₀ n places₀ end left₀ sets places left = left
 
 path-slice-relend-prefix-fill : (t : ℕ) → path-lts.Need-slice-relend-prefix-fill (path-claims t) (path-at t) path.Post path-Inv-loop path-μ-loop
 path-slice-relend-prefix-fill t c = search needs
@@ -492,8 +489,10 @@ path-slice-aggregate-fill t c =
 path-fill-requires : (t : ℕ) → path-lts.Need-fill-requires (path-claims t) (path-at t) path.Post path-Inv-loop path-μ-loop
 path-fill-requires t c κs = search needs
 
-path-unlooked-requires : (t : ℕ) → path-lts.Need-unlooked-requires (path-claims t) (path-at t) path.Post path-Inv-loop path-μ-loop
-path-unlooked-requires t c κs = search needs
+path-look-first-requires : (t : ℕ) → path-lts.Need-look-first-requires (path-claims t) (path-at t) path.Post path-Inv-loop path-μ-loop
+path-look-first-requires t c κs =
+    let f = c .before .before .before .before .before .before .before .before .before .pre .1 .1 .1 in
+    ((f .inside, c .before .before .before .before .before .before .before .before .before .pre .1 .0), ((f .what, f .rest), f .reads))
 
 path-loop-holds : (t : ℕ) → path-lts.Need-loop-holds (path-claims t) (path-at t) path.Post path-Inv-loop path-μ-loop
 path-loop-holds t c =
@@ -503,7 +502,7 @@ path-loop-holds t c =
       refl,
       path-begin (tableOf (now (a .parent)) (now (a .kind))) (now (a .given)) (now (a .items)) (a .at) (length (now (a .parent))) (length (now (a .sets))) (a .depth) (a .count) (start .pre .1 .1 .1) (c .before .before .before .fill .last .0) _
           (c .before .before .before .fill .ensures ∙ ap (λ (k : ℕ). replicate k 1) (length-take-le n (now (a .sets)) (one-fits (length (now (a .parent))) _ (length (now (a .sets))) (start .pre .1 .1 .1 .room-for) (omega arith)))),
-      c .unlooked .ensures (now (a .items)) (a .depth) (start .pre .1 .1 .1 .inside),
+      c .look-first .ensures .0,
     )
 
 path-sub-left : (t : ℕ) → path-lts.Need-sub-left (path-claims t) (path-at t) path.Post path-Inv-loop path-μ-loop
@@ -515,7 +514,7 @@ path-look-requires t c κs =
     let a = start .args in
     let n = length (now (a .parent)) in
     let l = c .before .loop in
-    ((start .pre .1 .1 .1 .inside, start .pre .1 .0), (l .inv .2, first-readable (now (a .items)) (a .at) (length (now (a .parent))) (length (now (a .sets))) (a .depth) (a .count) (start .pre .1 .1 .1) (l .left - 1) (omega (arith, l .inv .1 .fewer))))
+    ((start .pre .1 .1 .1 .inside, start .pre .1 .0, subst (λ (k : ℕ). Known (now (a .items)) (a .at) (a .depth) k (l .places)) (let e : l .left ≡ suc (l .left - 1) = omega (arith, c .loop-test .taken) in e) (l .inv .2)), first-readable (now (a .items)) (a .at) (length (now (a .parent))) (length (now (a .sets))) (a .depth) (a .count) (start .pre .1 .1 .1) (l .left - 1) (omega (arith, l .inv .1 .fewer)))
 
 path-step-at-requires : (t : ℕ) → path-lts.Need-step-at-requires (path-claims t) (path-at t) path.Post path-Inv-loop path-μ-loop
 path-step-at-requires t c κs =
@@ -664,25 +663,18 @@ path-loop-again t c =
       c .before .before .before .before .before .before .before .before .before .before .before .before .before .before .look .ensures .0,
     ))
 
-path-past-steps-requires : (t : ℕ) → path-lts.Need-past-steps-requires (path-claims t) (path-at t) path.Post path-Inv-loop path-μ-loop
-path-past-steps-requires t c κs =
-    let start = c .before .before .before .before .before .before .before .before .before .before .before .before in
-    let a = start .args in
-    let n = length (now (a .parent)) in
-    (start .pre .1 .1 .1 .inside, start .pre .1 .0, ((start .pre .1 .1 .1 .what, start .pre .1 .1 .1 .rest), start .pre .1 .1 .1 .reads))
-
 path-same-length : (t : ℕ) → path-lts.Need-same-length (path-claims t) (path-at t) path.Post path-Inv-loop path-μ-loop
 path-same-length t c = search needs
 
 path-returns : (t : ℕ) → path-lts.Need-returns (path-claims t) (path-at t) path.Post path-Inv-loop path-μ-loop
 path-returns t c =
-    let start = c .before .before .before .before .before .before .before .before .before .before .before .before .before in
+    let start = c .before .before .before .before .before .before .before .before .before .before .before .before in
     let a = start .args in
     let n = length (now (a .parent)) in
-    let l = c .before .before .loop in
+    let l = c .before .loop in
     path-done (tableOf (now (a .parent)) (now (a .kind))) (now (a .given)) (now (a .items)) (a .at) (length (now (a .parent))) (length (now (a .sets))) (a .depth) (a .count) (start .pre .1 .1 .1) _ (l .sets)
-    (subst (λ (k : ℕ). PathSet (tableOf (now (a .parent)) (now (a .kind))) (now (a .given)) (now (a .items)) (a .at) n (a .depth) (a .count) k (l .sets)) (let e : l .left ≡ 0 = omega (arith, c .before .loop-test .left) in e) (l .inv .1))
-    (c .past-steps .ensures)
+    (subst (λ (k : ℕ). PathSet (tableOf (now (a .parent)) (now (a .kind))) (now (a .given)) (now (a .items)) (a .at) n (a .depth) (a .count) k (l .sets)) (let e : l .left ≡ 0 = omega (arith, c .loop-test .left) in e) (l .inv .1))
+    (c .before .before .look-first .ensures .1)
 
 -- What `predicates` knows of the functions it calls.
 abbrev predicates-claims : ℕ → predicates-lts.Claims
@@ -978,7 +970,7 @@ pub +expression+operand+path+predicates+term-spec : {M : Type 1} → statement M
     (path-slice-relend-prefix-fill t)
     (path-slice-aggregate-fill t)
     (path-fill-requires t)
-    (path-unlooked-requires t)
+    (path-look-first-requires t)
     (path-loop-holds t)
     (path-sub-left t)
     (path-look-requires t)
@@ -994,7 +986,6 @@ pub +expression+operand+path+predicates+term-spec : {M : Type 1} → statement M
     (path-along-requires t)
     (path-loop-less t)
     (path-loop-again t)
-    (path-past-steps-requires t)
     (path-same-length t)
     (path-returns t))
     (λ t. predicates-lts.spec (predicates-claims t)
