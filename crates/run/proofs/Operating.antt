@@ -12,20 +12,21 @@ use denote.Enum.Declared.{tagOf}
 use types.Run.{OneOf, miss}
 use Rattle.paper.specs.Tools.{found}
 use Rattle.paper.specs.Query.{Expr, path, negated}
-use Rattle.paper.specs.Items.{andItem, orItem, notItem, pathAt, Taken, takeSteps, takeOperand, takeWithin}
+use Rattle.paper.specs.Items.{notItem, pathAt, Taken, takeSteps, takeOperand, takeExpr, takeWithin}
 use Rattle.paper.specs.Measures.{heightExpr, heightSteps}
 use Rattle.paper.specs.Document.{Table}
 use Rattle.paper.specs.Selection.{holds, finds}
 use Rattle.paper.proofs.Tests.{found-some, none-some, some-inj}
-use Rattle.paper.proofs.Decoding.{orsFrom, andsFrom}
 use Rattle.item.specs.declared.Item.{Item}
 use Rattle.item.specs.declared.Item.the-variants.{Path, Step as StepItem, And, Or, Not, Bad}
 use Rattle.item.proofs.Saying.{Said}
 use Rattle.item.proofs.Item.{the-type}
-use Rattle.shape.proofs.Operands.{operand-past, operand-path, operand-bare, operand-other, operand-step, operand-and, operand-or, operand-not, operand-deep, at-place, deeper}
+use Rattle.shape.proofs.Operands.{operand-past, operand-path, operand-bare, operand-other, operand-step, operand-same, operand-denied, operand-deep, at-place, deeper}
+use Rattle.shape.proofs.Operators.{Operator}
+use Rattle.shape.proofs.Walking.{some-height}
 use Rattle.sets.specs.Sets.{bits}
 use Rattle.run.specs.Evals.{Fits, Evaluates}
-use Rattle.run.proofs.Running.{enough, one-fits, some-height}
+use Rattle.run.proofs.Running.{enough, one-fits}
 
 -- What can be read stands before the end.
 pub operand-there : (items : List ℕ) (at nodes room depth : ℕ) → Fits items at nodes room (takeOperand (takeWithin depth) (drop at items)) heightExpr → at < length items
@@ -74,7 +75,7 @@ module _ (t : Table) (m : List ℕ) (items : List ℕ) (at nodes room depth : �
         set = v .set;
       })
 
--- A bracket of `and`, of `or` and of `not`, where d brackets may still be opened in it.
+-- A bracket of an operator and of `not`, where d brackets may still be opened in it.
 module _ (t : Table) (m : List ℕ) (items : List ℕ) (at nodes room d : ℕ) (f : Fits items at nodes room (takeOperand (takeWithin (suc d)) (drop at items)) heightExpr) where
   on : at < length items
   on = operand-there items at nodes room (suc d) f
@@ -82,22 +83,16 @@ module _ (t : Table) (m : List ℕ) (items : List ℕ) (at nodes room d : ℕ) (
   at-item : (i : ℕ) → getD items at 0 ≡ i → takeOperand (takeWithin (suc d)) (drop at items) ≡ takeOperand (takeWithin (suc d)) (i ∷ drop (at + 1) items)
   at-item i e = ap (takeOperand (takeWithin (suc d))) (at-place items at on ∙ ap (λ (x : ℕ). x ∷ drop (at + 1) items) e)
 
-  pub and-taken : getD items at 0 ≡ andItem → takeOperand (takeWithin (suc d)) (drop at items) ≡ andsFrom (takeWithin d) 1 (drop (at + 1) items)
-  and-taken e = at-item andItem e ∙ operand-and d (drop (at + 1) items)
+  pub not-taken : getD items at 0 ≡ notItem → takeOperand (takeWithin (suc d)) (drop at items) ≡ found (takeExpr (takeWithin d) (drop (at + 1) items)) (λ r. some (negated (r .0), r .1))
+  not-taken e = at-item notItem e ∙ operand-denied (takeWithin (suc d)) (drop (at + 1) items)
 
-  pub or-taken : getD items at 0 ≡ orItem → takeOperand (takeWithin (suc d)) (drop at items) ≡ orsFrom (takeWithin d) 1 (drop (at + 1) items)
-  or-taken e = at-item orItem e ∙ operand-or d (drop (at + 1) items)
+  -- What stands in the bracket of an operator is the whole, from the operator's item on.
+  pub joined-fits : Operator (getD items at 0) → Fits items at nodes room (takeExpr (takeWithin d) (drop at items)) heightExpr
+  joined-fits o = record { what = f .what; rest = f .rest; reads = sym (operand-same items at d on o) ∙ f .reads; room-for = f .room-for; inside = f .inside }
 
-  pub not-taken : getD items at 0 ≡ notItem → takeOperand (takeWithin (suc d)) (drop at items) ≡ found (orsFrom (takeWithin d) 0 (drop (at + 1) items)) (λ r. some (negated (r .0), r .1))
-  not-taken e = at-item notItem e ∙ operand-not d (drop (at + 1) items)
-
-  -- What stands in the bracket of an operator is the whole.
-  pub same-fits : (taken : Taken Expr) → takeOperand (takeWithin (suc d)) (drop at items) ≡ taken → Fits items (at + 1) nodes room taken heightExpr
-  same-fits taken e = record { what = f .what; rest = f .rest; reads = sym e ∙ f .reads; room-for = f .room-for; inside = omega (arith, on) }
-
-  pub same-set : (taken : Taken Expr) (next : ℕ) (sets : List ℕ) → takeOperand (takeWithin (suc d)) (drop at items) ≡ taken → Evaluates items (at + 1) nodes taken (holds t m) next sets
+  pub joined-set : (next : ℕ) (sets : List ℕ) → Operator (getD items at 0) → Evaluates items at nodes (takeExpr (takeWithin d) (drop at items)) (holds t m) next sets
       → Evaluates items at nodes (takeOperand (takeWithin (suc d)) (drop at items)) (holds t m) next sets
-  same-set taken next sets e v = record { what = v .what; reads = e ∙ v .reads; onward = omega (arith, v .onward); inside = v .inside; set = v .set }
+  joined-set next sets o v = record { what = v .what; reads = operand-same items at d on o ∙ v .reads; onward = v .onward; inside = v .inside; set = v .set }
 
   -- What stands in the bracket of `not` is turned round.
   pub not-fits : (taken : Taken Expr) → takeOperand (takeWithin (suc d)) (drop at items) ≡ found taken (λ r. some (negated (r .0), r .1)) → Fits items (at + 1) nodes room taken heightExpr
@@ -124,16 +119,16 @@ module _ (t : Table) (m : List ℕ) (items : List ℕ) (at nodes room d : ℕ) (
         set = flips (holds t m (v .what)) (v .set);
       }
 
--- An item that is neither a path nor an operator, and can be read, is `not`.
-pub must-be-not : (items : List ℕ) (at nodes room depth : ℕ) → Fits items at nodes room (takeOperand (takeWithin depth) (drop at items)) heightExpr → (i : Item) → Said (getD items at 0) i
-    → OneOf (1 ∷ 2 ∷ 3 ∷ 4 ∷ 5 ∷ []) (tagOf the-type i) → OneOf (0 ∷ 1 ∷ 3 ∷ 4 ∷ 5 ∷ []) (tagOf the-type i) → OneOf (0 ∷ 1 ∷ 2 ∷ 4 ∷ 5 ∷ []) (tagOf the-type i) → getD items at 0 ≡ notItem
-must-be-not items at nodes room depth f (Path count) s k l o = absurd (miss (1 ∷ 2 ∷ 3 ∷ 4 ∷ 5 ∷ []) 0 tt k)
-must-be-not items at nodes room depth f (StepItem st) s k l o =
+-- An item that is neither a path nor `not`, and can be read, is an operator's.
+pub must-join : (items : List ℕ) (at nodes room depth : ℕ) → Fits items at nodes room (takeOperand (takeWithin depth) (drop at items)) heightExpr → (i : Item) → Said (getD items at 0) i
+    → OneOf (1 ∷ 2 ∷ 3 ∷ 4 ∷ 5 ∷ []) (tagOf the-type i) → OneOf (0 ∷ 1 ∷ 2 ∷ 3 ∷ 5 ∷ []) (tagOf the-type i) → Operator (getD items at 0)
+must-join items at nodes room depth f (Path count) s k l = absurd (miss (1 ∷ 2 ∷ 3 ∷ 4 ∷ 5 ∷ []) 0 tt k)
+must-join items at nodes room depth f (StepItem st) s k l =
     none-some (sym (operand-step (takeWithin depth) (getD items at 0) (drop (at + 1) items) (s .0) (s .1)) ∙ operand-read items at nodes room depth f)
-must-be-not items at nodes room depth f And s k l o = absurd (miss (0 ∷ 1 ∷ 3 ∷ 4 ∷ 5 ∷ []) 2 tt l)
-must-be-not items at nodes room depth f Or s k l o = absurd (miss (0 ∷ 1 ∷ 2 ∷ 4 ∷ 5 ∷ []) 3 tt o)
-must-be-not items at nodes room depth f Not s k l o = s
-must-be-not items at nodes room depth f Bad s k l o =
+must-join items at nodes room depth f And s k l = (omega arith, omega arith)
+must-join items at nodes room depth f Or s k l = (omega arith, omega arith)
+must-join items at nodes room depth f Not s k l = absurd (miss (0 ∷ 1 ∷ 2 ∷ 3 ∷ 5 ∷ []) 4 tt l)
+must-join items at nodes room depth f Bad s k l =
     none-some (sym (operand-other (takeWithin depth) (getD items at 0) (drop (at + 1) items) (s .0) (s .2) (s .3) (s .4)) ∙ operand-read items at nodes room depth f)
 
 -- The same where d brackets may be opened and d is not 0.
@@ -144,47 +139,33 @@ module _ (t : Table) (m : List ℕ) (items : List ℕ) (at nodes room depth : �
   Set : ℕ → ℕ → List ℕ → Type 0
   Set d next sets = Evaluates items at nodes (takeOperand (takeWithin d) (drop at items)) (holds t m) next sets
 
-  pub opens-and : getD items at 0 ≡ andItem → Fits items (at + 1) nodes room (andsFrom (takeWithin (depth - 1)) 1 (drop (at + 1) items)) heightExpr
+  pub opens-joined : Operator (getD items at 0) → Fits items at nodes room (takeExpr (takeWithin (depth - 1)) (drop at items)) heightExpr
   unfolding Whole
-  opens-and e =
-      deeper (λ less d. Whole d → Fits items (at + 1) nodes room (andsFrom (takeWithin less) 1 (drop (at + 1) items)) heightExpr)
-      (λ d g. same-fits t m items at nodes room d g _ (and-taken t m items at nodes room d g e)) depth z f
+  opens-joined o =
+      deeper (λ less d. Whole d → Fits items at nodes room (takeExpr (takeWithin less) (drop at items)) heightExpr)
+      (λ d g. joined-fits t m items at nodes room d g o) depth z f
 
-  pub opens-or : getD items at 0 ≡ orItem → Fits items (at + 1) nodes room (orsFrom (takeWithin (depth - 1)) 1 (drop (at + 1) items)) heightExpr
-  unfolding Whole
-  opens-or e =
-      deeper (λ less d. Whole d → Fits items (at + 1) nodes room (orsFrom (takeWithin less) 1 (drop (at + 1) items)) heightExpr)
-      (λ d g. same-fits t m items at nodes room d g _ (or-taken t m items at nodes room d g e)) depth z f
-
-  pub opens-not : getD items at 0 ≡ notItem → Fits items (at + 1) nodes room (orsFrom (takeWithin (depth - 1)) 0 (drop (at + 1) items)) heightExpr
+  pub opens-not : getD items at 0 ≡ notItem → Fits items (at + 1) nodes room (takeExpr (takeWithin (depth - 1)) (drop (at + 1) items)) heightExpr
   unfolding Whole
   opens-not e =
-      deeper (λ less d. Whole d → Fits items (at + 1) nodes room (orsFrom (takeWithin less) 0 (drop (at + 1) items)) heightExpr)
+      deeper (λ less d. Whole d → Fits items (at + 1) nodes room (takeExpr (takeWithin less) (drop (at + 1) items)) heightExpr)
       (λ d g. not-fits t m items at nodes room d g _ (not-taken t m items at nodes room d g e)) depth z f
 
-  pub closes-and : (next : ℕ) (sets : List ℕ) → getD items at 0 ≡ andItem
-      → Evaluates items (at + 1) nodes (andsFrom (takeWithin (depth - 1)) 1 (drop (at + 1) items)) (holds t m) next sets
+  pub closes-joined : (next : ℕ) (sets : List ℕ) → Operator (getD items at 0)
+      → Evaluates items at nodes (takeExpr (takeWithin (depth - 1)) (drop at items)) (holds t m) next sets
       → Evaluates items at nodes (takeOperand (takeWithin depth) (drop at items)) (holds t m) next sets
   unfolding Whole Set
-  closes-and next sets e v =
-      deeper (λ less d. Whole d → Evaluates items (at + 1) nodes (andsFrom (takeWithin less) 1 (drop (at + 1) items)) (holds t m) next sets → Set d next sets)
-      (λ d g u. same-set t m items at nodes room d g _ next sets (and-taken t m items at nodes room d g e) u) depth z f v
-
-  pub closes-or : (next : ℕ) (sets : List ℕ) → getD items at 0 ≡ orItem
-      → Evaluates items (at + 1) nodes (orsFrom (takeWithin (depth - 1)) 1 (drop (at + 1) items)) (holds t m) next sets
-      → Evaluates items at nodes (takeOperand (takeWithin depth) (drop at items)) (holds t m) next sets
-  unfolding Whole Set
-  closes-or next sets e v =
-      deeper (λ less d. Whole d → Evaluates items (at + 1) nodes (orsFrom (takeWithin less) 1 (drop (at + 1) items)) (holds t m) next sets → Set d next sets)
-      (λ d g u. same-set t m items at nodes room d g _ next sets (or-taken t m items at nodes room d g e) u) depth z f v
+  closes-joined next sets o v =
+      deeper (λ less d. Whole d → Evaluates items at nodes (takeExpr (takeWithin less) (drop at items)) (holds t m) next sets → Set d next sets)
+      (λ d g u. joined-set t m items at nodes room d g next sets o u) depth z f v
 
   pub closes-not : (next : ℕ) (sets after : List ℕ) → getD items at 0 ≡ notItem
-      → Evaluates items (at + 1) nodes (orsFrom (takeWithin (depth - 1)) 0 (drop (at + 1) items)) (holds t m) next sets
+      → Evaluates items (at + 1) nodes (takeExpr (takeWithin (depth - 1)) (drop (at + 1) items)) (holds t m) next sets
       → ((g : ℕ → Bool) → take nodes sets ≡ bits nodes g → take nodes after ≡ bits nodes (λ i. not (g i)))
       → Evaluates items at nodes (takeOperand (takeWithin depth) (drop at items)) (holds t m) next after
   unfolding Whole Set
   closes-not next sets after e v flips =
-      deeper (λ less d. Whole d → Evaluates items (at + 1) nodes (orsFrom (takeWithin less) 0 (drop (at + 1) items)) (holds t m) next sets → Set d next after)
+      deeper (λ less d. Whole d → Evaluates items (at + 1) nodes (takeExpr (takeWithin less) (drop (at + 1) items)) (holds t m) next sets → Set d next after)
       (λ d g u. not-set t m items at nodes room d g _ next sets after (not-taken t m items at nodes room d g e) u flips) depth z f v
 
 -- Any operand leaves room for its set.

@@ -11,22 +11,21 @@ use mathlib.Core.Option.{none, some}
 use native.Mathlib.Decide.{decLt}
 use lib.ListN.{length, getD, take, drop, replicate, drop-of-length-le}
 use lib.Seq.{drop-cons}
-use Rattle.paper.specs.Tools.{found, columnFrom}
+use Rattle.paper.specs.Tools.{columnFrom}
 use Rattle.paper.specs.Query.{Axis, Test, Expr, Steps, stop, step, Preds, bare, pred}
-use Rattle.paper.specs.Items.{Head, stepAt, stepCount, Taken, takePreds, takeSteps, takeWithin}
+use Rattle.paper.specs.Items.{Head, stepAt, stepCount, Taken, takePreds, takeSteps, takeExpr, takeWithin}
 use Rattle.paper.specs.Measures.{heightExpr, heightSteps, heightPreds}
 use Rattle.paper.specs.Document.{Table, kindOf, marked}
 use Rattle.paper.specs.Selection.{meets, holds, finds, allHold}
 use Rattle.paper.specs.Composition.{turned}
 use Rattle.paper.proofs.Tests.{found-some, none-some, some-inj}
-use Rattle.paper.proofs.Decoding.{orsFrom, whole}
 use Rattle.paper.proofs.Encoding.{from-steps, from-within}
-use Rattle.shape.proofs.Walking.{ahead, appendPreds, preds-bare, bare-preds, preds-append, height-preds, pred-row}
+use Rattle.shape.proofs.Walking.{ahead, appendPreds, preds-bare, bare-preds, preds-append, height-preds, pred-next, some-height}
 use Rattle.sets.specs.Sets.{bits, image}
 use Rattle.run.specs.Evals.{Fits, Ends, Evaluates, Narrows, Readable}
 use Rattle.run.proofs.Slices.{front-back}
 use Rattle.run.proofs.Stepwise.{back-step}
-use Rattle.run.proofs.Running.{behind, enough, two-fit, some-height}
+use Rattle.run.proofs.Running.{behind, enough, two-fit}
 
 -- Sets of the same nodes are the same.
 pub bits-same : (n : ℕ) (f g : ℕ → Bool) → ((i : ℕ) → f i ≡ g i) → bits n f ≡ bits n g
@@ -81,7 +80,7 @@ module _ (t : Table) (m : List ℕ) (items : List ℕ) (at nodes depth : ℕ) wh
   -- An owed predicate can be read, in a bracket more, and its set fits behind the first.
   pub pred-fits {ℓ} : {C : Type ℓ} (room : ℕ) (whole-row : Taken Preds) (place owed : ℕ) (before sets : List ℕ) → 0 < owed → Fits items at nodes room whole-row (λ ps. 1 + heightPreds ps)
       → PredSet whole-row place owed before sets
-      → ((depth ≡ 0 → ⊥) → Fits items place nodes (room - nodes) (orsFrom (takeWithin (depth - 1)) 0 (drop place items)) heightExpr → nodes + nodes ≤ room → C) → C
+      → ((depth ≡ 0 → ⊥) → Fits items place nodes (room - nodes) (takeExpr (takeWithin (depth - 1)) (drop place items)) heightExpr → nodes + nodes ≤ room → C) → C
   pred-fits room whole-row place zero before sets z f l k = absurd (omega arith)
   pred-fits room whole-row place (suc owed) before sets z f l k =
       ahead-some (appendPreds (l .so-far)) (takePreds (takeWithin depth) (suc owed) (drop place items)) (f .what, f .rest) (sym (l .goes-on) ∙ f .reads)
@@ -103,13 +102,13 @@ module _ (t : Table) (m : List ℕ) (items : List ℕ) (at nodes depth : ℕ) wh
       })
       (two-fit nodes (1 + heightPreds (f .what)) room (f .room-for) (omega (arith, some-height (e .0)))))))
     where
-      opened : (d : ℕ) → (d ≡ 0 → ⊥) → {e : Expr × List ℕ} → takeWithin d (drop place items) ≡ some e → orsFrom (takeWithin (d - 1)) 0 (drop place items) ≡ some e
+      opened : (d : ℕ) → (d ≡ 0 → ⊥) → {e : Expr × List ℕ} → takeWithin d (drop place items) ≡ some e → takeExpr (takeWithin (d - 1)) (drop place items) ≡ some e
       opened zero z u = absurd (z refl)
-      opened (suc d) z u = ap (λ (k : ℕ). orsFrom (takeWithin k) 0 (drop place items)) (let q : suc d - 1 ≡ d = omega arith in q) ∙ sym (whole (takeWithin d) (drop place items)) ∙ u
+      opened (suc d) z u = ap (λ (k : ℕ). takeExpr (takeWithin k) (drop place items)) (let q : suc d - 1 ≡ d = omega arith in q) ∙ u
 
   -- One predicate more.
   pub preds-more : (whole-row : Taken Preds) (place owed next : ℕ) (e : Expr) (before sets part after : List ℕ) → 0 < owed → (depth ≡ 0 → ⊥) → PredSet whole-row place owed before sets
-      → orsFrom (takeWithin (depth - 1)) 0 (drop place items) ≡ some (e, drop next items) → place ≤ next → next ≤ length items → take nodes part ≡ bits nodes (holds t m e)
+      → takeExpr (takeWithin (depth - 1)) (drop place items) ≡ some (e, drop next items) → place ≤ next → next ≤ length items → take nodes part ≡ bits nodes (holds t m e)
       → ((f g : ℕ → Bool) → take nodes sets ≡ bits nodes f → take nodes part ≡ bits nodes g → take nodes after ≡ bits nodes (λ i. f i && g i))
       → PredSet whole-row next (owed - 1) before after
   preds-more whole-row place zero next e before sets part after z d l p o i s joins = absurd (omega arith)
@@ -117,7 +116,7 @@ module _ (t : Table) (m : List ℕ) (items : List ℕ) (at nodes depth : ℕ) wh
       record {
         so-far = appendPreds (l .so-far) (pred e bare);
         goes-on =
-            l .goes-on ∙ ap (ahead (appendPreds (l .so-far))) (pred-row depth items place e next d p owed) ∙ go (takePreds (takeWithin depth) owed (drop next items)) ∙
+            l .goes-on ∙ ap (ahead (appendPreds (l .so-far))) (pred-next depth items place e next d p owed) ∙ go (takePreds (takeWithin depth) owed (drop next items)) ∙
             ap (λ (n : ℕ). ahead (appendPreds (appendPreds (l .so-far) (pred e bare))) (takePreds (takeWithin depth) n (drop next items))) (let q : owed ≡ suc owed - 1 = omega arith in q);
         set =
             λ f h.

@@ -1,5 +1,5 @@
 -- What evaluating items over all nodes at once gives: where it ends, and the set of nodes at which what stands there holds.
-use Prim.Native.Nat.{ℕ, _-_, _*_, _%_, _≤_}
+use Prim.Native.Nat.{ℕ, _+_, _-_, _*_, _%_, _≤_, _<_}
 use mathlib.Core.Path.{_≡_}
 use mathlib.Core.Bool.{Bool, not, _&&_, _||_}
 use lib.Dec.{eqb, ltb}
@@ -42,6 +42,12 @@ pub record Evaluates {A : Type 0} (items : List ℕ) (at nodes : ℕ) (taken : T
   pub onward : at ≤ next
   pub inside : next ≤ length items
   pub set : take nodes sets ≡ bits nodes (holdsAt what)
+
+-- The set at `base` was joined with the one behind it, or nothing was done where no bytes of it were held before; what stands in front of it stays.
+pub record Joined (nodes base held : ℕ) (op : Bool → Bool → Bool) (before after : List ℕ) : Type 0 where
+  pub front : take base after ≡ take base before
+  pub first : held ≤ 0 → after ≡ before
+  pub later : 0 < held → (f g : ℕ → Bool) → take nodes (drop base before) ≡ bits nodes f → take nodes (drop (base + nodes) before) ≡ bits nodes g → take nodes (drop base after) ≡ bits nodes (λ i. op (f i) (g i))
 
 -- What was read ends at `next`.
 pub record Ends {A : Type 0} (items : List ℕ) (at : ℕ) (taken : Taken A) (next : ℕ) : Type 0 where

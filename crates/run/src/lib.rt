@@ -7,7 +7,7 @@ use shape::Walked;
 use table::Fault;
 ghost use Prim.Native.Nat.{ℕ, suc, _+_, _≤_, _<_};
 ghost use mathlib.Core.Path.{_≡_};
-ghost use mathlib.Core.Bool.{Bool, true, false, _&&_};
+ghost use mathlib.Core.Bool.{Bool, true, false, _&&_, _||_};
 ghost use mathlib.Core.Option.{some};
 ghost use lib.Dec.{eqb};
 ghost use lib.ListN.{length, getD, drop, replicate};
@@ -15,12 +15,11 @@ ghost use Rattle.paper.specs.Answers.{runAnswer, runMarks, runScratch};
 ghost use Rattle.paper.specs.Told.{told};
 ghost use Rattle.paper.specs.Query.{Test, Query};
 ghost use Rattle.paper.specs.Document.{marked, tableOf};
-ghost use Rattle.paper.specs.Items.{pathAt, testNumber, goodTest, decode, takePreds, takeSteps, takeOperand, takeWithin};
+ghost use Rattle.paper.specs.Items.{pathAt, testNumber, goodTest, decode, takePreds, takeSteps, takeOperand, takeExpr, takeWithin};
 ghost use Rattle.paper.specs.Measures.{heightExpr, heightSteps, heightPreds};
 ghost use Rattle.paper.specs.Selection.{meets, holds, finds, allHold, selects, kept};
-ghost use Rattle.paper.proofs.Decoding.{orsFrom, andsFrom};
 ghost use Rattle.sets.specs.Sets.{bits};
-ghost use Rattle.run.specs.Evals.{Ready, Readable, Fits, Ends, Known, StepThere, StepSaid, Evaluates, Narrows, Moves, PathThere, Runs, keepsBy, roomAnswer};
+ghost use Rattle.run.specs.Evals.{Ready, Readable, Fits, Ends, Known, StepThere, StepSaid, Joined, Evaluates, Narrows, Moves, PathThere, Runs, keepsBy, roomAnswer};
 
 // Where so many steps end.
 fn past_steps(items: &[u32], at: usize, count: usize, depth: usize) -> usize
@@ -114,60 +113,74 @@ fn restrict(kind: &[u16], given: &[u8], test: u32, set: &mut [u8])
     sets::keep_met(kind, test, set);
 }
 
-// An expression, of whose `or` items so many stand before `at`: its set comes first in `sets`. Answers where it ends.
+// Keeps of the set at `base` what the set behind it has too; where no bytes of it are held yet, the set at `base` is new and stays.
+fn narrow(sets: &mut [u8], base: usize, held: usize, n: usize)
+    requires { ⌜ (0 < held → base + (n + n) ≤ length (now sets)) ⌝ }
+    ensures { λ _. ⌜ Joined n base held _&&_ (now (sets .entry)) (now (sets .exit)) ⌝ }
+{
+    if 0 < held {
+        sets::keep_second(&mut sets[base..], n);
+    }
+}
+
+// Adds the second set to the first; where no bytes of it are held yet, the first is new and stays.
+fn widen(sets: &mut [u8], held: usize, n: usize)
+    requires { ⌜ (0 < held → n + n ≤ length (now sets)) ⌝ }
+    ensures { λ _. ⌜ Joined n 0 held _||_ (now (sets .entry)) (now (sets .exit)) ⌝ }
+{
+    if 0 < held {
+        sets::add_second(sets, n);
+    }
+}
+
+// An expression: terms of `or`, each of them operands of `and`. Its set comes first in `sets`. Answers where it ends.
 fn expression(
     items: &[u32],
     at: usize,
-    counted: usize,
     depth: usize,
     parent: &[u16],
     kind: &[u16],
     given: &[u8],
     sets: &mut [u8],
 ) -> usize
-    requires { ⌜ (counted ≤ 1) × (depth ≤ 64) ⌝ }
+    requires { ⌜ depth ≤ 64 ⌝ }
     requires { ⌜ Ready (now parent) (now kind) (now given) ⌝ }
-    requires { ⌜ Fits (now items) at (length (now parent)) (length (now sets)) (orsFrom (takeWithin depth) counted (drop at (now items))) heightExpr ⌝ }
-    ensures { λ r. ⌜ Evaluates (now (items .entry)) at (length (now (parent .entry))) (orsFrom (takeWithin depth) counted (drop at (now (items .entry)))) (holds (tableOf (now (parent .entry)) (now (kind .entry))) (now (given .entry))) r (now (sets .exit)) ⌝ }
+    requires { ⌜ Fits (now items) at (length (now parent)) (length (now sets)) (takeExpr (takeWithin depth) (drop at (now items))) heightExpr ⌝ }
+    ensures { λ r. ⌜ Evaluates (now (items .entry)) at (length (now (parent .entry))) (takeExpr (takeWithin depth) (drop at (now (items .entry)))) (holds (tableOf (now (parent .entry)) (now (kind .entry))) (now (given .entry))) r (now (sets .exit)) ⌝ }
 {
     let n = parent.len();
-    let run = shape::run_of(items, at, item::OR);
-    let mut place = term(items, at + run, 0, depth, parent, kind, given, sets);
-    let mut owed = run + counted;
-    while 0 < owed {
-        place = term(items, place, 0, depth, parent, kind, given, &mut sets[n..]);
-        sets::add_second(sets, n);
-        owed -= 1;
+    let mut ors = shape::run_of(items, at, item::OR);
+    let mut ands = shape::run_of(items, at + ors, item::AND);
+    let mut place = at + ors + ands;
+    // So far the expression's set has `base` bytes and the term's, behind it, has `held`: none or all of them.
+    let mut base = 0;
+    let mut held = 0;
+    loop {
+        place = operand(
+            items,
+            place,
+            depth,
+            parent,
+            kind,
+            given,
+            &mut sets[base + held..],
+        );
+        narrow(sets, base, held, n);
+        held = n;
+        if 0 < ands {
+            ands -= 1;
+        } else {
+            widen(sets, base, n);
+            if ors == 0 {
+                return place;
+            }
+            ors -= 1;
+            ands = shape::run_of(items, place, item::AND);
+            place += ands;
+            base = n;
+            held = 0;
+        }
     }
-    place
-}
-
-// A term of `or`, of whose `and` items so many stand before `at`.
-fn term(
-    items: &[u32],
-    at: usize,
-    counted: usize,
-    depth: usize,
-    parent: &[u16],
-    kind: &[u16],
-    given: &[u8],
-    sets: &mut [u8],
-) -> usize
-    requires { ⌜ (counted ≤ 1) × (depth ≤ 64) ⌝ }
-    requires { ⌜ Ready (now parent) (now kind) (now given) ⌝ }
-    requires { ⌜ Fits (now items) at (length (now parent)) (length (now sets)) (andsFrom (takeWithin depth) counted (drop at (now items))) heightExpr ⌝ }
-    ensures { λ r. ⌜ Evaluates (now (items .entry)) at (length (now (parent .entry))) (andsFrom (takeWithin depth) counted (drop at (now (items .entry)))) (holds (tableOf (now (parent .entry)) (now (kind .entry))) (now (given .entry))) r (now (sets .exit)) ⌝ }
-{
-    let n = parent.len();
-    let run = shape::run_of(items, at, item::AND);
-    let mut place = operand(items, at + run, depth, parent, kind, given, sets);
-    let mut owed = run + counted;
-    while 0 < owed {
-        place = operand(items, place, depth, parent, kind, given, &mut sets[n..]);
-        sets::keep_second(sets, n);
-        owed -= 1;
-    }
-    place
 }
 
 // An operand of `and`: a path, or what stands in a bracket of `not`, `and` or `or`.
@@ -190,15 +203,12 @@ fn operand(
     if let Item::Path(count) = item {
         return path(items, at + 1, count, depth, parent, kind, given, sets);
     }
-    if let Item::And = item {
-        return term(items, at + 1, 1, depth - 1, parent, kind, given, sets);
+    if let Item::Not = item {
+        let next = expression(items, at + 1, depth - 1, parent, kind, given, sets);
+        sets::flip(&mut sets[..n]);
+        return next;
     }
-    if let Item::Or = item {
-        return expression(items, at + 1, 1, depth - 1, parent, kind, given, sets);
-    }
-    let next = expression(items, at + 1, 0, depth - 1, parent, kind, given, sets);
-    sets::flip(&mut sets[..n]);
-    next
+    expression(items, at, depth - 1, parent, kind, given, sets)
 }
 
 // A path in a predicate, from its last step back: the nodes from which its steps find a node.
@@ -263,16 +273,7 @@ fn predicates(
     let mut place = at;
     let mut owed = count;
     while 0 < owed {
-        place = expression(
-            items,
-            place,
-            0,
-            depth - 1,
-            parent,
-            kind,
-            given,
-            &mut sets[n..],
-        );
+        place = expression(items, place, depth - 1, parent, kind, given, &mut sets[n..]);
         sets::keep_second(sets, n);
         owed -= 1;
     }

@@ -12,11 +12,10 @@ use lib.Seq.{drop-cons}
 use borrow.Author.Tests.{eq-eqb, ne-eqb, le-leb}
 use Rattle.paper.specs.Tools.{found, begins}
 use Rattle.paper.specs.Query.{Expr, path, negated}
-use Rattle.paper.specs.Items.{andItem, orItem, notItem, pathAt, Head, stepAt, Taken, takeSteps, takeOperand, takeTerm, takeOrs, takeExpr, takeWithin}
+use Rattle.paper.specs.Items.{andItem, orItem, notItem, pathAt, Head, stepAt, Taken, takeSteps, takeOperand, takeExpr, takeWithin}
 use Rattle.paper.specs.Measures.{isAnd, isOr, nestExpr, nestSteps, heightExpr, heightSteps}
 use Rattle.paper.proofs.Tests.{or-right}
 use Rattle.paper.proofs.Fields.{path-found, step-found}
-use Rattle.paper.proofs.Decoding.{orsFrom, andsFrom, whole, term, one-or, one-and}
 use Rattle.paper.proofs.Encoding.{from-operand, from-within}
 use Rattle.item.specs.declared.Item.{Item}
 use Rattle.item.specs.declared.Item.the-variants.{Path, Step as StepItem, And, Or, Not, Bad}
@@ -58,19 +57,7 @@ operand-step within w ws h e =
     let f = step-found w h e .0 in
     operand-other within w ws (no-path w (λ z. omega arith)) (λ z. omega arith) (λ z. omega arith) (λ z. omega arith)
 
--- The operators and `not`, where a bracket may be opened.
-pub operand-and : (d : ℕ) (ws : List ℕ) → takeOperand (takeWithin (suc d)) (andItem ∷ ws) ≡ andsFrom (takeWithin d) 1 ws
-unfolding takeOperand takeExpr
-operand-and d ws = go (takeTerm (takeWithin d) (andItem ∷ ws)) ∙ term (takeWithin d) (andItem ∷ ws) ∙ one-and (takeWithin d) 0 ws
-  where
-    go : (o : Taken Expr) → found o (λ r. takeOrs (takeWithin d) 0 (r .0) (r .1)) ≡ o
-    go none = refl
-    go (some r) = refl
-
-pub operand-or : (d : ℕ) (ws : List ℕ) → takeOperand (takeWithin (suc d)) (orItem ∷ ws) ≡ orsFrom (takeWithin d) 1 ws
-unfolding takeOperand
-operand-or d ws = whole (takeWithin d) (orItem ∷ ws) ∙ one-or (takeWithin d) 0 ws
-
+-- The operators and `not`, with what stands in their bracket.
 pub operand-joined : (operator : ℕ) → Operator operator → (within : List ℕ → Taken Expr) (ws : List ℕ) → takeOperand within (operator ∷ ws) ≡ within (operator ∷ ws)
 unfolding takeOperand
 operand-joined = each (λ operator. (within : List ℕ → Taken Expr) (ws : List ℕ) → takeOperand within (operator ∷ ws) ≡ within (operator ∷ ws)) (λ within ws. refl) (λ within ws. refl)
@@ -78,10 +65,6 @@ operand-joined = each (λ operator. (within : List ℕ → Taken Expr) (ws : Lis
 pub operand-denied : (within : List ℕ → Taken Expr) (ws : List ℕ) → takeOperand within (notItem ∷ ws) ≡ found (within ws) (λ r. some (negated (r .0), r .1))
 unfolding takeOperand
 operand-denied within ws = refl
-
-pub operand-not : (d : ℕ) (ws : List ℕ) → takeOperand (takeWithin (suc d)) (notItem ∷ ws) ≡ found (orsFrom (takeWithin d) 0 ws) (λ r. some (negated (r .0), r .1))
-unfolding takeOperand
-operand-not d ws = rw (whole (takeWithin d) ws)
 
 -- None of them where no bracket may be opened, for an item that is no path.
 pub operand-deep : (w : ℕ) (i : Item) (ws : List ℕ) → Said w i → OneOf (1 ∷ 2 ∷ 3 ∷ 4 ∷ 5 ∷ []) (tagOf the-type i) → takeOperand (takeWithin 0) (w ∷ ws) ≡ none

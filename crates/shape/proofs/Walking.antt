@@ -10,21 +10,15 @@ use lib.Seq.{drop-cons}
 use native.Mathlib.Numerals.{add-one}
 use Rattle.paper.specs.Tools.{found}
 use Rattle.paper.specs.Query.{Expr, path, both, either, negated, Steps, stop, step, Preds, bare, pred}
-use Rattle.paper.specs.Items.{andItem, orItem, Head, stepAt, leading, Taken, takePreds, takeSteps, takeOperand, takeOrs, takeExpr, takeWithin}
+use Rattle.paper.specs.Items.{andItem, orItem, Head, stepAt, leading, Taken, takePreds, takeSteps, takeOperand, takeExpr, takeWithin}
 use Rattle.paper.specs.Measures.{nestExpr, nestSteps, nestPreds, heightExpr, heightSteps, heightPreds}
 use Rattle.paper.specs.Composition.{append}
-use Rattle.paper.proofs.Decoding.{orsFrom, andsFrom, whole, term}
 use Rattle.shape.specs.Walks.{nestOperand, operators, joinedHeight, Walk}
 use Rattle.shape.proofs.Operators.{takeRun, takePart, takeMore, joinBy, nestRun, nestPart, Run, run-starts, first-alone, operators-run}
 use Rattle.shape.proofs.Operators.{ands as ands-laws, ors as ors-laws}
 
--- A term is read with none counted before.
-pub ors-go : (depth n : ℕ) (e : Expr) (ws : List ℕ)
-    → takeOrs (takeWithin depth) (suc n) e ws ≡ found (andsFrom (takeWithin depth) 0 ws) (λ r. takeOrs (takeWithin depth) n (either e (r .0)) (r .1))
-ors-go depth n e ws = ap (λ (o : Taken Expr). found o (λ r. takeOrs (takeWithin depth) n (either e (r .0)) (r .1))) (term (takeWithin depth) ws)
-
 -- Every expression has a height.
-some-height : (e : Expr) → 1 ≤ heightExpr e
+pub some-height : (e : Expr) → 1 ≤ heightExpr e
 some-height (path s) = omega arith
 some-height (both a b) = omega arith
 some-height (either a b) = omega arith
@@ -419,10 +413,6 @@ pred-next (suc depth) items place e next d p n =
     let q : takeExpr (takeWithin depth) (drop place items) ≡ some (e, drop next items) =
     ap (λ (k : ℕ). takeExpr (takeWithin k) (drop place items)) (let k : depth ≡ suc depth - 1 = omega arith in k) ∙ p in
     rw q (found-ahead (pred e) (takePreds (takeWithin (suc depth)) n (drop next items)))
-
-pub pred-row : (depth : ℕ) (items : List ℕ) (place : ℕ) (e : Expr) (next : ℕ) → (depth ≡ 0 → ⊥) → orsFrom (takeWithin (depth - 1)) 0 (drop place items) ≡ some (e, drop next items) → (n : ℕ)
-    → takePreds (takeWithin depth) (suc n) (drop place items) ≡ ahead (appendPreds (pred e bare)) (takePreds (takeWithin depth) n (drop next items))
-pred-row depth items place e next d p n = pred-next depth items place e next d (whole (takeWithin (depth - 1)) (drop place items) ∙ p) n
 
 pub bad-pred-row : (depth : ℕ) (items : List ℕ) (place : ℕ) → (depth ≡ 0 → ⊥) → takeExpr (takeWithin (depth - 1)) (drop place items) ≡ none → (n : ℕ)
     → takePreds (takeWithin depth) (suc n) (drop place items) ≡ none

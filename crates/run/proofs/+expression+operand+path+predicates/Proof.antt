@@ -1,17 +1,18 @@
 -- The functions of `run` that call each other meet their contracts: path, predicates and expression, with falling remaining items.
 -- Each loop's invariant is that what was read so far has its set, and what is left to read gives the answer of the whole.
--- The measure of a call is the number of items left, then the order predicates, expression, term, operand, path. Assumes nothing.
+-- The measure of a call is the number of items left, an expression's after the operators that it begins with, then the order predicates, expression, operand, path. Assumes nothing.
 use Prim.Native.Nat.{suc, _+_, _-_, _*_, _≤_}
 use native.Mathlib.Omega.{arith}
 use borrow.Author.Needs.{needs}
 use mathlib.Core.Path.{_≡_, refl, sym, _∙_, ap, subst, subst₂}
-use mathlib.Core.Bool.{not, _&&_, _||_}
+use mathlib.Core.Bool.{not, _&&_}
 use mathlib.Core.List.{[], _++_}
 use denote.Ref.{now}
 use lib.ListN.{length, getD, take, drop, replicate}
 use lib.Seq.{length-take-le}
-use Rattle.paper.specs.Items.{Head, takePreds, takeOperand, takeWithin}
-use Rattle.paper.proofs.Decoding.{orsFrom, andsFrom}
+use Rattle.paper.specs.Items.{Head, takePreds, takeOperand, takeExpr, takeWithin}
+use Rattle.shape.specs.Walks.{operators}
+use Rattle.shape.proofs.Operands.{operators-there}
 use Rattle.item.specs.declared.Step.{Step}
 use Rattle.item.proofs.Saying.{said, numbered}
 use Rattle.paper.proofs.Tests.{some-inj}
@@ -23,58 +24,52 @@ use Rattle.sets.specs.Sets.{bits, image}
 use Rattle.paper.specs.Measures.{heightExpr, heightPreds}
 use Rattle.run.specs.Evals.{Fits, Known, Narrows}
 use Rattle.run.proofs.Slices.{part-length, first-stays, second-comes, length-stays, front-is, front-back, front-length}
-use Rattle.run.proofs.Running.{AndSet, ands-begin, ands-first-fits, ands-first-set, ands-owed-fits, ands-set-more, ands-set-done}
-use Rattle.run.proofs.Running.{OrSet, ors-begin, ors-first-fits, ors-first-set, ors-owed-fits, ors-set-more, ors-set-done}
-use Rattle.run.proofs.Operating.{operand-there, operand-room, not-deep, path-fits, path-set, opens-and, opens-or, opens-not, closes-and, closes-or, closes-not, must-be-not}
-use Rattle.run.proofs.Running.{one-fits}
+use Rattle.run.proofs.Running.{one-fits, Turn, turn-start, turn-fits, turn-room, turn-held, turn-base, turn-onward, turn-and, turn-or, turn-done}
+use Rattle.run.proofs.Operating.{operand-there, operand-room, not-deep, path-fits, path-set, opens-joined, opens-not, closes-joined, closes-not, must-join}
 use Rattle.run.proofs.Rows.{PredSet, preds-begin, pred-fits, preds-more, preds-end, PathSet, path-begin, path-back, path-done, first-readable, step-here}
 use Prim.Native.Nat.{ℕ, _<_}
 use borrow.Fn.Kinds.{In}
+use borrow.Rule.Slice.PartMut.{putMid}
 use borrow.Fn.PlainCycle.{Measures, is, falls, and}
 use Rattle.run.proofs.expression.Reads as expression
 use Rattle.run.proofs.expression.Kinds as expression-kinds
-use Rattle.run.proofs.+expression+operand+path+predicates+term.Lts-expression as expression-lts
+use Rattle.run.proofs.+expression+operand+path+predicates.Lts-expression as expression-lts
 use Rattle.run.proofs.operand.Reads as operand
 use Rattle.run.proofs.operand.Kinds as operand-kinds
-use Rattle.run.proofs.+expression+operand+path+predicates+term.Lts-operand as operand-lts
+use Rattle.run.proofs.+expression+operand+path+predicates.Lts-operand as operand-lts
 use Rattle.run.proofs.path.Reads as path
 use Rattle.run.proofs.path.Kinds as path-kinds
-use Rattle.run.proofs.+expression+operand+path+predicates+term.Lts-path as path-lts
+use Rattle.run.proofs.+expression+operand+path+predicates.Lts-path as path-lts
 use Rattle.run.proofs.predicates.Reads as predicates
 use Rattle.run.proofs.predicates.Kinds as predicates-kinds
-use Rattle.run.proofs.+expression+operand+path+predicates+term.Lts-predicates as predicates-lts
-use Rattle.run.proofs.term.Reads as term
-use Rattle.run.proofs.term.Kinds as term-kinds
-use Rattle.run.proofs.+expression+operand+path+predicates+term.Lts-term as term-lts
+use Rattle.run.proofs.+expression+operand+path+predicates.Lts-predicates as predicates-lts
 use Rattle.item.proofs.turn.Reads as turn-reads
 use Rattle.item.proofs.unpack.Reads as unpack-reads
 use Rattle.run.proofs.look.Reads as look-reads
 use Rattle.run.proofs.look_first.Reads as look-first-reads
+use Rattle.run.proofs.narrow.Reads as narrow-reads
 use Rattle.run.proofs.restrict.Reads as restrict-reads
 use Rattle.run.proofs.step_at.Reads as step-at-reads
-use Rattle.sets.proofs.add_second.Reads as add-second-reads
+use Rattle.run.proofs.widen.Reads as widen-reads
 use Rattle.sets.proofs.along.Reads as along-reads
 use Rattle.sets.proofs.fill.Reads as fill-reads
 use Rattle.sets.proofs.flip.Reads as flip-reads
 use Rattle.sets.proofs.keep_second.Reads as keep-second-reads
 use Rattle.shape.proofs.run_of.Reads as run-of-reads
-use Rattle.run.proofs.+expression+operand+path+predicates+term.{statement}
-use Rattle.run.proofs.+expression+operand+path+predicates+term.Tie.{close}
+use Rattle.run.proofs.+expression+operand+path+predicates.{statement}
+use Rattle.run.proofs.+expression+operand+path+predicates.Tie.{close}
 
 abbrev μ-expression : Measures 5 expression-kinds.ps ℕ
-μ-expression κs a = (length (now (a .0)) - a .1 .0) * 8 + 3
+μ-expression κs a = (length (now (a .0)) - a .1 .0 - operators (drop (a .1 .0) (now (a .0)))) * 4 + 2
 
 abbrev μ-operand : Measures 5 operand-kinds.ps ℕ
-μ-operand κs a = (length (now (a .0)) - a .1 .0) * 8 + 1
+μ-operand κs a = (length (now (a .0)) - a .1 .0) * 4 + 1
 
 abbrev μ-path : Measures 5 path-kinds.ps ℕ
-μ-path κs a = (length (now (a .0)) - a .1 .0) * 8 + 0
+μ-path κs a = (length (now (a .0)) - a .1 .0) * 4
 
 abbrev μ-predicates : Measures 5 predicates-kinds.ps ℕ
-μ-predicates κs a = (length (now (a .0)) - a .1 .0) * 8 + 4
-
-abbrev μ-term : Measures 5 term-kinds.ps ℕ
-μ-term κs a = (length (now (a .0)) - a .1 .0) * 8 + 2
+μ-predicates κs a = (length (now (a .0)) - a .1 .0) * 4 + 3
 
 abbrev expression-at : ℕ → In 5 expression-kinds.ps
 expression-at t =
@@ -104,145 +99,146 @@ abbrev predicates-below : ℕ → In 5 predicates-kinds.ps
 predicates-below t =
     and 5 predicates-kinds.ps (falls 5 predicates-kinds.ps _<_ μ-predicates t) predicates.Pre
 
-abbrev term-at : ℕ → In 5 term-kinds.ps
-term-at t = and 5 term-kinds.ps (is 5 term-kinds.ps μ-term t) term.Pre
-
-abbrev term-below : ℕ → In 5 term-kinds.ps
-term-below t = and 5 term-kinds.ps (falls 5 term-kinds.ps _<_ μ-term t) term.Pre
-
 -- What `expression` knows of the functions it calls.
 abbrev expression-claims : ℕ → expression-lts.Claims
 expression-claims t = (
   run-of-reads.Asked,
   run-of-reads.Learnt,
-  term-below t,
-  term.Post,
-  add-second-reads.Asked,
-  add-second-reads.Learnt,
+  operand-below t,
+  operand.Post,
+  narrow-reads.Asked,
+  narrow-reads.Learnt,
+  widen-reads.Asked,
+  widen-reads.Learnt,
 )
 
 abbrev expression-Inv-loop : expression-lts.InvT-loop
-expression-Inv-loop items at counted depth parent kind given sets₀ n run place₀ owed₀ sets place owed =
-    (length sets ≡ length sets₀) × OrSet (tableOf parent kind) given depth items at (length parent) (orsFrom (takeWithin depth) counted (drop at items)) place owed sets
+expression-Inv-loop items at depth parent kind given sets₀ n ors₀ ands₀ place₀ base₀ held₀ sets ors ands place base held =
+    (length sets ≡ length sets₀) × Turn (tableOf parent kind) given depth items at (length parent) place base held ands ors sets
 
 abbrev expression-μ-loop : expression-lts.MeasureT-loop
-expression-μ-loop items at counted depth parent kind given sets₀ n run place₀ owed₀ sets place owed = owed
+expression-μ-loop items at depth parent kind given sets₀ n ors₀ ands₀ place₀ base₀ held₀ sets ors ands place base held = length items - place
+
+-- The operand's set has room behind what is held.
+expression-enough : (t : ℕ) (c : expression-lts.At-loop (expression-claims t) (expression-at t) expression.Post expression-Inv-loop expression-μ-loop)
+    → c .loop .base + c .loop .held + length (now (c .before .before .before .before .before .before .before .before .args .parent)) ≤ length (c .loop .sets)
+expression-enough t c =
+    let start = c .before .before .before .before .before .before .before .before in
+    omega (arith, turn-room (c .loop .inv .1) (length (now (start .args .sets))) (start .pre .1 .1 .0 .tree .rooted) (start .pre .1 .1 .1), c .loop .inv .0)
+
+-- The sets are as many when the operand's have come back.
+expression-back : (t : ℕ) (c : expression-lts.After-operand (expression-claims t) (expression-at t) expression.Post expression-Inv-loop expression-μ-loop)
+    → length (putMid (c .before .before .loop .base + c .before .before .loop .held) (length (c .before .before .loop .sets) - (c .before .before .loop .base + c .before .before .loop .held)) (c .before .before .loop .sets) (c .operand .last .1 .1 .1 .1 .1 .1 .0)) ≡ length (c .before .before .loop .sets)
+expression-back t c =
+    let l = c .before .before .loop in
+    length-stays (l .base + l .held) (l .sets) (c .operand .last .1 .1 .1 .1 .1 .1 .0) (omega (arith, expression-enough t (c .before .before))) (c .operand .kept .1 .1 .1 .1 .1 .1 .0)
 
 expression-run-of-requires : (t : ℕ) → expression-lts.Need-run-of-requires (expression-claims t) (expression-at t) expression.Post expression-Inv-loop expression-μ-loop
 expression-run-of-requires t c κs = search needs
 
-expression-add-term : (t : ℕ) → expression-lts.Need-add-term (expression-claims t) (expression-at t) expression.Post expression-Inv-loop expression-μ-loop
-expression-add-term t c = search needs
+expression-add-run-of : (t : ℕ) → expression-lts.Need-add-run-of (expression-claims t) (expression-at t) expression.Post expression-Inv-loop expression-μ-loop
+expression-add-run-of t c = omega (arith, c .run-of .ensures .1, c .before .before .before .before .before .before .good .0 .1)
 
-expression-term-requires : (t : ℕ) → expression-lts.Need-term-requires (expression-claims t) (expression-at t) expression.Post expression-Inv-loop expression-μ-loop
-expression-term-requires t c κs =
-    let start = c .before .before .before .before .before .before .before in
-    let a = start .args in
-    let r = c .before .run-of in
-    let pre = start .pre .1 in (
-      search needs,
-      (
-        (omega arith, omega arith),
-        (
-          pre .1 .0,
-          ors-first-fits (tableOf (now (a .parent)) (now (a .kind))) (now (a .given)) (a .depth) (now (a .items)) (a .at) (length (now (a .parent))) _ (r .result + a .counted) _ (pre .1 .1) (a .at + r .result) (r .ensures .1)
-              (ors-begin (a .depth) (now (a .items)) (a .at) (a .counted) (r .result) (r .ensures .0)),
-        ),
-      ),
-    )
+expression-run-of-requires-2 : (t : ℕ) → expression-lts.Need-run-of-requires-2 (expression-claims t) (expression-at t) expression.Post expression-Inv-loop expression-μ-loop
+expression-run-of-requires-2 t c κs = search needs
 
-expression-add-owed : (t : ℕ) → expression-lts.Need-add-owed (expression-claims t) (expression-at t) expression.Post expression-Inv-loop expression-μ-loop
-expression-add-owed t c = search needs
+expression-add-place : (t : ℕ) → expression-lts.Need-add-place (expression-claims t) (expression-at t) expression.Post expression-Inv-loop expression-μ-loop
+expression-add-place t c = omega (arith, c .run-of2 .ensures .1, c .before .before .before .before .before .before .before .good .0 .1)
+
+expression-add-place-2 : (t : ℕ) → expression-lts.Need-add-place-2 (expression-claims t) (expression-at t) expression.Post expression-Inv-loop expression-μ-loop
+expression-add-place-2 t c = omega (arith, c .run-of2 .ensures .1, c .before .before .before .before .before .before .before .good .0 .1)
 
 expression-loop-holds : (t : ℕ) → expression-lts.Need-loop-holds (expression-claims t) (expression-at t) expression.Post expression-Inv-loop expression-μ-loop
 expression-loop-holds t c =
-    let a = c .before .before .before .before .before .before .before .before .before .before .args in
-    let r = c .before .before .before .before .run-of in (
-      refl,
-      ors-first-set (tableOf (now (a .parent)) (now (a .kind))) (now (a .given)) (a .depth) (now (a .items)) (a .at) (length (now (a .parent))) (r .result + a .counted) _ (a .at + r .result) _ _ (omega arith)
-          (ors-begin (a .depth) (now (a .items)) (a .at) (a .counted) (r .result) (r .ensures .0)) (c .before .before .term .ensures),
-    )
+    let a = c .before .before .before .before .before .before .before .args in
+    let o = c .before .run-of in
+    let r = c .run-of2 in
+    (refl, turn-start (tableOf (now (a .parent)) (now (a .kind))) (now (a .given)) (a .depth) (now (a .items)) (a .at) (length (now (a .parent))) (o .result) (r .result) (now (a .sets)) (o .ensures .0) (r .ensures .0) (o .ensures .1) (r .ensures .1))
 
-expression-sub-term : (t : ℕ) → expression-lts.Need-sub-term (expression-claims t) (expression-at t) expression.Post expression-Inv-loop expression-μ-loop
-expression-sub-term t c =
-    let start = c .before .before .before .before .before .before .before .before .before .before .before .before in
+expression-add-operand : (t : ℕ) → expression-lts.Need-add-operand (expression-claims t) (expression-at t) expression.Post expression-Inv-loop expression-μ-loop
+expression-add-operand t c = omega (arith, expression-enough t c, c .loop .inv .0, c .before .before .before .before .before .before .before .before .good .1 .1 .1 .1 .1 .1 .0 .1)
+
+expression-sub-operand : (t : ℕ) → expression-lts.Need-sub-operand (expression-claims t) (expression-at t) expression.Post expression-Inv-loop expression-μ-loop
+expression-sub-operand t c = omega (arith, expression-enough t c)
+
+expression-part-operand-start : (t : ℕ) → expression-lts.Need-part-operand-start (expression-claims t) (expression-at t) expression.Post expression-Inv-loop expression-μ-loop
+expression-part-operand-start t c = omega (arith, expression-enough t c)
+
+expression-part-operand-end : (t : ℕ) → expression-lts.Need-part-operand-end (expression-claims t) (expression-at t) expression.Post expression-Inv-loop expression-μ-loop
+expression-part-operand-end t c = search needs
+
+expression-operand-requires : (t : ℕ) → expression-lts.Need-operand-requires (expression-claims t) (expression-at t) expression.Post expression-Inv-loop expression-μ-loop
+expression-operand-requires t c κs =
+    let start = c .before .before .before .before .before .before .before .before .before in
     let a = start .args in
-    let l = c .before .loop in
-    let len : length (l .sets) ≡ length (now (a .sets)) = l .inv .0 ∙ c .before .before .before .before .term .kept .1 .1 .1 .1 .1 .1 .1 .0 in
-    ors-owed-fits (tableOf (now (a .parent)) (now (a .kind))) (now (a .given)) (a .depth) (now (a .items)) (a .at) (length (now (a .parent))) _ _ (l .place) (l .owed) (l .sets) (c .loop-test .taken) (start .pre .1 .1 .1) (l .inv .1) (λ f two. omega arith)
-
-expression-part-term-start : (t : ℕ) → expression-lts.Need-part-term-start (expression-claims t) (expression-at t) expression.Post expression-Inv-loop expression-μ-loop
-expression-part-term-start t c =
-    let start = c .before .before .before .before .before .before .before .before .before .before .before .before in
-    let a = start .args in
-    let l = c .before .loop in
-    let len : length (l .sets) ≡ length (now (a .sets)) = l .inv .0 ∙ c .before .before .before .before .term .kept .1 .1 .1 .1 .1 .1 .1 .0 in
-    ors-owed-fits (tableOf (now (a .parent)) (now (a .kind))) (now (a .given)) (a .depth) (now (a .items)) (a .at) (length (now (a .parent))) _ _ (l .place) (l .owed) (l .sets) (c .loop-test .taken) (start .pre .1 .1 .1) (l .inv .1) (λ f two. omega arith)
-
-expression-part-term-end : (t : ℕ) → expression-lts.Need-part-term-end (expression-claims t) (expression-at t) expression.Post expression-Inv-loop expression-μ-loop
-expression-part-term-end t c = search needs
-
-expression-term-requires-2 : (t : ℕ) → expression-lts.Need-term-requires-2 (expression-claims t) (expression-at t) expression.Post expression-Inv-loop expression-μ-loop
-expression-term-requires-2 t c κs =
-    let start = c .before .before .before .before .before .before .before .before .before .before .before .before .before in
-    let a = start .args in
-    let l = c .before .before .loop in
-    let len : length (l .sets) ≡ length (now (a .sets)) = l .inv .0 ∙ c .before .before .before .before .before .term .kept .1 .1 .1 .1 .1 .1 .1 .0 in
-    let n = length (now (a .parent)) in
-    ors-owed-fits (tableOf (now (a .parent)) (now (a .kind))) (now (a .given)) (a .depth) (now (a .items)) (a .at) (length (now (a .parent))) _ _ (l .place) (l .owed) (l .sets) (c .before .loop-test .taken) (start .pre .1 .1 .1) (l .inv .1)
-    (λ f two. (
-      omega (arith, l .inv .1 .onward, l .inv .1 .inside, start .pre .0),
+    let l = c .before .loop in (
+      omega (arith, start .pre .0, l .inv .1 .past),
       (
-        (omega arith, omega arith),
+        start .pre .1 .0,
         (
           start .pre .1 .1 .0,
-          subst (λ (k : ℕ). Fits (now (a .items)) (l .place) n k (andsFrom (takeWithin (a .depth)) 0 (drop (l .place) (now (a .items)))) heightExpr) (ap (λ (k : ℕ). k - n) (sym len) ∙ sym (part-length n (l .sets) [] (omega arith))) f,
+          subst (λ (k : ℕ). Fits (now (a .items)) (l .place) (length (now (a .parent))) k (takeOperand (takeWithin (a .depth)) (drop (l .place) (now (a .items)))) heightExpr)
+              (ap (λ (k : ℕ). k - (l .base + l .held)) (sym (l .inv .0)) ∙ sym (part-length (l .base + l .held) (l .sets) [] (omega (arith, expression-enough t (c .before))))) (turn-fits (l .inv .1) (length (now (a .sets))) (start .pre .1 .1 .1)),
         ),
       ),
-    ))
+    )
 
-expression-add-second-requires : (t : ℕ) → expression-lts.Need-add-second-requires (expression-claims t) (expression-at t) expression.Post expression-Inv-loop expression-μ-loop
-expression-add-second-requires t c κs =
-    let start = c .before .before .before .before .before .before .before .before .before .before .before .before .before .before .before .before .before in
-    let a = start .args in
-    let l = c .before .before .before .before .before .before .loop in
-    let len : length (l .sets) ≡ length (now (a .sets)) = l .inv .0 ∙ c .before .before .before .before .before .before .before .before .before .term .kept .1 .1 .1 .1 .1 .1 .1 .0 in
-    let n = length (now (a .parent)) in
-    ors-owed-fits (tableOf (now (a .parent)) (now (a .kind))) (now (a .given)) (a .depth) (now (a .items)) (a .at) (length (now (a .parent))) _ _ (l .place) (l .owed) (l .sets) (c .before .before .before .before .before .loop-test .taken) (start .pre .1 .1 .1) (l .inv .1)
-    (λ f two. omega (arith, length-stays n (l .sets) (c .before .before .before .term2 .last .1 .1 .1 .1 .1 .1 .1 .0) (omega arith) (c .before .before .before .term2 .kept .1 .1 .1 .1 .1 .1 .1 .0)))
+expression-narrow-requires : (t : ℕ) → expression-lts.Need-narrow-requires (expression-claims t) (expression-at t) expression.Post expression-Inv-loop expression-μ-loop
+expression-narrow-requires t c κs =
+    let l = c .before .before .before .before .before .loop in
+    λ z. omega (arith, expression-enough t (c .before .before .before .before .before), turn-held (l .inv .1) z, expression-back t (c .before .before .before))
 
-expression-sub-owed : (t : ℕ) → expression-lts.Need-sub-owed (expression-claims t) (expression-at t) expression.Post expression-Inv-loop expression-μ-loop
-expression-sub-owed t c = search needs
+expression-sub-ands : (t : ℕ) → expression-lts.Need-sub-ands (expression-claims t) (expression-at t) expression.Post expression-Inv-loop expression-μ-loop
+expression-sub-ands t c = omega (arith, c .if1 .taken)
 
 expression-loop-less : (t : ℕ) → expression-lts.Need-loop-less (expression-claims t) (expression-at t) expression.Post expression-Inv-loop expression-μ-loop
-expression-loop-less t c = search needs
+expression-loop-less t c =
+    let start = c .before .before .before .before .before .before .before .before .before .before .before .before .before .before .before .before .before in
+    let l = c .before .before .before .before .before .before .before .before .before .loop in
+    omega (arith, turn-onward (l .inv .1) (start .pre .1 .1 .0 .tree .rooted) (omega (arith, expression-enough t (c .before .before .before .before .before .before .before .before .before))) (c .before .before .before .before .before .before .before .operand .ensures) refl (c .before .before .before .narrow .ensures), c .before .before .before .before .before .before .before .operand .ensures .inside)
 
 expression-loop-again : (t : ℕ) → expression-lts.Need-loop-again (expression-claims t) (expression-at t) expression.Post expression-Inv-loop expression-μ-loop
 expression-loop-again t c =
-    let start = c .before .before .before .before .before .before .before .before .before .before .before .before .before .before .before .before .before .before .before .before in
-    let a = start .args in
+    let start = c .before .before .before .before .before .before .before .before .before .before .before .before .before .before .before .before .before in
     let l = c .before .before .before .before .before .before .before .before .before .loop in
-    let len : length (l .sets) ≡ length (now (a .sets)) = l .inv .0 ∙ c .before .before .before .before .before .before .before .before .before .before .before .before .term .kept .1 .1 .1 .1 .1 .1 .1 .0 in
-    let n = length (now (a .parent)) in
-    let part = c .before .before .before .before .before .before .term2 .last .1 .1 .1 .1 .1 .1 .1 .0 in
-    let kept = c .before .before .before .before .before .before .term2 .kept .1 .1 .1 .1 .1 .1 .1 .0 in
-    let joined = c .before .before .add-second in
-    ors-owed-fits (tableOf (now (a .parent)) (now (a .kind))) (now (a .given)) (a .depth) (now (a .items)) (a .at) (length (now (a .parent))) _ _ (l .place) (l .owed) (l .sets) (c .before .before .before .before .before .before .before .before .loop-test .taken) (start .pre .1 .1 .1) (l .inv .1)
-    (λ fit two.
-    let on : n ≤ length (l .sets) = omega arith in (
-      joined .kept .0 ∙ length-stays n (l .sets) part on kept ∙ l .inv .0,
-      ors-set-more (tableOf (now (a .parent)) (now (a .kind))) (now (a .given)) (a .depth) (now (a .items)) (a .at) (length (now (a .parent))) _ (l .place) (l .owed) _ (l .sets) part (joined .last .0) (c .before .before .before .before .before .before .before .before .loop-test .taken) (l .inv .1) (c .before .before .before .before .before .before .term2 .ensures)
-          (λ f g p q. front-is n (λ i. f i || g i) _ _ (joined .ensures f g (first-stays n (l .sets) part on ∙ p) (second-comes n (l .sets) part on ∙ q))),
-    ))
+    (c .before .before .before .narrow .kept .0 ∙ expression-back t (c .before .before .before .before .before .before .before) ∙ l .inv .0, turn-and (l .inv .1) (start .pre .1 .1 .0 .tree .rooted) (omega (arith, expression-enough t (c .before .before .before .before .before .before .before .before .before))) (c .before .before .before .before .before .before .before .operand .ensures) refl (c .before .before .before .narrow .ensures) (c .if1 .taken))
+
+expression-widen-requires : (t : ℕ) → expression-lts.Need-widen-requires (expression-claims t) (expression-at t) expression.Post expression-Inv-loop expression-μ-loop
+expression-widen-requires t c κs =
+    let l = c .before .before .before .before .before .before .before .before .before .before .loop in
+    λ z. omega (arith, expression-enough t (c .before .before .before .before .before .before .before .before .before .before), turn-base (l .inv .1) z, c .before .before .before .before .narrow .kept .0, expression-back t (c .before .before .before .before .before .before .before .before))
 
 expression-same-length : (t : ℕ) → expression-lts.Need-same-length (expression-claims t) (expression-at t) expression.Post expression-Inv-loop expression-μ-loop
-expression-same-length t c = search needs
+expression-same-length t c =
+    let l = c .before .before .before .before .before .before .before .before .before .before .before .before .before .before .loop in
+    c .before .before .before .widen .kept .0 ∙ c .before .before .before .before .before .before .before .before .narrow .kept .0 ∙ expression-back t (c .before .before .before .before .before .before .before .before .before .before .before .before) ∙ l .inv .0
 
 expression-returns : (t : ℕ) → expression-lts.Need-returns (expression-claims t) (expression-at t) expression.Post expression-Inv-loop expression-μ-loop
 expression-returns t c =
-    let a = c .before .before .before .before .before .before .before .before .before .before .before .before .args in
-    let l = c .before .loop in
-    ors-set-done (tableOf (now (a .parent)) (now (a .kind))) (now (a .given)) (a .depth) (now (a .items)) (a .at) (length (now (a .parent))) _ (l .place) (l .owed) (l .sets) (c .loop-test .left) (l .inv .1)
+    let start = c .before .before .before .before .before .before .before .before .before .before .before .before .before .before .before .before .before .before .before .before .before .before in
+    let l = c .before .before .before .before .before .before .before .before .before .before .before .before .before .before .loop in
+    turn-done (l .inv .1) (start .pre .1 .1 .0 .tree .rooted) (omega (arith, expression-enough t (c .before .before .before .before .before .before .before .before .before .before .before .before .before .before))) (c .before .before .before .before .before .before .before .before .before .before .before .before .operand .ensures) refl (c .before .before .before .before .before .before .before .before .narrow .ensures) (c .before .before .before .before .before .if1 .left) (c .before .before .before .widen .ensures) (omega (arith, c .if2 .taken))
+
+expression-sub-ors : (t : ℕ) → expression-lts.Need-sub-ors (expression-claims t) (expression-at t) expression.Post expression-Inv-loop expression-μ-loop
+expression-sub-ors t c = omega (arith, c .if2 .left)
+
+expression-run-of-requires-3 : (t : ℕ) → expression-lts.Need-run-of-requires-3 (expression-claims t) (expression-at t) expression.Post expression-Inv-loop expression-μ-loop
+expression-run-of-requires-3 t c κs = c .before .before .before .before .before .before .before .before .before .before .before .before .operand .ensures .inside
+
+expression-add-place-3 : (t : ℕ) → expression-lts.Need-add-place-3 (expression-claims t) (expression-at t) expression.Post expression-Inv-loop expression-μ-loop
+expression-add-place-3 t c = omega (arith, c .run-of3 .ensures .1, c .before .before .before .before .before .before .before .before .before .before .before .before .before .before .before .before .before .before .before .before .before .before .before .good .0 .1)
+
+expression-loop-less-2 : (t : ℕ) → expression-lts.Need-loop-less-2 (expression-claims t) (expression-at t) expression.Post expression-Inv-loop expression-μ-loop
+expression-loop-less-2 t c =
+    let start = c .before .before .before .before .before .before .before .before .before .before .before .before .before .before .before .before .before .before .before .before .before .before .before in
+    let l = c .before .before .before .before .before .before .before .before .before .before .before .before .before .before .before .loop in
+    omega (arith, turn-onward (l .inv .1) (start .pre .1 .1 .0 .tree .rooted) (omega (arith, expression-enough t (c .before .before .before .before .before .before .before .before .before .before .before .before .before .before .before))) (c .before .before .before .before .before .before .before .before .before .before .before .before .before .operand .ensures) refl (c .before .before .before .before .before .before .before .before .before .narrow .ensures), c .run-of3 .ensures .1)
+
+expression-loop-again-2 : (t : ℕ) → expression-lts.Need-loop-again-2 (expression-claims t) (expression-at t) expression.Post expression-Inv-loop expression-μ-loop
+expression-loop-again-2 t c =
+    let start = c .before .before .before .before .before .before .before .before .before .before .before .before .before .before .before .before .before .before .before .before .before .before .before in
+    let l = c .before .before .before .before .before .before .before .before .before .before .before .before .before .before .before .loop in
+    (c .before .before .before .before .widen .kept .0 ∙ c .before .before .before .before .before .before .before .before .before .narrow .kept .0 ∙ expression-back t (c .before .before .before .before .before .before .before .before .before .before .before .before .before) ∙ l .inv .0, turn-or (l .inv .1) (start .pre .1 .1 .0 .tree .rooted) (omega (arith, expression-enough t (c .before .before .before .before .before .before .before .before .before .before .before .before .before .before .before))) (c .before .before .before .before .before .before .before .before .before .before .before .before .before .operand .ensures) refl (c .before .before .before .before .before .before .before .before .before .narrow .ensures) (c .before .before .before .before .before .before .if1 .left) (c .before .before .before .before .widen .ensures) (omega (arith, c .before .if2 .left)) (c .run-of3 .ensures .0) (c .run-of3 .ensures .1))
 
 -- What `operand` knows of the functions it calls.
 abbrev operand-claims : ℕ → operand-lts.Claims
@@ -251,8 +247,6 @@ operand-claims t = (
   unpack-reads.Learnt,
   path-below t,
   path.Post,
-  term-below t,
-  term.Post,
   expression-below t,
   expression.Post,
   flip-reads.Asked,
@@ -302,151 +296,99 @@ operand-returns t c =
 operand-enum-told : (t : ℕ) → operand-lts.Need-enum-told (operand-claims t) (operand-at t) operand.Post
 operand-enum-told t c = search needs
 
-operand-add-term : (t : ℕ) → operand-lts.Need-add-term (operand-claims t) (operand-at t) operand.Post
-operand-add-term t c = search needs
+operand-add-expression : (t : ℕ) → operand-lts.Need-add-expression (operand-claims t) (operand-at t) operand.Post
+operand-add-expression t c = search needs
 
-operand-sub-term : (t : ℕ) → operand-lts.Need-sub-term (operand-claims t) (operand-at t) operand.Post
-operand-sub-term t c =
+operand-sub-expression : (t : ℕ) → operand-lts.Need-sub-expression (operand-claims t) (operand-at t) operand.Post
+operand-sub-expression t c =
     let start = c .before .before .before .before .before .before .before .before .before .before in
     let a = start .args in
     let f = start .pre .1 .1 .1 in
-    let w = getD (now (a .items)) (a .at) 0 in
     let u = c .before .before .before .unpack in
-    let s = said w (u .result) (u .ensures) in
+    let s = said (getD (now (a .items)) (a .at) 0) (u .result) (u .ensures) in
     let deep = not-deep (tableOf (now (a .parent)) (now (a .kind))) (now (a .given)) (now (a .items)) (a .at) (length (now (a .parent))) _ (a .depth) f (u .result) s (c .before .before .match .keys2) in
     omega (arith, deep)
 
-operand-term-requires : (t : ℕ) → operand-lts.Need-term-requires (operand-claims t) (operand-at t) operand.Post
-operand-term-requires t c κs =
+operand-expression-requires : (t : ℕ) → operand-lts.Need-expression-requires (operand-claims t) (operand-at t) operand.Post
+operand-expression-requires t c κs =
     let start = c .before .before .before .before .before .before .before .before .before .before .before in
     let a = start .args in
     let f = start .pre .1 .1 .1 in
-    let w = getD (now (a .items)) (a .at) 0 in
     let u = c .before .before .before .before .unpack in
-    let s = said w (u .result) (u .ensures) in
+    let s = said (getD (now (a .items)) (a .at) 0) (u .result) (u .ensures) in
     let deep = not-deep (tableOf (now (a .parent)) (now (a .kind))) (now (a .given)) (now (a .items)) (a .at) (length (now (a .parent))) _ (a .depth) f (u .result) s (c .before .before .before .match .keys2) in
-    (omega (arith, operand-there (now (a .items)) (a .at) _ _ (a .depth) f, start .pre .0), ((omega arith, omega (arith, start .pre .1 .0)), (start .pre .1 .1 .0, opens-and (tableOf (now (a .parent)) (now (a .kind))) (now (a .given)) (now (a .items)) (a .at) (length (now (a .parent))) _ (a .depth) deep f (rw (c .before .enum-told .given .1) at s))))
+    (omega (arith, operand-there (now (a .items)) (a .at) _ _ (a .depth) f, start .pre .0), (omega (arith, start .pre .1 .0), (start .pre .1 .1 .0, opens-not (tableOf (now (a .parent)) (now (a .kind))) (now (a .given)) (now (a .items)) (a .at) (length (now (a .parent))) _ (a .depth) deep f (rw (c .before .enum-told .given .1) at s))))
+
+operand-slice-relend-prefix-flip : (t : ℕ) → operand-lts.Need-slice-relend-prefix-flip (operand-claims t) (operand-at t) operand.Post
+operand-slice-relend-prefix-flip t c =
+    let start = c .before .before .before .before .before .before .before .before .before .before .before .before .before .before in
+    let a = start .args in
+    omega (arith, operand-room (now (a .items)) (a .at) _ _ (a .depth) (start .pre .1 .1 .1), c .before .before .expression .kept .1 .1 .1 .1 .1 .1 .0)
+
+operand-slice-aggregate-flip : (t : ℕ) → operand-lts.Need-slice-aggregate-flip (operand-claims t) (operand-at t) operand.Post
+operand-slice-aggregate-flip t c =
+    let start = c .before .before .before .before .before .before .before .before .before .before .before .before .before .before .before in
+    let a = start .args in
+    sym (length-take-le (length (now (a .parent))) _ (omega (arith, operand-room (now (a .items)) (a .at) _ _ (a .depth) (start .pre .1 .1 .1), c .before .before .before .expression .kept .1 .1 .1 .1 .1 .1 .0)))
+
+operand-flip-requires : (t : ℕ) → operand-lts.Need-flip-requires (operand-claims t) (operand-at t) operand.Post
+operand-flip-requires t c κs = search needs
 
 operand-same-length-2 : (t : ℕ) → operand-lts.Need-same-length-2 (operand-claims t) (operand-at t) operand.Post
 operand-same-length-2 t c = search needs
 
 operand-returns-2 : (t : ℕ) → operand-lts.Need-returns-2 (operand-claims t) (operand-at t) operand.Post
 operand-returns-2 t c =
-    let start = c .before .before .before .before .before .before .before .before .before .before .before .before .before .before in
+    let start = c .before .before .before .before .before .before .before .before .before .before .before .before .before .before .before .before .before .before in
     let a = start .args in
     let f = start .pre .1 .1 .1 in
-    let w = getD (now (a .items)) (a .at) 0 in
-    let u = c .before .before .before .before .before .before .before .unpack in
-    let s = said w (u .result) (u .ensures) in
-    let deep = not-deep (tableOf (now (a .parent)) (now (a .kind))) (now (a .given)) (now (a .items)) (a .at) (length (now (a .parent))) _ (a .depth) f (u .result) s (c .before .before .before .before .before .before .match .keys2) in
-    closes-and (tableOf (now (a .parent)) (now (a .kind))) (now (a .given)) (now (a .items)) (a .at) (length (now (a .parent))) _ (a .depth) deep f _ _ (rw (c .before .before .before .before .enum-told .given .1) at s) (c .before .before .term .ensures)
+    let u = c .before .before .before .before .before .before .before .before .before .before .before .unpack in
+    let s = said (getD (now (a .items)) (a .at) 0) (u .result) (u .ensures) in
+    let deep = not-deep (tableOf (now (a .parent)) (now (a .kind))) (now (a .given)) (now (a .items)) (a .at) (length (now (a .parent))) _ (a .depth) f (u .result) s (c .before .before .before .before .before .before .before .before .before .before .match .keys2) in
+    let n = length (now (a .parent)) in
+    let sets = c .before .before .before .before .before .before .expression .last .1 .1 .1 .1 .1 .1 .0 in
+    let flipped = c .before .before .flip in
+    let len : length (take n sets) ≡ n = length-take-le n sets (omega (arith, operand-room (now (a .items)) (a .at) _ _ (a .depth) f, c .before .before .before .before .before .before .expression .kept .1 .1 .1 .1 .1 .1 .0)) in
+    closes-not (tableOf (now (a .parent)) (now (a .kind))) (now (a .given)) (now (a .items)) (a .at) (length (now (a .parent))) _ (a .depth) deep f _ sets _ (rw (c .before .before .before .before .before .before .before .before .enum-told .given .1) at s) (c .before .before .before .before .before .before .expression .ensures)
+    (λ g p.
+    front-back n (λ i. not (g i)) (flipped .last .0) _
+    (flipped .ensures g (p ∙ ap (λ (k : ℕ). bits k g) (sym len)) ∙ ap (λ (k : ℕ). bits k (λ i. not (g i))) len))
 
-operand-enum-told-2 : (t : ℕ) → operand-lts.Need-enum-told-2 (operand-claims t) (operand-at t) operand.Post
-operand-enum-told-2 t c = search needs
-
-operand-add-expression : (t : ℕ) → operand-lts.Need-add-expression (operand-claims t) (operand-at t) operand.Post
-operand-add-expression t c = search needs
-
-operand-sub-expression : (t : ℕ) → operand-lts.Need-sub-expression (operand-claims t) (operand-at t) operand.Post
-operand-sub-expression t c =
-    let start = c .before .before .before .before .before .before .before .before .before .before .before in
+operand-sub-expression-2 : (t : ℕ) → operand-lts.Need-sub-expression-2 (operand-claims t) (operand-at t) operand.Post
+operand-sub-expression-2 t c =
+    let start = c .before .before .before .before .before .before .before .before .before in
     let a = start .args in
     let f = start .pre .1 .1 .1 in
-    let w = getD (now (a .items)) (a .at) 0 in
-    let u = c .before .before .before .before .unpack in
-    let s = said w (u .result) (u .ensures) in
-    let deep = not-deep (tableOf (now (a .parent)) (now (a .kind))) (now (a .given)) (now (a .items)) (a .at) (length (now (a .parent))) _ (a .depth) f (u .result) s (c .before .before .before .match .keys2) in
+    let u = c .before .before .unpack in
+    let s = said (getD (now (a .items)) (a .at) 0) (u .result) (u .ensures) in
+    let deep = not-deep (tableOf (now (a .parent)) (now (a .kind))) (now (a .given)) (now (a .items)) (a .at) (length (now (a .parent))) _ (a .depth) f (u .result) s (c .before .match .keys2) in
     omega (arith, deep)
 
-operand-expression-requires : (t : ℕ) → operand-lts.Need-expression-requires (operand-claims t) (operand-at t) operand.Post
-operand-expression-requires t c κs =
-    let start = c .before .before .before .before .before .before .before .before .before .before .before .before in
+operand-expression-requires-2 : (t : ℕ) → operand-lts.Need-expression-requires-2 (operand-claims t) (operand-at t) operand.Post
+operand-expression-requires-2 t c κs =
+    let start = c .before .before .before .before .before .before .before .before .before .before in
     let a = start .args in
     let f = start .pre .1 .1 .1 in
-    let w = getD (now (a .items)) (a .at) 0 in
-    let u = c .before .before .before .before .before .unpack in
-    let s = said w (u .result) (u .ensures) in
-    let deep = not-deep (tableOf (now (a .parent)) (now (a .kind))) (now (a .given)) (now (a .items)) (a .at) (length (now (a .parent))) _ (a .depth) f (u .result) s (c .before .before .before .before .match .keys2) in
-    (omega (arith, operand-there (now (a .items)) (a .at) _ _ (a .depth) f, start .pre .0), ((omega arith, omega (arith, start .pre .1 .0)), (start .pre .1 .1 .0, opens-or (tableOf (now (a .parent)) (now (a .kind))) (now (a .given)) (now (a .items)) (a .at) (length (now (a .parent))) _ (a .depth) deep f (rw (c .before .enum-told2 .given .1) at s))))
+    let u = c .before .before .before .unpack in
+    let s = said (getD (now (a .items)) (a .at) 0) (u .result) (u .ensures) in
+    let deep = not-deep (tableOf (now (a .parent)) (now (a .kind))) (now (a .given)) (now (a .items)) (a .at) (length (now (a .parent))) _ (a .depth) f (u .result) s (c .before .before .match .keys2) in
+    let joins = must-join (now (a .items)) (a .at) _ _ (a .depth) f (u .result) s (c .before .before .match .keys2) (c .before .match2 .keys2) in
+    let on = operand-there (now (a .items)) (a .at) _ _ (a .depth) f in
+    (omega (arith, on, operators-there (now (a .items)) (a .at) (a .depth) on joins, start .pre .0), (omega (arith, start .pre .1 .0), (start .pre .1 .1 .0, opens-joined (tableOf (now (a .parent)) (now (a .kind))) (now (a .given)) (now (a .items)) (a .at) (length (now (a .parent))) _ (a .depth) deep f joins)))
 
 operand-same-length-3 : (t : ℕ) → operand-lts.Need-same-length-3 (operand-claims t) (operand-at t) operand.Post
 operand-same-length-3 t c = search needs
 
 operand-returns-3 : (t : ℕ) → operand-lts.Need-returns-3 (operand-claims t) (operand-at t) operand.Post
 operand-returns-3 t c =
-    let start = c .before .before .before .before .before .before .before .before .before .before .before .before .before .before .before in
+    let start = c .before .before .before .before .before .before .before .before .before .before .before .before .before in
     let a = start .args in
     let f = start .pre .1 .1 .1 in
-    let w = getD (now (a .items)) (a .at) 0 in
-    let u = c .before .before .before .before .before .before .before .before .unpack in
-    let s = said w (u .result) (u .ensures) in
-    let deep = not-deep (tableOf (now (a .parent)) (now (a .kind))) (now (a .given)) (now (a .items)) (a .at) (length (now (a .parent))) _ (a .depth) f (u .result) s (c .before .before .before .before .before .before .before .match .keys2) in
-    closes-or (tableOf (now (a .parent)) (now (a .kind))) (now (a .given)) (now (a .items)) (a .at) (length (now (a .parent))) _ (a .depth) deep f _ _ (rw (c .before .before .before .before .enum-told2 .given .1) at s) (c .before .before .expression .ensures)
-
-operand-add-expression-2 : (t : ℕ) → operand-lts.Need-add-expression-2 (operand-claims t) (operand-at t) operand.Post
-operand-add-expression-2 t c = search needs
-
-operand-sub-expression-2 : (t : ℕ) → operand-lts.Need-sub-expression-2 (operand-claims t) (operand-at t) operand.Post
-operand-sub-expression-2 t c =
-    let start = c .before .before .before .before .before .before .before .before .before .before in
-    let a = start .args in
-    let f = start .pre .1 .1 .1 in
-    let w = getD (now (a .items)) (a .at) 0 in
-    let u = c .before .before .before .unpack in
-    let s = said w (u .result) (u .ensures) in
-    let deep = not-deep (tableOf (now (a .parent)) (now (a .kind))) (now (a .given)) (now (a .items)) (a .at) (length (now (a .parent))) _ (a .depth) f (u .result) s (c .before .before .match .keys2) in
-    omega (arith, deep)
-
-operand-expression-requires-2 : (t : ℕ) → operand-lts.Need-expression-requires-2 (operand-claims t) (operand-at t) operand.Post
-operand-expression-requires-2 t c κs =
-    let start = c .before .before .before .before .before .before .before .before .before .before .before in
-    let a = start .args in
-    let f = start .pre .1 .1 .1 in
-    let w = getD (now (a .items)) (a .at) 0 in
-    let u = c .before .before .before .before .unpack in
-    let s = said w (u .result) (u .ensures) in
-    let deep = not-deep (tableOf (now (a .parent)) (now (a .kind))) (now (a .given)) (now (a .items)) (a .at) (length (now (a .parent))) _ (a .depth) f (u .result) s (c .before .before .before .match .keys2) in
-    let is = must-be-not (now (a .items)) (a .at) _ _ (a .depth) f (u .result) s (c .before .before .before .match .keys2) (c .before .before .match2 .keys2) (c .before .match3 .keys2) in
-    (omega (arith, operand-there (now (a .items)) (a .at) _ _ (a .depth) f, start .pre .0), ((omega arith, omega (arith, start .pre .1 .0)), (start .pre .1 .1 .0, opens-not (tableOf (now (a .parent)) (now (a .kind))) (now (a .given)) (now (a .items)) (a .at) (length (now (a .parent))) _ (a .depth) deep f is)))
-
-operand-slice-relend-prefix-flip : (t : ℕ) → operand-lts.Need-slice-relend-prefix-flip (operand-claims t) (operand-at t) operand.Post
-operand-slice-relend-prefix-flip t c =
-    let start = c .before .before .before .before .before .before .before .before .before .before .before .before .before .before in
-    let a = start .args in
-    let f = start .pre .1 .1 .1 in
-    omega (arith, operand-room (now (a .items)) (a .at) _ _ (a .depth) f, c .before .before .expression2 .kept .1 .1 .1 .1 .1 .1 .1 .0)
-
-operand-slice-aggregate-flip : (t : ℕ) → operand-lts.Need-slice-aggregate-flip (operand-claims t) (operand-at t) operand.Post
-operand-slice-aggregate-flip t c =
-    let start = c .before .before .before .before .before .before .before .before .before .before .before .before .before .before .before in
-    let a = start .args in
-    let f = start .pre .1 .1 .1 in
-    sym (length-take-le (length (now (a .parent))) _ (omega (arith, operand-room (now (a .items)) (a .at) _ _ (a .depth) f, c .before .before .before .expression2 .kept .1 .1 .1 .1 .1 .1 .1 .0)))
-
-operand-flip-requires : (t : ℕ) → operand-lts.Need-flip-requires (operand-claims t) (operand-at t) operand.Post
-operand-flip-requires t c κs = search needs
-
-operand-same-length-4 : (t : ℕ) → operand-lts.Need-same-length-4 (operand-claims t) (operand-at t) operand.Post
-operand-same-length-4 t c = search needs
-
-operand-returns-4 : (t : ℕ) → operand-lts.Need-returns-4 (operand-claims t) (operand-at t) operand.Post
-operand-returns-4 t c =
-    let start = c .before .before .before .before .before .before .before .before .before .before .before .before .before .before .before .before .before .before in
-    let a = start .args in
-    let f = start .pre .1 .1 .1 in
-    let w = getD (now (a .items)) (a .at) 0 in
-    let u = c .before .before .before .before .before .before .before .before .before .before .before .unpack in
-    let s = said w (u .result) (u .ensures) in
-    let deep = not-deep (tableOf (now (a .parent)) (now (a .kind))) (now (a .given)) (now (a .items)) (a .at) (length (now (a .parent))) _ (a .depth) f (u .result) s (c .before .before .before .before .before .before .before .before .before .before .match .keys2) in
-    let is = must-be-not (now (a .items)) (a .at) _ _ (a .depth) f (u .result) s (c .before .before .before .before .before .before .before .before .before .before .match .keys2) (c .before .before .before .before .before .before .before .before .before .match2 .keys2) (c .before .before .before .before .before .before .before .before .match3 .keys2) in
-    let n = length (now (a .parent)) in
-    let sets = c .before .before .before .before .before .before .expression2 .last .1 .1 .1 .1 .1 .1 .1 .0 in
-    let flipped = c .before .before .flip in
-    let len : length (take n sets) ≡ n = length-take-le n sets (omega (arith, operand-room (now (a .items)) (a .at) _ _ (a .depth) f, c .before .before .before .before .before .before .expression2 .kept .1 .1 .1 .1 .1 .1 .1 .0)) in
-    closes-not (tableOf (now (a .parent)) (now (a .kind))) (now (a .given)) (now (a .items)) (a .at) (length (now (a .parent))) _ (a .depth) deep f _ sets _ is (c .before .before .before .before .before .before .expression2 .ensures)
-    (λ g p.
-    front-back n (λ i. not (g i)) (flipped .last .0) _
-    (flipped .ensures g (p ∙ ap (λ (k : ℕ). bits k g) (sym len)) ∙ ap (λ (k : ℕ). bits k (λ i. not (g i))) len))
+    let u = c .before .before .before .before .before .before .unpack in
+    let s = said (getD (now (a .items)) (a .at) 0) (u .result) (u .ensures) in
+    let deep = not-deep (tableOf (now (a .parent)) (now (a .kind))) (now (a .given)) (now (a .items)) (a .at) (length (now (a .parent))) _ (a .depth) f (u .result) s (c .before .before .before .before .before .match .keys2) in
+    let joins = must-join (now (a .items)) (a .at) _ _ (a .depth) f (u .result) s (c .before .before .before .before .before .match .keys2) (c .before .before .before .before .match2 .keys2) in
+    closes-joined (tableOf (now (a .parent)) (now (a .kind))) (now (a .given)) (now (a .items)) (a .at) (length (now (a .parent))) _ (a .depth) deep f _ _ joins (c .before .before .expression2 .ensures)
 
 -- What `path` knows of the functions it calls.
 abbrev path-claims : ℕ → path-lts.Claims
@@ -724,10 +666,10 @@ predicates-expression-requires t c κs =
     (λ deep f two. (
       omega (arith, l .inv .1 .onward, l .inv .1 .inside, start .pre .0),
       (
-        (omega arith, omega (arith, start .pre .1 .0)),
+        omega (arith, start .pre .1 .0),
         (
           start .pre .1 .1 .0,
-          subst (λ (k : ℕ). Fits (now (a .items)) (l .place) n k (orsFrom (takeWithin (a .depth - 1)) 0 (drop (l .place) (now (a .items)))) heightExpr)
+          subst (λ (k : ℕ). Fits (now (a .items)) (l .place) n k (takeExpr (takeWithin (a .depth - 1)) (drop (l .place) (now (a .items)))) heightExpr)
               (ap (λ (k : ℕ). k - n) (sym (l .inv .0)) ∙ sym (part-length n (l .sets) [] (omega (arith, l .inv .0)))) f,
         ),
       ),
@@ -740,7 +682,7 @@ predicates-keep-second-requires t c κs =
     let l = c .before .before .before .before .before .before .loop in
     let n = length (now (a .parent)) in
     pred-fits (tableOf (now (a .parent)) (now (a .kind))) (now (a .given)) (now (a .items)) (a .at) (length (now (a .parent))) (a .depth) _ _ (l .place) (l .owed) _ (l .sets) (c .before .before .before .before .before .loop-test .taken) (start .pre .1 .1 .1) (l .inv .1)
-    (λ deep f two. omega (arith, l .inv .0, length-stays n (l .sets) (c .before .before .before .expression .last .1 .1 .1 .1 .1 .1 .1 .0) (omega (arith, l .inv .0)) (c .before .before .before .expression .kept .1 .1 .1 .1 .1 .1 .1 .0)))
+    (λ deep f two. omega (arith, l .inv .0, length-stays n (l .sets) (c .before .before .before .expression .last .1 .1 .1 .1 .1 .1 .0) (omega (arith, l .inv .0)) (c .before .before .before .expression .kept .1 .1 .1 .1 .1 .1 .0)))
 
 predicates-sub-owed : (t : ℕ) → predicates-lts.Need-sub-owed (predicates-claims t) (predicates-at t) predicates.Post predicates-Inv-loop predicates-μ-loop
 predicates-sub-owed t c = search needs
@@ -754,8 +696,8 @@ predicates-loop-again t c =
     let a = start .args in
     let l = c .before .before .before .before .before .before .before .before .before .loop in
     let n = length (now (a .parent)) in
-    let part = c .before .before .before .before .before .before .expression .last .1 .1 .1 .1 .1 .1 .1 .0 in
-    let kept = c .before .before .before .before .before .before .expression .kept .1 .1 .1 .1 .1 .1 .1 .0 in
+    let part = c .before .before .before .before .before .before .expression .last .1 .1 .1 .1 .1 .1 .0 in
+    let kept = c .before .before .before .before .before .before .expression .kept .1 .1 .1 .1 .1 .1 .0 in
     let joined = c .before .before .keep-second in
     let v = c .before .before .before .before .before .before .expression .ensures in
     pred-fits (tableOf (now (a .parent)) (now (a .kind))) (now (a .given)) (now (a .items)) (a .at) (length (now (a .parent))) (a .depth) _ _ (l .place) (l .owed) _ (l .sets) (c .before .before .before .before .before .before .before .before .loop-test .taken) (start .pre .1 .1 .1) (l .inv .1)
@@ -775,162 +717,36 @@ predicates-returns t c =
     let l = c .before .loop in
     preds-end (tableOf (now (a .parent)) (now (a .kind))) (now (a .given)) (now (a .items)) (a .at) (length (now (a .parent))) (a .depth) _ (l .place) (l .owed) _ (l .sets) (c .loop-test .left) (l .inv .1)
 
--- What `term` knows of the functions it calls.
-abbrev term-claims : ℕ → term-lts.Claims
-term-claims t = (
-  run-of-reads.Asked,
-  run-of-reads.Learnt,
-  operand-below t,
-  operand.Post,
-  keep-second-reads.Asked,
-  keep-second-reads.Learnt,
-)
-
-abbrev term-Inv-loop : term-lts.InvT-loop
-term-Inv-loop items at counted depth parent kind given sets₀ n run place₀ owed₀ sets place owed =
-    (length sets ≡ length sets₀) × AndSet (tableOf parent kind) given depth items at (length parent) (andsFrom (takeWithin depth) counted (drop at items)) place owed sets
-
-abbrev term-μ-loop : term-lts.MeasureT-loop
-term-μ-loop items at counted depth parent kind given sets₀ n run place₀ owed₀ sets place owed = owed
-
-term-run-of-requires : (t : ℕ) → term-lts.Need-run-of-requires (term-claims t) (term-at t) term.Post term-Inv-loop term-μ-loop
-term-run-of-requires t c κs = search needs
-
-term-add-operand : (t : ℕ) → term-lts.Need-add-operand (term-claims t) (term-at t) term.Post term-Inv-loop term-μ-loop
-term-add-operand t c = search needs
-
-term-operand-requires : (t : ℕ) → term-lts.Need-operand-requires (term-claims t) (term-at t) term.Post term-Inv-loop term-μ-loop
-term-operand-requires t c κs =
-    let start = c .before .before .before .before .before .before .before in
-    let a = start .args in
-    let r = c .before .run-of in
-    let pre = start .pre .1 in (
-      search needs,
-      (
-        omega arith,
-        (
-          pre .1 .0,
-          ands-first-fits (tableOf (now (a .parent)) (now (a .kind))) (now (a .given)) (a .depth) (now (a .items)) (a .at) (length (now (a .parent))) _ (r .result + a .counted) _ (pre .1 .1) (a .at + r .result) (r .ensures .1)
-              (ands-begin (a .depth) (now (a .items)) (a .at) (a .counted) (r .result) (r .ensures .0)),
-        ),
-      ),
-    )
-
-term-add-owed : (t : ℕ) → term-lts.Need-add-owed (term-claims t) (term-at t) term.Post term-Inv-loop term-μ-loop
-term-add-owed t c = search needs
-
-term-loop-holds : (t : ℕ) → term-lts.Need-loop-holds (term-claims t) (term-at t) term.Post term-Inv-loop term-μ-loop
-term-loop-holds t c =
-    let a = c .before .before .before .before .before .before .before .before .before .before .args in
-    let r = c .before .before .before .before .run-of in (
-      refl,
-      ands-first-set (tableOf (now (a .parent)) (now (a .kind))) (now (a .given)) (a .depth) (now (a .items)) (a .at) (length (now (a .parent))) (r .result + a .counted) _ (a .at + r .result) _ _ (omega arith)
-          (ands-begin (a .depth) (now (a .items)) (a .at) (a .counted) (r .result) (r .ensures .0)) (c .before .before .operand .ensures),
-    )
-
-term-sub-operand : (t : ℕ) → term-lts.Need-sub-operand (term-claims t) (term-at t) term.Post term-Inv-loop term-μ-loop
-term-sub-operand t c =
-    let start = c .before .before .before .before .before .before .before .before .before .before .before .before in
-    let a = start .args in
-    let l = c .before .loop in
-    let len : length (l .sets) ≡ length (now (a .sets)) = l .inv .0 ∙ c .before .before .before .before .operand .kept .1 .1 .1 .1 .1 .1 .0 in
-    ands-owed-fits (tableOf (now (a .parent)) (now (a .kind))) (now (a .given)) (a .depth) (now (a .items)) (a .at) (length (now (a .parent))) _ _ (l .place) (l .owed) (l .sets) (c .loop-test .taken) (start .pre .1 .1 .1) (l .inv .1) (λ f two. omega arith)
-
-term-part-operand-start : (t : ℕ) → term-lts.Need-part-operand-start (term-claims t) (term-at t) term.Post term-Inv-loop term-μ-loop
-term-part-operand-start t c =
-    let start = c .before .before .before .before .before .before .before .before .before .before .before .before in
-    let a = start .args in
-    let l = c .before .loop in
-    let len : length (l .sets) ≡ length (now (a .sets)) = l .inv .0 ∙ c .before .before .before .before .operand .kept .1 .1 .1 .1 .1 .1 .0 in
-    ands-owed-fits (tableOf (now (a .parent)) (now (a .kind))) (now (a .given)) (a .depth) (now (a .items)) (a .at) (length (now (a .parent))) _ _ (l .place) (l .owed) (l .sets) (c .loop-test .taken) (start .pre .1 .1 .1) (l .inv .1) (λ f two. omega arith)
-
-term-part-operand-end : (t : ℕ) → term-lts.Need-part-operand-end (term-claims t) (term-at t) term.Post term-Inv-loop term-μ-loop
-term-part-operand-end t c = search needs
-
-term-operand-requires-2 : (t : ℕ) → term-lts.Need-operand-requires-2 (term-claims t) (term-at t) term.Post term-Inv-loop term-μ-loop
-term-operand-requires-2 t c κs =
-    let start = c .before .before .before .before .before .before .before .before .before .before .before .before .before in
-    let a = start .args in
-    let l = c .before .before .loop in
-    let len : length (l .sets) ≡ length (now (a .sets)) = l .inv .0 ∙ c .before .before .before .before .before .operand .kept .1 .1 .1 .1 .1 .1 .0 in
-    let n = length (now (a .parent)) in
-    ands-owed-fits (tableOf (now (a .parent)) (now (a .kind))) (now (a .given)) (a .depth) (now (a .items)) (a .at) (length (now (a .parent))) _ _ (l .place) (l .owed) (l .sets) (c .before .loop-test .taken) (start .pre .1 .1 .1) (l .inv .1)
-    (λ f two. (
-      omega (arith, l .inv .1 .onward, l .inv .1 .inside, start .pre .0),
-      (
-        omega arith,
-        (
-          start .pre .1 .1 .0,
-          subst (λ (k : ℕ). Fits (now (a .items)) (l .place) n k (takeOperand (takeWithin (a .depth)) (drop (l .place) (now (a .items)))) heightExpr) (ap (λ (k : ℕ). k - n) (sym len) ∙ sym (part-length n (l .sets) [] (omega arith))) f,
-        ),
-      ),
-    ))
-
-term-keep-second-requires : (t : ℕ) → term-lts.Need-keep-second-requires (term-claims t) (term-at t) term.Post term-Inv-loop term-μ-loop
-term-keep-second-requires t c κs =
-    let start = c .before .before .before .before .before .before .before .before .before .before .before .before .before .before .before .before .before in
-    let a = start .args in
-    let l = c .before .before .before .before .before .before .loop in
-    let len : length (l .sets) ≡ length (now (a .sets)) = l .inv .0 ∙ c .before .before .before .before .before .before .before .before .before .operand .kept .1 .1 .1 .1 .1 .1 .0 in
-    let n = length (now (a .parent)) in
-    ands-owed-fits (tableOf (now (a .parent)) (now (a .kind))) (now (a .given)) (a .depth) (now (a .items)) (a .at) (length (now (a .parent))) _ _ (l .place) (l .owed) (l .sets) (c .before .before .before .before .before .loop-test .taken) (start .pre .1 .1 .1) (l .inv .1)
-    (λ f two. omega (arith, length-stays n (l .sets) (c .before .before .before .operand2 .last .1 .1 .1 .1 .1 .1 .0) (omega arith) (c .before .before .before .operand2 .kept .1 .1 .1 .1 .1 .1 .0)))
-
-term-sub-owed : (t : ℕ) → term-lts.Need-sub-owed (term-claims t) (term-at t) term.Post term-Inv-loop term-μ-loop
-term-sub-owed t c = search needs
-
-term-loop-less : (t : ℕ) → term-lts.Need-loop-less (term-claims t) (term-at t) term.Post term-Inv-loop term-μ-loop
-term-loop-less t c = search needs
-
-term-loop-again : (t : ℕ) → term-lts.Need-loop-again (term-claims t) (term-at t) term.Post term-Inv-loop term-μ-loop
-term-loop-again t c =
-    let start = c .before .before .before .before .before .before .before .before .before .before .before .before .before .before .before .before .before .before .before .before in
-    let a = start .args in
-    let l = c .before .before .before .before .before .before .before .before .before .loop in
-    let len : length (l .sets) ≡ length (now (a .sets)) = l .inv .0 ∙ c .before .before .before .before .before .before .before .before .before .before .before .before .operand .kept .1 .1 .1 .1 .1 .1 .0 in
-    let n = length (now (a .parent)) in
-    let part = c .before .before .before .before .before .before .operand2 .last .1 .1 .1 .1 .1 .1 .0 in
-    let kept = c .before .before .before .before .before .before .operand2 .kept .1 .1 .1 .1 .1 .1 .0 in
-    let joined = c .before .before .keep-second in
-    ands-owed-fits (tableOf (now (a .parent)) (now (a .kind))) (now (a .given)) (a .depth) (now (a .items)) (a .at) (length (now (a .parent))) _ _ (l .place) (l .owed) (l .sets) (c .before .before .before .before .before .before .before .before .loop-test .taken) (start .pre .1 .1 .1) (l .inv .1)
-    (λ fit two.
-    let on : n ≤ length (l .sets) = omega arith in (
-      joined .kept .0 ∙ length-stays n (l .sets) part on kept ∙ l .inv .0,
-      ands-set-more (tableOf (now (a .parent)) (now (a .kind))) (now (a .given)) (a .depth) (now (a .items)) (a .at) (length (now (a .parent))) _ (l .place) (l .owed) _ (l .sets) part (joined .last .0) (c .before .before .before .before .before .before .before .before .loop-test .taken) (l .inv .1) (c .before .before .before .before .before .before .operand2 .ensures)
-          (λ f g p q. front-is n (λ i. f i && g i) _ _ (joined .ensures f g (first-stays n (l .sets) part on ∙ p) (second-comes n (l .sets) part on ∙ q))),
-    ))
-
-term-same-length : (t : ℕ) → term-lts.Need-same-length (term-claims t) (term-at t) term.Post term-Inv-loop term-μ-loop
-term-same-length t c = search needs
-
-term-returns : (t : ℕ) → term-lts.Need-returns (term-claims t) (term-at t) term.Post term-Inv-loop term-μ-loop
-term-returns t c =
-    let a = c .before .before .before .before .before .before .before .before .before .before .before .before .args in
-    let l = c .before .loop in
-    ands-set-done (tableOf (now (a .parent)) (now (a .kind))) (now (a .given)) (a .depth) (now (a .items)) (a .at) (length (now (a .parent))) _ (l .place) (l .owed) (l .sets) (c .loop-test .left) (l .inv .1)
-
-pub +expression+operand+path+predicates+term-spec : {M : Type 1} → statement M
-+expression+operand+path+predicates+term-spec =
-    close μ-expression μ-operand μ-path μ-predicates μ-term (λ t. expression-lts.spec (expression-claims t)
+pub +expression+operand+path+predicates-spec : {M : Type 1} → statement M
++expression+operand+path+predicates-spec =
+    close μ-expression μ-operand μ-path μ-predicates (λ t. expression-lts.spec (expression-claims t)
     (expression-at t)
     expression.Post
     expression-Inv-loop
     expression-μ-loop
     (expression-run-of-requires t)
-    (expression-add-term t)
-    (expression-term-requires t)
-    (expression-add-owed t)
+    (expression-add-run-of t)
+    (expression-run-of-requires-2 t)
+    (expression-add-place t)
+    (expression-add-place-2 t)
     (expression-loop-holds t)
-    (expression-sub-term t)
-    (expression-part-term-start t)
-    (expression-part-term-end t)
-    (expression-term-requires-2 t)
-    (expression-add-second-requires t)
-    (expression-sub-owed t)
+    (expression-add-operand t)
+    (expression-sub-operand t)
+    (expression-part-operand-start t)
+    (expression-part-operand-end t)
+    (expression-operand-requires t)
+    (expression-narrow-requires t)
+    (expression-sub-ands t)
     (expression-loop-less t)
     (expression-loop-again t)
+    (expression-widen-requires t)
     (expression-same-length t)
-    (expression-returns t))
+    (expression-returns t)
+    (expression-sub-ors t)
+    (expression-run-of-requires-3 t)
+    (expression-add-place-3 t)
+    (expression-loop-less-2 t)
+    (expression-loop-again-2 t))
     (λ t. operand-lts.spec (operand-claims t)
     (operand-at t)
     operand.Post
@@ -943,25 +759,18 @@ pub +expression+operand+path+predicates+term-spec : {M : Type 1} → statement M
     (operand-same-length t)
     (operand-returns t)
     (operand-enum-told t)
-    (operand-add-term t)
-    (operand-sub-term t)
-    (operand-term-requires t)
-    (operand-same-length-2 t)
-    (operand-returns-2 t)
-    (operand-enum-told-2 t)
     (operand-add-expression t)
     (operand-sub-expression t)
     (operand-expression-requires t)
-    (operand-same-length-3 t)
-    (operand-returns-3 t)
-    (operand-add-expression-2 t)
-    (operand-sub-expression-2 t)
-    (operand-expression-requires-2 t)
     (operand-slice-relend-prefix-flip t)
     (operand-slice-aggregate-flip t)
     (operand-flip-requires t)
-    (operand-same-length-4 t)
-    (operand-returns-4 t))
+    (operand-same-length-2 t)
+    (operand-returns-2 t)
+    (operand-sub-expression-2 t)
+    (operand-expression-requires-2 t)
+    (operand-same-length-3 t)
+    (operand-returns-3 t))
     (λ t. path-lts.spec (path-claims t)
     (path-at t)
     path.Post
@@ -988,7 +797,7 @@ pub +expression+operand+path+predicates+term-spec : {M : Type 1} → statement M
     (path-loop-again t)
     (path-same-length t)
     (path-returns t))
-    (λ t. predicates-lts.spec (predicates-claims t)
+    λ t. predicates-lts.spec (predicates-claims t)
     (predicates-at t)
     predicates.Post
     predicates-Inv-loop
@@ -1004,24 +813,4 @@ pub +expression+operand+path+predicates+term-spec : {M : Type 1} → statement M
     (predicates-loop-less t)
     (predicates-loop-again t)
     (predicates-same-length t)
-    (predicates-returns t))
-    λ t. term-lts.spec (term-claims t)
-    (term-at t)
-    term.Post
-    term-Inv-loop
-    term-μ-loop
-    (term-run-of-requires t)
-    (term-add-operand t)
-    (term-operand-requires t)
-    (term-add-owed t)
-    (term-loop-holds t)
-    (term-sub-operand t)
-    (term-part-operand-start t)
-    (term-part-operand-end t)
-    (term-operand-requires-2 t)
-    (term-keep-second-requires t)
-    (term-sub-owed t)
-    (term-loop-less t)
-    (term-loop-again t)
-    (term-same-length t)
-    (term-returns t)
+    (predicates-returns t)
