@@ -23,27 +23,27 @@ use Rattle.paper.proofs.Tests.{and-true, or-right}
 use Rattle.paper.proofs.Fields.{path-at, step-at}
 
 -- Reading a whole expression, or a term, where k operators were counted before.
-unfoldable pub orsFrom : (List ℕ → Taken Expr) → ℕ → List ℕ → Taken Expr
+unfoldable orsFrom : (List ℕ → Taken Expr) → ℕ → List ℕ → Taken Expr
 orsFrom within k ws = found (takeTerm within (drop (leading orItem ws) ws)) (λ r. takeOrs within (leading orItem ws + k) (r .0) (r .1))
 
-unfoldable pub andsFrom : (List ℕ → Taken Expr) → ℕ → List ℕ → Taken Expr
+unfoldable andsFrom : (List ℕ → Taken Expr) → ℕ → List ℕ → Taken Expr
 andsFrom within k ws = found (takeOperand within (drop (leading andItem ws) ws)) (λ r. takeAnds within (leading andItem ws + k) (r .0) (r .1))
 
 -- With none counted before, that is what the definitions read.
-pub whole : (within : List ℕ → Taken Expr) (ws : List ℕ) → takeExpr within ws ≡ orsFrom within 0 ws
+whole : (within : List ℕ → Taken Expr) (ws : List ℕ) → takeExpr within ws ≡ orsFrom within 0 ws
 unfolding takeExpr orsFrom
 whole within ws = rw add-zero
 
-pub term : (within : List ℕ → Taken Expr) (ws : List ℕ) → takeTerm within ws ≡ andsFrom within 0 ws
+term : (within : List ℕ → Taken Expr) (ws : List ℕ) → takeTerm within ws ≡ andsFrom within 0 ws
 unfolding takeTerm andsFrom
 term within ws = rw add-zero
 
 -- An operator's item is counted.
-pub one-or : (within : List ℕ → Taken Expr) (k : ℕ) (ws : List ℕ) → orsFrom within k (orItem ∷ ws) ≡ orsFrom within (suc k) ws
+one-or : (within : List ℕ → Taken Expr) (k : ℕ) (ws : List ℕ) → orsFrom within k (orItem ∷ ws) ≡ orsFrom within (suc k) ws
 unfolding orsFrom
 one-or within k ws = let e : suc (leading orItem ws) + k ≡ leading orItem ws + suc k = omega arith in rw e
 
-pub one-and : (within : List ℕ → Taken Expr) (k : ℕ) (ws : List ℕ) → andsFrom within k (andItem ∷ ws) ≡ andsFrom within (suc k) ws
+one-and : (within : List ℕ → Taken Expr) (k : ℕ) (ws : List ℕ) → andsFrom within k (andItem ∷ ws) ≡ andsFrom within (suc k) ws
 unfolding andsFrom
 one-and within k ws = let e : suc (leading andItem ws) + k ≡ leading andItem ws + suc k = omega arith in rw e
 
@@ -54,12 +54,12 @@ record Reads (e : Expr) : Type 0 where
   operand : (d : ℕ) (ws : List ℕ) → inBrackets (isOr e || isAnd e) (nestExpr e) ≤ d → takeOperand (takeWithin d) (encodeExpr e ++ ws) ≡ some (e, ws)
 
 -- Where no `or` stands first, the whole is a term; where no `and` stands first, a term is an operand.
-pub as-whole : (within : List ℕ → Taken Expr) (k : ℕ) (ws rest : List ℕ) (e : Expr) → leading orItem ws ≡ 0 → takeTerm within ws ≡ some (e, rest)
+as-whole : (within : List ℕ → Taken Expr) (k : ℕ) (ws rest : List ℕ) (e : Expr) → leading orItem ws ≡ 0 → takeTerm within ws ≡ some (e, rest)
     → orsFrom within k ws ≡ takeOrs within k e rest
 unfolding orsFrom
 as-whole within k ws rest e l h = rw (l, h, zero-add k)
 
-pub as-term : (within : List ℕ → Taken Expr) (k : ℕ) (ws rest : List ℕ) (e : Expr) → leading andItem ws ≡ 0 → takeOperand within ws ≡ some (e, rest)
+as-term : (within : List ℕ → Taken Expr) (k : ℕ) (ws rest : List ℕ) (e : Expr) → leading andItem ws ≡ 0 → takeOperand within ws ≡ some (e, rest)
     → andsFrom within k ws ≡ takeAnds within k e rest
 unfolding andsFrom
 as-term within k ws rest e l h = rw (l, h, zero-add k)

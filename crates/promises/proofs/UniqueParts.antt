@@ -67,8 +67,8 @@ place-left : (items : List ℕ) (m n : ℕ) → m ≤ length items → n ≤ len
 place-left items m n a b h = omega (arith, length-drop m items, length-drop n items, ap length h)
 
 -- Two walks that took the same end at one place with the same measures.
-module _ {A : Type 0} (items : List ℕ) (at counted depth : ℕ) (taken : Taken A) (nestOf heightOf : A → ℕ) where
-  walk-unique : (r s : Walked) → Walks items at counted depth taken nestOf heightOf r → Walks items at counted depth taken nestOf heightOf s → r ≡ s
+module _ {A : Type 0} (items : List ℕ) (at depth : ℕ) (taken : Taken A) (nestOf heightOf : A → ℕ) where
+  walk-unique : (r s : Walked) → Walks items at depth taken nestOf heightOf r → Walks items at depth taken nestOf heightOf s → r ≡ s
   walk-unique (Done m nest high) (Done n nest′ high′) p q =
       let e = some-inj (same (sym (p .reads)) (sym (q .reads))) in
       let what = ap (λ w. w .0) e in

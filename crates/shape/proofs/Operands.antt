@@ -106,8 +106,8 @@ in-bracket = each (λ operator. (e : Expr) → isJoined operator e ≡ true → 
 -- The walks of an operand, from those of what it holds.
 module _ (items : List ℕ) (at depth : ℕ) (l : at < length items) where
   pub walk-path : (count : ℕ) → pathAt (getD items at 0) ≡ some count → 1 ≤ count → (r : Walked)
-      → Walks items (at + 1) 0 depth (takeSteps (takeWithin depth) count (drop (at + 1) items)) nestSteps heightSteps r
-      → Walks items at 0 depth (takeOperand (takeWithin depth) (drop at items)) nestOperand heightExpr (raisedBy r 0 1)
+      → Walks items (at + 1) depth (takeSteps (takeWithin depth) count (drop (at + 1) items)) nestSteps heightSteps r
+      → Walks items at depth (takeOperand (takeWithin depth) (drop at items)) nestOperand heightExpr (raisedBy r 0 1)
   walk-path count p some-step (Done next nest high) w =
       record {
         what = path (w .what);
@@ -123,8 +123,8 @@ module _ (items : List ℕ) (at depth : ℕ) (l : at < length items) where
       rw (at-place items at l, operand-path (takeWithin depth) (getD items at 0) count (drop (at + 1) items) p some-step, w)
 
   pub walk-not : getD items at 0 ≡ notItem → (r : Walked)
-      → Walks items (at + 1) 0 depth (takeExpr (takeWithin depth) (drop (at + 1) items)) nestExpr heightExpr r
-      → Walks items at 0 (suc depth) (takeOperand (takeWithin (suc depth)) (drop at items)) nestOperand heightExpr (raisedBy r 1 1)
+      → Walks items (at + 1) depth (takeExpr (takeWithin depth) (drop (at + 1) items)) nestExpr heightExpr r
+      → Walks items at (suc depth) (takeOperand (takeWithin (suc depth)) (drop at items)) nestOperand heightExpr (raisedBy r 1 1)
   walk-not e (Done next nest high) w =
       record {
         what = negated (w .what);
@@ -150,8 +150,8 @@ module _ (items : List ℕ) (at depth : ℕ) (l : at < length items) where
       let f = from-operand (suc depth) (takeWithin (suc depth)) (from-within (suc depth)) (drop at items) (e, drop next items) h in
       sym (run depth w o .begins-with e (drop next items)) ∙ ap (begins w) (sym (f .items) ∙ at-place items at l) ∙ eq-eqb w w refl
 
-  pub walk-joined : Operator (getD items at 0) → (r : Walked) → Walks items at 0 depth (takeExpr (takeWithin depth) (drop at items)) nestExpr heightExpr r
-      → Walks items at 0 (suc depth) (takeOperand (takeWithin (suc depth)) (drop at items)) nestOperand heightExpr (raisedBy r 1 0)
+  pub walk-joined : Operator (getD items at 0) → (r : Walked) → Walks items at depth (takeExpr (takeWithin depth) (drop at items)) nestExpr heightExpr r
+      → Walks items at (suc depth) (takeOperand (takeWithin (suc depth)) (drop at items)) nestOperand heightExpr (raisedBy r 1 0)
   walk-joined o (Done next nest high) w =
       let read : takeOperand (takeWithin (suc depth)) (drop at items) ≡ some (w .what, drop next items) = operand-same o ∙ w .reads in
       record {
@@ -189,10 +189,10 @@ not-step w Not s k = no-step w (λ e. omega arith)
 not-step w Bad s k = s .1
 
 -- What can be raised: walks are no deeper than 64 and no higher than the items.
-pub small : {A : Type 0} (items : List ℕ) (at counted depth : ℕ) (taken : Taken A) (nestOf heightOf : A → ℕ) (r : Walked) → depth ≤ 64 → length items * 4 < 2 ^ 63 → counted ≤ 1
-    → Walks items at counted depth taken nestOf heightOf r → Small r
-small items at counted depth taken nestOf heightOf (Done next nest high) d l k w = (omega (arith, w .shallow), omega (arith, w .low, w .inside))
-small items at counted depth taken nestOf heightOf Malformed d l k w = tt
+pub small : {A : Type 0} (items : List ℕ) (at depth : ℕ) (taken : Taken A) (nestOf heightOf : A → ℕ) (r : Walked) → depth ≤ 64 → length items * 4 < 2 ^ 63
+    → Walks items at depth taken nestOf heightOf r → Small r
+small items at depth taken nestOf heightOf (Done next nest high) d l w = (omega (arith, w .shallow), omega (arith, w .low, w .inside))
+small items at depth taken nestOf heightOf Malformed d l w = tt
 
 -- What holds of each number and the next one holds of any number but 0 and the one before it.
 pub deeper : (P : ℕ → ℕ → Type 0) → ((d : ℕ) → P d (suc d)) → (depth : ℕ) → (depth ≡ 0 → ⊥) → P (depth - 1) depth
@@ -201,22 +201,22 @@ deeper P next (suc d) z = subst (λ (k : ℕ). P k (suc d)) (let e : d ≡ suc d
 
 -- The brackets, where d brackets may be opened and d is not 0.
 module _ (items : List ℕ) (at depth : ℕ) (l : at < length items) (z : depth ≡ 0 → ⊥) (r : Walked) where
-  pub opens-joined : Operator (getD items at 0) → Walks items at 0 (depth - 1) (takeExpr (takeWithin (depth - 1)) (drop at items)) nestExpr heightExpr r
-      → Walks items at 0 depth (takeOperand (takeWithin depth) (drop at items)) nestOperand heightExpr (raisedBy r 1 0)
+  pub opens-joined : Operator (getD items at 0) → Walks items at (depth - 1) (takeExpr (takeWithin (depth - 1)) (drop at items)) nestExpr heightExpr r
+      → Walks items at depth (takeOperand (takeWithin depth) (drop at items)) nestOperand heightExpr (raisedBy r 1 0)
   opens-joined o =
       deeper
       (λ less d.
-      Walks items at 0 less (takeExpr (takeWithin less) (drop at items)) nestExpr heightExpr r
-      → Walks items at 0 d (takeOperand (takeWithin d) (drop at items)) nestOperand heightExpr (raisedBy r 1 0))
+      Walks items at less (takeExpr (takeWithin less) (drop at items)) nestExpr heightExpr r
+      → Walks items at d (takeOperand (takeWithin d) (drop at items)) nestOperand heightExpr (raisedBy r 1 0))
       (λ d. walk-joined items at d l o r) depth z
 
-  pub opens-not : getD items at 0 ≡ notItem → Walks items (at + 1) 0 (depth - 1) (takeExpr (takeWithin (depth - 1)) (drop (at + 1) items)) nestExpr heightExpr r
-      → Walks items at 0 depth (takeOperand (takeWithin depth) (drop at items)) nestOperand heightExpr (raisedBy r 1 1)
+  pub opens-not : getD items at 0 ≡ notItem → Walks items (at + 1) (depth - 1) (takeExpr (takeWithin (depth - 1)) (drop (at + 1) items)) nestExpr heightExpr r
+      → Walks items at depth (takeOperand (takeWithin depth) (drop at items)) nestOperand heightExpr (raisedBy r 1 1)
   opens-not e =
       deeper
       (λ less d.
-      Walks items (at + 1) 0 less (takeExpr (takeWithin less) (drop (at + 1) items)) nestExpr heightExpr r
-      → Walks items at 0 d (takeOperand (takeWithin d) (drop at items)) nestOperand heightExpr (raisedBy r 1 1))
+      Walks items (at + 1) less (takeExpr (takeWithin less) (drop (at + 1) items)) nestExpr heightExpr r
+      → Walks items at d (takeOperand (takeWithin d) (drop at items)) nestOperand heightExpr (raisedBy r 1 1))
       (λ d. walk-not items at d l e r) depth z
 
 -- Where an item is no path, no path stands there.

@@ -69,7 +69,7 @@ some-fuel (suc f) z k = k f refl
 
 pub paths-more : (items : List ℕ) (place deep high count next nesting height′ deep′ high′ : ℕ) → place < length items → PathsLeft items place deep high
     → pathAt (getD items place 0) ≡ some count
-    → Walk items (place + 1) 0 bracketLimit (takeSteps (takeWithin bracketLimit) count (drop (place + 1) items)) nestSteps heightSteps next nesting height′
+    → Walk items (place + 1) bracketLimit (takeSteps (takeWithin bracketLimit) count (drop (place + 1) items)) nestSteps heightSteps next nesting height′
     → deep′ ≡ max deep nesting → high′ ≡ max high (height′ + 1) → PathsLeft items next deep′ high′
 paths-more items place deep high count next nesting height′ deep′ high′ l p e w ed eh =
     some-fuel (p .fuel) (omega (arith, p .enough))

@@ -45,7 +45,7 @@ module _ (operator depth : ℕ) (items : List ℕ) (at : ℕ) where
   -- A part is to be read at `place`: what its answer makes of the run.
   pub record Awaits (place deep high owed : ℕ) : Type 0 where
     pub stuck : takePart operator (takeWithin depth) (drop place items) ≡ none → takeRun operator (takeWithin depth) (drop at items) ≡ none
-    pub gives : (next nesting height deep′ high′ : ℕ) → Walk items place 0 depth (takePart operator (takeWithin depth) (drop place items)) (nestPart operator) heightExpr next nesting height
+    pub gives : (next nesting height deep′ high′ : ℕ) → Walk items place depth (takePart operator (takeWithin depth) (drop place items)) (nestPart operator) heightExpr next nesting height
         → deep′ ≡ max deep nesting → high′ ≡ joinedHeight high height → Left next deep′ high′ owed
     pub onward : at ≤ place
     pub inside : place ≤ length items
@@ -107,7 +107,7 @@ module _ (operator depth : ℕ) (items : List ℕ) (at : ℕ) where
 
     -- No part is owed.
     pub left-done : (place deep high owed : ℕ) → owed ≤ 0 → Left place deep high owed
-        → Walk items at 0 depth (takeRun operator (takeWithin depth) (drop at items)) (nestRun operator) heightExpr place deep high
+        → Walk items at depth (takeRun operator (takeWithin depth) (drop at items)) (nestRun operator) heightExpr place deep high
     left-done place deep high zero z left =
         record {
           what = left .so-far;
@@ -150,7 +150,7 @@ module _ {depth : ℕ} {items : List ℕ} {at place deep high term ands ors : �
   turn-stuck h = t .outer .stuck (t .inner .stuck h)
 
   -- The operand is read.
-  module _ {next nesting height deep′ term′ : ℕ} (w : Walk items place 0 depth (takeOperand (takeWithin depth) (drop place items)) nestOperand heightExpr next nesting height)
+  module _ {next nesting height deep′ term′ : ℕ} (w : Walk items place depth (takeOperand (takeWithin depth) (drop place items)) nestOperand heightExpr next nesting height)
       (ed : deep′ ≡ max deep nesting) (et : term′ ≡ joinedHeight term height) where
     pub turn-onward : place < next
     turn-onward = omega (arith, w .low, w .heights, some-height (w .what))
@@ -193,7 +193,7 @@ module _ {depth : ℕ} {items : List ℕ} {at place deep high term ands ors : �
             past = omega (arith, t .past, w .onward);
           }
 
-      pub turn-done : ors ≤ 0 → Walk items at 0 depth (takeExpr (takeWithin depth) (drop at items)) nestExpr heightExpr next deep′ high′
+      pub turn-done : ors ≤ 0 → Walk items at depth (takeExpr (takeWithin depth) (drop at items)) nestExpr heightExpr next deep′ high′
       turn-done y = left-done orItem depth items at (ors-laws depth) next deep′ high′ ors y terms
 
 -- What is taken, with more put before it.
@@ -281,7 +281,7 @@ module _ {A : Type 0} (k : Rows A) where
 
   -- None owed.
   pub row-done : (items : List ℕ) (at depth : ℕ) (whole : Taken A) (place deep high owed : ℕ) → owed ≤ 0 → Row items at depth whole place deep high owed
-      → Walk items at 0 depth whole (k .nestOf) (k .heightOf) place deep high
+      → Walk items at depth whole (k .nestOf) (k .heightOf) place deep high
   row-done items at depth whole place deep high zero z l =
       record {
         what = l .so-far;

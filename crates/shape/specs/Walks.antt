@@ -30,8 +30,8 @@ abbrev pub joinedHeight : ℕ → ℕ → ℕ
 joinedHeight zero height = height
 joinedHeight (suc high) height = 1 + max (suc high) height
 
--- The walk from `at` took something, and ended at `next` with these measures of it; `counted` operators stood before `at`.
-pub record Walk {A : Type 0} (items : List ℕ) (at counted depth : ℕ) (taken : Taken A) (nestOf heightOf : A → ℕ) (next nest high : ℕ) : Type 0 where
+-- The walk from `at` took something, and ended at `next` with these measures of it.
+pub record Walk {A : Type 0} (items : List ℕ) (at depth : ℕ) (taken : Taken A) (nestOf heightOf : A → ℕ) (next nest high : ℕ) : Type 0 where
   pub what : A
   pub reads : taken ≡ some (what, drop next items)
   pub nests : nest ≡ nestOf what
@@ -39,12 +39,12 @@ pub record Walk {A : Type 0} (items : List ℕ) (at counted depth : ℕ) (taken 
   pub onward : at ≤ next
   pub inside : next ≤ length items
   pub shallow : nest ≤ depth
-  pub low : high + at ≤ next + counted
+  pub low : high + at ≤ next
 
 -- What an answer says of the walk.
-abbrev pub Walks : {A : Type 0} → List ℕ → ℕ → ℕ → ℕ → Taken A → (A → ℕ) → (A → ℕ) → Walked → Type 0
-Walks items at counted depth taken nestOf heightOf (Done next nest high) = Walk items at counted depth taken nestOf heightOf next nest high
-Walks items at counted depth taken nestOf heightOf Malformed = taken ≡ none
+abbrev pub Walks : {A : Type 0} → List ℕ → ℕ → ℕ → Taken A → (A → ℕ) → (A → ℕ) → Walked → Type 0
+Walks items at depth taken nestOf heightOf (Done next nest high) = Walk items at depth taken nestOf heightOf next nest high
+Walks items at depth taken nestOf heightOf Malformed = taken ≡ none
 
 -- The shape of items: nesting and height of the query that they are.
 abbrev pub shapeOf : Option Query → Shape

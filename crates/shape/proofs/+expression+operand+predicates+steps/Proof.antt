@@ -226,7 +226,7 @@ operand-steps-requires t c κs = search needs
 operand-raised-requires : (t : ℕ) → operand-lts.Need-raised-requires (operand-claims t) (operand-at t) operand.Post
 operand-raised-requires t c κs =
     let start = c .before .before .before .before .before .before .before .before .before in
-    (small _ _ 0 _ _ _ _ (c .steps .result) (start .pre .1 .1) (start .good .0 .1) (omega arith) (c .steps .ensures), omega arith, omega arith)
+    (small _ _ _ _ _ _ (c .steps .result) (start .pre .1 .1) (start .good .0 .1) (c .steps .ensures), omega arith, omega arith)
 
 operand-returns-3 : (t : ℕ) → operand-lts.Need-returns-3 (operand-claims t) (operand-at t) operand.Post
 operand-returns-3 t c =
@@ -258,7 +258,7 @@ operand-expression-requires t c κs =
 operand-raised-requires-2 : (t : ℕ) → operand-lts.Need-raised-requires-2 (operand-claims t) (operand-at t) operand.Post
 operand-raised-requires-2 t c κs =
     let start = c .before .before .before .before .before .before .before .before in
-    (small _ _ 0 _ _ _ _ (c .expression .result) (omega (arith, start .pre .1)) (start .good .0 .1) (omega arith) (c .expression .ensures), omega arith, omega arith)
+    (small _ _ _ _ _ _ (c .expression .result) (omega (arith, start .pre .1)) (start .good .0 .1) (c .expression .ensures), omega arith, omega arith)
 
 operand-enum-told : (t : ℕ) → operand-lts.Need-enum-told (operand-claims t) (operand-at t) operand.Post
 operand-enum-told t c = search needs
@@ -276,7 +276,7 @@ operand-expression-requires-2 t c κs =
 operand-raised-requires-3 : (t : ℕ) → operand-lts.Need-raised-requires-3 (operand-claims t) (operand-at t) operand.Post
 operand-raised-requires-3 t c κs =
     let start = c .before .before .before .before .before .before .before .before .before in
-    (small _ _ 0 _ _ _ _ (c .expression2 .result) (omega (arith, start .pre .1)) (start .good .0 .1) (omega arith) (c .expression2 .ensures), omega arith, omega arith)
+    (small _ _ _ _ _ _ (c .expression2 .result) (omega (arith, start .pre .1)) (start .good .0 .1) (c .expression2 .ensures), omega arith, omega arith)
 
 operand-returns-5 : (t : ℕ) → operand-lts.Need-returns-5 (operand-claims t) (operand-at t) operand.Post
 operand-returns-5 t c =
