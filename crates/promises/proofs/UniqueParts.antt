@@ -84,7 +84,7 @@ pub run-of-unique : RunOfUnique
 run-of-unique κs a u v x y g p q = same (p .0) (q .0)
 
 pub steps-unique : StepsUnique
-steps-unique κs a u v x y g p q = walk-unique (now (a .0)) _ _ _ _ _ _ u v p q
+steps-unique κs a u v x y g p q = walk-unique (now (a .0)) _ _ _ _ _ u v p q
 
 pub measure-unique : MeasureUnique
 measure-unique κs a u v x y g p q = same p q
