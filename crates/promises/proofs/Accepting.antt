@@ -26,7 +26,7 @@ use Rattle.paper.proofs.Sizes.{size-items}
 use Rattle.paper.proofs.Encoding.{encode-decode}
 use Rattle.paper.proofs.Keeping.{length-kept}
 use Rattle.paper.proofs.Extracting.{length-pick}
-use Rattle.run.specs.Evals.{roomAnswer}
+use Rattle.run.specs.Rooms.{roomAnswer}
 use Rattle.run.proofs.Answering as run
 use Rattle.table.proofs.Lines as table
 use Rattle.theorems.proofs.Forms.{read-back}

@@ -20,7 +20,8 @@ use Rattle.promises.specs.UniqueParts.{UnpackUnique, PackPathUnique, Pac
 use Rattle.promises.specs.UniqueParts.{NameStartUnique, NamePartUnique, IndexUnique, FindUnique, SpellUnique, WhiteSpaceUnique, TakeUnique}
 use Rattle.promises.specs.UniqueParts.{RunOfUnique, StepsUnique, MeasureUnique, PutUnique, TableFaultUnique, MarksFaultUnique, CountUnique}
 use Rattle.promises.specs.UniqueParts.{FillUnique, CopyUnique, KeepUnique, AddUnique, FlipUnique, KeepSecondUnique, AddSecondUnique, KeepMetUnique, AlongUnique}
-use Rattle.promises.proofs.Telling.{same, same-slice}
+use Rattle.promises.specs.UniqueParts.{KeepQueryUnique}
+use Rattle.promises.proofs.Telling.{same, same-slice, same-slices}
 
 -- ITEMS.
 pub unpack-unique : UnpackUnique
@@ -139,3 +140,8 @@ keep-met-unique κs a u v x y g p q =
 pub along-unique : AlongUnique
 along-unique κs a u v x y g p q =
     let b = g .0 in let f = g .1 in (refl, same-slice (p [] (b .0) (f .0) (b .1) (f .1)) (q [] (b .0) (f .0) (b .1) (f .1)))
+
+-- KEEPING.
+pub keep-query-unique : KeepQueryUnique
+keep-query-unique κs a u v x y g p q =
+    let runs = g .1 .1 in (refl, same-slices (p .0 (runs .query) (runs .decodes)) (p .1) (q .0 (runs .query) (runs .decodes)) (q .1))

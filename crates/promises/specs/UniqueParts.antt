@@ -37,6 +37,7 @@ use Rattle.sets.proofs.keep_second
 use Rattle.sets.proofs.add_second
 use Rattle.sets.proofs.keep_met
 use Rattle.sets.proofs.along
+use Rattle.keep.proofs.keep as keep_query
 use Rattle.promises.specs.Uniqueness.{Unique, UniqueAnswer}
 
 -- The number is that of an axis.
@@ -155,3 +156,8 @@ abbrev pub AlongUnique : Type 0
 AlongUnique =
     Unique along.Kinds.ps along.Kinds.r (λ κs a. IsAxis (a .1 .0) × IsSet (length (now (a .1 .1 .0))) (now (a .1 .1 .0))) along.Reads.Post
     (λ κs x. now (x .1 .1 .0) ∷ [])
+
+-- KEEPING.
+abbrev pub KeepQueryUnique : Type 0
+KeepQueryUnique =
+    Unique keep_query.Kinds.ps keep_query.Kinds.r keep_query.Reads.Pre keep_query.Reads.Post (λ κs x. now (x .1 .1 .1 .1 .0) ∷ now (x .1 .1 .1 .1 .1 .0) ∷ [])

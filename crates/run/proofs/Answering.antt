@@ -31,7 +31,8 @@ use Rattle.paper.proofs.Keeping.{length-kept}
 use Rattle.sets.specs.Sets.{bits}
 use Rattle.shape.specs.Walks.{shapeOf}
 use Rattle.shape.specs.declared.Shape.the-variants.{Query as IsQuery, Malformed as NoQuery}
-use Rattle.run.specs.Evals.{Ready, Runs, roomAnswer}
+use Rattle.keep.specs.Evals.{Ready, Runs}
+use Rattle.run.specs.Rooms.{roomAnswer}
 
 -- What the shape of items says of the query that they are.
 pub shaped-none : (o : Option Query) → NoQuery ≡ shapeOf o → o ≡ none

@@ -1,7 +1,1 @@
-pub mod Stepwise
-pub mod Running
-pub mod Operating
-pub mod Rows
-pub mod Slices
 pub mod Answering
-pub mod Selecting

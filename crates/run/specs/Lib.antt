@@ -1,1 +1,1 @@
-pub mod Evals
+pub mod Rooms
