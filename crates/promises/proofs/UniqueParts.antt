@@ -3,7 +3,7 @@
 use Prim.Native.Nat.{ℕ, _≤_}
 use native.Mathlib.Omega.{arith}
 use mathlib.Core.Path.{_≡_, refl, sym, _∙_, ap}
-use mathlib.Core.List.{List, []}
+use mathlib.Core.List.{List, [], _∷_}
 use lib.ListN.{length, drop, length-drop}
 use denote.Ref.{now}
 use Rattle.paper.specs.Items.{Taken}
@@ -13,12 +13,14 @@ use Rattle.token.proofs.Unique as token
 use Rattle.shape.specs.declared.Walked.{Walked}
 use Rattle.shape.specs.declared.Walked.the-variants.{Done, Malformed}
 use Rattle.shape.specs.Walks.{Walks}
+use Rattle.pen.specs.Putting.{Puts}
 use Rattle.table.specs.declared.Fault.{Fault}
 use Rattle.table.specs.declared.Fault.the-variants.{Nothing, At}
 use Rattle.table.specs.Faults.{faultOf}
 use Rattle.promises.specs.UniqueParts.{UnpackUnique, PackPathUnique, PackStepUnique, TurnUnique, MeetsUnique}
 use Rattle.promises.specs.UniqueParts.{NameStartUnique, NamePartUnique, IndexUnique, FindUnique, SpellUnique, WhiteSpaceUnique, TakeUnique}
-use Rattle.promises.specs.UniqueParts.{RunOfUnique, StepsUnique, MeasureUnique, PutUnique, TableFaultUnique, MarksFaultUnique, CountUnique}
+use Rattle.promises.specs.UniqueParts.{RunOfUnique, StepsUnique, MeasureUnique, TableFaultUnique, MarksFaultUnique, CountUnique}
+use Rattle.promises.specs.UniqueParts.{PutByteUnique, PutUnique, PutSlashUnique, PutBarUnique, PutOpenUnique, PutOrUnique, PutAndUnique, PutNotUnique, PutHeadUnique}
 use Rattle.promises.specs.UniqueParts.{FillUnique, CopyUnique, KeepUnique, AddUnique, FlipUnique, KeepSecondUnique, AddSecondUnique, KeepMetUnique, AlongUnique}
 use Rattle.promises.proofs.Telling.{same, same-slice}
 
@@ -89,9 +91,38 @@ steps-unique κs a u v x y g p q = walk-unique (now (a .0)) _ _ _ _ _ u v p q
 pub measure-unique : MeasureUnique
 measure-unique κs a u v x y g p q = same p q
 
--- BYTES.
+-- BYTES. The same text put at one place ends at one place and leaves one content.
+both-put : {text old new new′ : List ℕ} {pen next next′ : ℕ} → Puts text pen old new next → Puts text pen old new′ next′ → (next ≡ next′) × (new ∷ [] ≡ new′ ∷ [])
+both-put p q = (same (p .moved) (q .moved), same-slice (p .wrote) (q .wrote))
+
+pub put-byte-unique : PutByteUnique
+put-byte-unique κs a u v x y g p q = both-put p q
+
 pub put-unique : PutUnique
-put-unique κs a u v x y g p q = (same (p .moved) (q .moved), same-slice (p .wrote) (q .wrote))
+put-unique κs a u v x y g p q = both-put p q
+
+pub put-slash-unique : PutSlashUnique
+put-slash-unique κs a u v x y g p q = both-put p q
+
+pub put-bar-unique : PutBarUnique
+put-bar-unique κs a u v x y g p q = both-put p q
+
+pub put-open-unique : PutOpenUnique
+put-open-unique κs a u v x y g p q = both-put p q
+
+pub put-or-unique : PutOrUnique
+put-or-unique κs a u v x y g p q = both-put p q
+
+pub put-and-unique : PutAndUnique
+put-and-unique κs a u v x y g p q = both-put p q
+
+pub put-not-unique : PutNotUnique
+put-not-unique κs a u v x y g p q = both-put p q
+
+pub put-head-unique : PutHeadUnique
+put-head-unique κs a u v x y g p q =
+    let b = g .0 in let t = g .1 in
+    both-put (p .0 (b .0) (t .0) (b .1) (t .1 .1) (t .1 .0)) (q .0 (b .0) (t .0) (b .1) (t .1 .1) (t .1 .0))
 
 -- TABLES.
 fault-same : (r s : Fault) → faultOf r ≡ faultOf s → r ≡ s

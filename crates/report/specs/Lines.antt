@@ -5,7 +5,7 @@ use mathlib.Core.List.{List}
 use lib.ListN.{length, take, drop}
 use Rattle.paper.specs.Answers.{value, refusal}
 use Rattle.paper.specs.Answers.{Answer as Told}
-use Rattle.print.specs.Writing.{Puts}
+use Rattle.pen.specs.Putting.{Puts}
 use Rattle.paper.specs.Program.{firstLine, afterLine}
 
 -- The first line of the bytes ends at `end`.

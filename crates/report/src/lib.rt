@@ -9,7 +9,7 @@ ghost use lib.ListN.{length};
 ghost use Rattle.paper.specs.Limits.{textLimit};
 ghost use Rattle.paper.specs.Items.{decode};
 ghost use Rattle.paper.specs.Told.{told};
-ghost use Rattle.print.specs.Writing.{Puts};
+ghost use Rattle.pen.specs.Putting.{Puts};
 ghost use Rattle.paper.specs.Program.{decimal, refusalLine, resultLines, nestingGot, queryPrints, queriesPrint, textsPrint, programPrints};
 ghost use Rattle.report.specs.Lines.{Ends, Starts, numberTold, placeTold, reportLimit, Reports};
 
@@ -46,7 +46,7 @@ fn put_digit(out: &mut [u8], pen: usize, digit: usize) -> usize
     ensures { λ r. ⌜ Puts ((48 + digit) ∷ []) pen (now (out .entry)) (now (out .exit)) r ⌝ }
 {
     let glyph = [48 + digit as u8];
-    print::put(out, pen, &glyph)
+    pen::put(out, pen, &glyph)
 }
 
 // Puts a number in decimal digits.
@@ -107,13 +107,13 @@ fn put_refusal(out: &mut [u8], part: &[u8], answer: Answer) -> usize
 {
     let number = number_of(answer);
     let place = place_of(answer);
-    let begun = print::put(out, 0, b"refused ");
-    let named = print::put(out, begun, part);
-    let spaced = print::put(out, named, b" ");
+    let begun = pen::put(out, 0, b"refused ");
+    let named = pen::put(out, begun, part);
+    let spaced = pen::put(out, named, b" ");
     let numbered = put_decimal(out, spaced, number);
-    let apart = print::put(out, numbered, b" ");
+    let apart = pen::put(out, numbered, b" ");
     let placed = put_decimal(out, apart, place);
-    print::put(out, placed, b"\n")
+    pen::put(out, placed, b"\n")
 }
 
 // Puts the text of a query, and the line of its size and nesting.
@@ -121,12 +121,12 @@ fn put_result(out: &mut [u8], text: &[u8], size: usize, nesting: usize) -> usize
     requires { ⌜ length (now text) ≤ textLimit ⌝ }
     ensures { λ r. ⌜ Reports (resultLines (now (text .entry)) size nesting) reportLimit (now (out .entry)) (now (out .exit)) r ⌝ }
 {
-    let ended = print::put(out, 0, text);
-    let begun = print::put(out, ended, b"\nsize ");
+    let ended = pen::put(out, 0, text);
+    let begun = pen::put(out, ended, b"\nsize ");
     let sized = put_decimal(out, begun, size);
-    let parted = print::put(out, sized, b" nesting ");
+    let parted = pen::put(out, sized, b" nesting ");
     let nested = put_decimal(out, parted, nesting);
-    print::put(out, nested, b"\n")
+    pen::put(out, nested, b"\n")
 }
 
 // The nesting of a query.

@@ -2,7 +2,7 @@
 use native.Mathlib.Omega.{arith}
 use mathlib.Core.Path.{sym}
 use borrow.Author.Needs.{needs}
-use Rattle.print.proofs.Putting.{puts-as, puts-both}
+use Rattle.pen.proofs.Putting.{puts-as, puts-both}
 use Rattle.report.proofs.Digits.{decimal-one, decimal-more, decimal-few}
 use Prim.Native.Nat.{ℕ, _^_, _<_}
 use borrow.Fn.Kinds.{In}

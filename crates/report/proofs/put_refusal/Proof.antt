@@ -2,7 +2,7 @@
 use Prim.Native.Nat.{_≤_}
 use native.Mathlib.Omega.{arith}
 use mathlib.Core.Path.{ap}
-use Rattle.print.proofs.Putting.{puts-as, puts-both}
+use Rattle.pen.proofs.Putting.{puts-as, puts-both}
 use Rattle.paper.specs.Program.{decimal}
 use borrow.Author.Needs.{needs}
 use Rattle.report.proofs.put_refusal.Statement.{statement}

@@ -1,6 +1,6 @@
 -- `report::put_result` meets its contract: the text, the words and the numbers one after the other. Assumes nothing.
 use native.Mathlib.Omega.{arith}
-use Rattle.print.proofs.Putting.{puts-both}
+use Rattle.pen.proofs.Putting.{puts-both}
 use borrow.Author.Needs.{needs}
 use Rattle.report.proofs.put_result.Statement.{statement}
 use Rattle.report.proofs.put_result.Tie as tie

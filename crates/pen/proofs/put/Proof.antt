@@ -1,4 +1,4 @@
--- `print::put` meets its contract. The invariant: the bytes passed are put. The measure is the number of bytes left. Assumes nothing.
+-- `pen::put` meets its contract. The invariant: the bytes passed are put. The measure is the number of bytes left. Assumes nothing.
 use Prim.Native.Nat.{_+_, _-_, _≤_}
 use native.Mathlib.Numerals.{add-one}
 use native.Mathlib.Omega.{arith}
@@ -8,10 +8,10 @@ use lib.Seq.{length-take-le, take-suc, take-all}
 use lib.ListN.{getD, length, take}
 use borrow.Author.Needs.{needs}
 use denote.Ref.{now}
-use Rattle.print.specs.Writing.{Puts}
-use Rattle.print.proofs.Putting.{puts-as, puts-none, puts-both, puts-long}
-use Rattle.print.proofs.put.Statement.{statement}
-use Rattle.print.proofs.put.Tie as tie
+use Rattle.pen.specs.Putting.{Puts}
+use Rattle.pen.proofs.Putting.{puts-as, puts-none, puts-both, puts-long}
+use Rattle.pen.proofs.put.Statement.{statement}
+use Rattle.pen.proofs.put.Tie as tie
 
 abbrev Inv-loop : tie.InvT-loop
 Inv-loop out₀ pen bytes at₀ i₀ out at i = (i ≤ length bytes) × Puts (take i bytes) pen out₀ out at

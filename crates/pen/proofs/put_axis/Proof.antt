@@ -1,11 +1,11 @@
--- `print::put_axis` meets its contract: each number of the match is that of one axis. Assumes nothing.
+-- `pen::put_axis` meets its contract: each number of the match is that of one axis. Assumes nothing.
 use native.Mathlib.Omega.{arith}
 use mathlib.Core.Path.{sym, _∙_}
 use borrow.Author.Needs.{needs}
-use Rattle.print.proofs.Putting.{puts-as}
-use Rattle.print.proofs.Words.{axis-0, axis-1, axis-2, axis-3, axis-4}
-use Rattle.print.proofs.put_axis.Statement.{statement}
-use Rattle.print.proofs.put_axis.Tie as tie
+use Rattle.pen.proofs.Putting.{puts-as}
+use Rattle.pen.proofs.Words.{axis-0, axis-1, axis-2, axis-3, axis-4}
+use Rattle.pen.proofs.put_axis.Statement.{statement}
+use Rattle.pen.proofs.put_axis.Tie as tie
 
 slice-aggregate-put : tie.Need-slice-aggregate-put
 slice-aggregate-put c = search needs

@@ -2,19 +2,18 @@
 use Prim.Native.Nat.{ℕ, zero, suc, _-_, _≤_, _<_}
 use native.Mathlib.Omega.{arith}
 use mathlib.Core.Path.{_≡_, refl, sym, ap}
-use mathlib.Core.Bool.{true, false}
+use mathlib.Core.Bool.{true}
 use mathlib.Core.List.{List, [], _∷_, _++_, append-nil}
 use mathlib.Core.Logic.{_⊎_, inl, inr, ⊎-elim}
 use lib.Dec.{ltb}
 use lib.ListN.{getD}
-use borrow.Author.Tests.{leb-false, ltb-true, ltb-false}
+use borrow.Author.Tests.{ltb-true, ltb-false}
 use Rattle.paper.proofs.Tests.{decide}
 use Rattle.paper.specs.Tools.{ascii}
 use Rattle.paper.specs.Query.{Axis, self, child, parent, descendantOrSelf, ancestorOrSelf, Test, anyNode, textNode, named, anyElement}
 use Rattle.paper.specs.Items.{axisNumber, testNumber, goodTest}
 use Rattle.paper.specs.Printing.{axisText, testText, textOf}
-use Rattle.paper.specs.Answers.{unknownTest}
-use Rattle.print.specs.Writing.{Known, headPieces}
+use Rattle.pen.specs.Putting.{headPieces}
 
 -- The word of an axis.
 pub axis-0 : (a : Axis) → axisNumber a ≡ 0 → ascii "self" ≡ axisText a
@@ -89,16 +88,6 @@ below n m l h = ⊎-elim (λ e. absurd (h e)) (λ k. k) (split n m l)
   where
     split : (i j : ℕ) → i ≤ j → (i ≡ j) ⊎ (i < j)
     split i j k = ⊎-elim (λ e. inr (ltb-true i j e)) (λ e. inl (let g : j ≤ i = ltb-false i j e in omega arith)) (decide (ltb i j))
-
--- A test that the list has a name for.
-pub known-test : (count : ℕ) (t : Test) → goodTest t ≡ true → unknownTest count t ≡ false → Known count (testNumber t)
-known-test count anyNode g u = (omega arith, λ l m. absurd (omega arith))
-known-test count textNode g u = (omega arith, λ l m. absurd (omega arith))
-known-test count (named v) g u =
-    let few : v < 256 = ltb-true v 256 g in
-    let less : v < count = leb-false count v u in
-    (omega arith, λ l m. omega arith)
-known-test count anyElement g u = (omega arith, λ l m. absurd (omega arith))
 
 -- The text of a step without its predicates.
 pub head-text : (names : List (List ℕ)) (a : Axis) (t : Test) → ((axisText a ++ (58 ∷ [])) ++ (58 ∷ [])) ++ testText names t ≡ textOf names (headPieces a t)

@@ -1,13 +1,12 @@
--- Texts put one after the other, and what stands in a slice once a text is put. By induction over the first text. Assumes nothing.
+-- Texts put one after the other are one text put. By induction over the first text. Assumes nothing.
 use Prim.Native.Nat.{ℕ, suc, _+_, _≤_}
 use native.Mathlib.Omega.{arith}
 use native.Mathlib.Nat.{add-zero}
 use mathlib.Core.Path.{_≡_, refl, sym, _∙_, ap}
 use mathlib.Core.List.{List, [], _∷_, _++_}
-use lib.ListN.{length, take, drop, set, length-append}
-use lib.Seq.{sets, sets-eq, length-sets, set-out}
-use Rattle.paper.specs.Tools.{written}
-use Rattle.print.specs.Writing.{Puts}
+use lib.ListN.{length, set, length-append}
+use lib.Seq.{sets, length-sets, set-out}
+use Rattle.pen.specs.Putting.{Puts}
 
 sets-append : (xs ys l : List ℕ) (i : ℕ) → sets l i (xs ++ ys) ≡ sets (sets l i xs) (i + length xs) ys
 sets-append [] ys l i = rw (add-zero i)
@@ -41,18 +40,3 @@ puts-as e p = rw e at p
 -- The slice keeps its length.
 pub puts-long : {xs old new : List ℕ} {pen next : ℕ} → Puts xs pen old new next → length new ≡ length old
 puts-long {xs} {old} {new} {pen} {next} p = ap length (p .wrote) ∙ length-sets old pen xs
-
--- With room enough the text stands at the start, and the rest is untouched.
-pub puts-written : (text old new : List ℕ) (next : ℕ) → Puts text 0 old new next → length text ≤ length old → new ≡ written text old
-puts-written text old new next p l = p .wrote ∙ sets-eq text old 0 (omega arith) ∙ start
-  where
-    start : take 0 old ++ text ++ drop (0 + length text) old ≡ written text old
-    start = let e : 0 + length text ≡ length text = omega arith in rw e
-
--- With no room nothing is written.
-pub puts-nothing : (text new : List ℕ) (pen next : ℕ) → Puts text pen [] new next → new ≡ []
-puts-nothing text new pen next p = p .wrote ∙ none-there text pen
-  where
-    none-there : (xs : List ℕ) (i : ℕ) → _≡_ {A = List ℕ} (sets [] i xs) []
-    none-there [] i = refl
-    none-there (x ∷ xs) i = none-there xs (suc i)

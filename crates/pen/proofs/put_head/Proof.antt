@@ -1,10 +1,10 @@
--- `print::put_head` meets its contract. Assumes nothing.
+-- `pen::put_head` meets its contract. Assumes nothing.
 use native.Mathlib.Omega.{arith}
 use borrow.Author.Needs.{needs}
-use Rattle.print.proofs.Putting.{puts-both, puts-as}
-use Rattle.print.proofs.Words.{head-text}
-use Rattle.print.proofs.put_head.Statement.{statement}
-use Rattle.print.proofs.put_head.Tie as tie
+use Rattle.pen.proofs.Putting.{puts-both, puts-as}
+use Rattle.pen.proofs.Words.{head-text}
+use Rattle.pen.proofs.put_head.Statement.{statement}
+use Rattle.pen.proofs.put_head.Tie as tie
 
 put-axis-requires : tie.Need-put-axis-requires
 put-axis-requires c κs = search needs

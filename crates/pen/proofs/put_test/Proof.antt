@@ -1,14 +1,14 @@
--- `print::put_test` meets its contract: each number of the match is that of one test, and the others are those of names. Assumes nothing.
+-- `pen::put_test` meets its contract: each number of the match is that of one test, and the others are those of names. Assumes nothing.
 use Prim.Native.Nat.{_≤_, _<_}
 use native.Mathlib.Omega.{arith}
 use mathlib.Core.Path.{sym, _∙_}
 use borrow.Author.Needs.{needs}
 use denote.Ref.{now}
 use Rattle.paper.specs.Names.{namesOf}
-use Rattle.print.proofs.Putting.{puts-as}
-use Rattle.print.proofs.Words.{above, below, test-0, test-1, test-258, test-named}
-use Rattle.print.proofs.put_test.Statement.{statement}
-use Rattle.print.proofs.put_test.Tie as tie
+use Rattle.pen.proofs.Putting.{puts-as}
+use Rattle.pen.proofs.Words.{above, below, test-0, test-1, test-258, test-named}
+use Rattle.pen.proofs.put_test.Statement.{statement}
+use Rattle.pen.proofs.put_test.Tie as tie
 
 slice-aggregate-put : tie.Need-slice-aggregate-put
 slice-aggregate-put c = search needs

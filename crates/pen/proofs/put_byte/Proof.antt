@@ -1,12 +1,12 @@
--- `print::put_byte` meets its contract: a byte past the room is only counted. Assumes nothing.
+-- `pen::put_byte` meets its contract: a byte past the room is only counted. Assumes nothing.
 use mathlib.Core.Path.{_∙_, ap}
 use mathlib.Core.Logic.{⊎-elim}
 use lib.ListN.{length, length-set}
 use borrow.Author.Needs.{needs}
 use denote.Ref.{now}
-use Rattle.print.proofs.Putting.{puts-byte, puts-past}
-use Rattle.print.proofs.put_byte.Statement.{statement}
-use Rattle.print.proofs.put_byte.Tie as tie
+use Rattle.pen.proofs.Putting.{puts-byte, puts-past}
+use Rattle.pen.proofs.put_byte.Statement.{statement}
+use Rattle.pen.proofs.put_byte.Tie as tie
 
 slice-write-out : tie.Need-slice-write-out
 slice-write-out c = search needs

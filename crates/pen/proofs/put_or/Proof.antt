@@ -1,7 +1,7 @@
 -- `put_or` meets its contract: the bytes are those of ` or `. Assumes nothing.
 use borrow.Author.Needs.{needs}
-use Rattle.print.proofs.put_or.Statement.{statement}
-use Rattle.print.proofs.put_or.Tie as tie
+use Rattle.pen.proofs.put_or.Statement.{statement}
+use Rattle.pen.proofs.put_or.Tie as tie
 
 slice-aggregate-put : tie.Need-slice-aggregate-put
 slice-aggregate-put c = search needs

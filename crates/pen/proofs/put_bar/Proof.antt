@@ -1,7 +1,7 @@
 -- `put_bar` meets its contract: the bytes are those of `|`. Assumes nothing.
 use borrow.Author.Needs.{needs}
-use Rattle.print.proofs.put_bar.Statement.{statement}
-use Rattle.print.proofs.put_bar.Tie as tie
+use Rattle.pen.proofs.put_bar.Statement.{statement}
+use Rattle.pen.proofs.put_bar.Tie as tie
 
 slice-aggregate-put-between : tie.Need-slice-aggregate-put-between
 slice-aggregate-put-between c = search needs

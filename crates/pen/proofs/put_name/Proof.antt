@@ -1,4 +1,4 @@
--- `print::put_name` meets its contract: the part of the list that spells a name is put. Assumes nothing.
+-- `pen::put_name` meets its contract: the part of the list that spells a name is put. Assumes nothing.
 use Prim.Native.Nat.{_+_, _-_}
 use native.Mathlib.Omega.{arith}
 use mathlib.Core.Path.{_≡_, _∙_, ap}
@@ -7,9 +7,9 @@ use lib.ListN.{take, drop}
 use borrow.Author.Needs.{needs}
 use denote.Ref.{now}
 use Rattle.paper.proofs.Same.{part-length}
-use Rattle.print.proofs.Putting.{puts-as}
-use Rattle.print.proofs.put_name.Statement.{statement}
-use Rattle.print.proofs.put_name.Tie as tie
+use Rattle.pen.proofs.Putting.{puts-as}
+use Rattle.pen.proofs.put_name.Statement.{statement}
+use Rattle.pen.proofs.put_name.Tie as tie
 
 spell-requires : tie.Need-spell-requires
 spell-requires c κs = search needs

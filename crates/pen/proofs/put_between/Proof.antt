@@ -1,10 +1,10 @@
--- `print::put_between` meets its contract. Assumes nothing.
+-- `pen::put_between` meets its contract. Assumes nothing.
 use borrow.Author.Tests.{lt-ltb, le-ltb}
 use borrow.Author.Needs.{needs}
 use denote.Ref.{now}
-use Rattle.print.proofs.Putting.{puts-none}
-use Rattle.print.proofs.put_between.Statement.{statement}
-use Rattle.print.proofs.put_between.Tie as tie
+use Rattle.pen.proofs.Putting.{puts-none}
+use Rattle.pen.proofs.put_between.Statement.{statement}
+use Rattle.pen.proofs.put_between.Tie as tie
 
 put-requires : tie.Need-put-requires
 put-requires c κs = search needs
