@@ -33,6 +33,10 @@ use Rattle.pen.proofs.put_or
 use Rattle.pen.proofs.put_and
 use Rattle.pen.proofs.put_not
 use Rattle.pen.proofs.put_head
+use Rattle.lines.proofs.line_end
+use Rattle.lines.proofs.line_start
+use Rattle.lines.proofs.put_refusal
+use Rattle.lines.proofs.put_result
 use Rattle.table.proofs.table_fault
 use Rattle.table.proofs.marks_fault
 use Rattle.table.proofs.count
@@ -137,6 +141,19 @@ abbrev pub PutHeadUnique : Type 0
 PutHeadUnique =
     Unique put_head.Kinds.ps put_head.Kinds.r (λ κs a. IsAxis (a .1 .1 .1 .1 .1 .0) × IsTest (a .1 .1 .1 .1 .1 .1 .0)) put_head.Reads.Post
     (λ κs x. now (x .1 .1 .1 .0) ∷ [])
+
+-- LINES.
+abbrev pub LineEndUnique : Type 0
+LineEndUnique = UniqueAnswer line_end.Kinds.ps line_end.Kinds.r line_end.Reads.Pre line_end.Reads.Post
+
+abbrev pub LineStartUnique : Type 0
+LineStartUnique = UniqueAnswer line_start.Kinds.ps line_start.Kinds.r line_start.Reads.Pre line_start.Reads.Post
+
+abbrev pub PutRefusalUnique : Type 0
+PutRefusalUnique = Unique put_refusal.Kinds.ps put_refusal.Kinds.r put_refusal.Reads.Pre put_refusal.Reads.Post (λ κs x. now (x .0) ∷ [])
+
+abbrev pub PutResultUnique : Type 0
+PutResultUnique = Unique put_result.Kinds.ps put_result.Kinds.r put_result.Reads.Pre put_result.Reads.Post (λ κs x. now (x .0) ∷ [])
 
 -- TABLES.
 abbrev pub TableFaultUnique : Type 0

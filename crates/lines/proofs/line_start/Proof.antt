@@ -1,8 +1,8 @@
--- `report::line_start` meets its contract. Assumes nothing.
-use Rattle.report.proofs.Splitting.{starts-after, starts-nowhere}
+-- `lines::line_start` meets its contract. Assumes nothing.
+use Rattle.lines.proofs.Splitting.{starts-after, starts-nowhere}
 use borrow.Author.Needs.{needs}
-use Rattle.report.proofs.line_start.Statement.{statement}
-use Rattle.report.proofs.line_start.Tie as tie
+use Rattle.lines.proofs.line_start.Statement.{statement}
+use Rattle.lines.proofs.line_start.Tie as tie
 
 add-result : tie.Need-add-result
 add-result c = search needs

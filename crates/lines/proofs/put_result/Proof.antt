@@ -1,9 +1,9 @@
--- `report::put_result` meets its contract: the text, the words and the numbers one after the other. Assumes nothing.
+-- `lines::put_result` meets its contract: the text, the words and the numbers one after the other. Assumes nothing.
 use native.Mathlib.Omega.{arith}
 use Rattle.pen.proofs.Putting.{puts-both}
 use borrow.Author.Needs.{needs}
-use Rattle.report.proofs.put_result.Statement.{statement}
-use Rattle.report.proofs.put_result.Tie as tie
+use Rattle.lines.proofs.put_result.Statement.{statement}
+use Rattle.lines.proofs.put_result.Tie as tie
 
 put-requires : tie.Need-put-requires
 put-requires c κs = search needs

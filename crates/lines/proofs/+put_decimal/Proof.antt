@@ -1,18 +1,18 @@
--- `report::put_decimal` meets its contract: the digits of a tenth, and the last digit after them. The measure is the number. Assumes nothing.
+-- `lines::put_decimal` meets its contract: the digits of a tenth, and the last digit after them. The measure is the number. Assumes nothing.
 use native.Mathlib.Omega.{arith}
 use mathlib.Core.Path.{sym}
 use borrow.Author.Needs.{needs}
 use Rattle.pen.proofs.Putting.{puts-as, puts-both}
-use Rattle.report.proofs.Digits.{decimal-one, decimal-more, decimal-few}
+use Rattle.lines.proofs.Digits.{decimal-one, decimal-more, decimal-few}
 use Prim.Native.Nat.{ℕ, _^_, _<_}
 use borrow.Fn.Kinds.{In}
 use borrow.Fn.PlainCycle.{Measures, is, falls, and}
-use Rattle.report.proofs.put_decimal.Reads as put-decimal
-use Rattle.report.proofs.put_decimal.Kinds as put-decimal-kinds
-use Rattle.report.proofs.+put_decimal.Lts-put_decimal as put-decimal-lts
-use Rattle.report.proofs.put_digit.Reads as put-digit-reads
-use Rattle.report.proofs.+put_decimal.{statement}
-use Rattle.report.proofs.+put_decimal.Tie.{close}
+use Rattle.lines.proofs.put_decimal.Reads as put-decimal
+use Rattle.lines.proofs.put_decimal.Kinds as put-decimal-kinds
+use Rattle.lines.proofs.+put_decimal.Lts-put_decimal as put-decimal-lts
+use Rattle.lines.proofs.put_digit.Reads as put-digit-reads
+use Rattle.lines.proofs.+put_decimal.{statement}
+use Rattle.lines.proofs.+put_decimal.Tie.{close}
 
 abbrev μ-put-decimal : Measures 1 put-decimal-kinds.ps ℕ
 μ-put-decimal κs a = a .1 .1 .0

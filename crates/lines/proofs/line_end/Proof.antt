@@ -1,10 +1,10 @@
--- `report::line_end` meets its contract. The invariant: the bytes passed belong to the first line. The measure is the number of bytes left. Assumes nothing.
+-- `lines::line_end` meets its contract. The invariant: the bytes passed belong to the first line. The measure is the number of bytes left. Assumes nothing.
 use Prim.Native.Nat.{_-_}
 use native.Mathlib.Omega.{arith}
 use lib.ListN.{length}
-use Rattle.report.proofs.Splitting.{Passed, none-passed, one-passed, ends-there, ends-last}
-use Rattle.report.proofs.line_end.Statement.{statement}
-use Rattle.report.proofs.line_end.Tie as tie
+use Rattle.lines.proofs.Splitting.{Passed, none-passed, one-passed, ends-there, ends-last}
+use Rattle.lines.proofs.line_end.Statement.{statement}
+use Rattle.lines.proofs.line_end.Tie as tie
 
 abbrev Inv-loop : tie.InvT-loop
 Inv-loop bytes at₀ at = Passed bytes at

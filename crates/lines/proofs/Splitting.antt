@@ -1,14 +1,14 @@
--- Where the first line of some bytes ends: the bytes passed are its own as long as none of them is LF. By what is left of the bytes. Assumes nothing.
-use Prim.Native.Nat.{ℕ, suc, _+_, _-_, _≤_, _<_}
+-- Where the first line of some bytes ends and the next one starts: the bytes passed are its own as long as none of them is LF. By what is left of the bytes. Assumes nothing.
+use Prim.Native.Nat.{ℕ, suc, _+_, _≤_, _<_}
 use native.Mathlib.Numerals.{add-one}
 use native.Mathlib.Omega.{arith}
 use mathlib.Core.Path.{_≡_, refl, sym, _∙_}
 use mathlib.Core.List.{List, [], _∷_, _++_, append-assoc, append-nil}
-use lib.ListN.{length, take, drop, getD, drop-of-length-le, length-drop}
-use lib.Seq.{take-all, take-suc, drop-cons}
+use lib.ListN.{length, take, drop, getD, drop-of-length-le}
+use lib.Seq.{take-suc, drop-cons}
 use borrow.Author.Tests.{eq-eqb, ne-eqb}
 use Rattle.paper.specs.Program.{firstLine, afterLine}
-use Rattle.report.specs.Lines.{Ends, Starts}
+use Rattle.lines.specs.Lines.{Ends, Starts}
 
 -- The bytes before `at` belong to the first line.
 pub record Passed (bytes : List ℕ) (at : ℕ) : Type 0 where
@@ -59,8 +59,3 @@ starts-nowhere bytes end k l =
     let here : drop end bytes ≡ [] = drop-of-length-le bytes l in
     let after : drop (suc end) bytes ≡ [] = (let past : length bytes ≤ suc end = omega arith in drop-of-length-le bytes past) in
     record { inside = k; follows = here ∙ sym after }
-
--- What is lent from the start of the next line on is what follows the first.
-pub rest-whole : (bytes : List ℕ) (end start : ℕ) → Ends bytes end → Starts bytes end start → take (length bytes - start) (drop start bytes) ≡ afterLine bytes
-rest-whole bytes end start e s =
-    take-all (length bytes - start) (drop start bytes) (omega (arith, length-drop start bytes)) ∙ (s .follows ∙ e .rest)

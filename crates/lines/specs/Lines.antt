@@ -1,4 +1,4 @@
--- What the functions of this crate promise each other.
+-- What is promised of the lines of an input and of those of a report.
 use Prim.Native.Nat.{ℕ, suc, _≤_}
 use mathlib.Core.Path.{_≡_}
 use mathlib.Core.List.{List}
