@@ -15,9 +15,10 @@ use Rattle.paper.proofs.Tests.{found-some}
 use Rattle.shape.proofs.Operators.{byOperator, takeRun, takePart, takeMore, joinBy, isJoined, Run, run-starts, first-alone, operators-run}
 use Rattle.shape.proofs.Operators.{ands as ands-laws, ors as ors-laws}
 use Rattle.shape.specs.Walks.{operators}
+use Rattle.pen.specs.Putting.{Puts}
+use Rattle.pen.proofs.Putting.{puts-both, puts-as, puts-long}
 use Rattle.print.specs.declared.Reached.{Reached}
-use Rattle.print.specs.Writing.{Puts, termPieces, operandPieces, Some, Prints}
-use Rattle.print.proofs.Putting.{puts-both, puts-as, puts-long}
+use Rattle.print.specs.Writing.{termPieces, operandPieces, Some, Prints}
 
 -- The text of pieces and others after them.
 pub text-append : (names : List (List ℕ)) (ps qs : List Piece) → textOf names (ps ++ qs) ≡ textOf names ps ++ textOf names qs

@@ -1,6 +1,5 @@
-pub mod Putting
+pub mod Room
 pub mod Unknowns
-pub mod Words
 pub mod Chains
 pub mod Rows
 pub mod Operands

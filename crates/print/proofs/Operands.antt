@@ -20,9 +20,10 @@ use Rattle.item.proofs.Item.{the-type}
 use Rattle.shape.specs.Walks.{operators}
 use Rattle.shape.proofs.Operators.{Operator, each}
 use Rattle.shape.proofs.Operands.{at-place, operand-past, operand-path, operand-bare, operand-other, operand-step, operand-denied, operand-same, joined-there, in-bracket, operators-there}
+use Rattle.pen.specs.Putting.{Puts}
+use Rattle.pen.proofs.Putting.{puts-both, puts-as}
 use Rattle.print.specs.declared.Reached.{Reached}
-use Rattle.print.specs.Writing.{Puts, operandPieces, Some, Prints}
-use Rattle.print.proofs.Putting.{puts-both, puts-as}
+use Rattle.print.specs.Writing.{operandPieces, Some, Prints}
 use Rattle.print.proofs.Chains.{text-append}
 use Rattle.print.proofs.Rows.{within}
 

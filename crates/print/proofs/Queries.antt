@@ -18,9 +18,10 @@ use Rattle.paper.specs.Printing.{Piece, relativePieces, pathPieces, pathsPieces
 use Rattle.paper.specs.Answers.{textGot}
 use Rattle.paper.proofs.Tests.{found-some, some-inj, none-some, or-right}
 use Rattle.shape.proofs.Operands.{at-place}
+use Rattle.pen.specs.Putting.{Puts, between}
+use Rattle.pen.proofs.Putting.{puts-none, puts-both, puts-as}
 use Rattle.print.specs.declared.Reached.{Reached}
-use Rattle.print.specs.Writing.{Puts, Some, Prints, Query, between}
-use Rattle.print.proofs.Putting.{puts-none, puts-both, puts-as}
+use Rattle.print.specs.Writing.{Some, Prints, Query}
 use Rattle.print.proofs.Chains.{text-append}
 use Rattle.print.proofs.Rows.{within, between-brief}
 

@@ -17,10 +17,11 @@ use Rattle.paper.specs.Items.{Head, stepAt, Taken, takePreds, takeSteps, takeEx
 use Rattle.paper.specs.Printing.{Piece, exprPieces, relativePieces, laterPieces, predsPieces, textOf, closePred}
 use Rattle.paper.proofs.Tests.{found-some, some-inj, none-some, decide}
 use Rattle.paper.proofs.Encoding.{from-steps, from-within}
+use Rattle.pen.specs.Putting.{Puts, between, headPieces}
+use Rattle.pen.proofs.Putting.{puts-none, puts-both, puts-as}
 use Rattle.print.specs.declared.Reached.{Reached}
 use Rattle.shape.specs.Walks.{operators}
-use Rattle.print.specs.Writing.{Puts, Some, Prints, between, headPieces}
-use Rattle.print.proofs.Putting.{puts-none, puts-both, puts-as}
+use Rattle.print.specs.Writing.{Some, Prints}
 use Rattle.print.proofs.Chains.{text-append}
 
 -- A row: `rows n` reads n of them.

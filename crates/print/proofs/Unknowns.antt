@@ -1,4 +1,4 @@
--- The first item whose name the list does not have: how the search goes on from item to item, and what it says where it finds none. Assumes nothing.
+-- Tests that the list has a name for, and the first item whose name it does not have: how the search goes on from item to item, and what it says where it finds none. Assumes nothing.
 use Prim.Native.Nat.{ℕ, zero, suc, _+_, _≤_, _<_}
 use native.Mathlib.Omega.{arith}
 use mathlib.Core.Path.{_≡_, refl, sym}
@@ -8,11 +8,12 @@ use mathlib.Core.Option.{none, some}
 use lib.Dec.{leb, ltb}
 use lib.ListN.{length, getD, drop, drop-of-length-le}
 use lib.Seq.{drop-cons}
-use borrow.Author.Tests.{lt-ltb, le-leb, lt-leb, leb-true, ltb-true}
+use borrow.Author.Tests.{lt-ltb, le-leb, lt-leb, leb-true, leb-false, ltb-true}
 use Rattle.paper.specs.Query.{Test, anyNode, textNode, named, anyElement}
 use Rattle.paper.specs.Items.{testNumber, stepAt, goodTest}
 use Rattle.paper.specs.Answers.{unknownTest, unknownItem, unknownFrom}
 use Rattle.paper.proofs.Tests.{agree, none-some}
+use Rattle.pen.specs.Putting.{Known}
 
 -- A test by its number.
 pub unknown-test : (count : ℕ) (t : Test) → goodTest t ≡ true → (ltb (testNumber t) 258 && leb (count + 2) (testNumber t)) ≡ unknownTest count t
@@ -25,6 +26,16 @@ unknown-test count (named v) g =
     (λ h. let l : count + 2 ≤ 2 + v = leb-true (count + 2) (2 + v) h in le-leb count v (omega arith))
     (λ h. let l : count ≤ v = leb-true count v h in le-leb (count + 2) (2 + v) (omega arith)))
 unknown-test count anyElement g = refl
+
+-- A test that the list has a name for.
+pub known-test : (count : ℕ) (t : Test) → goodTest t ≡ true → unknownTest count t ≡ false → Known count (testNumber t)
+known-test count anyNode g u = (omega arith, λ l m. absurd (omega arith))
+known-test count textNode g u = (omega arith, λ l m. absurd (omega arith))
+known-test count (named v) g u =
+    let few : v < 256 = ltb-true v 256 g in
+    let less : v < count = leb-false count v u in
+    (omega arith, λ l m. omega arith)
+known-test count anyElement g u = (omega arith, λ l m. absurd (omega arith))
 
 module _ (count : ℕ) (items : List ℕ) (at : ℕ) where
   -- It is this item, or one of those after it, or there is none.

@@ -1,30 +1,20 @@
--- What writing promises: bytes are put from a place on as far as the room goes, and the place moves on by all of them.
-use Prim.Native.Nat.{ℕ, _+_, _*_, _≤_, _<_}
+-- What printing asks and promises: the items are those of a query whose names the list has, and the text of what is taken from them is put.
+use Prim.Native.Nat.{ℕ, _+_, _*_, _≤_}
 use mathlib.Core.Path.{_≡_}
-use mathlib.Core.Bool.{false, _||_, cond}
-use mathlib.Core.List.{List, [], _∷_}
+use mathlib.Core.Bool.{false, _||_}
+use mathlib.Core.List.{List}
 use mathlib.Core.Option.{some}
-use lib.Dec.{ltb}
 use lib.ListN.{length, getD, drop}
-use lib.Seq.{sets}
 use Rattle.paper.specs.Limits.{listLimit, itemLimit}
-use Rattle.paper.specs.Query.{Axis, Test, Expr}
+use Rattle.paper.specs.Query.{Expr}
 use Rattle.paper.specs.Query.{Query as Queried}
 use Rattle.paper.specs.Items.{stepAt, Taken, decode}
 use Rattle.paper.specs.Measures.{isOr, isAnd}
-use Rattle.paper.specs.Printing.{Piece, colonsSign, axisWord, testWord, grouped, exprPieces, textOf}
+use Rattle.paper.specs.Printing.{Piece, grouped, exprPieces, textOf}
 use Rattle.paper.specs.Answers.{unknownItem}
 use Rattle.names.specs.Listing.{Indexed}
+use Rattle.pen.specs.Putting.{Puts}
 use Rattle.print.specs.declared.Reached.{Reached}
-
--- The text is put from `pen` on; what does not fit is only counted. With no room this is a count, with room enough the text stands there.
-pub record Puts (text : List ℕ) (pen : ℕ) (old new : List ℕ) (next : ℕ) : Type 0 where
-  pub moved : next ≡ pen + length text
-  pub wrote : new ≡ sets old pen text
-
--- A sign, where something is left to print after it.
-abbrev pub between : List ℕ → ℕ → List ℕ
-between sign left = cond (ltb 0 left) sign []
 
 -- An expression as a term of `or` and as an operand of `and`: with the bracket that it gets there.
 abbrev pub termPieces : Expr → List Piece
@@ -32,14 +22,6 @@ termPieces e = grouped (isOr e) (exprPieces e)
 
 abbrev pub operandPieces : Expr → List Piece
 operandPieces e = grouped (isOr e || isAnd e) (exprPieces e)
-
--- A step without its predicates.
-abbrev pub headPieces : Axis → Test → List Piece
-headPieces a t = axisWord a ∷ colonsSign ∷ testWord t ∷ []
-
--- A test by its number, of which the list has a name where it is one.
-abbrev pub Known : ℕ → ℕ → Type 0
-Known count test = (test ≤ 258) × (2 ≤ test → test < 258 → test < count + 2)
 
 -- The list is indexed and no longer than it may be, and has a name for each that the items have.
 pub record Names (list starts : List ℕ) (count : ℕ) (items : List ℕ) : Type 0 where

@@ -1,10 +1,11 @@
 -- The contracts of the public functions below the entry points leave one answer and one content of each slice. Most say what the answer is by one definition;
--- an enum is given back by what its cases stand for, and the end of a walk by what is left of the items there. Assumes nothing.
+-- an enum is given back by what its cases stand for, and a place in a list by what is left of it there or by the length of what stands before. Assumes nothing.
 use Prim.Native.Nat.{ℕ, _≤_}
 use native.Mathlib.Omega.{arith}
 use mathlib.Core.Path.{_≡_, refl, sym, _∙_, ap}
-use mathlib.Core.List.{List, []}
+use mathlib.Core.List.{List, [], _∷_}
 use lib.ListN.{length, drop, length-drop}
+use lib.Seq.{length-take-le}
 use denote.Ref.{now}
 use Rattle.paper.specs.Items.{Taken}
 use Rattle.paper.proofs.Tests.{none-some, some-inj}
@@ -13,12 +14,15 @@ use Rattle.token.proofs.Unique as token
 use Rattle.shape.specs.declared.Walked.{Walked}
 use Rattle.shape.specs.declared.Walked.the-variants.{Done, Malformed}
 use Rattle.shape.specs.Walks.{Walks}
+use Rattle.pen.specs.Putting.{Puts}
 use Rattle.table.specs.declared.Fault.{Fault}
 use Rattle.table.specs.declared.Fault.the-variants.{Nothing, At}
 use Rattle.table.specs.Faults.{faultOf}
 use Rattle.promises.specs.UniqueParts.{UnpackUnique, PackPathUnique, PackStepUnique, TurnUnique, MeetsUnique}
 use Rattle.promises.specs.UniqueParts.{NameStartUnique, NamePartUnique, IndexUnique, FindUnique, SpellUnique, WhiteSpaceUnique, TakeUnique}
-use Rattle.promises.specs.UniqueParts.{RunOfUnique, StepsUnique, MeasureUnique, PutUnique, TableFaultUnique, MarksFaultUnique, CountUnique}
+use Rattle.promises.specs.UniqueParts.{RunOfUnique, StepsUnique, MeasureUnique, TableFaultUnique, MarksFaultUnique, CountUnique}
+use Rattle.promises.specs.UniqueParts.{PutByteUnique, PutUnique, PutSlashUnique, PutBarUnique, PutOpenUnique, PutOrUnique, PutAndUnique, PutNotUnique, PutHeadUnique}
+use Rattle.promises.specs.UniqueParts.{LineEndUnique, LineStartUnique, PutRefusalUnique, PutResultUnique}
 use Rattle.promises.specs.UniqueParts.{FillUnique, CopyUnique, KeepUnique, AddUnique, FlipUnique, KeepSecondUnique, AddSecondUnique, KeepMetUnique, AlongUnique}
 use Rattle.promises.specs.UniqueParts.{KeepQueryUnique}
 use Rattle.promises.proofs.Telling.{same, same-slice, same-slices}
@@ -63,9 +67,9 @@ white-space-unique κs a u v x y g p q = same p q
 pub take-unique : TakeUnique
 take-unique κs a u v x y g p q = token.take-unique (now (a .1 .0)) (a .0 .at) u v p q
 
--- SHAPES. What is left of the items from a place on tells the place.
-place-left : (items : List ℕ) (m n : ℕ) → m ≤ length items → n ≤ length items → drop m items ≡ drop n items → m ≡ n
-place-left items m n a b h = omega (arith, length-drop m items, length-drop n items, ap length h)
+-- SHAPES. What is left of a list from a place on tells the place.
+place-left : (list : List ℕ) (m n : ℕ) → m ≤ length list → n ≤ length list → drop m list ≡ drop n list → m ≡ n
+place-left list m n a b h = omega (arith, length-drop m list, length-drop n list, ap length h)
 
 -- Two walks that took the same end at one place with the same measures.
 module _ {A : Type 0} (items : List ℕ) (at depth : ℕ) (taken : Taken A) (nestOf heightOf : A → ℕ) where
@@ -90,9 +94,52 @@ steps-unique κs a u v x y g p q = walk-unique (now (a .0)) _ _ _ _ _ u v p q
 pub measure-unique : MeasureUnique
 measure-unique κs a u v x y g p q = same p q
 
--- BYTES.
+-- BYTES. The same text put at one place ends at one place and leaves one content.
+both-put : {text old new new′ : List ℕ} {pen next next′ : ℕ} → Puts text pen old new next → Puts text pen old new′ next′ → (next ≡ next′) × (new ∷ [] ≡ new′ ∷ [])
+both-put p q = (same (p .moved) (q .moved), same-slice (p .wrote) (q .wrote))
+
+pub put-byte-unique : PutByteUnique
+put-byte-unique κs a u v x y g p q = both-put p q
+
 pub put-unique : PutUnique
-put-unique κs a u v x y g p q = (same (p .moved) (q .moved), same-slice (p .wrote) (q .wrote))
+put-unique κs a u v x y g p q = both-put p q
+
+pub put-slash-unique : PutSlashUnique
+put-slash-unique κs a u v x y g p q = both-put p q
+
+pub put-bar-unique : PutBarUnique
+put-bar-unique κs a u v x y g p q = both-put p q
+
+pub put-open-unique : PutOpenUnique
+put-open-unique κs a u v x y g p q = both-put p q
+
+pub put-or-unique : PutOrUnique
+put-or-unique κs a u v x y g p q = both-put p q
+
+pub put-and-unique : PutAndUnique
+put-and-unique κs a u v x y g p q = both-put p q
+
+pub put-not-unique : PutNotUnique
+put-not-unique κs a u v x y g p q = both-put p q
+
+pub put-head-unique : PutHeadUnique
+put-head-unique κs a u v x y g p q =
+    let b = g .0 in let t = g .1 in
+    both-put (p .0 (b .0) (t .0) (b .1) (t .1 .1) (t .1 .0)) (q .0 (b .0) (t .0) (b .1) (t .1 .1) (t .1 .0))
+
+-- LINES. The length of a line tells its end.
+pub line-end-unique : LineEndUnique
+line-end-unique κs a u v x y g p q =
+    sym (length-take-le u (now (a .0)) (p .within)) ∙ ap length (same (p .says) (q .says)) ∙ length-take-le v (now (a .0)) (q .within)
+
+pub line-start-unique : LineStartUnique
+line-start-unique κs a u v x y g p q = place-left (now (a .0)) u v (p .inside) (q .inside) (same (p .follows) (q .follows))
+
+pub put-refusal-unique : PutRefusalUnique
+put-refusal-unique κs a u v x y g p q = both-put (p .puts) (q .puts)
+
+pub put-result-unique : PutResultUnique
+put-result-unique κs a u v x y g p q = both-put (p .puts) (q .puts)
 
 -- TABLES.
 fault-same : (r s : Fault) → faultOf r ≡ faultOf s → r ≡ s

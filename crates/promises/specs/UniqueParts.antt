@@ -1,5 +1,5 @@
 -- The contract of each public function below the entry points leaves one answer and one content of each slice.
--- Four of the contracts speak of some arguments only: `turn` and `along` of the numbers of axes, `meets` and `keep_met` of those of tests; and `sets` speaks of bytes that are 0 or 1.
+-- Five of the contracts speak of some arguments only: `turn` and `along` of the numbers of axes, `meets` and `keep_met` of those of tests, `put_head` of both; and `sets` speaks of bytes that are 0 or 1.
 use Prim.Native.Nat.{ℕ}
 use mathlib.Core.Path.{_≡_}
 use mathlib.Core.Bool.{Bool, true}
@@ -24,7 +24,19 @@ use Rattle.token.proofs.Cursor.take as take_token
 use Rattle.shape.proofs.run_of
 use Rattle.shape.proofs.steps
 use Rattle.shape.proofs.measure
-use Rattle.print.proofs.put
+use Rattle.pen.proofs.put_byte
+use Rattle.pen.proofs.put
+use Rattle.pen.proofs.put_slash
+use Rattle.pen.proofs.put_bar
+use Rattle.pen.proofs.put_open
+use Rattle.pen.proofs.put_or
+use Rattle.pen.proofs.put_and
+use Rattle.pen.proofs.put_not
+use Rattle.pen.proofs.put_head
+use Rattle.lines.proofs.line_end
+use Rattle.lines.proofs.line_start
+use Rattle.lines.proofs.put_refusal
+use Rattle.lines.proofs.put_result
 use Rattle.table.proofs.table_fault
 use Rattle.table.proofs.marks_fault
 use Rattle.table.proofs.count
@@ -102,8 +114,47 @@ abbrev pub MeasureUnique : Type 0
 MeasureUnique = UniqueAnswer measure.Kinds.ps measure.Kinds.r measure.Reads.Pre measure.Reads.Post
 
 -- BYTES.
+abbrev pub PutByteUnique : Type 0
+PutByteUnique = Unique put_byte.Kinds.ps put_byte.Kinds.r put_byte.Reads.Pre put_byte.Reads.Post (λ κs x. now (x .0) ∷ [])
+
 abbrev pub PutUnique : Type 0
 PutUnique = Unique put.Kinds.ps put.Kinds.r put.Reads.Pre put.Reads.Post (λ κs x. now (x .0) ∷ [])
+
+abbrev pub PutSlashUnique : Type 0
+PutSlashUnique = Unique put_slash.Kinds.ps put_slash.Kinds.r put_slash.Reads.Pre put_slash.Reads.Post (λ κs x. now (x .0) ∷ [])
+
+abbrev pub PutBarUnique : Type 0
+PutBarUnique = Unique put_bar.Kinds.ps put_bar.Kinds.r put_bar.Reads.Pre put_bar.Reads.Post (λ κs x. now (x .0) ∷ [])
+
+abbrev pub PutOpenUnique : Type 0
+PutOpenUnique = Unique put_open.Kinds.ps put_open.Kinds.r put_open.Reads.Pre put_open.Reads.Post (λ κs x. now (x .0) ∷ [])
+
+abbrev pub PutOrUnique : Type 0
+PutOrUnique = Unique put_or.Kinds.ps put_or.Kinds.r put_or.Reads.Pre put_or.Reads.Post (λ κs x. now (x .0) ∷ [])
+
+abbrev pub PutAndUnique : Type 0
+PutAndUnique = Unique put_and.Kinds.ps put_and.Kinds.r put_and.Reads.Pre put_and.Reads.Post (λ κs x. now (x .0) ∷ [])
+
+abbrev pub PutNotUnique : Type 0
+PutNotUnique = Unique put_not.Kinds.ps put_not.Kinds.r put_not.Reads.Pre put_not.Reads.Post (λ κs x. now (x .0) ∷ [])
+
+abbrev pub PutHeadUnique : Type 0
+PutHeadUnique =
+    Unique put_head.Kinds.ps put_head.Kinds.r (λ κs a. IsAxis (a .1 .1 .1 .1 .1 .0) × IsTest (a .1 .1 .1 .1 .1 .1 .0)) put_head.Reads.Post
+    (λ κs x. now (x .1 .1 .1 .0) ∷ [])
+
+-- LINES.
+abbrev pub LineEndUnique : Type 0
+LineEndUnique = UniqueAnswer line_end.Kinds.ps line_end.Kinds.r line_end.Reads.Pre line_end.Reads.Post
+
+abbrev pub LineStartUnique : Type 0
+LineStartUnique = UniqueAnswer line_start.Kinds.ps line_start.Kinds.r line_start.Reads.Pre line_start.Reads.Post
+
+abbrev pub PutRefusalUnique : Type 0
+PutRefusalUnique = Unique put_refusal.Kinds.ps put_refusal.Kinds.r put_refusal.Reads.Pre put_refusal.Reads.Post (λ κs x. now (x .0) ∷ [])
+
+abbrev pub PutResultUnique : Type 0
+PutResultUnique = Unique put_result.Kinds.ps put_result.Kinds.r put_result.Reads.Pre put_result.Reads.Post (λ κs x. now (x .0) ∷ [])
 
 -- TABLES.
 abbrev pub TableFaultUnique : Type 0

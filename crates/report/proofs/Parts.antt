@@ -17,7 +17,7 @@ use Rattle.paper.proofs.Refusing.{Refuses, refusal-told}
 use Rattle.shape.specs.Walks.{shapeOf}
 use Rattle.shape.specs.declared.Shape.the-variants.{Query as IsQuery, Malformed}
 use Rattle.paper.specs.Program.{inputLimit, refusalLine, unlessRefused, nestingGot, inputAnswer}
-use Rattle.report.specs.Lines.{numberTold, placeTold, reportLimit, Reports}
+use Rattle.lines.specs.Lines.{numberTold, placeTold, reportLimit, Reports}
 
 module _ (part : String) (said : Told) (later old new : List ℕ) (count : ℕ) where
   -- A part that refuses is reported by its own line.

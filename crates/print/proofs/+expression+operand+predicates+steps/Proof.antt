@@ -19,8 +19,8 @@ use Rattle.item.proofs.Saying.{said}
 use Rattle.shape.specs.Walks.{operators}
 use Rattle.shape.proofs.Operators.{Operator}
 use Rattle.shape.proofs.Operands.{not-step, operators-there}
-use Rattle.print.proofs.Putting.{puts-long}
-use Rattle.print.proofs.Words.{known-test}
+use Rattle.pen.proofs.Putting.{puts-long}
+use Rattle.print.proofs.Unknowns.{known-test}
 use Rattle.print.proofs.Chains.{Turn, turn-start, turn-low, turn-long, turn-onward, turn-and, turn-or, turn-done}
 use Rattle.print.proofs.Rows.{Rest, rest-start, rest-done, pred-opens, pred-turn, step-there, step-head, step-turn}
 use Rattle.print.proofs.Operands.{operand-there, path-opens, path-prints, operator-there, not-deep, joined-deep, not-opens, joined-opens, not-prints, joined-prints}
@@ -40,14 +40,14 @@ use Rattle.print.proofs.steps.Reads as steps
 use Rattle.print.proofs.steps.Kinds as steps-kinds
 use Rattle.print.proofs.+expression+operand+predicates+steps.Lts-steps as steps-lts
 use Rattle.item.proofs.unpack.Reads as unpack-reads
+use Rattle.pen.proofs.put_and.Reads as put-and-reads
+use Rattle.pen.proofs.put_byte.Reads as put-byte-reads
+use Rattle.pen.proofs.put_head.Reads as put-head-reads
+use Rattle.pen.proofs.put_not.Reads as put-not-reads
+use Rattle.pen.proofs.put_open.Reads as put-open-reads
+use Rattle.pen.proofs.put_or.Reads as put-or-reads
+use Rattle.pen.proofs.put_slash.Reads as put-slash-reads
 use Rattle.print.proofs.closed.Reads as closed-reads
-use Rattle.print.proofs.put_and.Reads as put-and-reads
-use Rattle.print.proofs.put_byte.Reads as put-byte-reads
-use Rattle.print.proofs.put_head.Reads as put-head-reads
-use Rattle.print.proofs.put_not.Reads as put-not-reads
-use Rattle.print.proofs.put_open.Reads as put-open-reads
-use Rattle.print.proofs.put_or.Reads as put-or-reads
-use Rattle.print.proofs.put_slash.Reads as put-slash-reads
 use Rattle.shape.proofs.run_of.Reads as run-of-reads
 use Rattle.print.proofs.+expression+operand+predicates+steps.{statement}
 use Rattle.print.proofs.+expression+operand+predicates+steps.Tie.{close}

@@ -1,16 +1,24 @@
 -- `report::report` meets its contract: an input too long is refused, and any other is cut into its lines. Assumes nothing.
+use Prim.Native.Nat.{ℕ, _-_}
 use native.Mathlib.Omega.{arith}
-use mathlib.Core.Path.{refl, sym, _∙_, ap}
+use mathlib.Core.Path.{_≡_, refl, sym, _∙_, ap}
 use mathlib.Core.Logic.{inl}
-use lib.Seq.{length-take-le}
+use mathlib.Core.List.{List}
+use lib.ListN.{length, take, drop, length-drop}
+use lib.Seq.{length-take-le, take-all}
 use denote.Ref.{now}
 use Rattle.paper.specs.declared.Answer.the-variants.{TooLong}
 use Rattle.paper.specs.Program.{firstLine, afterLine, programPrints}
-use Rattle.report.proofs.Splitting.{rest-whole}
+use Rattle.lines.specs.Lines.{Ends, Starts}
 use Rattle.report.proofs.Parts.{refused-part, given-part, input-long, input-taken}
 use borrow.Author.Needs.{needs}
 use Rattle.report.proofs.report.Statement.{statement}
 use Rattle.report.proofs.report.Tie as tie
+
+-- What is lent from the start of the next line on is what follows the first.
+rest-whole : (bytes : List ℕ) (end start : ℕ) → Ends bytes end → Starts bytes end start → take (length bytes - start) (drop start bytes) ≡ afterLine bytes
+rest-whole bytes end start e s =
+    take-all (length bytes - start) (drop start bytes) (omega (arith, length-drop start bytes)) ∙ (s .follows ∙ e .rest)
 
 slice-aggregate-put-refusal : tie.Need-slice-aggregate-put-refusal
 slice-aggregate-put-refusal c = search needs

@@ -1,0 +1,109 @@
+-- `lines::put_decimal` meets its contract: the digits of a tenth, and the last digit after them. The measure is the number. Assumes nothing.
+use native.Mathlib.Omega.{arith}
+use mathlib.Core.Path.{sym}
+use borrow.Author.Needs.{needs}
+use Rattle.pen.proofs.Putting.{puts-as, puts-both}
+use Rattle.lines.proofs.Digits.{decimal-one, decimal-more, decimal-few}
+use Prim.Native.Nat.{ℕ, _^_, _<_}
+use borrow.Fn.Kinds.{In}
+use borrow.Fn.PlainCycle.{Measures, is, falls, and}
+use Rattle.lines.proofs.put_decimal.Reads as put-decimal
+use Rattle.lines.proofs.put_decimal.Kinds as put-decimal-kinds
+use Rattle.lines.proofs.+put_decimal.Lts-put_decimal as put-decimal-lts
+use Rattle.lines.proofs.put_digit.Reads as put-digit-reads
+use Rattle.lines.proofs.+put_decimal.{statement}
+use Rattle.lines.proofs.+put_decimal.Tie.{close}
+
+abbrev μ-put-decimal : Measures 1 put-decimal-kinds.ps ℕ
+μ-put-decimal κs a = a .1 .1 .0
+
+abbrev put-decimal-at : ℕ → In 1 put-decimal-kinds.ps
+put-decimal-at t =
+    and 1 put-decimal-kinds.ps (is 1 put-decimal-kinds.ps μ-put-decimal t) put-decimal.Pre
+
+abbrev put-decimal-below : ℕ → In 1 put-decimal-kinds.ps
+put-decimal-below t =
+    and 1 put-decimal-kinds.ps (falls 1 put-decimal-kinds.ps _<_ μ-put-decimal t) put-decimal.Pre
+
+put-decimal-put-digit-requires : (t : ℕ) → put-decimal-lts.Need-put-digit-requires (
+  put-digit-reads.Asked,
+  put-digit-reads.Learnt,
+  put-decimal-below t,
+  put-decimal.Post,
+) (put-decimal-at t) put-decimal.Post
+put-decimal-put-digit-requires t c κs = omega arith
+
+put-decimal-same-length : (t : ℕ) → put-decimal-lts.Need-same-length (
+  put-digit-reads.Asked,
+  put-digit-reads.Learnt,
+  put-decimal-below t,
+  put-decimal.Post,
+) (put-decimal-at t) put-decimal.Post
+put-decimal-same-length t c = search needs
+
+put-decimal-returns : (t : ℕ) → put-decimal-lts.Need-returns (
+  put-digit-reads.Asked,
+  put-digit-reads.Learnt,
+  put-decimal-below t,
+  put-decimal.Post,
+) (put-decimal-at t) put-decimal.Post
+put-decimal-returns t c =
+    let a = c .before .before .before .before .before .before .args in
+    let puts = c .before .before .put-digit .ensures in
+    (puts-as (sym (decimal-one (a .n) (c .before .before .before .before .if1 .taken))) puts, omega (arith, puts .moved))
+
+put-decimal-put-decimal-requires : (t : ℕ) → put-decimal-lts.Need-put-decimal-requires (
+  put-digit-reads.Asked,
+  put-digit-reads.Learnt,
+  put-decimal-below t,
+  put-decimal.Post,
+) (put-decimal-at t) put-decimal.Post
+put-decimal-put-decimal-requires t c κs = let measured = c .before .before .before .pre .0 in omega arith
+
+put-decimal-put-digit-requires-2 : (t : ℕ) → put-decimal-lts.Need-put-digit-requires-2 (
+  put-digit-reads.Asked,
+  put-digit-reads.Learnt,
+  put-decimal-below t,
+  put-decimal.Post,
+) (put-decimal-at t) put-decimal.Post
+put-decimal-put-digit-requires-2 t c κs = omega (arith, c .before .before .before .put-decimal .ensures .1)
+
+put-decimal-same-length-2 : (t : ℕ) → put-decimal-lts.Need-same-length-2 (
+  put-digit-reads.Asked,
+  put-digit-reads.Learnt,
+  put-decimal-below t,
+  put-decimal.Post,
+) (put-decimal-at t) put-decimal.Post
+put-decimal-same-length-2 t c = search needs
+
+put-decimal-returns-2 : (t : ℕ) → put-decimal-lts.Need-returns-2 (
+  put-digit-reads.Asked,
+  put-digit-reads.Learnt,
+  put-decimal-below t,
+  put-decimal.Post,
+) (put-decimal-at t) put-decimal.Post
+put-decimal-returns-2 t c =
+    let start = c .before .before .before .before .before .before .before .before .before .before in
+    let n = start .args .n in
+    let puts =
+    puts-as (sym (decimal-more n (c .before .before .before .before .before .before .before .before .if1 .left)))
+    (puts-both (c .before .before .before .before .before .before .put-decimal .ensures .0) (c .before .before .put-digit2 .ensures)) in
+    let few : n < 10 ^ 20 = omega arith in
+    (puts, omega (arith, puts .moved, decimal-few 19 n few))
+
+pub +put-decimal-spec : {M : Type 1} → statement M
++put-decimal-spec = close μ-put-decimal λ t. put-decimal-lts.spec (
+  put-digit-reads.Asked,
+  put-digit-reads.Learnt,
+  put-decimal-below t,
+  put-decimal.Post,
+)
+    (put-decimal-at t)
+    put-decimal.Post
+    (put-decimal-put-digit-requires t)
+    (put-decimal-same-length t)
+    (put-decimal-returns t)
+    (put-decimal-put-decimal-requires t)
+    (put-decimal-put-digit-requires-2 t)
+    (put-decimal-same-length-2 t)
+    (put-decimal-returns-2 t)

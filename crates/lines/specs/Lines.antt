@@ -1,0 +1,38 @@
+-- What is promised of the lines of an input and of those of a report.
+use Prim.Native.Nat.{ℕ, suc, _≤_}
+use mathlib.Core.Path.{_≡_}
+use mathlib.Core.List.{List}
+use lib.ListN.{length, take, drop}
+use Rattle.paper.specs.Answers.{value, refusal}
+use Rattle.paper.specs.Answers.{Answer as Told}
+use Rattle.pen.specs.Putting.{Puts}
+use Rattle.paper.specs.Program.{firstLine, afterLine}
+
+-- The first line of the bytes ends at `end`.
+pub record Ends (bytes : List ℕ) (end : ℕ) : Type 0 where
+  pub within : end ≤ length bytes
+  pub says : take end bytes ≡ firstLine bytes
+  pub rest : drop (suc end) bytes ≡ afterLine bytes
+
+-- The line after it starts at `start`.
+pub record Starts (bytes : List ℕ) (end start : ℕ) : Type 0 where
+  pub inside : start ≤ length bytes
+  pub follows : drop start bytes ≡ drop (suc end) bytes
+
+-- The number of a refusal, and its place.
+abbrev pub numberTold : Told → ℕ
+numberTold (value n) = 0
+numberTold (refusal number place) = number
+
+abbrev pub placeTold : Told → ℕ
+placeTold (value n) = 0
+placeTold (refusal number place) = place
+
+-- No report has more bytes: the room of a text, and 64 for the rest.
+abbrev pub reportLimit : ℕ
+reportLimit = 32832
+
+-- The text is put from the start on, as far as the room goes, and has at most so many bytes.
+pub record Reports (text : List ℕ) (most : ℕ) (old new : List ℕ) (count : ℕ) : Type 0 where
+  pub puts : Puts text 0 old new count
+  pub few : count ≤ most
