@@ -1,7 +1,6 @@
 -- `keep::look_first` meets its contract: each place is found from the one before it. Assumes nothing.
 use Prim.Native.Nat.{_-_, _%_}
 use native.Mathlib.Omega.{arith}
-use borrow.Author.Needs.{needs}
 use lib.ListN.{drop}
 use denote.Ref.{now}
 use Rattle.paper.specs.Items.{takeSteps, takeWithin}
