@@ -1,4 +1,4 @@
--- `read::same_word` meets its contract. The loop's invariant: the bytes before `i` agree; the measure is what is left of the word. Assumes nothing.
+-- `ahead::same_word` meets its contract. The loop's invariant: the bytes before `i` agree; the measure is what is left of the word. Assumes nothing.
 use Prim.Native.Nat.{ℕ, _+_, _-_, _≤_, _<_}
 use native.Mathlib.Omega.{arith}
 use borrow.Author.Needs.{needs}
@@ -6,8 +6,8 @@ use borrow.Author.Count.{below-more}
 use mathlib.Core.Path.{_≡_, sym, _∙_}
 use lib.ListN.{getD, take, drop}
 use Rattle.paper.proofs.Same.{same-turned, part-same, part-length-differs, part-differs}
-use Rattle.read.proofs.same_word.Statement.{statement}
-use Rattle.read.proofs.same_word.Tie as tie
+use Rattle.ahead.proofs.same_word.Statement.{statement}
+use Rattle.ahead.proofs.same_word.Tie as tie
 
 abbrev Inv-loop : tie.InvT-loop
 Inv-loop text start len word i₀ i = (i ≤ len) × ((k : ℕ) → k < i → getD text (start + k) 0 ≡ getD word k 0)

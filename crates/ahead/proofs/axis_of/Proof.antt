@@ -1,10 +1,10 @@
--- `read::axis_of` meets its contract: the words are compared in turn. Assumes nothing.
-use Rattle.read.proofs.Heading.{self-word, child-word, parent-word, down-word, up-word, other-word}
+-- `ahead::axis_of` meets its contract: the words are compared in turn. Assumes nothing.
+use Rattle.ahead.proofs.Words.{self-word, child-word, parent-word, down-word, up-word, other-word}
 use lib.ListN.{take, drop}
 use mathlib.Core.Path.{sym, _∙_}
 use borrow.Author.Needs.{needs}
-use Rattle.read.proofs.axis_of.Statement.{statement}
-use Rattle.read.proofs.axis_of.Tie as tie
+use Rattle.ahead.proofs.axis_of.Statement.{statement}
+use Rattle.ahead.proofs.axis_of.Tie as tie
 
 slice-aggregate-same-word : tie.Need-slice-aggregate-same-word
 slice-aggregate-same-word c =

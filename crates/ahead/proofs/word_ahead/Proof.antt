@@ -1,9 +1,9 @@
--- `read::word_ahead` meets its contract: a word's letters are compared, and nothing else has letters. Assumes nothing.
-use Rattle.read.proofs.Lexed.{none-letters, no-same, word-letters, word-past, word-inside, taken-at}
+-- `ahead::word_ahead` meets its contract: a word's letters are compared, and nothing else has letters. Assumes nothing.
+use Rattle.ahead.proofs.Lexed.{none-letters, no-same, word-letters, word-past, word-inside, taken-at}
 use mathlib.Core.Path.{sym, _∙_}
 use borrow.Author.Needs.{needs}
-use Rattle.read.proofs.word_ahead.Statement.{statement}
-use Rattle.read.proofs.word_ahead.Tie as tie
+use Rattle.ahead.proofs.word_ahead.Statement.{statement}
+use Rattle.ahead.proofs.word_ahead.Tie as tie
 
 take-requires : tie.Need-take-requires
 take-requires c κs = search needs

@@ -1,10 +1,10 @@
--- `read::call_of` meets its contract: the words are compared in turn. Assumes nothing.
-use Rattle.read.proofs.Heading.{node-word, text-word, no-call-word}
+-- `ahead::call_of` meets its contract: the words are compared in turn. Assumes nothing.
+use Rattle.ahead.proofs.Words.{node-word, text-word, no-call-word}
 use lib.ListN.{take, drop}
 use mathlib.Core.Path.{sym, _∙_}
 use borrow.Author.Needs.{needs}
-use Rattle.read.proofs.call_of.Statement.{statement}
-use Rattle.read.proofs.call_of.Tie as tie
+use Rattle.ahead.proofs.call_of.Statement.{statement}
+use Rattle.ahead.proofs.call_of.Tie as tie
 
 slice-aggregate-same-word : tie.Need-slice-aggregate-same-word
 slice-aggregate-same-word c =

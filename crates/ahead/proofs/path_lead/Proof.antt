@@ -1,10 +1,9 @@
--- `read::path_lead` meets its contract, by what stands before the steps. Assumes nothing.
-use Rattle.read.proofs.Lexed.{lead-deep, lead-before, lead-alone}
+-- `ahead::path_lead` meets its contract, by what stands before the steps. Assumes nothing.
+use Rattle.ahead.proofs.Beginning.{joined-past, lead-deep, lead-before, lead-alone}
 use mathlib.Core.Path.{sym, _∙_}
-use Rattle.read.proofs.Rows.{joined-past}
 use borrow.Author.Needs.{needs}
-use Rattle.read.proofs.path_lead.Statement.{statement}
-use Rattle.read.proofs.path_lead.Tie as tie
+use Rattle.ahead.proofs.path_lead.Statement.{statement}
+use Rattle.ahead.proofs.path_lead.Tie as tie
 
 joined-requires : tie.Need-joined-requires
 joined-requires c κs = search needs

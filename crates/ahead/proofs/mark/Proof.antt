@@ -1,9 +1,9 @@
--- `read::mark` meets its contract: where another byte stands than the mark starts with, it does not; else the sort of the token that was taken is the paper's. Assumes nothing.
+-- `ahead::mark` meets its contract: where another byte stands than the mark starts with, it does not; else the sort of the token that was taken is the paper's. Assumes nothing.
 use mathlib.Core.Path.{sym, _∙_}
 use borrow.Author.Needs.{needs}
-use Rattle.read.proofs.Lexed.{other-here, looks-there, looks-other}
-use Rattle.read.proofs.mark.Statement.{statement}
-use Rattle.read.proofs.mark.Tie as tie
+use Rattle.ahead.proofs.Lexed.{other-here, looks-there, looks-other}
+use Rattle.ahead.proofs.mark.Statement.{statement}
+use Rattle.ahead.proofs.mark.Tie as tie
 
 first-byte-requires : tie.Need-first-byte-requires
 first-byte-requires c κs = search needs

@@ -1,4 +1,4 @@
--- `read::other_byte` meets its contract: its tests are those that are asked. Assumes nothing.
+-- `ahead::other_byte` meets its contract: its tests are those that are asked. Assumes nothing.
 use mathlib.Core.Path.{sym, _∙_}
 use mathlib.Core.Bool.{not, false≢true}
 use borrow.Author.Needs.{needs}
@@ -7,8 +7,8 @@ use lib.Dec.{eqb}
 use lib.ListN.{getD}
 use denote.Ref.{now}
 use Rattle.paper.proofs.Tests.{and-true}
-use Rattle.read.proofs.other_byte.Statement.{statement}
-use Rattle.read.proofs.other_byte.Tie as tie
+use Rattle.ahead.proofs.other_byte.Statement.{statement}
+use Rattle.ahead.proofs.other_byte.Tie as tie
 
 shared-slice-read-result : tie.Need-shared-slice-read-result
 shared-slice-read-result c = search needs

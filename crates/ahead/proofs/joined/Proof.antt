@@ -1,7 +1,7 @@
--- `read::joined` meets its contract: the two marks are looked for in turn. Assumes nothing.
+-- `ahead::joined` meets its contract: the two marks are looked for in turn. Assumes nothing.
 use borrow.Author.Needs.{needs}
-use Rattle.read.proofs.joined.Statement.{statement}
-use Rattle.read.proofs.joined.Tie as tie
+use Rattle.ahead.proofs.joined.Statement.{statement}
+use Rattle.ahead.proofs.joined.Tie as tie
 
 mark-requires : tie.Need-mark-requires
 mark-requires c κs = search needs

@@ -1,12 +1,12 @@
--- `read::test_call` meets its contract: a word that calls a test, and `(`. Assumes nothing.
-use Rattle.read.proofs.Heading.{call-small}
+-- `ahead::test_call` meets its contract: a word that calls a test, and `(`. Assumes nothing.
+use Rattle.ahead.proofs.Words.{call-small}
 use mathlib.Core.Path.{sym, _∙_}
 use lib.ListN.{take, drop}
 use mathlib.Core.Logic.{inl, inr}
 use native.Mathlib.Omega.{arith}
 use borrow.Author.Needs.{needs}
-use Rattle.read.proofs.test_call.Statement.{statement}
-use Rattle.read.proofs.test_call.Tie as tie
+use Rattle.ahead.proofs.test_call.Statement.{statement}
+use Rattle.ahead.proofs.test_call.Tie as tie
 
 call-of-requires : tie.Need-call-of-requires
 call-of-requires c κs = search needs

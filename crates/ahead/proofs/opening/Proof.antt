@@ -1,10 +1,10 @@
--- `read::opening` meets its contract: `(` first, then `not` and `(`. Assumes nothing.
-use Rattle.read.proofs.Lexed.{round-no-word, no-word-and, no-round-and}
+-- `ahead::opening` meets its contract: `(` first, then `not` and `(`. Assumes nothing.
+use Rattle.ahead.proofs.Beginning.{round-no-word, no-word-and, no-round-and}
 use native.Mathlib.Omega.{arith}
 use Rattle.paper.specs.Tools.{ascii}
 use borrow.Author.Needs.{needs}
-use Rattle.read.proofs.opening.Statement.{statement}
-use Rattle.read.proofs.opening.Tie as tie
+use Rattle.ahead.proofs.opening.Statement.{statement}
+use Rattle.ahead.proofs.opening.Tie as tie
 
 mark-requires : tie.Need-mark-requires
 mark-requires c κs = search needs

@@ -1,35 +1,32 @@
--- What a token that was taken says of the paper's tokens from there on. Assumes nothing.
+-- What a token that was taken says of the paper's tokens from there on: its sort, its letters, its place, and where it ends. Assumes nothing.
 use Prim.Native.Nat.{ℕ, suc, _+_, _≤_, _<_}
 use native.Mathlib.Omega.{arith}
 use mathlib.Core.Path.{_≡_, refl, sym, _∙_, ap, subst}
-use mathlib.Core.Bool.{Bool, true, false, _&&_, _||_, cond, false≢true}
+use mathlib.Core.Bool.{Bool, true, false, cond, false≢true}
 use mathlib.Core.Logic.{⊎-elim}
 use mathlib.Core.List.{List, [], _∷_}
 use lib.Dec.{eqb}
-use lib.ListN.{length, getD, take, drop}
-use lib.Seq.{drop-cons}
+use lib.ListN.{length, getD, take, drop, length-drop}
+use lib.Seq.{drop-cons, length-take-le}
 use borrow.Author.Tests.{eq-eqb, ne-eqb, eqb-true}
 use denote.Enum.Declared.{tagOf}
 use types.Run.{OneOf, miss}
 use Rattle.paper.specs.Tools.{begins, same}
-use Rattle.paper.specs.Tokens as paper
 use Rattle.paper.specs.Names.{nameStart}
-use Rattle.paper.specs.Tokens.{sort, letters, tokenAt, tokensFrom}
+use Rattle.paper.specs.Tokens as paper
+use Rattle.paper.specs.Tokens.{sort, letters, beyond, tokenAt, tokensFrom}
+use Rattle.paper.specs.Reading.{next, at}
 use Rattle.paper.proofs.Tests.{decide}
-use Rattle.paper.specs.Reading.{next, at, sees, says, startsStep}
 use Rattle.token.specs.declared.Token.{Token}
 use Rattle.token.specs.declared.Token.the-variants.{Slash, Slashes, Dot, Dots, Colons, Bar, OpenSquare, CloseSquare, OpenRound, CloseRound, Star, Finish, Stray, Word}
 use Rattle.token.specs.declared.Taken.{Taken}
-use Rattle.token.specs.declared.Cursor.{Cursor}
-use Rattle.token.specs.Taking.{Takes, tokenOf, finished}
+use Rattle.token.specs.Taking.{Takes, tokenOf, widthOf, finished}
 use Rattle.token.proofs.Token.{the-type}
-use Rattle.read.specs.Parts.{tokensAt, sortOf, Past, Looks, Joins, Leads, leads, OtherByte}
-use Rattle.read.specs.declared.Ahead.the-variants.{There, Other}
-use Rattle.read.specs.declared.Joint.the-variants.{Next}
-use Rattle.read.specs.declared.Lead.the-variants.{Alone, Before}
+use Rattle.ahead.specs.declared.Ahead.the-variants.{There, Other}
+use Rattle.ahead.specs.Looking.{tokensAt, sortOf, endOf, Past, Looks, leads, OtherByte}
 
 -- The sort of a token is the paper's.
-pub sort-right : (text : List ℕ) (place : ℕ) (t : Token) → sort (tokenOf text place t) ≡ sortOf t
+sort-right : (text : List ℕ) (place : ℕ) (t : Token) → sort (tokenOf text place t) ≡ sortOf t
 sort-right text place Slash = refl
 sort-right text place Slashes = refl
 sort-right text place Dot = refl
@@ -46,7 +43,7 @@ sort-right text place Stray = refl
 sort-right text place (Word count) = refl
 
 -- The end of the text is of sort 11.
-pub goes-on : (t : Token) → (sortOf t ≡ 11 → ⊥) → finished t ≡ false
+goes-on : (t : Token) → (sortOf t ≡ 11 → ⊥) → finished t ≡ false
 goes-on Slash h = refl
 goes-on Slashes h = refl
 goes-on Dot h = refl
@@ -62,11 +59,27 @@ goes-on Finish h = absurd (h refl)
 goes-on Stray h = refl
 goes-on (Word count) h = refl
 
--- A token that is none of a sort: one of the cases that a branch leaves. The number of a case is the token's sort.
-abbrev pub NoWord : Token → Type 0
-NoWord t = OneOf (0 ∷ 1 ∷ 2 ∷ 3 ∷ 4 ∷ 5 ∷ 6 ∷ 7 ∷ 8 ∷ 9 ∷ 10 ∷ 11 ∷ 12 ∷ []) (tagOf the-type t)
+-- A token that is not the end takes as many bytes as the paper's.
+wide : (text : List ℕ) (place : ℕ) (t : Token) → finished t ≡ false → 0 < widthOf t → place + widthOf t ≤ length text → widthOf t ≡ suc (beyond (tokenOf text place t))
+wide text place Slash f some l = refl
+wide text place Slashes f some l = refl
+wide text place Dot f some l = refl
+wide text place Dots f some l = refl
+wide text place Colons f some l = refl
+wide text place Bar f some l = refl
+wide text place OpenSquare f some l = refl
+wide text place CloseSquare f some l = refl
+wide text place OpenRound f some l = refl
+wide text place CloseRound f some l = refl
+wide text place Star f some l = refl
+wide text place Finish f some l = absurd (false≢true (sym f))
+wide text place Stray f some l = refl
+wide text place (Word count) f some l =
+    let long : length (take count (drop place text)) ≡ count = length-take-le count (drop place text) (simp length-drop (omega arith)) in
+    rw long (omega arith)
 
-tag-sort : (t : Token) → tagOf the-type t ≡ sortOf t
+-- The number of a case is the token's sort.
+pub tag-sort : (t : Token) → tagOf the-type t ≡ sortOf t
 tag-sort Slash = refl
 tag-sort Slashes = refl
 tag-sort Dot = refl
@@ -81,6 +94,10 @@ tag-sort Star = refl
 tag-sort Finish = refl
 tag-sort Stray = refl
 tag-sort (Word count) = refl
+
+-- A token that is no word: one of the cases that a branch leaves.
+abbrev pub NoWord : Token → Type 0
+NoWord t = OneOf (0 ∷ 1 ∷ 2 ∷ 3 ∷ 4 ∷ 5 ∷ 6 ∷ 7 ∷ 8 ∷ 9 ∷ 10 ∷ 11 ∷ 12 ∷ []) (tagOf the-type t)
 
 pub no-word : (t : Token) → NoWord t → sortOf t ≡ 13 → ⊥
 no-word t h e =
@@ -168,6 +185,9 @@ module _ (text : List ℕ) (from : ℕ) (r : Taken) (t : Takes text from r) wher
         inside = t .within;
         rest = ap (drop 1) ts;
         fewer = ap length ts;
+        ends =
+            t .past ∙ ap (λ n. r .place + n) (wide text (r .place) (r .token) f (omega (arith, t .past, t .advances f)) (omega (arith, t .past, t .within)))
+            ∙ ap endOf (sym ts);
       }
 
   -- Is it of this sort?
@@ -182,9 +202,6 @@ module _ (text : List ℕ) (from : ℕ) (r : Taken) (t : Takes text from r) wher
     pub word-letters : letters (next (tokensAt text from)) ≡ take len (drop (r .place) text)
     word-letters = ap letters taken-next ∙ ap (λ k. letters (tokenOf text (r .place) k)) is
 
-    pub word-sort : sort (next (tokensAt text from)) ≡ 13
-    word-sort = taken-sort ∙ ap sortOf is
-
     pub word-past : Past text from (r .next .at)
     word-past = taken-past (ap finished is)
 
@@ -194,68 +211,3 @@ module _ (text : List ℕ) (from : ℕ) (r : Taken) (t : Takes text from r) wher
   -- What is no word.
   pub none-letters : NoWord (r .token) → letters (next (tokensAt text from)) ≡ []
   none-letters h = mark-letters (next (tokensAt text from)) (λ e. no-word (r .token) h (sym taken-sort ∙ e))
-
-  -- The end of the text.
-  pub ends-here : r .token ≡ Finish → sees paper.finish (tokensAt text from) ≡ true
-  ends-here is = eq-eqb 11 _ (sym (taken-sort ∙ ap sortOf is))
-
-  pub ends-not : (sortOf (r .token) ≡ 11 → ⊥) → sees paper.finish (tokensAt text from) ≡ false
-  ends-not n = ne-eqb 11 _ (λ e. n (sym taken-sort ∙ sym e))
-
--- What is not the end.
-pub not-finish : (t : Token) → OneOf (0 ∷ 1 ∷ 2 ∷ 3 ∷ 4 ∷ 5 ∷ 6 ∷ 7 ∷ 8 ∷ 9 ∷ 10 ∷ 12 ∷ 13 ∷ []) (tagOf the-type t) → sortOf t ≡ 11 → ⊥
-not-finish t h e =
-    miss (0 ∷ 1 ∷ 2 ∷ 3 ∷ 4 ∷ 5 ∷ 6 ∷ 7 ∷ 8 ∷ 9 ∷ 10 ∷ 12 ∷ 13 ∷ []) 11 tt (subst (OneOf (0 ∷ 1 ∷ 2 ∷ 3 ∷ 4 ∷ 5 ∷ 6 ∷ 7 ∷ 8 ∷ 9 ∷ 10 ∷ 12 ∷ 13 ∷ [])) (tag-sort t ∙ e) h)
-
--- HOW THINGS BEGIN. Of two sorts a token is one.
-pub other-sort : (m n s : ℕ) → (m ≡ n → ⊥) → eqb m s ≡ true → eqb n s ≡ false
-other-sort m n s d h = ne-eqb n s (λ e. d (eqb-true m s h ∙ sym e))
-
-module _ (text : List ℕ) (from : ℕ) (past : Cursor) (deep : Bool) where
-  pub lead-deep : deep ≡ true → Joins text from (Next past deep) → Leads text from (Before past deep)
-  lead-deep d j = rw d ((rw d at j) .1, (rw d at j) .2)
-
-  pub lead-before : deep ≡ false → Joins text from (Next past deep) → startsStep (next (tokensAt text (past .at))) ≡ true → Leads text from (Before past deep)
-  lead-before d j s =
-      let (one, two) = rw d at j in
-      rw d (other-sort 0 1 (sort (next (tokensAt text from))) (λ e. omega arith) one, one, two, s)
-
-  pub lead-alone : deep ≡ false → Joins text from (Next past deep) → startsStep (next (tokensAt text (past .at))) ≡ false → Leads text from (Alone past)
-  lead-alone d j s =
-      let (one, two) = rw d at j in
-      (other-sort 0 1 (sort (next (tokensAt text from))) (λ e. omega arith) one, one, two, s)
-
--- What begins with `(` is no word.
-pub round-no-word : (text word : List ℕ) (from : ℕ) (b : Bool) → 0 < length word → eqb 8 (sort (next (tokensAt text from))) ≡ true → (says word (tokensAt text from) && b) ≡ false
-round-no-word text word from b l h =
-    let none : letters (next (tokensAt text from)) ≡ [] = mark-letters (next (tokensAt text from)) (λ e. omega (arith, eqb-true 8 (sort (next (tokensAt text from))) h)) in
-    rw (none, no-same word l)
-
-pub no-word-and : (text word : List ℕ) (from : ℕ) (b : Bool) → says word (tokensAt text from) ≡ false → (says word (tokensAt text from) && b) ≡ false
-no-word-and text word from b h = rw h
-
-pub no-round-and : (text word : List ℕ) (from past : ℕ) → Past text from past → sees paper.openRound (tokensAt text past) ≡ false
-    → (says word (tokensAt text from) && sees paper.openRound (drop 1 (tokensAt text from))) ≡ false
-no-round-and text word from past p h = rw (p .rest, h) (never (says word (tokensAt text from)))
-  where
-    never : (b : Bool) → (b && false) ≡ false
-    never true = refl
-    never false = refl
-
--- `*`, and what is none.
-abbrev pub NoStar : Token → Type 0
-NoStar t = OneOf (0 ∷ 1 ∷ 2 ∷ 3 ∷ 4 ∷ 5 ∷ 6 ∷ 7 ∷ 8 ∷ 9 ∷ 11 ∷ 12 ∷ 13 ∷ []) (tagOf the-type t)
-
-no-star : (t : Token) → NoStar t → sortOf t ≡ 10 → ⊥
-no-star t h e =
-    miss (0 ∷ 1 ∷ 2 ∷ 3 ∷ 4 ∷ 5 ∷ 6 ∷ 7 ∷ 8 ∷ 9 ∷ 11 ∷ 12 ∷ 13 ∷ []) 10 tt (subst (OneOf (0 ∷ 1 ∷ 2 ∷ 3 ∷ 4 ∷ 5 ∷ 6 ∷ 7 ∷ 8 ∷ 9 ∷ 11 ∷ 12 ∷ 13 ∷ [])) (tag-sort t ∙ e) h)
-
-module _ (text : List ℕ) (from : ℕ) (r : Taken) (t : Takes text from r) where
-  pub is-star : r .token ≡ Star → sees paper.star (tokensAt text from) ≡ true
-  is-star is = eq-eqb 10 _ (sym (taken-sort text from r t ∙ ap sortOf is))
-
-  pub not-star : NoStar (r .token) → sees paper.star (tokensAt text from) ≡ false
-  not-star n = ne-eqb 10 _ (λ e. no-star (r .token) n (sym (taken-sort text from r t) ∙ sym e))
-
-  pub not-word-sees : NoWord (r .token) → sees (paper.word []) (tokensAt text from) ≡ false
-  not-word-sees n = ne-eqb 13 _ (λ e. no-word (r .token) n (sym (taken-sort text from r t) ∙ sym e))

@@ -1,9 +1,9 @@
--- `read::axis_ahead` meets its contract: a word, `::` and the name of an axis. Assumes nothing.
-use Rattle.read.proofs.Lexed.{none-letters, word-letters, word-past, word-inside}
-use Rattle.read.proofs.Heading.{unnamed, no-colons, no-axis-word, axis-there}
+-- `ahead::axis_ahead` meets its contract: a word, `::` and the name of an axis. Assumes nothing.
+use Rattle.ahead.proofs.Lexed.{none-letters, word-letters, word-past, word-inside}
+use Rattle.ahead.proofs.Words.{unnamed, no-colons, no-axis-word, axis-there}
 use borrow.Author.Needs.{needs}
-use Rattle.read.proofs.axis_ahead.Statement.{statement}
-use Rattle.read.proofs.axis_ahead.Tie as tie
+use Rattle.ahead.proofs.axis_ahead.Statement.{statement}
+use Rattle.ahead.proofs.axis_ahead.Tie as tie
 
 take-requires : tie.Need-take-requires
 take-requires c κs = search needs

@@ -1,8 +1,8 @@
--- `read::starts_step` meets its contract: the four sorts are compared. Assumes nothing.
-use Rattle.read.proofs.Lexed.{taken-sort}
+-- `ahead::starts_step` meets its contract: the four sorts are compared. Assumes nothing.
+use Rattle.ahead.proofs.Lexed.{taken-sort}
 use borrow.Author.Needs.{needs}
-use Rattle.read.proofs.starts_step.Statement.{statement}
-use Rattle.read.proofs.starts_step.Tie as tie
+use Rattle.ahead.proofs.starts_step.Statement.{statement}
+use Rattle.ahead.proofs.starts_step.Tie as tie
 
 take-requires : tie.Need-take-requires
 take-requires c κs = search needs
