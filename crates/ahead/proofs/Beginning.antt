@@ -48,10 +48,11 @@ round-no-word text word from b l h =
 pub no-word-and : (text word : List ℕ) (from : ℕ) (b : Bool) → says word (tokensAt text from) ≡ false → (says word (tokensAt text from) && b) ≡ false
 no-word-and text word from b h = rw h
 
+-- Two tests joined fail if the second does.
+pub and-false : (a : Bool) → (a && false) ≡ false
+and-false true = refl
+and-false false = refl
+
 pub no-round-and : (text word : List ℕ) (from past : ℕ) → Past text from past → sees paper.openRound (tokensAt text past) ≡ false
     → (says word (tokensAt text from) && sees paper.openRound (drop 1 (tokensAt text from))) ≡ false
-no-round-and text word from past p h = rw (p .rest, h) (never (says word (tokensAt text from)))
-  where
-    never : (b : Bool) → (b && false) ≡ false
-    never true = refl
-    never false = refl
+no-round-and text word from past p h = rw (p .rest, h) (and-false (says word (tokensAt text from)))

@@ -164,7 +164,7 @@ other-here text from wanted b few e o =
 
 module _ (text : List ℕ) (from : ℕ) (r : Taken) (t : Takes text from r) where
   -- The token that comes next, and its place.
-  pub taken-next : next (tokensAt text from) ≡ tokenOf text (r .place) (r .token)
+  taken-next : next (tokensAt text from) ≡ tokenOf text (r .place) (r .token)
   unfolding tokensAt
   taken-next = ap next (t .first)
 

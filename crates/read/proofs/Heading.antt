@@ -2,7 +2,7 @@
 use Prim.Native.Nat.{ℕ, _+_, _≤_, _<_}
 use native.Mathlib.Omega.{arith}
 use mathlib.Core.Path.{_≡_, refl, sym, _∙_, ap}
-use mathlib.Core.Bool.{Bool, true, false, _&&_, cond}
+use mathlib.Core.Bool.{Bool, true, false, cond}
 use mathlib.Core.List.{List, []}
 use mathlib.Core.Option.{Option, none, some}
 use mathlib.Core.Logic.{_⊎_, ⊎-elim}
@@ -18,6 +18,7 @@ use Rattle.paper.specs.Reading.{Got, got, refused, then, next, at, sees, says, 
 use Rattle.paper.proofs.Tests.{decide}
 use Rattle.ahead.specs.declared.Call.the-variants.{NoCall}
 use Rattle.ahead.specs.Looking.{tokensAt, Past, AxisWritten, callCode, Calls}
+use Rattle.ahead.proofs.Beginning.{and-false}
 use Rattle.ahead.proofs.Words.{axis-below}
 use Rattle.read.specs.declared.Head.{Head}
 use Rattle.read.specs.declared.Head.the-variants.{Plain, Tested, Wrong, Unknown}
@@ -30,10 +31,6 @@ axis-small a n e = omega (arith, axis-below a)
 -- THE TEST.
 abbrev Outcome : Type 0
 Outcome = (ℕ → List Placed → Got Expr) → Got Step
-
-and-false : (a : Bool) → (a && false) ≡ false
-and-false true = refl
-and-false false = refl
 
 module _ (look : List ℕ → Option ℕ) (text : List ℕ) (from axis : ℕ) (a : Axis) (number : axis ≡ axisNumber a) where
   pub tested-star : (past : ℕ) → sees paper.star (tokensAt text from) ≡ true → Past text from past
