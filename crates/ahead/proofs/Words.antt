@@ -1,4 +1,4 @@
--- The words that name axes and call tests, and the axis that is written before `::`. Assumes nothing.
+-- The words that name axes and call tests, compared in turn, and the axis that is written: a word that names one, and `::`. Assumes nothing.
 use Prim.Native.Nat.{ℕ, _≤_, _<_}
 use native.Mathlib.Omega.{arith}
 use mathlib.Core.Path.{_≡_, refl, sym, _∙_, ap}
