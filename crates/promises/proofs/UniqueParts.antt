@@ -11,6 +11,7 @@ use Rattle.paper.specs.Items.{Taken}
 use Rattle.paper.proofs.Tests.{none-some, some-inj}
 use Rattle.names.proofs.Unique as names
 use Rattle.token.proofs.Unique as token
+use Rattle.ahead.proofs.Unique as ahead
 use Rattle.shape.specs.declared.Walked.{Walked}
 use Rattle.shape.specs.declared.Walked.the-variants.{Done, Malformed}
 use Rattle.shape.specs.Walks.{Walks}
@@ -20,6 +21,7 @@ use Rattle.table.specs.declared.Fault.the-variants.{Nothing, At}
 use Rattle.table.specs.Faults.{faultOf}
 use Rattle.promises.specs.UniqueParts.{UnpackUnique, PackPathUnique, PackStepUnique, TurnUnique, MeetsUnique}
 use Rattle.promises.specs.UniqueParts.{NameStartUnique, NamePartUnique, IndexUnique, FindUnique, SpellUnique, WhiteSpaceUnique, TakeUnique}
+use Rattle.promises.specs.UniqueParts.{MarkUnique, WordAheadUnique, JoinedUnique, PathLeadUnique, OpeningUnique, AxisAheadUnique, TestCallUnique}
 use Rattle.promises.specs.UniqueParts.{RunOfUnique, StepsUnique, MeasureUnique, TableFaultUnique, MarksFaultUnique, CountUnique}
 use Rattle.promises.specs.UniqueParts.{PutByteUnique, PutUnique, PutSlashUnique, PutBarUnique, PutOpenUnique, PutOrUnique, PutAndUnique, PutNotUnique, PutHeadUnique}
 use Rattle.promises.specs.UniqueParts.{LineEndUnique, LineStartUnique, PutRefusalUnique, PutResultUnique}
@@ -66,6 +68,28 @@ white-space-unique κs a u v x y g p q = same p q
 
 pub take-unique : TakeUnique
 take-unique κs a u v x y g p q = token.take-unique (now (a .1 .0)) (a .0 .at) u v p q
+
+-- WHAT COMES NEXT IN A TEXT.
+pub mark-unique : MarkUnique
+mark-unique κs a u v x y g p q = ahead.looks-unique (now (a .0)) (a .1 .0 .at) _ u v p q
+
+pub word-ahead-unique : WordAheadUnique
+word-ahead-unique κs a u v x y g p q = ahead.looks-unique (now (a .0)) (a .1 .0 .at) _ u v p q
+
+pub joined-unique : JoinedUnique
+joined-unique κs a u v x y g p q = ahead.joined-unique (now (a .0)) (a .1 .0 .at) u v p q
+
+pub path-lead-unique : PathLeadUnique
+path-lead-unique κs a u v x y g p q = ahead.path-lead-unique (now (a .0)) (a .1 .0 .at) u v p q
+
+pub opening-unique : OpeningUnique
+opening-unique κs a u v x y g p q = ahead.opening-unique (now (a .0)) (a .1 .0 .at) u v p q
+
+pub axis-ahead-unique : AxisAheadUnique
+axis-ahead-unique κs a u v x y g p q = ahead.axis-ahead-unique (now (a .0)) (a .1 .0 .at) u v p q
+
+pub test-call-unique : TestCallUnique
+test-call-unique κs a u v x y g p q = ahead.test-call-unique (now (a .0)) (a .1 .1 .1 .0 .at) _ u v p q
 
 -- SHAPES. What is left of a list from a place on tells the place.
 place-left : (list : List ℕ) (m n : ℕ) → m ≤ length list → n ≤ length list → drop m list ≡ drop n list → m ≡ n

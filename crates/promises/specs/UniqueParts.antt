@@ -21,6 +21,13 @@ use Rattle.names.proofs.find
 use Rattle.names.proofs.spell
 use Rattle.token.proofs.white_space
 use Rattle.token.proofs.Cursor.take as take_token
+use Rattle.ahead.proofs.mark
+use Rattle.ahead.proofs.word_ahead
+use Rattle.ahead.proofs.joined
+use Rattle.ahead.proofs.path_lead
+use Rattle.ahead.proofs.opening
+use Rattle.ahead.proofs.axis_ahead
+use Rattle.ahead.proofs.test_call
 use Rattle.shape.proofs.run_of
 use Rattle.shape.proofs.steps
 use Rattle.shape.proofs.measure
@@ -102,6 +109,28 @@ WhiteSpaceUnique = UniqueAnswer white_space.Kinds.ps white_space.Kinds.r white_s
 
 abbrev pub TakeUnique : Type 0
 TakeUnique = UniqueAnswer take_token.Kinds.ps take_token.Kinds.r take_token.Reads.Pre take_token.Reads.Post
+
+-- WHAT COMES NEXT IN A TEXT.
+abbrev pub MarkUnique : Type 0
+MarkUnique = UniqueAnswer mark.Kinds.ps mark.Kinds.r mark.Reads.Pre mark.Reads.Post
+
+abbrev pub WordAheadUnique : Type 0
+WordAheadUnique = UniqueAnswer word_ahead.Kinds.ps word_ahead.Kinds.r word_ahead.Reads.Pre word_ahead.Reads.Post
+
+abbrev pub JoinedUnique : Type 0
+JoinedUnique = UniqueAnswer joined.Kinds.ps joined.Kinds.r joined.Reads.Pre joined.Reads.Post
+
+abbrev pub PathLeadUnique : Type 0
+PathLeadUnique = UniqueAnswer path_lead.Kinds.ps path_lead.Kinds.r path_lead.Reads.Pre path_lead.Reads.Post
+
+abbrev pub OpeningUnique : Type 0
+OpeningUnique = UniqueAnswer opening.Kinds.ps opening.Kinds.r opening.Reads.Pre opening.Reads.Post
+
+abbrev pub AxisAheadUnique : Type 0
+AxisAheadUnique = UniqueAnswer axis_ahead.Kinds.ps axis_ahead.Kinds.r axis_ahead.Reads.Pre axis_ahead.Reads.Post
+
+abbrev pub TestCallUnique : Type 0
+TestCallUnique = UniqueAnswer test_call.Kinds.ps test_call.Kinds.r test_call.Reads.Pre test_call.Reads.Post
 
 -- SHAPES.
 abbrev pub RunOfUnique : Type 0

@@ -8,17 +8,17 @@ use mathlib.Core.Option.{Option}
 use lib.Dec.{eqb}
 use lib.ListN.{length, drop}
 use lib.Seq.{drop-drop}
-use Rattle.paper.specs.Tokens as paper
 use Rattle.paper.specs.Tokens.{Placed, sort}
 use Rattle.paper.specs.Query.{Expr, path, negated, Steps}
 use Rattle.paper.specs.Items.{notItem, encodeExpr}
 use Rattle.paper.specs.Reading.{Got, got, refused, then, next, at, readTail, readStep, readSteps, readOperand, readExpr, readWithin}
 use Rattle.read.specs.declared.Part.{Part}
 use Rattle.read.specs.declared.Part.the-variants.{Done, NoQuery, TooDeep, UnknownName}
-use Rattle.read.specs.declared.Opens.the-variants.{Round, Path}
 use Rattle.token.specs.declared.Cursor.{Cursor}
 use Rattle.item.specs.Unpacked.{packed}
-use Rattle.read.specs.Parts.{tokensAt, Past, Wrote, Gives, Reads, passSort, stepItems, pathItems, Begins, NotBegins, PlainStep, TestedStep}
+use Rattle.ahead.specs.declared.Opens.the-variants.{Round, Path}
+use Rattle.ahead.specs.Looking.{tokensAt, Past, NotBegins, Begins}
+use Rattle.read.specs.Parts.{Wrote, Gives, Reads, passSort, stepItems, pathItems, PlainStep, TestedStep}
 use Rattle.read.proofs.Writing.{wrote-head}
 
 -- What is read from a later place on is what is read from here.

@@ -2,13 +2,12 @@
 use Prim.Native.Nat.{ℕ, suc, _+_, _*_, _≤_, _<_}
 use native.Mathlib.Omega.{arith}
 use mathlib.Core.Path.{_≡_, refl, sym, _∙_, ap, subst}
-use mathlib.Core.Bool.{Bool, true, false, _||_, cond}
+use mathlib.Core.Bool.{Bool, true, false, cond}
 use mathlib.Core.List.{List, [], _∷_, _++_, append-assoc, append-nil}
 use mathlib.Core.Option.{Option, none, some}
-use lib.Dec.{ltb}
 use lib.ListN.{length, take, drop, length-append, take-append-drop}
 use lib.Seq.{length-take-le, take-at}
-use borrow.Author.Tests.{lt-ltb, le-ltb, ltb-false}
+use borrow.Author.Tests.{lt-ltb, le-ltb}
 use Rattle.paper.specs.Tools.{written}
 use Rattle.paper.specs.Tokens as paper
 use Rattle.paper.specs.Tokens.{Placed, tokens}
@@ -24,13 +23,14 @@ use Rattle.paper.specs.Told.{told}
 use Rattle.paper.specs.declared.Answer.{Answer}
 use Rattle.paper.specs.declared.Answer.the-variants.{Value, TooLong, BadName, Short}
 use Rattle.paper.proofs.Sizes.{size-items}
-use Rattle.paper.proofs.Refusing.{line-value, when-none, or-none, Refuses, refused-keeps}
+use Rattle.paper.proofs.Refusing.{Refuses, refused-keeps}
 use Rattle.theorems.proofs.Exactly.{read-any-names}
 use Rattle.token.specs.declared.Cursor.{Cursor}
+use Rattle.ahead.specs.declared.Lead.the-variants.{Alone, Before, NoPath}
+use Rattle.ahead.specs.Looking.{tokensAt, Past, Leads}
 use Rattle.read.specs.declared.Part.{Part}
 use Rattle.read.specs.declared.Part.the-variants.{Done, NoQuery, TooDeep, UnknownName}
-use Rattle.read.specs.declared.Lead.the-variants.{Alone, Before, NoPath}
-use Rattle.read.specs.Parts.{tokensAt, Past, Wrote, Gives, Reads, deepIf, pathItems, Leads, Finishes, ReadsAll, Sized, Measures, Refusal, Whole, Kept}
+use Rattle.read.specs.Parts.{Wrote, Gives, Reads, deepIf, pathItems, Finishes, ReadsAll, Sized, Measures, Refusal, Whole, Kept}
 use types.Run.{miss}
 use Rattle.read.proofs.Writing.{wrote-nothing, wrote-more}
 use Rattle.read.proofs.Runs.{some-token, some-fuel, Refused}

@@ -11,10 +11,11 @@ use Rattle.paper.specs.Tokens.{Placed}
 use Rattle.paper.specs.Query.{Axis, Test, Expr, path, both, either, negated, Steps, stop, Preds, bare, pred}
 use Rattle.paper.specs.Items.{axisNumber, testNumber, packPath, packStep, stepCount, predCount, encodeExpr, encodeSteps, encodePreds}
 use Rattle.paper.specs.Reading.{Got, got, refused, then, at, sees, Step, before, deep, readPreds, readTail, readStep, readSteps}
-use Rattle.read.specs.declared.Joint.the-variants.{Next, Nothing}
 use Rattle.token.specs.declared.Cursor.{Cursor}
 use Rattle.item.specs.Unpacked.{packed}
-use Rattle.read.specs.Parts.{tokensAt, Past, Wrote, Gives, passSort, deepItems, deepIf, stepItems, pathItems, Joins}
+use Rattle.ahead.specs.declared.Joint.the-variants.{Next, Nothing}
+use Rattle.ahead.specs.Looking.{tokensAt, Past, Joins}
+use Rattle.read.specs.Parts.{Wrote, Gives, passSort, deepItems, deepIf, stepItems, pathItems}
 use Rattle.read.proofs.Writing.{wrote-nothing, wrote-more, wrote-head}
 use Rattle.read.proofs.Runs.{some-token, some-fuel}
 
@@ -140,10 +141,6 @@ module _ (look : List ℕ → Option ℕ) (within : ℕ → List Placed → Got 
         over (suc n) = rw s
 
 -- STEPS.
-pub joined-past : (text : List ℕ) (past : ℕ) (here : Cursor) (lead : Bool) → Joins text past (Next here lead) → Past text past (here .at)
-joined-past text past here true j = j .2
-joined-past text past here false j = j .1
-
 before-code : (lead : Bool) (s : Step) (rest : Steps) → encodeSteps (deepIf lead (before s rest)) ≡ (deepItems lead ++ stepItems s) ++ encodeSteps rest
 before-code true s rest = refl
 before-code false s rest = refl

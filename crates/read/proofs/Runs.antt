@@ -14,9 +14,10 @@ use Rattle.paper.specs.Tokens.{Placed, tokensFrom, tokenAt, beyond, white}
 use Rattle.paper.specs.Query.{Expr, both, either}
 use Rattle.paper.specs.Items.{andItem, orItem, encodeExpr}
 use Rattle.paper.specs.Reading.{Got, got, refused, then, says, readOperand, readAnds, readTerm, readOrs, readExpr}
+use Rattle.ahead.specs.Looking.{tokensAt, Past}
 use Rattle.read.specs.declared.Part.{Part}
 use Rattle.read.specs.declared.Part.the-variants.{Done, NoQuery, TooDeep, UnknownName}
-use Rattle.read.specs.Parts.{tokensAt, Past, Wrote, Grouped, Gives, Reads}
+use Rattle.read.specs.Parts.{Wrote, Grouped, Gives, Reads}
 use Rattle.read.proofs.Part.{the-type}
 use Rattle.read.proofs.Writing.{wrote-more, wrote-grouped}
 

@@ -1,19 +1,17 @@
 -- What reading a part of a text promises: what the paper's reader says of the tokens from a place on, and the items written.
-use Prim.Native.Nat.{ℕ, suc, _+_, _*_, _≤_, _<_}
+use Prim.Native.Nat.{ℕ, _+_, _*_, _≤_, _<_}
 use mathlib.Core.Path.{_≡_}
-use mathlib.Core.Bool.{Bool, true, false, _&&_, cond}
+use mathlib.Core.Bool.{Bool, true, false, cond}
 use mathlib.Core.List.{List, [], _∷_, _++_}
 use mathlib.Core.Option.{Option, none, some}
-use mathlib.Core.Logic.{_⊎_}
 use lib.Dec.{eqb}
-use lib.ListN.{length, getD, take, drop, replicate}
-use Rattle.paper.specs.Tools.{ascii, same}
+use lib.ListN.{length, take, drop, replicate}
 use Rattle.paper.specs.Limits.{textLimit, itemLimit, bracketLimit}
 use Rattle.paper.specs.Names.{namesOf, numberOf}
 use Rattle.paper.specs.Tokens as paper
-use Rattle.paper.specs.Tokens.{Placed, tokensFrom, sort}
+use Rattle.paper.specs.Tokens.{Placed, sort}
 use Rattle.paper.specs.Query.{Axis, descendantOrSelf, Test, anyNode, Expr, path, Steps, bare, Query}
-use Rattle.paper.specs.Reading.{Got, got, refused, next, at, sees, says, wrong, axisAhead, startsStep, Step, deep, readTail}
+use Rattle.paper.specs.Reading.{Got, got, refused, next, at, sees, wrong, Step, deep, readTail}
 use Rattle.paper.specs.Items.{axisNumber, testNumber, packStep, predCount, encodeExpr, encodePreds, encode}
 use Rattle.paper.specs.Measures.{size}
 use Rattle.paper.specs.Answers.{anyName, value, refusal}
@@ -21,68 +19,12 @@ use Rattle.paper.specs.Told.{told}
 use Rattle.paper.specs.declared.Answer.{Answer}
 use Rattle.names.specs.Listing.{Indexed}
 use Rattle.names.specs.declared.Found.{Found}
-use Rattle.names.specs.declared.Found.the-variants.{At, Nothing as Absent}
-use Rattle.token.specs.declared.Token.{Token}
-use Rattle.token.specs.declared.Token.the-variants.{Slash, Slashes, Dot, Dots, Colons, Bar, OpenSquare, CloseSquare, OpenRound, CloseRound, Star, Finish, Stray, Word}
+use Rattle.names.specs.declared.Found.the-variants.{At, Nothing}
+use Rattle.ahead.specs.Looking.{tokensAt, Past}
 use Rattle.read.specs.declared.Part.{Part}
 use Rattle.read.specs.declared.Part.the-variants.{Done, NoQuery, TooDeep, UnknownName}
-use Rattle.read.specs.declared.Ahead.{Ahead}
-use Rattle.read.specs.declared.Ahead.the-variants.{There, Other}
 use Rattle.read.specs.declared.Head.{Head}
 use Rattle.read.specs.declared.Head.the-variants.{Plain, Tested, Wrong, Unknown}
-use Rattle.read.specs.declared.Joint.{Joint}
-use Rattle.read.specs.declared.Joint.the-variants.{Next, Nothing}
-use Rattle.read.specs.declared.Opens.{Opens}
-use Rattle.read.specs.declared.Opens.the-variants.{Not, Round, Path}
-use Rattle.read.specs.declared.AxisAhead.{AxisAhead}
-use Rattle.read.specs.declared.AxisAhead.the-variants.{Named, Unnamed}
-use Rattle.read.specs.declared.Call.{Call}
-use Rattle.read.specs.declared.Call.the-variants.{Inside, NoCall}
-use Rattle.read.specs.declared.Lead.{Lead}
-use Rattle.read.specs.declared.Lead.the-variants.{Alone, Before, NoPath}
-
--- The tokens from a place of the text on.
-unfoldable pub tokensAt : List ℕ → ℕ → List Placed
-tokensAt text place = tokensFrom 0 place (drop place text)
-
--- Which of the paper's tokens a token is, as a number.
-abbrev pub sortOf : Token → ℕ
-sortOf Slash = 0
-sortOf Slashes = 1
-sortOf Dot = 2
-sortOf Dots = 3
-sortOf Colons = 4
-sortOf Bar = 5
-sortOf OpenSquare = 6
-sortOf CloseSquare = 7
-sortOf OpenRound = 8
-sortOf CloseRound = 9
-sortOf Star = 10
-sortOf Finish = 11
-sortOf Stray = 12
-sortOf (Word count) = 13
-
--- One token is passed, from one place to the next.
-pub record Past (text : List ℕ) (from next : ℕ) : Type 0 where
-  pub onward : from < next
-  pub inside : next ≤ length text
-  pub rest : drop 1 (tokensAt text from) ≡ tokensAt text next
-  pub fewer : length (tokensAt text from) ≡ suc (length (tokensAt text next))
-
--- The bytes that marks start with, by their sorts.
-abbrev pub leads : List ℕ
-leads = ascii "//..:|[]()*"
-
--- Another byte than this one stands here, and no white space.
-pub record OtherByte (text : List ℕ) (at b : ℕ) : Type 0 where
-  pub inside : at < length text
-  pub other : eqb (getD text at 0) b ≡ false
-  pub solid : paper.white (getD text at 0) ≡ false
-
--- A test of the next token, with its place, and the place past it where the test holds.
-abbrev pub Looks : List ℕ → ℕ → Bool → Ahead → Type 0
-Looks text from test (There place past) = (test ≡ true) × (place ≡ at (tokensAt text from)) × Past text from (past .at)
-Looks text from test (Other place) = (test ≡ false) × (place ≡ at (tokensAt text from))
 
 -- How names are looked up: in the list, or any name will do.
 abbrev pub lookOf : Bool → List ℕ → List ℕ → Option ℕ
@@ -163,68 +105,7 @@ Heads look text from outcome (Tested axis test past) = TestedStep look text from
 Heads look text from outcome (Wrong spot) = (within : ℕ → List Placed → Got Expr) → outcome within ≡ refused 3 spot
 Heads look text from outcome (Unknown spot) = (within : ℕ → List Placed → Got Expr) → outcome within ≡ refused 5 spot
 
--- The number of an axis; 5 where a word names none.
-abbrev pub axisCode : Option Axis → ℕ
-axisCode none = 5
-axisCode (some a) = axisNumber a
-
--- The number of the test that a word calls; 2 where it calls none.
-abbrev pub callCode : List ℕ → ℕ
-callCode word = cond (same (ascii "node") word) 0 (cond (same (ascii "text") word) 1 2)
-
--- TOKENS AHEAD. Does `/` or `//` come next?
-abbrev pub Joins : List ℕ → ℕ → Joint → Type 0
-Joins text from (Next past true) = (sees paper.slash (tokensAt text from) ≡ false) × (sees paper.slashes (tokensAt text from) ≡ true) × Past text from (past .at)
-Joins text from (Next past false) = (sees paper.slash (tokensAt text from) ≡ true) × Past text from (past .at)
-Joins text from (Nothing spot) =
-    (sees paper.slash (tokensAt text from) ≡ false) × (sees paper.slashes (tokensAt text from) ≡ false) × (spot ≡ at (tokensAt text from))
-
--- How an absolute path begins.
-abbrev pub Leads : List ℕ → ℕ → Lead → Type 0
-Leads text from (Alone past) =
-    (sees paper.slashes (tokensAt text from) ≡ false) × (sees paper.slash (tokensAt text from) ≡ true) × Past text from (past .at) × (startsStep (next (tokensAt text (past .at))) ≡ false)
-Leads text from (Before past true) = (sees paper.slashes (tokensAt text from) ≡ true) × Past text from (past .at)
-Leads text from (Before past false) =
-    (sees paper.slashes (tokensAt text from) ≡ false) × (sees paper.slash (tokensAt text from) ≡ true) × Past text from (past .at) × (startsStep (next (tokensAt text (past .at))) ≡ true)
-Leads text from (NoPath spot) =
-    (sees paper.slashes (tokensAt text from) ≡ false) × (sees paper.slash (tokensAt text from) ≡ false) × (spot ≡ at (tokensAt text from))
-
--- How an operand begins.
-pub record NotBegins (text : List ℕ) (from spot past : ℕ) : Type 0 where
-  pub word : ℕ
-  pub says-not : says (ascii "not") (tokensAt text from) ≡ true
-  pub first : Past text from word
-  pub opens : sees paper.openRound (tokensAt text word) ≡ true
-  pub place : spot ≡ at (tokensAt text word)
-  pub second : Past text word past
-
-abbrev pub Begins : List ℕ → ℕ → Opens → Type 0
-Begins text from (Not spot past) = NotBegins text from spot (past .at)
-Begins text from (Round spot past) =
-    ((says (ascii "not") (tokensAt text from) && sees paper.openRound (drop 1 (tokensAt text from))) ≡ false) × (sees paper.openRound (tokensAt text from) ≡ true) × (spot ≡ at (tokensAt text from)) × Past text from (past .at)
-Begins text from Path =
-    ((says (ascii "not") (tokensAt text from) && sees paper.openRound (drop 1 (tokensAt text from))) ≡ false) × (sees paper.openRound (tokensAt text from) ≡ false)
-
--- The axis that is written.
-pub record AxisWritten (text : List ℕ) (from axis past : ℕ) : Type 0 where
-  pub way : Axis
-  pub number : axis ≡ axisNumber way
-  pub ahead : axisAhead (tokensAt text from) ≡ some way
-  pub rest : drop 2 (tokensAt text from) ≡ tokensAt text past
-  pub onward : from < past
-  pub inside : past ≤ length text
-  pub fewer : length (tokensAt text past) ≤ length (tokensAt text from)
-
-abbrev pub Axes : List ℕ → ℕ → AxisAhead → Type 0
-Axes text from (Named axis past) = AxisWritten text from axis (past .at)
-Axes text from Unnamed = axisAhead (tokensAt text from) ≡ none
-
--- A test that is called by a word and the `(` that comes next.
-abbrev pub Calls : List ℕ → List ℕ → ℕ → Call → Type 0
-Calls text word from (Inside test past) = (test ≡ callCode word) × (test < 2) × (sees paper.openRound (tokensAt text from) ≡ true) × Past text from (past .at)
-Calls text word from NoCall = ((callCode word ≡ 2) ⊎ (sees paper.openRound (tokensAt text from) ≡ false))
-
--- The `)` of such a test.
+-- The `)` of a test that is called.
 abbrev pub Closes : List ℕ → ℕ → ℕ → ℕ → Head → Type 0
 Closes text from axis test (Plain axis′ past) = ⊥
 Closes text from axis test (Tested axis′ test′ past) = (axis′ ≡ axis) × (test′ ≡ test) × (sees paper.closeRound (tokensAt text from) ≡ true) × Past text from (past .at)
@@ -234,7 +115,7 @@ Closes text from axis test (Unknown spot) = ⊥
 -- The number of a name, of which an item can say 256.
 abbrev pub Numbered : Option ℕ → Found → Type 0
 Numbered look (At v) = (look ≡ some v) × (v < 256)
-Numbered look Absent = look ≡ none
+Numbered look Nothing = look ≡ none
 
 -- MOVING. What stands from `place` to `end` stands `count` further on.
 pub record MovedTo (new front raw back : List ℕ) (count : ℕ) : Type 0 where

@@ -8,10 +8,12 @@ use borrow.Author.Needs.{needs}
 use denote.Ref.{now}
 use lib.ListN.{length}
 use Rattle.paper.specs.Reading.{got, then, readSteps, readWithin}
-use Rattle.read.specs.Parts.{tokensAt, lookOf, deepIf, passSort}
+use Rattle.ahead.specs.Looking.{tokensAt}
+use Rattle.ahead.proofs.Beginning.{joined-past}
+use Rattle.read.specs.Parts.{lookOf, deepIf, passSort}
 use Rattle.read.proofs.Heading.{axis-small}
 use Rattle.read.proofs.Runs.{Turn, turn-start, turn-stuck, operands, turn-and, terms, turn-or, turn-done, passed-on}
-use Rattle.read.proofs.Rows.{PredRow, preds-start, preds-more, preds-stuck, preds-done, StepRow, steps-start, step-more, step-stuck, steps-more, steps-done, joined-past, deep-few}
+use Rattle.read.proofs.Rows.{PredRow, preds-start, preds-more, preds-stuck, preds-done, StepRow, steps-start, step-more, step-stuck, steps-more, steps-done, deep-few}
 use Rattle.read.proofs.Operands.{too-deep, opened, closed, unclosed, not-stuck, not-done, round-done, path-done, plain-done, tested-done}
 use Prim.Native.Nat.{ℕ, _<_}
 use borrow.Fn.Kinds.{In}
@@ -35,15 +37,15 @@ use Rattle.read.proofs.steps.Reads as steps
 use Rattle.read.proofs.steps.Kinds as steps-kinds
 use Rattle.read.proofs.+bracketed+expression+operand+predicates+step+steps.Lts-steps as steps-lts
 use Rattle.read.proofs.group.Reads as group-reads
-use Rattle.read.proofs.joined.Reads as joined-reads
-use Rattle.read.proofs.mark.Reads as mark-reads
-use Rattle.read.proofs.opening.Reads as opening-reads
+use Rattle.ahead.proofs.joined.Reads as joined-reads
+use Rattle.ahead.proofs.mark.Reads as mark-reads
+use Rattle.ahead.proofs.opening.Reads as opening-reads
 use Rattle.read.proofs.path_word.Reads as path-word-reads
 use Rattle.read.proofs.put.Reads as put-reads
 use Rattle.read.proofs.put_deep.Reads as put-deep-reads
 use Rattle.read.proofs.step_head.Reads as step-head-reads
 use Rattle.read.proofs.step_word.Reads as step-word-reads
-use Rattle.read.proofs.word_ahead.Reads as word-ahead-reads
+use Rattle.ahead.proofs.word_ahead.Reads as word-ahead-reads
 use Rattle.read.proofs.+bracketed+expression+operand+predicates+step+steps.{statement}
 use Rattle.read.proofs.+bracketed+expression+operand+predicates+step+steps.Tie.{close}
 

@@ -1,5 +1,6 @@
 -- `read::finished` meets its contract: the token that was taken is the end of the text or not. Assumes nothing.
-use Rattle.read.proofs.Lexed.{ends-here, ends-not, not-finish, taken-at}
+use Rattle.ahead.proofs.Lexed.{taken-at}
+use Rattle.read.proofs.Sorts.{ends-here, ends-not, not-finish}
 use mathlib.Core.Path.{refl}
 use borrow.Author.Needs.{needs}
 use Rattle.read.proofs.finished.Statement.{statement}

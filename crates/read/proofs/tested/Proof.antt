@@ -1,5 +1,6 @@
 -- `read::tested` meets its contract: `*`, a test that is called, or a name. Assumes nothing.
-use Rattle.read.proofs.Lexed.{is-star, not-star, not-word-sees, none-letters, word-letters, word-sort, word-past, word-inside, taken-at, taken-past}
+use Rattle.ahead.proofs.Lexed.{none-letters, word-letters, word-past, word-inside, taken-at, taken-past}
+use Rattle.read.proofs.Sorts.{is-star, not-star, not-word-sees, word-sort}
 use Rattle.read.proofs.Heading.{tested-star, tested-wrong, tested-call, tested-name, tested-unknown}
 use mathlib.Core.Path.{ap}
 use native.Mathlib.Omega.{arith}

@@ -1,0 +1,4 @@
+pub mod Beginning
+pub mod Lexed
+pub mod Unique
+pub mod Words

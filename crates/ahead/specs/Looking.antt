@@ -1,0 +1,139 @@
+-- What looking ahead promises: which of the paper's tokens come next from a place on, and where those that were asked for end.
+use Prim.Native.Nat.{ℕ, suc, _+_, _≤_, _<_}
+use mathlib.Core.Path.{_≡_}
+use mathlib.Core.Bool.{Bool, true, false, _&&_, cond}
+use mathlib.Core.List.{List}
+use mathlib.Core.Option.{Option, none, some}
+use mathlib.Core.Logic.{_⊎_}
+use lib.Dec.{eqb}
+use lib.ListN.{length, getD, drop}
+use Rattle.paper.specs.Tools.{ascii, same}
+use Rattle.paper.specs.Tokens as paper
+use Rattle.paper.specs.Tokens.{Placed, tokensFrom, beyond}
+use Rattle.paper.specs.Query.{Axis}
+use Rattle.paper.specs.Items.{axisNumber}
+use Rattle.paper.specs.Reading.{next, at, sees, says, axisAhead, startsStep}
+use Rattle.token.specs.declared.Token.{Token}
+use Rattle.token.specs.declared.Token.the-variants.{Slash, Slashes, Dot, Dots, Colons, Bar, OpenSquare, CloseSquare, OpenRound, CloseRound, Star, Finish, Stray, Word}
+use Rattle.ahead.specs.declared.Ahead.{Ahead}
+use Rattle.ahead.specs.declared.Ahead.the-variants.{There, Other}
+use Rattle.ahead.specs.declared.Joint.{Joint}
+use Rattle.ahead.specs.declared.Joint.the-variants.{Next, Nothing}
+use Rattle.ahead.specs.declared.Lead.{Lead}
+use Rattle.ahead.specs.declared.Lead.the-variants.{Alone, Before, NoPath}
+use Rattle.ahead.specs.declared.Opens.{Opens}
+use Rattle.ahead.specs.declared.Opens.the-variants.{Not, Round, Path}
+use Rattle.ahead.specs.declared.AxisAhead.{AxisAhead}
+use Rattle.ahead.specs.declared.AxisAhead.the-variants.{Named, Unnamed}
+use Rattle.ahead.specs.declared.Call.{Call}
+use Rattle.ahead.specs.declared.Call.the-variants.{Inside, NoCall}
+
+-- The tokens from a place of the text on.
+unfoldable pub tokensAt : List ℕ → ℕ → List Placed
+tokensAt text place = tokensFrom 0 place (drop place text)
+
+-- Which of the paper's tokens a token is, as a number.
+abbrev pub sortOf : Token → ℕ
+sortOf Slash = 0
+sortOf Slashes = 1
+sortOf Dot = 2
+sortOf Dots = 3
+sortOf Colons = 4
+sortOf Bar = 5
+sortOf OpenSquare = 6
+sortOf CloseSquare = 7
+sortOf OpenRound = 8
+sortOf CloseRound = 9
+sortOf Star = 10
+sortOf Finish = 11
+sortOf Stray = 12
+sortOf (Word count) = 13
+
+-- Where the next token ends.
+abbrev pub endOf : List Placed → ℕ
+endOf ts = at ts + suc (beyond (next ts))
+
+-- One token is passed, from one place to the next, which is where it ends.
+pub record Past (text : List ℕ) (from next : ℕ) : Type 0 where
+  pub onward : from < next
+  pub inside : next ≤ length text
+  pub rest : drop 1 (tokensAt text from) ≡ tokensAt text next
+  pub fewer : length (tokensAt text from) ≡ suc (length (tokensAt text next))
+  pub ends : next ≡ endOf (tokensAt text from)
+
+-- MARKS AND WORDS. The bytes that marks start with, by their sorts.
+abbrev pub leads : List ℕ
+leads = ascii "//..:|[]()*"
+
+-- Another byte than this one stands here, and no white space.
+pub record OtherByte (text : List ℕ) (at b : ℕ) : Type 0 where
+  pub inside : at < length text
+  pub other : eqb (getD text at 0) b ≡ false
+  pub solid : paper.white (getD text at 0) ≡ false
+
+-- A test of the next token, with its place, and the place past it where the test holds.
+abbrev pub Looks : List ℕ → ℕ → Bool → Ahead → Type 0
+Looks text from test (There place past) = (test ≡ true) × (place ≡ at (tokensAt text from)) × Past text from (past .at)
+Looks text from test (Other place) = (test ≡ false) × (place ≡ at (tokensAt text from))
+
+-- PATHS AND OPERANDS. Does `/` or `//` come next?
+abbrev pub Joins : List ℕ → ℕ → Joint → Type 0
+Joins text from (Next past true) = (sees paper.slash (tokensAt text from) ≡ false) × (sees paper.slashes (tokensAt text from) ≡ true) × Past text from (past .at)
+Joins text from (Next past false) = (sees paper.slash (tokensAt text from) ≡ true) × Past text from (past .at)
+Joins text from (Nothing spot) =
+    (sees paper.slash (tokensAt text from) ≡ false) × (sees paper.slashes (tokensAt text from) ≡ false) × (spot ≡ at (tokensAt text from))
+
+-- How an absolute path begins.
+abbrev pub Leads : List ℕ → ℕ → Lead → Type 0
+Leads text from (Alone past) =
+    (sees paper.slashes (tokensAt text from) ≡ false) × (sees paper.slash (tokensAt text from) ≡ true) × Past text from (past .at) × (startsStep (next (tokensAt text (past .at))) ≡ false)
+Leads text from (Before past true) = (sees paper.slashes (tokensAt text from) ≡ true) × Past text from (past .at)
+Leads text from (Before past false) =
+    (sees paper.slashes (tokensAt text from) ≡ false) × (sees paper.slash (tokensAt text from) ≡ true) × Past text from (past .at) × (startsStep (next (tokensAt text (past .at))) ≡ true)
+Leads text from (NoPath spot) =
+    (sees paper.slashes (tokensAt text from) ≡ false) × (sees paper.slash (tokensAt text from) ≡ false) × (spot ≡ at (tokensAt text from))
+
+-- How an operand begins.
+pub record NotBegins (text : List ℕ) (from spot past : ℕ) : Type 0 where
+  pub word : ℕ
+  pub says-not : says (ascii "not") (tokensAt text from) ≡ true
+  pub first : Past text from word
+  pub opens : sees paper.openRound (tokensAt text word) ≡ true
+  pub place : spot ≡ at (tokensAt text word)
+  pub second : Past text word past
+
+abbrev pub Begins : List ℕ → ℕ → Opens → Type 0
+Begins text from (Not spot past) = NotBegins text from spot (past .at)
+Begins text from (Round spot past) =
+    ((says (ascii "not") (tokensAt text from) && sees paper.openRound (drop 1 (tokensAt text from))) ≡ false) × (sees paper.openRound (tokensAt text from) ≡ true) × (spot ≡ at (tokensAt text from)) × Past text from (past .at)
+Begins text from Path =
+    ((says (ascii "not") (tokensAt text from) && sees paper.openRound (drop 1 (tokensAt text from))) ≡ false) × (sees paper.openRound (tokensAt text from) ≡ false)
+
+-- AXES AND TESTS. The number of an axis; 5 where a word names none.
+abbrev pub axisCode : Option Axis → ℕ
+axisCode none = 5
+axisCode (some a) = axisNumber a
+
+-- The axis that is written; the place past it is where the `::` ends.
+pub record AxisWritten (text : List ℕ) (from axis past : ℕ) : Type 0 where
+  pub way : Axis
+  pub number : axis ≡ axisNumber way
+  pub ahead : axisAhead (tokensAt text from) ≡ some way
+  pub rest : drop 2 (tokensAt text from) ≡ tokensAt text past
+  pub onward : from < past
+  pub inside : past ≤ length text
+  pub fewer : length (tokensAt text past) ≤ length (tokensAt text from)
+  pub ends : past ≡ endOf (drop 1 (tokensAt text from))
+
+abbrev pub Axes : List ℕ → ℕ → AxisAhead → Type 0
+Axes text from (Named axis past) = AxisWritten text from axis (past .at)
+Axes text from Unnamed = axisAhead (tokensAt text from) ≡ none
+
+-- The number of the test that a word calls; 2 where it calls none.
+abbrev pub callCode : List ℕ → ℕ
+callCode word = cond (same (ascii "node") word) 0 (cond (same (ascii "text") word) 1 2)
+
+-- A test that is called by a word and the `(` that comes next.
+abbrev pub Calls : List ℕ → List ℕ → ℕ → Call → Type 0
+Calls text word from (Inside test past) = (test ≡ callCode word) × (test < 2) × (sees paper.openRound (tokensAt text from) ≡ true) × Past text from (past .at)
+Calls text word from NoCall = ((callCode word ≡ 2) ⊎ (sees paper.openRound (tokensAt text from) ≡ false))
