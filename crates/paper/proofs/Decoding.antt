@@ -8,7 +8,7 @@ use native.Mathlib.Nat.{add-zero, zero-add}
 use mathlib.Core.Path.{_≡_, refl, _∙_, ap}
 use mathlib.Core.Bool.{true, false, _&&_, _||_}
 use mathlib.Core.List.{List, [], _∷_, _++_, append-assoc}
-use mathlib.Core.Option.{none, some}
+use mathlib.Core.Option.{some}
 use lib.Dec.{eqb, ltb, leb}
 use lib.ListN.{length, drop, length-append}
 use borrow.Author.Tests.{ne-eqb, ltb-true, leb-true, le-leb}

@@ -11,7 +11,7 @@ use lib.ListN.{length, drop, replicate}
 use borrow.Author.Tests.{eqb-true, lt-ltb}
 use Rattle.paper.specs.Tools.{found, begins}
 use Rattle.paper.specs.Limits.{bracketLimit}
-use Rattle.paper.specs.Query.{Expr, path, both, either, negated, Steps, step, Preds, bare, Query, paths}
+use Rattle.paper.specs.Query.{Expr, path, both, either, negated, Steps, Preds, Query}
 use Rattle.paper.specs.Items.{andItem, orItem, notItem, packPath, packStep, pathAt, stepAt, stepCount, predCount}
 use Rattle.paper.specs.Items.{encodeExpr, encodeSteps, encodePreds, encodePaths, encode, goodExpr, goodSteps, goodPreds, goodPaths, good}
 use Rattle.paper.specs.Items.{leading, Taken, takePreds, takeSteps, takePath, takeOperand, takeAnds, takeTerm, takeOrs, takeExpr, takeWithin, takePaths, asQuery, decode}

@@ -1,10 +1,8 @@
 -- `table::all_good` meets its contract. The loop's invariant: all nodes before `i` are good. The measure is the nodes that are left. Assumes nothing.
 use Prim.Native.Nat.{ℕ, _-_, _≤_, _<_}
 use native.Mathlib.Omega.{arith}
-use native.Mathlib.Decide.{ℕ-discrete}
 use mathlib.Core.Path.{_≡_, sym, _∙_, ap}
 use mathlib.Core.Bool.{true, false≢true}
-use mathlib.Core.Logic.{by-cases}
 use borrow.Author.Count.{below-more}
 use borrow.Author.Needs.{needs}
 use borrow.Author.Tests.{not-false}

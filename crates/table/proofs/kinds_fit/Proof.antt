@@ -1,5 +1,5 @@
 -- `table::kinds_fit` meets its contract. The loop's invariant: if `fit` holds, the kinds before `i` but the root's fit. The measure is the kinds that are left. Assumes nothing.
-use Prim.Native.Nat.{ℕ, _-_, _≤_, _<_}
+use Prim.Native.Nat.{ℕ, _-_, _<_}
 use native.Mathlib.Omega.{arith}
 use mathlib.Core.Path.{_≡_, sym, _∙_}
 use mathlib.Core.Bool.{true}

@@ -3,14 +3,14 @@
 use Prim.Native.Nat.{ℕ, _-_, _≤_, _<_}
 use native.Mathlib.Omega.{arith}
 use mathlib.Core.Path.{_≡_, sym, _∙_}
-use mathlib.Core.Bool.{true, _&&_}
+use mathlib.Core.Bool.{true}
 use mathlib.Core.List.{List}
 use borrow.Author.Count.{below-more}
 use borrow.Author.Needs.{needs}
 use lib.Dec.{eqb}
 use lib.ListN.{length, getD}
 use denote.Ref.{now}
-use Rattle.paper.specs.Document.{marked, goodMark, marksFault, tableOf}
+use Rattle.paper.specs.Document.{goodMark, marksFault, tableOf}
 use Rattle.paper.proofs.Tests.{true-and, or-right}
 use Rattle.table.specs.Passing.{AllMarked, Inside}
 use Rattle.table.proofs.Firsts.{no-fault, fault-at}

@@ -6,7 +6,6 @@ use mathlib.Core.Path.{_≡_, sym, _∙_, ap}
 use mathlib.Core.Bool.{true, not, cond}
 use mathlib.Core.Option.{some}
 use borrow.Author.Count.{below-more}
-use borrow.Author.Needs.{needs}
 use borrow.Author.Tests.{eq-eqb, ne-eqb}
 use lib.ListN.{length}
 use denote.Ref.{now}
