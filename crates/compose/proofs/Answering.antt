@@ -7,11 +7,11 @@ use mathlib.Core.Bool.{true, _&&_}
 use mathlib.Core.List.{List, [], _∷_}
 use mathlib.Core.Option.{Option, none, some}
 use lib.Dec.{ltb}
-use lib.ListN.{length, length-append}
+use lib.ListN.{length}
 use borrow.Author.Tests.{lt-ltb, le-ltb, ltb-true}
 use Rattle.paper.specs.Tools.{written, when}
-use Rattle.paper.specs.Query.{path, Steps, Query, paths}
-use Rattle.paper.specs.Items.{stepCount, encodeExpr, encodeSteps, encodePaths, encode, decode, goodSteps, goodPaths, good}
+use Rattle.paper.specs.Query.{Steps, Query, paths}
+use Rattle.paper.specs.Items.{stepCount, encodeSteps, encodePaths, encode, decode, goodSteps, goodPaths, good}
 use Rattle.paper.specs.Measures.{size, nesting}
 use Rattle.paper.specs.Answers.{Answer, value, refusal, line, atExit, shortOfItems, composedGot, composeAnswer, composeOut}
 use Rattle.paper.specs.Composition.{composed, stepsInPaths, selectedSize, composedSize, composedNesting}
@@ -24,31 +24,10 @@ use Rattle.theorems.proofs.Forms.{good-proper}
 use Rattle.shape.specs.Walks.{shapeOf}
 use Rattle.shape.specs.declared.Shape.{Shape}
 use Rattle.shape.specs.declared.Shape.the-variants.{Query as Fine, Malformed}
-use Rattle.compose.specs.Pieces.{stepItems, IsQuery, pathsGot, selectedGot, sizeGot}
+use Rattle.reverse.specs.Reverses.{IsQuery, pathsGot, selectedGot}
+use Rattle.reverse.proofs.Selected.{selected-length}
+use Rattle.compose.specs.Pieces.{stepItems, sizeGot}
 use Rattle.compose.proofs.Items.{steps-steps, steps-append, count-path}
-use Rattle.compose.proofs.Selected.{selected-length}
-
--- There are no more paths than items, and at least one.
-paths-few : (ps : List Steps) → length ps ≤ length (encodePaths ps)
-paths-few [] = omega arith
-paths-few (p ∷ ps) = omega (arith, paths-few ps, length-append (encodeExpr (path p)) (encodePaths ps))
-
-pub paths-got : (items : List ℕ) → IsQuery items → (1 ≤ pathsGot (decode items)) × (pathsGot (decode items) ≤ length items)
-unfolding encode
-paths-got items q =
-    let e = ap pathsGot (q .decodes) in
-    (omega arith, omega (arith, paths-few (paths (q .query)), ap length (encode-decode items (q .query) (q .decodes) .items)))
-
--- THE SIZE OF S, from the number of items and of paths.
-pub selected-got : (items : List ℕ) → IsQuery items → length (selectedGot (decode items)) ≡ length items + 5 * pathsGot (decode items) - 1
-selected-got items q =
-    omega (
-      arith,
-      ap (λ (o : Option Query). length (selectedGot o)) (q .decodes),
-      ap pathsGot (q .decodes),
-      selected-length (q .query),
-      ap length (encode-decode items (q .query) (q .decodes) .items),
-    )
 
 -- THE SIZE OF THE COMPOSITION, from the numbers of items, steps and paths. The steps are counted of all depths.
 paths-steps : (ps : List Steps) → goodPaths ps ≡ true → stepItems (encodePaths ps) ≡ stepsInPaths ps

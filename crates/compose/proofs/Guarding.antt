@@ -4,9 +4,10 @@ use native.Mathlib.Omega.{arith}
 use mathlib.Core.Path.{_≡_, refl, sym, _∙_, ap, subst}
 use mathlib.Core.List.{List, [], _∷_, _++_, append-assoc, append-nil}
 use lib.ListN.{length, getD, take, drop, length-append, drop-of-length-le}
-use Rattle.compose.specs.Pieces.{placed, owing, guardedItem, guardedItems, Raisable}
-use Rattle.compose.proofs.Placing.{placed-nil, placed-after, drop-placed, same-size}
-use Rattle.compose.proofs.Reading.{at-place}
+use Rattle.reverse.specs.Reverses.{placed, owing}
+use Rattle.reverse.proofs.Placing.{placed-nil, placed-after, drop-placed, same-size}
+use Rattle.reverse.proofs.Reading.{at-place}
+use Rattle.compose.specs.Pieces.{guardedItem, guardedItems, Raisable}
 
 -- So many items are guarded, and what was written for them stands from `start` to `at`.
 pub record Guarded (chosen steps old out : List ℕ) (start place at : ℕ) : Type 0 where

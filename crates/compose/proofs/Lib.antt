@@ -1,9 +1,7 @@
-pub mod Placing
+pub mod Copying
 pub mod Items
 pub mod Reading
 pub mod Guarding
-pub mod Paths
-pub mod WayBack
 pub mod Outer
-pub mod Selected
+pub mod Composed
 pub mod Answering

@@ -1,15 +1,17 @@
 -- Guarding one top-level path: its item with the count raised, its items guarded, the last step. S stands where it stood. Assumes nothing.
-use Prim.Native.Nat.{ℕ, _+_, _-_, _≤_, _<_}
+use Prim.Native.Nat.{ℕ, _+_, _≤_, _<_}
 use native.Mathlib.Omega.{arith}
 use mathlib.Core.Path.{_≡_, refl, sym, _∙_, ap, ap₂, subst}
 use mathlib.Core.List.{List, [], _∷_, _++_}
 use lib.ListN.{length, take, drop, set, length-append, length-set}
 use Rattle.paper.specs.Query.{Steps}
 use Rattle.paper.specs.Items.{packPath, stepCount, encodeSteps, decode}
-use Rattle.compose.specs.Pieces.{placed, lastItems, guardedItems, Raisable, guardedPath, eachPath, eachGot}
-use Rattle.compose.proofs.Placing.{placed-one, drop-placed, then-chosen, same-size, part-length}
+use Rattle.reverse.specs.Reverses.{placed, eachPath, eachGot}
+use Rattle.reverse.proofs.Placing.{placed-one, drop-placed, same-size}
+use Rattle.reverse.proofs.Paths.{Writing, room-left, Top}
+use Rattle.compose.specs.Pieces.{lastItems, guardedItems, Raisable, guardedPath}
+use Rattle.compose.proofs.Copying.{then-chosen, part-length}
 use Rattle.compose.proofs.Items.{steps-raisable}
-use Rattle.compose.proofs.Paths.{Writing, room-left, Top}
 
 module _ (outer old out : List ℕ) (from count place at next steps : ℕ) (p : Steps) (ps : List Steps)
     (w : Writing (guardedPath (take count (drop from old))) outer old out 0 place at) (e : w .rest ≡ p ∷ ps) (t : Top outer place next steps p ps)

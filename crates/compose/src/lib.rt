@@ -4,63 +4,14 @@ use item::Step;
 use paper::Answer;
 use shape::Shape;
 ghost use mathlib.Core.Path.{_≡_};
-ghost use Prim.Native.Nat.{_+_, _-_, _*_, _≤_, _<_, max};
-ghost use mathlib.Core.Bool.{true};
-ghost use lib.ListN.{length, take, drop, replicate};
-ghost use Rattle.paper.specs.Query.{Steps, anyNode, stop, bare, pred};
-ghost use Rattle.paper.specs.Items.{orItem, stepCount, encodeExpr, encodeSteps, goodSteps, decode};
-ghost use Rattle.paper.specs.Composition.{atRoot, wayBack, reversed};
+ghost use Prim.Native.Nat.{_+_, _≤_, _<_, max};
+ghost use lib.ListN.{length, take, drop};
+ghost use Rattle.paper.specs.Items.{decode};
 ghost use Rattle.paper.specs.Tools.{written};
 ghost use Rattle.paper.specs.Answers.{composedGot, composeAnswer, composeOut};
 ghost use Rattle.paper.specs.Told.{told};
-ghost use Rattle.compose.specs.Pieces.{placed, owing, eaten, stepItem, stepItems, IsQuery, pathsGot, StepSaid};
-ghost use Rattle.compose.specs.Pieces.{someNodeItems, visibleItems, lastItems, guardedStep, guardedItem, guardedItems, Raisable, guardedPath, reversedItems, eachGot, selectedGot, sizeGot};
-
-// How many steps, predicates or operands belong to an item.
-fn owes(w: u32) -> usize
-    ensures { λ r. ⌜ (r ≡ owing w) × (r ≤ 8191) ⌝ }
-{
-    let item = item::unpack(w);
-    match item {
-        Item::Path(count) => count,
-        Item::Step(step) => step.count,
-        Item::And => 2,
-        Item::Or => 2,
-        Item::Not => 1,
-        Item::Bad => 0,
-    }
-}
-
-// Where so many steps, predicates or operands end that begin at `at`.
-fn skip(items: &[u32], at: usize, count: usize) -> usize
-    requires { ⌜ (length (now items) ≤ 4096) × (at ≤ length (now items)) × (count ≤ 8191) ⌝ }
-    ensures { λ r. ⌜ (r ≡ at + eaten (drop at (now (items .entry))) count) × (r ≤ length (now (items .entry))) ⌝ }
-{
-    let mut place = at;
-    let mut owed = count;
-    while place < items.len() {
-        if owed == 0 {
-            return place;
-        }
-        owed = owed - 1 + owes(items[place]);
-        place += 1;
-    }
-    place
-}
-
-// How many top-level paths a query has.
-fn count_paths(items: &[u32]) -> usize
-    requires { ⌜ (IsQuery (now items)) × (length (now items) ≤ 4096) ⌝ }
-    ensures { λ r. ⌜ r ≡ pathsGot (decode (now (items .entry))) ⌝ }
-{
-    let mut place = 0;
-    let mut paths = 0;
-    while place < items.len() {
-        place = skip(items, place + 1, owes(items[place]));
-        paths += 1;
-    }
-    paths
-}
+ghost use Rattle.reverse.specs.Reverses.{placed, owing, IsQuery, pathsGot, eachGot, selectedGot};
+ghost use Rattle.compose.specs.Pieces.{stepItem, stepItems, someNodeItems, visibleItems, lastItems, guardedStep, guardedItem, guardedItems, Raisable, guardedPath, sizeGot};
 
 // One for a step, nothing for another item.
 fn one_step(w: u32) -> usize
@@ -84,45 +35,6 @@ fn count_steps(items: &[u32]) -> usize
     steps
 }
 
-// What a step item says.
-fn as_step(w: u32) -> Step
-    ensures { λ r. ⌜ StepSaid w r ⌝ }
-{
-    let item = item::unpack(w);
-    let Item::Step(step) = item else {
-        return Step {
-            axis: item::SELF,
-            test: item::ANY_NODE,
-            count: 0,
-        };
-    };
-    step
-}
-
-// Writes the items from `at` on.
-fn put_items(items: &[u32], out: &mut [u32], at: usize)
-    requires { ⌜ at + length (now items) ≤ length (now out) ⌝ }
-    ensures { λ _. ⌜ now (out .exit) ≡ placed (now (items .entry)) at (now (out .entry)) ⌝ }
-{
-    let mut done = 0;
-    while done < items.len() {
-        out[at + done] = items[done];
-        done += 1;
-    }
-}
-
-// Writes so many `or` items.
-fn put_ors(out: &mut [u32], at: usize, count: usize)
-    requires { ⌜ at + count ≤ length (now out) ⌝ }
-    ensures { λ _. ⌜ now (out .exit) ≡ placed (replicate count orItem) at (now (out .entry)) ⌝ }
-{
-    let mut done = 0;
-    while done < count {
-        out[at + done] = item::OR;
-        done += 1;
-    }
-}
-
 // Copies items that stand further on in the output.
 fn copy(out: &mut [u32], at: usize, from: usize, count: usize)
     requires { ⌜ (at ≤ from) × (from + count ≤ length (now out)) ⌝ }
@@ -133,89 +45,6 @@ fn copy(out: &mut [u32], at: usize, from: usize, count: usize)
         out[at + done] = out[from + done];
         done += 1;
     }
-}
-
-// `not(parent::node())`, three items.
-fn put_at_root(out: &mut [u32], at: usize)
-    requires { ⌜ at + 3 ≤ length (now out) ⌝ }
-    ensures { λ _. ⌜ now (out .exit) ≡ placed (encodeExpr atRoot) at (now (out .entry)) ⌝ }
-{
-    out[at] = item::NOT;
-    out[at + 1] = item::pack_path(1);
-    out[at + 2] = item::pack_step(Step {
-        axis: item::PARENT,
-        test: item::ANY_NODE,
-        count: 0,
-    });
-}
-
-// The way back over the steps of a path, written from its end to its start: each step's test and predicates follow the turned axis of the step after it.
-fn put_way_back(steps: &[u32], out: &mut [u32], at: usize)
-    requires { ⌜ (length (now steps) ≤ 4096) × (at + length (now steps) + 4 ≤ length (now out)) ⌝ }
-    ensures { λ _. ⌜ (length (now (out .exit)) ≡ length (now (out .entry)))
-        × ((s : Steps) → now (steps .entry) ≡ encodeSteps s → goodSteps s ≡ true
-        → now (out .exit) ≡ placed (encodeSteps (wayBack anyNode (pred atRoot bare) stop s)) at (now (out .entry))) ⌝ }
-{
-    let mut back = at + 1 + steps.len();
-    put_at_root(out, back);
-    let mut place = 0;
-    let mut test = item::ANY_NODE;
-    let mut count = 1;
-    while place < steps.len() {
-        let step = as_step(steps[place]);
-        let next = skip(steps, place + 1, step.count);
-        out[back - 1] = item::pack_step(Step {
-            axis: item::turn(step.axis),
-            test,
-            count,
-        });
-        back -= next - place;
-        put_items(&steps[place + 1..next], out, back);
-        place = next;
-        test = step.test;
-        count = step.count;
-    }
-    out[at] = item::pack_step(Step {
-        axis: item::SELF,
-        test,
-        count,
-    });
-}
-
-// The reverse of a path, from its items and the number of its steps.
-fn put_reverse(steps: &[u32], count: usize, out: &mut [u32], at: usize)
-    requires { ⌜ (length (now steps) ≤ 4096) × (count < 8191) × (at + length (now steps) + 5 ≤ length (now out)) ⌝ }
-    ensures { λ _. ⌜ (length (now (out .exit)) ≡ length (now (out .entry)))
-        × ((s : Steps) → now (steps .entry) ≡ encodeSteps s → goodSteps s ≡ true → count ≡ stepCount s
-        → now (out .exit) ≡ placed (encodeExpr (reversed s)) at (now (out .entry))) ⌝ }
-{
-    out[at] = item::pack_path(count + 1);
-    put_way_back(steps, out, at + 1);
-}
-
-// The reverses of the inner paths, one after the other.
-fn put_reverses(inner: &[u32], out: &mut [u32], start: usize)
-    requires { ⌜ (IsQuery (now inner)) × (length (now inner) ≤ 4096) × (start + length (eachGot reversedItems (decode (now inner))) ≤ length (now out)) ⌝ }
-    ensures { λ _. ⌜ now (out .exit) ≡ placed (eachGot reversedItems (decode (now (inner .entry)))) start (now (out .entry)) ⌝ }
-{
-    let mut place = 0;
-    let mut at = start;
-    while place < inner.len() {
-        let count = owes(inner[place]);
-        let next = skip(inner, place + 1, count);
-        put_reverse(&inner[place + 1..next], count, out, at);
-        at += next - place + 4;
-        place = next;
-    }
-}
-
-// S: the reverses of the inner paths joined by `or`.
-fn put_selected(inner: &[u32], paths: usize, out: &mut [u32], at: usize)
-    requires { ⌜ (IsQuery (now inner)) × (length (now inner) ≤ 4096) × (paths ≡ pathsGot (decode (now inner))) × (at + length (selectedGot (decode (now inner))) ≤ length (now out)) ⌝ }
-    ensures { λ _. ⌜ now (out .exit) ≡ placed (selectedGot (decode (now (inner .entry)))) at (now (out .entry)) ⌝ }
-{
-    put_ors(out, at, paths - 1);
-    put_reverses(inner, out, at + (paths - 1));
 }
 
 // `axis::node()[S]`, with S copied from further on.
@@ -307,8 +136,8 @@ fn guard_paths(outer: &[u32], out: &mut [u32], from: usize, count: usize)
     let mut place = 0;
     let mut at = 0;
     while place < outer.len() {
-        let steps = owes(outer[place]);
-        let next = skip(outer, place + 1, steps);
+        let steps = reverse::owes(outer[place]);
+        let next = reverse::skip(outer, place + 1, steps);
         out[at] = item::pack_path(steps + 1);
         let end = guard_steps(&outer[place + 1..next], out, at + 1, from, count);
         at = put_last(out, end, from, count);
@@ -330,16 +159,8 @@ fn put_composed(
     ensures { λ _. ⌜ now (out .exit) ≡ written (composedGot (decode (now (outer .entry))) (decode (now (inner .entry)))) (now (out .entry)) ⌝ }
 {
     let from = size - count;
-    put_selected(inner, paths, out, from);
+    reverse::put_selected(inner, paths, out, from);
     guard_paths(outer, out, from, count);
-}
-
-// The size of S: 01's w(inner) + 5k - 1.
-fn selected_size(inner: &[u32], paths: usize) -> usize
-    requires { ⌜ (IsQuery (now inner)) × (length (now inner) ≤ 4096) × (paths ≡ pathsGot (decode (now inner))) ⌝ }
-    ensures { λ r. ⌜ (r ≡ length (selectedGot (decode (now (inner .entry))))) × (r ≤ 24576) ⌝ }
-{
-    inner.len() + 5 * paths - 1
 }
 
 // The size of the composition: 01's w(outer) + t(5 + 2s) + m(3 + s).
@@ -348,7 +169,7 @@ fn composed_size(outer: &[u32], count: usize) -> usize
     ensures { λ r. ⌜ r ≡ sizeGot (decode (now (outer .entry))) count ⌝ }
 {
     let steps = count_steps(outer);
-    let paths = count_paths(outer);
+    let paths = reverse::count_paths(outer);
     outer.len() + steps * (5 + 2 * count) + paths * (3 + count)
 }
 
@@ -390,8 +211,8 @@ pub fn compose(outer: &[u32], inner: &[u32], out: &mut [u32]) -> Answer
     if paper::BRACKET_LIMIT < nesting {
         return Answer::TooNested(nesting);
     }
-    let paths = count_paths(inner);
-    let count = selected_size(inner, paths);
+    let paths = reverse::count_paths(inner);
+    let count = reverse::selected_size(inner, paths);
     let size = composed_size(outer, count);
     if out.len() < size {
         return Answer::Short(size);

@@ -26,7 +26,7 @@ use Rattle.promises.specs.UniqueParts.{RunOfUnique, StepsUnique, Measure
 use Rattle.promises.specs.UniqueParts.{PutByteUnique, PutUnique, PutSlashUnique, PutBarUnique, PutOpenUnique, PutOrUnique, PutAndUnique, PutNotUnique, PutHeadUnique}
 use Rattle.promises.specs.UniqueParts.{LineEndUnique, LineStartUnique, PutRefusalUnique, PutResultUnique}
 use Rattle.promises.specs.UniqueParts.{FillUnique, CopyUnique, KeepUnique, AddUnique, FlipUnique, KeepSecondUnique, AddSecondUnique, KeepMetUnique, AlongUnique}
-use Rattle.promises.specs.UniqueParts.{KeepQueryUnique}
+use Rattle.promises.specs.UniqueParts.{KeepQueryUnique, OwesUnique, SkipUnique, CountPathsUnique, PutSelectedUnique, SelectedSizeUnique}
 use Rattle.promises.proofs.Telling.{same, same-slice, same-slices}
 
 -- ITEMS.
@@ -216,3 +216,19 @@ along-unique κs a u v x y g p q =
 pub keep-query-unique : KeepQueryUnique
 keep-query-unique κs a u v x y g p q =
     let runs = g .1 .1 in (refl, same-slices (p .0 (runs .query) (runs .decodes)) (p .1) (q .0 (runs .query) (runs .decodes)) (q .1))
+
+-- REVERSES.
+pub owes-unique : OwesUnique
+owes-unique κs a u v x y g p q = same (p .0) (q .0)
+
+pub skip-unique : SkipUnique
+skip-unique κs a u v x y g p q = same (p .0) (q .0)
+
+pub count-paths-unique : CountPathsUnique
+count-paths-unique κs a u v x y g p q = same p q
+
+pub put-selected-unique : PutSelectedUnique
+put-selected-unique κs a u v x y g p q = (refl, same-slice p q)
+
+pub selected-size-unique : SelectedSizeUnique
+selected-size-unique κs a u v x y g p q = same (p .0) (q .0)

@@ -57,6 +57,11 @@ use Rattle.sets.proofs.add_second
 use Rattle.sets.proofs.keep_met
 use Rattle.sets.proofs.along
 use Rattle.keep.proofs.keep as keep_query
+use Rattle.reverse.proofs.owes
+use Rattle.reverse.proofs.skip
+use Rattle.reverse.proofs.count_paths
+use Rattle.reverse.proofs.put_selected
+use Rattle.reverse.proofs.selected_size
 use Rattle.promises.specs.Uniqueness.{Unique, UniqueAnswer}
 
 -- The number is that of an axis.
@@ -241,3 +246,19 @@ AlongUnique =
 abbrev pub KeepQueryUnique : Type 0
 KeepQueryUnique =
     Unique keep_query.Kinds.ps keep_query.Kinds.r keep_query.Reads.Pre keep_query.Reads.Post (λ κs x. now (x .1 .1 .1 .1 .0) ∷ now (x .1 .1 .1 .1 .1 .0) ∷ [])
+
+-- REVERSES.
+abbrev pub OwesUnique : Type 0
+OwesUnique = UniqueAnswer owes.Kinds.ps owes.Kinds.r owes.Reads.Pre owes.Reads.Post
+
+abbrev pub SkipUnique : Type 0
+SkipUnique = UniqueAnswer skip.Kinds.ps skip.Kinds.r skip.Reads.Pre skip.Reads.Post
+
+abbrev pub CountPathsUnique : Type 0
+CountPathsUnique = UniqueAnswer count_paths.Kinds.ps count_paths.Kinds.r count_paths.Reads.Pre count_paths.Reads.Post
+
+abbrev pub PutSelectedUnique : Type 0
+PutSelectedUnique = Unique put_selected.Kinds.ps put_selected.Kinds.r put_selected.Reads.Pre put_selected.Reads.Post (λ κs x. now (x .1 .1 .0) ∷ [])
+
+abbrev pub SelectedSizeUnique : Type 0
+SelectedSizeUnique = UniqueAnswer selected_size.Kinds.ps selected_size.Kinds.r selected_size.Reads.Pre selected_size.Reads.Post

@@ -1,5 +1,5 @@
 -- `compose::compose` meets its contract: each return is the first line of the table that holds. Assumes nothing.
-use Prim.Native.Nat.{_+_, _-_}
+use Prim.Native.Nat.{_+_}
 use native.Mathlib.Omega.{arith}
 use mathlib.Core.Path.{refl}
 use denote.Ref.{now}

@@ -1,8 +1,9 @@
 -- `compose::composed_size` meets its contract: each product has factors within limits, so nothing wraps. Assumes nothing.
-use Prim.Native.Nat.{_+_, _-_, _*_}
+use Prim.Native.Nat.{_+_, _*_}
 use native.Mathlib.Omega.{arith}
 use denote.Ref.{now}
-use Rattle.compose.proofs.Answering.{paths-got, size-got, product}
+use Rattle.reverse.proofs.Selected.{paths-got}
+use Rattle.compose.proofs.Answering.{size-got, product}
 use borrow.Author.Needs.{needs}
 use Rattle.compose.proofs.composed_size.Statement.{statement}
 use Rattle.compose.proofs.composed_size.Tie as tie

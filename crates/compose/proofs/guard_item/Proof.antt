@@ -1,12 +1,14 @@
 -- `compose::guard_item` meets its contract: a step gets V, another item stays as it is. Assumes nothing.
-use Prim.Native.Nat.{ℕ, _-_}
+use Prim.Native.Nat.{ℕ}
 use native.Mathlib.Omega.{arith}
 use mathlib.Core.Path.{sym, _∙_, ap}
 use mathlib.Core.List.{List}
 use denote.Ref.{now}
 use lib.ListN.{length, take, drop}
-use Rattle.compose.specs.Pieces.{placed, guardedItem}
-use Rattle.compose.proofs.Placing.{placed-one, same-size, part-length}
+use Rattle.reverse.specs.Reverses.{placed}
+use Rattle.reverse.proofs.Placing.{placed-one, same-size}
+use Rattle.compose.specs.Pieces.{guardedItem}
+use Rattle.compose.proofs.Copying.{part-length}
 use Rattle.compose.proofs.Reading.{guarded-room, step-fields, no-step-guarded, step-guarded}
 use borrow.Author.Needs.{needs}
 use Rattle.compose.proofs.guard_item.Statement.{statement}

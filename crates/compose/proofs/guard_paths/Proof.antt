@@ -4,8 +4,8 @@ use Prim.Native.Nat.{_-_}
 use native.Mathlib.Omega.{arith}
 use denote.Ref.{now}
 use lib.ListN.{length, take, drop}
+use Rattle.reverse.proofs.Paths.{Writing, writing-start, writing-more, writing-done, top}
 use Rattle.compose.specs.Pieces.{guardedPath}
-use Rattle.compose.proofs.Paths.{Writing, writing-start, writing-more, writing-done, top}
 use Rattle.compose.proofs.Outer.{raised-few, path-room, steps-ask, last-asks, path-wrote, path-reached}
 use Rattle.compose.proofs.guard_paths.Statement.{statement}
 use Rattle.compose.proofs.guard_paths.Tie as tie

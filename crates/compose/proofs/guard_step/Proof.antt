@@ -1,13 +1,15 @@
 -- `compose::guard_step` meets its contract: the step with its count raised, then V. Assumes nothing.
-use Prim.Native.Nat.{_+_, _-_}
+use Prim.Native.Nat.{_+_}
 use native.Mathlib.Omega.{arith}
 use mathlib.Core.Path.{_≡_, refl, _∙_, ap}
 use mathlib.Core.List.{[], _∷_}
 use denote.Ref.{now}
 use lib.ListN.{take, drop, set, length-set, length-append}
 use Rattle.item.specs.Unpacked.{packed}
-use Rattle.compose.specs.Pieces.{placed, someNodeItems, visibleItems, guardedStep}
-use Rattle.compose.proofs.Placing.{placed-one, then-chosen, same-size, part-length}
+use Rattle.reverse.specs.Reverses.{placed}
+use Rattle.reverse.proofs.Placing.{placed-one, same-size}
+use Rattle.compose.specs.Pieces.{someNodeItems, visibleItems, guardedStep}
+use Rattle.compose.proofs.Copying.{then-chosen, part-length}
 use borrow.Author.Needs.{needs}
 use Rattle.compose.proofs.guard_step.Statement.{statement}
 use Rattle.compose.proofs.guard_step.Tie as tie

@@ -7,9 +7,10 @@ use denote.Ref.{now}
 use lib.ListN.{length}
 use Rattle.paper.specs.Items.{decode}
 use Rattle.paper.specs.Answers.{composedGot}
-use Rattle.compose.specs.Pieces.{placed, guardedPath, eachGot, selectedGot}
-use Rattle.compose.proofs.Placing.{same-size}
-use Rattle.compose.proofs.Selected.{composed-parts, chosen-is, whole-written, count-least}
+use Rattle.reverse.specs.Reverses.{placed, eachGot, selectedGot}
+use Rattle.reverse.proofs.Placing.{same-size}
+use Rattle.compose.specs.Pieces.{guardedPath}
+use Rattle.compose.proofs.Composed.{composed-parts, chosen-is, whole-written, count-least}
 use borrow.Author.Needs.{needs}
 use Rattle.compose.proofs.put_composed.Statement.{statement}
 use Rattle.compose.proofs.put_composed.Tie as tie

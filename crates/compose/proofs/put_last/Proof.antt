@@ -1,13 +1,15 @@
 -- `compose::put_last` meets its contract: the step, then the path with S. Assumes nothing.
-use Prim.Native.Nat.{_+_, _-_}
+use Prim.Native.Nat.{_+_}
 use native.Mathlib.Omega.{arith}
 use mathlib.Core.Path.{_≡_, refl, _∙_, ap}
 use mathlib.Core.List.{[], _∷_}
 use denote.Ref.{now}
 use lib.ListN.{take, drop, set, length-set}
 use Rattle.item.specs.Unpacked.{packed}
-use Rattle.compose.specs.Pieces.{placed, someNodeItems, lastItems}
-use Rattle.compose.proofs.Placing.{placed-one, then-chosen, same-size, part-length}
+use Rattle.reverse.specs.Reverses.{placed}
+use Rattle.reverse.proofs.Placing.{placed-one, same-size}
+use Rattle.compose.specs.Pieces.{someNodeItems, lastItems}
+use Rattle.compose.proofs.Copying.{then-chosen, part-length}
 use borrow.Author.Needs.{needs}
 use Rattle.compose.proofs.put_last.Statement.{statement}
 use Rattle.compose.proofs.put_last.Tie as tie

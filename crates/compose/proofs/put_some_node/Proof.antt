@@ -1,5 +1,5 @@
 -- `compose::put_some_node` meets its contract: two items, then S. Assumes nothing.
-use Prim.Native.Nat.{_+_, _-_}
+use Prim.Native.Nat.{_+_}
 use native.Mathlib.Omega.{arith}
 use mathlib.Core.Path.{_≡_, refl}
 use mathlib.Core.List.{[], _∷_}
@@ -7,8 +7,10 @@ use denote.Ref.{now}
 use lib.ListN.{take, drop, length-set}
 use Rattle.paper.specs.Items.{packPath}
 use Rattle.item.specs.Unpacked.{packed}
-use Rattle.compose.specs.Pieces.{placed, someNodeItems}
-use Rattle.compose.proofs.Placing.{two-put, then-chosen, same-size, part-length}
+use Rattle.reverse.specs.Reverses.{placed}
+use Rattle.reverse.proofs.Placing.{two-put, same-size}
+use Rattle.compose.specs.Pieces.{someNodeItems}
+use Rattle.compose.proofs.Copying.{then-chosen, part-length}
 use borrow.Author.Needs.{needs}
 use Rattle.compose.proofs.put_some_node.Statement.{statement}
 use Rattle.compose.proofs.put_some_node.Tie as tie

@@ -1,13 +1,15 @@
 -- `compose::put_visible` meets its contract: `or`, then the two axes, each with S. Assumes nothing.
-use Prim.Native.Nat.{_+_, _-_}
+use Prim.Native.Nat.{_+_}
 use native.Mathlib.Omega.{arith}
 use mathlib.Core.Path.{_≡_, refl}
 use mathlib.Core.List.{[], _∷_}
 use denote.Ref.{now}
 use lib.ListN.{take, drop, length-set, length-append}
 use Rattle.paper.specs.Items.{orItem}
-use Rattle.compose.specs.Pieces.{placed, someNodeItems, visibleItems}
-use Rattle.compose.proofs.Placing.{placed-one, then-chosen, same-size, part-length}
+use Rattle.reverse.specs.Reverses.{placed}
+use Rattle.reverse.proofs.Placing.{placed-one, same-size}
+use Rattle.compose.specs.Pieces.{someNodeItems, visibleItems}
+use Rattle.compose.proofs.Copying.{then-chosen, part-length}
 use borrow.Author.Needs.{needs}
 use Rattle.compose.proofs.put_visible.Statement.{statement}
 use Rattle.compose.proofs.put_visible.Tie as tie

@@ -1,0 +1,101 @@
+-- The items of V, of the last step and of the whole composition, from their parts; and where S stands in it. Assumes nothing.
+use Prim.Native.Nat.{ℕ, _+_, _≤_}
+use native.Mathlib.Omega.{arith}
+use mathlib.Core.Path.{_≡_, refl, sym, _∙_, ap, ap₂}
+use mathlib.Core.Bool.{true, _&&_}
+use mathlib.Core.List.{List, [], _∷_, _++_, map, append-assoc, append-nil}
+use mathlib.Core.Option.{Option}
+use lib.Dec.{ltb}
+use lib.ListN.{length, take, drop, length-append}
+use lib.Seq.{drop-at, length-take-le, take-at}
+use Rattle.paper.specs.Query.{Axis, descendantOrSelf, ancestorOrSelf, anyNode, Expr, path, Steps, stop, step, Query, paths}
+use Rattle.paper.specs.Items.{axisNumber, packPath, packStep, orItem, stepCount, predCount, encodeExpr, encodeSteps, encodePreds, encodePaths, encode, decode, goodSteps, goodPaths, good}
+use Rattle.paper.specs.Tools.{written}
+use Rattle.paper.specs.Answers.{composedGot}
+use Rattle.paper.specs.Composition.{selectedBy, someNode, visible, guardSteps, append, lastStep, composedPath, composed}
+use Rattle.paper.proofs.Tests.{and-true}
+use Rattle.paper.proofs.Encoding.{encode-decode}
+use Rattle.reverse.specs.Reverses.{placed, eachPath, eachGot, selectedGot, IsQuery}
+use Rattle.reverse.proofs.Placing.{drop-placed}
+use Rattle.compose.specs.Pieces.{someNodeItems, visibleItems, lastItems, guardedItems, guardedPath}
+use Rattle.compose.proofs.Items.{steps-guarded}
+
+-- V and the last step.
+some-node-items : (a : Axis) (e : Expr) → encodeExpr (someNode a e) ≡ someNodeItems (axisNumber a) (encodeExpr e)
+some-node-items a e =
+    ap (λ (l : List ℕ). packPath 1 ∷ packStep a anyNode 1 ∷ l) (append-nil (encodeExpr e ++ []) ∙ append-nil (encodeExpr e))
+
+pub visible-items : (q : Query) → visibleItems (encodeExpr (selectedBy q)) ≡ encodeExpr (visible q)
+unfolding visible
+visible-items q =
+    ap₂ (λ (x y : List ℕ). orItem ∷ (x ++ y)) (sym (some-node-items descendantOrSelf (selectedBy q))) (sym (some-node-items ancestorOrSelf (selectedBy q)))
+
+pub last-items : (q : Query) → lastItems (encodeExpr (selectedBy q)) ≡ encodeSteps (lastStep q)
+unfolding lastStep
+last-items q =
+    ap (λ (l : List ℕ). packStep descendantOrSelf anyNode 1 ∷ l) (sym (some-node-items ancestorOrSelf (selectedBy q))) ∙
+    ap (λ (l : List ℕ). packStep descendantOrSelf anyNode 1 ∷ l)
+    (sym (append-nil (encodeExpr (someNode ancestorOrSelf (selectedBy q)) ++ []) ∙ append-nil (encodeExpr (someNode ancestorOrSelf (selectedBy q)))))
+
+-- A path with one step more at its end.
+append-items : (s last : Steps) → encodeSteps (append s last) ≡ encodeSteps s ++ encodeSteps last
+append-items stop last = refl
+append-items (step a t ps r) last =
+    ap (λ (l : List ℕ). packStep a t (predCount ps) ∷ (encodePreds ps ++ l)) (append-items r last) ∙
+    ap (λ (l : List ℕ). packStep a t (predCount ps) ∷ l) (sym (append-assoc (encodePreds ps) (encodeSteps r) (encodeSteps last)))
+
+append-count : (s : Steps) (e : Expr) (q : Query) → stepCount (append (guardSteps s e) (lastStep q)) ≡ stepCount s + 1
+unfolding lastStep
+append-count stop e q = omega arith
+append-count (step a t ps r) e q = omega (arith, append-count r e q)
+
+-- THE COMPOSITION, path by path.
+path-items : (q : Query) (p : Steps) → goodSteps p ≡ true → encodeExpr (path (composedPath q p)) ≡ guardedPath (encodeExpr (selectedBy q)) p
+unfolding composedPath
+path-items q p g =
+    ap₂ (λ (n : ℕ) (l : List ℕ). packPath n ∷ l) (append-count p (visible q) q)
+    (append-items (guardSteps p (visible q)) (lastStep q) ∙
+    ap₂ (λ (x y : List ℕ). x ++ y) (sym (steps-guarded (encodeExpr (selectedBy q)) (visible q) (visible-items q) p g)) (sym (last-items q)))
+
+paths-composed : (q : Query) (ps : List Steps) → goodPaths ps ≡ true → encodePaths (map (composedPath q) ps) ≡ eachPath (guardedPath (encodeExpr (selectedBy q))) ps
+paths-composed q [] g = refl
+paths-composed q (p ∷ ps) g =
+    let h = and-true (ltb (stepCount p) 8192 && goodSteps p) (goodPaths ps) g in
+    let k = and-true (ltb (stepCount p) 8192) (goodSteps p) (h .0) in
+    ap₂ (λ (x y : List ℕ). x ++ y) (path-items q p (k .1)) (paths-composed q ps (h .1))
+
+pub composed-items : (o i : Query) → good o ≡ true → encode (composed o i) ≡ eachPath (guardedPath (encodeExpr (selectedBy i))) (paths o)
+unfolding encode composed good
+composed-items o i g = paths-composed i (paths o) g
+
+-- The same of what was decoded.
+pub composed-parts : (outer inner : List ℕ) → IsQuery outer → IsQuery inner
+    → composedGot (decode outer) (decode inner) ≡ eachGot (guardedPath (selectedGot (decode inner))) (decode outer)
+composed-parts outer inner o i =
+    ap₂ composedGot (o .decodes) (i .decodes) ∙ composed-items (o .query) (i .query) (encode-decode outer (o .query) (o .decodes) .fine) ∙
+    ap₂ (λ (x y : Option Query). eachGot (guardedPath (selectedGot y)) x) (sym (o .decodes)) (sym (i .decodes))
+
+-- S is placed at the end, and the whole before it.
+pub chosen-is : (new old mid : List ℕ) (from count : ℕ) → mid ≡ placed new from old → from ≤ length old → count ≡ length new → take count (drop from mid) ≡ new
+chosen-is new old mid from count w l n =
+    ap (λ (x : List ℕ). take count (drop from x)) w ∙ ap (take count) (drop-at (take from old) (new ++ drop (from + length new) old) from (length-take-le from old l)) ∙
+    take-at new (drop (from + length new) old) count (sym n)
+
+pub whole-written : (selected whole old mid out : List ℕ) (from : ℕ) → mid ≡ placed selected from old → from ≤ length old → from + length selected ≡ length whole
+    → out ≡ placed whole 0 mid → out ≡ written whole old
+whole-written selected whole old mid out from wm l n w =
+    w ∙
+    ap (λ (x : List ℕ). whole ++ x)
+    (ap (λ (k : ℕ). drop k mid) (let f : 0 + length whole ≡ length whole = omega arith in f) ∙ ap (drop (length whole)) wm ∙ drop-placed selected old from (length whole) l (omega arith))
+
+-- S is part of the whole, since every path ends with it.
+pub count-least : (outer inner : List ℕ) → IsQuery outer → IsQuery inner → length (selectedGot (decode inner)) ≤ length (composedGot (decode outer) (decode inner))
+count-least outer inner o i =
+    let chosen = selectedGot (decode inner) in
+    let p = o .query .first in
+    omega (
+      arith,
+      ap length (composed-parts outer inner o i ∙ ap (eachGot (guardedPath chosen)) (o .decodes)),
+      length-append (guardedPath chosen p) (eachPath (guardedPath chosen) (o .query .others)),
+      length-append (guardedItems chosen (encodeSteps p)) (lastItems chosen),
+    )

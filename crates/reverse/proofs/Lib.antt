@@ -1,0 +1,6 @@
+pub mod Placing
+pub mod Owing
+pub mod Reading
+pub mod Paths
+pub mod WayBack
+pub mod Selected
