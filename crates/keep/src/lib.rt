@@ -52,19 +52,26 @@ fn reach(items: &[u32], from: usize, count: usize, depth: usize, anew: bool, kno
     }
 }
 
-// Looks for the step after so many others, where the one after it was looked for last.
-fn look(items: &[u32], at: usize, known: Places, to: usize, depth: usize) -> Places
-    requires { ⌜ (at ≤ length (now items)) × (depth ≤ 64) × (Known (now items) at depth (suc to) known) ⌝ }
+// Looks for the step after so many others: anew, or where the one after it was looked for last.
+fn look(items: &[u32], at: usize, anew: bool, known: Places, to: usize, depth: usize) -> Places
+    requires { ⌜ (at ≤ length (now items)) × (depth ≤ 64) × (anew ≡ false → Known (now items) at depth (suc to) known) ⌝ }
     requires { ⌜ Readable (takeSteps (takeWithin depth) to (drop at (now items))) ⌝ }
     ensures { λ r. ⌜ (Known (now (items .entry)) at depth to r) × (Ends (now (items .entry)) at (takeSteps (takeWithin depth) to (drop at (now (items .entry)))) (r .place)) ⌝ }
 {
-    let far = reach(items, at, to - to % 256, depth, to % 256 == 255, known.far);
+    let far = reach(
+        items,
+        at,
+        to - to % 256,
+        depth,
+        anew | (to % 256 == 255),
+        known.far,
+    );
     let near = reach(
         items,
         far,
         to % 256 - to % 16,
         depth,
-        to % 16 == 15,
+        anew | (to % 16 == 15),
         known.near,
     );
     let place = past_steps(items, near, to % 16, depth);
@@ -77,10 +84,12 @@ fn look_first(items: &[u32], at: usize, count: usize, depth: usize) -> Places
     requires { ⌜ Readable (takeSteps (takeWithin depth) count (drop at (now items))) ⌝ }
     ensures { λ r. ⌜ (Known (now (items .entry)) at depth count r) × (Ends (now (items .entry)) at (takeSteps (takeWithin depth) count (drop at (now (items .entry)))) (r .place)) ⌝ }
 {
-    let far = past_steps(items, at, count - count % 256, depth);
-    let near = past_steps(items, far, count % 256 - count % 16, depth);
-    let place = past_steps(items, near, count % 16, depth);
-    Places { far, near, place }
+    let nowhere = Places {
+        far: at,
+        near: at,
+        place: at,
+    };
+    look(items, at, true, nowhere, count, depth)
 }
 
 // The step at a place where one stands.
@@ -229,7 +238,7 @@ fn path(
     let mut left = count;
     while 0 < left {
         left -= 1;
-        places = look(items, at, places, left, depth);
+        places = look(items, at, false, places, left, depth);
         let place = places.place;
         let step = step_at(items, place);
         restrict(kind, given, step.test, &mut sets[..n]);

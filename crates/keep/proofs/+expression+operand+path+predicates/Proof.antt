@@ -456,7 +456,7 @@ path-look-requires t c κs =
     let a = start .args in
     let n = length (now (a .parent)) in
     let l = c .before .loop in
-    ((start .pre .1 .1 .1 .inside, start .pre .1 .0, subst (λ (k : ℕ). Known (now (a .items)) (a .at) (a .depth) k (l .places)) (let e : l .left ≡ suc (l .left - 1) = omega (arith, c .loop-test .taken) in e) (l .inv .2)), first-readable (now (a .items)) (a .at) (length (now (a .parent))) (length (now (a .sets))) (a .depth) (a .count) (start .pre .1 .1 .1) (l .left - 1) (omega (arith, l .inv .1 .fewer)))
+    ((start .pre .1 .1 .1 .inside, start .pre .1 .0, λ old. subst (λ (k : ℕ). Known (now (a .items)) (a .at) (a .depth) k (l .places)) (let e : l .left ≡ suc (l .left - 1) = omega (arith, c .loop-test .taken) in e) (l .inv .2)), first-readable (now (a .items)) (a .at) (length (now (a .parent))) (length (now (a .sets))) (a .depth) (a .count) (start .pre .1 .1 .1) (l .left - 1) (omega (arith, l .inv .1 .fewer)))
 
 path-step-at-requires : (t : ℕ) → path-lts.Need-step-at-requires (path-claims t) (path-at t) path.Post path-Inv-loop path-μ-loop
 path-step-at-requires t c κs =

@@ -1,7 +1,8 @@
--- `keep::look` meets its contract: a multiple is found anew where it is passed, and is the one known where it is not. Assumes nothing.
+-- `keep::look` meets its contract: a multiple is found anew where nothing is known or it is passed, and is the one known where it is not. Assumes nothing.
 use Prim.Native.Nat.{ℕ, suc, _-_, _%_}
 use native.Mathlib.Omega.{arith}
 use mathlib.Core.Path.{_≡_, sym, subst}
+use mathlib.Core.Bool.{_||_}
 use mathlib.Core.Logic.{⊎-elim}
 use borrow.Author.Tests.{eqb-false}
 use lib.Dec.{eqb}
@@ -9,6 +10,7 @@ use lib.ListN.{drop}
 use denote.Ref.{now}
 use Rattle.paper.specs.Items.{takeSteps, takeWithin}
 use Rattle.paper.proofs.Tests.{decide}
+use Rattle.paper.proofs.Refusing.{or-none}
 use Rattle.keep.specs.Evals.{Ends}
 use Rattle.keep.proofs.Rows.{fewer-readable, further-readable, further}
 use Rattle.keep.proofs.look.Statement.{statement}
@@ -30,9 +32,10 @@ far c =
     let from : ℕ → ℕ → Type 0 = λ k place. Ends (now (a .items)) (a .at) (takeSteps (takeWithin (a .depth)) k (drop (a .at) (now (a .items)))) place in
     ⊎-elim (λ h. c .reach .ensures .0 h)
     (λ h.
-    let same : suc (a .to) - suc (a .to) % 256 ≡ a .to - a .to % 256 = omega (arith, eqb-false (a .to % 256) 255 h) in
-    subst (from (a .to - a .to % 256)) (sym (c .reach .ensures .1 h)) (subst (λ k. from k (a .known .far)) same (c .before .before .pre .0 .2 .0)))
-    (decide (eqb (a .to % 256) 255))
+    let old = or-none (a .anew) (eqb (a .to % 256) 255) h in
+    let same : suc (a .to) - suc (a .to) % 256 ≡ a .to - a .to % 256 = omega (arith, eqb-false (a .to % 256) 255 (old .1)) in
+    subst (from (a .to - a .to % 256)) (sym (c .reach .ensures .1 h)) (subst (λ k. from k (a .known .far)) same (c .before .before .pre .0 .2 (old .0) .0)))
+    (decide (a .anew || eqb (a .to % 256) 255))
 
 sub-reach-2 : tie.Need-sub-reach-2
 sub-reach-2 c = omega arith
@@ -54,9 +57,10 @@ near c =
     ⊎-elim
     (λ h. further (now (a .items)) (a .at) (a .depth) (a .to - a .to % 256) (a .to % 256 - a .to % 16) (a .to - a .to % 16) (c .before .reach .result) (far (c .before)) fewer (omega arith) (c .reach2 .result) (c .reach2 .ensures .0 h))
     (λ h.
-    let same : suc (a .to) - suc (a .to) % 16 ≡ a .to - a .to % 16 = omega (arith, eqb-false (a .to % 16) 15 h) in
-    subst (from (a .to - a .to % 16)) (sym (c .reach2 .ensures .1 h)) (subst (λ k. from k (a .known .near)) same (pre .0 .2 .1)))
-    (decide (eqb (a .to % 16) 15))
+    let old = or-none (a .anew) (eqb (a .to % 16) 15) h in
+    let same : suc (a .to) - suc (a .to) % 16 ≡ a .to - a .to % 16 = omega (arith, eqb-false (a .to % 16) 15 (old .1)) in
+    subst (from (a .to - a .to % 16)) (sym (c .reach2 .ensures .1 h)) (subst (λ k. from k (a .known .near)) same (pre .0 .2 (old .0) .1)))
+    (decide (a .anew || eqb (a .to % 16) 15))
 
 past-steps-requires : tie.Need-past-steps-requires
 past-steps-requires c κs =
