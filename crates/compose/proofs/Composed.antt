@@ -15,8 +15,9 @@ use Rattle.paper.specs.Answers.{composedGot}
 use Rattle.paper.specs.Composition.{selectedBy, someNode, visible, guardSteps, append, lastStep, composedPath, composed}
 use Rattle.paper.proofs.Tests.{and-true}
 use Rattle.paper.proofs.Encoding.{encode-decode}
-use Rattle.reverse.specs.Reverses.{placed, eachPath, eachGot, selectedGot, IsQuery}
-use Rattle.reverse.proofs.Placing.{drop-placed}
+use Rattle.item.specs.Placed.{placed}
+use Rattle.reverse.specs.Reverses.{eachPath, eachGot, selectedGot, IsQuery}
+use Rattle.item.proofs.Placing.{drop-placed}
 use Rattle.compose.specs.Pieces.{someNodeItems, visibleItems, lastItems, guardedItems, guardedPath}
 use Rattle.compose.proofs.Items.{steps-guarded}
 

@@ -5,8 +5,8 @@ use mathlib.Core.Path.{_≡_, _∙_, ap}
 use mathlib.Core.List.{List, _++_}
 use lib.ListN.{length, getD, take, drop, length-drop}
 use lib.Seq.{length-take-le, getD-append-add, getD-drop, getD-take, paste, length-paste-head}
-use Rattle.reverse.specs.Reverses.{placed}
-use Rattle.reverse.proofs.Placing.{drop-placed, placed-after}
+use Rattle.item.specs.Placed.{placed}
+use Rattle.item.proofs.Placing.{drop-placed, placed-after}
 
 -- The items that a copy has not reached are those of before.
 pub ahead : (old items : List ℕ) (at n from : ℕ) → at + n ≤ length old → n ≤ length items → at + n ≤ from → getD (paste old at items n) from 0 ≡ getD old from 0

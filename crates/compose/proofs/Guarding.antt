@@ -4,8 +4,9 @@ use native.Mathlib.Omega.{arith}
 use mathlib.Core.Path.{_≡_, refl, sym, _∙_, ap, subst}
 use mathlib.Core.List.{List, [], _∷_, _++_, append-assoc, append-nil}
 use lib.ListN.{length, getD, take, drop, length-append, drop-of-length-le}
-use Rattle.reverse.specs.Reverses.{placed, owing}
-use Rattle.reverse.proofs.Placing.{placed-nil, placed-after, drop-placed, same-size}
+use Rattle.item.specs.Placed.{placed}
+use Rattle.reverse.specs.Reverses.{owing}
+use Rattle.item.proofs.Placing.{placed-nil, placed-after, drop-placed, same-size}
 use Rattle.reverse.proofs.Reading.{at-place}
 use Rattle.compose.specs.Pieces.{guardedItem, guardedItems, Raisable}
 

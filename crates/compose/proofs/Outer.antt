@@ -6,8 +6,9 @@ use mathlib.Core.List.{List, [], _∷_, _++_}
 use lib.ListN.{length, take, drop, set, length-append, length-set}
 use Rattle.paper.specs.Query.{Steps}
 use Rattle.paper.specs.Items.{packPath, stepCount, encodeSteps, decode}
-use Rattle.reverse.specs.Reverses.{placed, eachPath, eachGot}
-use Rattle.reverse.proofs.Placing.{placed-one, drop-placed, same-size}
+use Rattle.item.specs.Placed.{placed}
+use Rattle.reverse.specs.Reverses.{eachPath, eachGot}
+use Rattle.item.proofs.Placing.{placed-one, drop-placed, same-size}
 use Rattle.reverse.proofs.Paths.{Writing, room-left, Top}
 use Rattle.compose.specs.Pieces.{lastItems, guardedItems, Raisable, guardedPath}
 use Rattle.compose.proofs.Copying.{then-chosen, part-length}

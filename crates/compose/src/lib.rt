@@ -10,7 +10,8 @@ ghost use Rattle.paper.specs.Items.{decode};
 ghost use Rattle.paper.specs.Tools.{written};
 ghost use Rattle.paper.specs.Answers.{composedGot, composeAnswer, composeOut};
 ghost use Rattle.paper.specs.Told.{told};
-ghost use Rattle.reverse.specs.Reverses.{placed, owing, IsQuery, pathsGot, eachGot, selectedGot};
+ghost use Rattle.item.specs.Placed.{placed};
+ghost use Rattle.reverse.specs.Reverses.{owing, IsQuery, pathsGot, eachGot, selectedGot};
 ghost use Rattle.compose.specs.Pieces.{stepItem, stepItems, someNodeItems, visibleItems, lastItems, guardedStep, guardedItem, guardedItems, Raisable, guardedPath, sizeGot};
 
 // One for a step, nothing for another item.

@@ -1,3 +1,4 @@
 pub mod Unpacking
 pub mod Turning
 pub mod Saying
+pub mod Placing

@@ -4,6 +4,7 @@ use Prim.Native.Nat.{ℕ, _<_}
 use native.Mathlib.Omega.{arith}
 use mathlib.Core.Path.{_≡_, refl, sym, subst}
 use mathlib.Core.Bool.{Bool, true, false}
+use mathlib.Core.List.{[], _∷_}
 use mathlib.Core.Option.{Option, none, some}
 use lib.Dec.{eqb}
 use borrow.Author.Tests.{eqb-true, eqb-false}
@@ -14,7 +15,10 @@ use Rattle.item.specs.declared.Step.{Step}
 use Rattle.item.specs.declared.Item.{Item}
 use Rattle.item.specs.declared.Item.the-variants.{Path, Step as StepItem, And, Or, Not, Bad}
 use Rattle.item.specs.Unpacked.{pathOf, unpacked, packed}
-use Rattle.item.proofs.Unpacking.{no-path}
+use Rattle.item.proofs.Unpacking.{no-path, no-step}
+use Rattle.item.proofs.Item.{the-type}
+use denote.Enum.Declared.{tagOf}
+use types.Run.{OneOf, miss}
 
 -- A step in numbers says the same as a head.
 abbrev pub numbered : Head → Step
@@ -42,6 +46,24 @@ said w i e = subst (Said w) (sym e) (go (pathAt w) refl (stepAt w) refl (eqb w a
     go none p none q false x true y n z = rw (p, q, x, y) (eqb-true w orItem y)
     go none p none q false x false y true z = rw (p, q, x, y, z) (eqb-true w notItem z)
     go none p none q false x false y false z = rw (p, q, x, y, z) (p, q, eqb-false w andItem x, eqb-false w orItem y, eqb-false w notItem z)
+
+-- Where an item is no step, no step stands there.
+pub not-step : (w : ℕ) (i : Item) → Said w i → OneOf (0 ∷ 2 ∷ 3 ∷ 4 ∷ 5 ∷ []) (tagOf the-type i) → stepAt w ≡ none
+not-step w (Path count) s k = no-step w (λ e. omega (arith, path-found w count s .0))
+not-step w (StepItem st) s k = absurd (miss (0 ∷ 2 ∷ 3 ∷ 4 ∷ 5 ∷ []) 1 tt k)
+not-step w And s k = no-step w (λ e. omega arith)
+not-step w Or s k = no-step w (λ e. omega arith)
+not-step w Not s k = no-step w (λ e. omega arith)
+not-step w Bad s k = s .1
+
+-- Where an item is no path, no path stands there.
+pub not-path : (w : ℕ) (i : Item) → Said w i → OneOf (1 ∷ 2 ∷ 3 ∷ 4 ∷ 5 ∷ []) (tagOf the-type i) → pathAt w ≡ none
+not-path w (Path count) s k = absurd (miss (1 ∷ 2 ∷ 3 ∷ 4 ∷ 5 ∷ []) 0 tt k)
+not-path w (StepItem st) s k = no-path w (λ e. omega (arith, step-found w (s .0) (s .1) .0))
+not-path w And s k = no-path w (λ e. omega arith)
+not-path w Or s k = no-path w (λ e. omega arith)
+not-path w Not s k = no-path w (λ e. omega arith)
+not-path w Bad s k = s .0
 
 -- UNPACK AFTER PACK.
 pub unpack-path : (count : ℕ) → count < 8192 → unpacked (packPath count) ≡ Path count

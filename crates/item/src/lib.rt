@@ -1,12 +1,14 @@
-// One item of a query: its fields by shifts and masks. Only this crate knows bit positions.
+// The items of a query: the fields of one by shifts and masks, and several written from a place on. Only this crate knows bit positions.
 ghost use mathlib.Core.Path.{_≡_};
 ghost use mathlib.Core.Bool.{true};
-ghost use Prim.Native.Nat.{_%_, _≤_, _<_};
+ghost use Prim.Native.Nat.{_+_, _%_, _≤_, _<_};
+ghost use lib.ListN.{length};
 ghost use Rattle.paper.specs.Query.{Axis, Test};
 ghost use Rattle.paper.specs.Items.{axisNumber, testNumber, packPath, goodTest};
 ghost use Rattle.paper.specs.Composition.{turned};
 ghost use Rattle.paper.specs.Selection.{meets};
 ghost use Rattle.item.specs.Unpacked.{unpacked, packed};
+ghost use Rattle.item.specs.Placed.{placed};
 
 // The item of `and`, that of `or` and that of `not`.
 pub const AND: u32 = 2;
@@ -152,5 +154,17 @@ pub fn meets(test: u32, kind: u32) -> bool
         1 => kind == 1,
         258 => 2 <= kind,
         _ => kind == test,
+    }
+}
+
+// Writes the items from `at` on.
+pub fn put_items(items: &[u32], out: &mut [u32], at: usize)
+    requires { ⌜ at + length (now items) ≤ length (now out) ⌝ }
+    ensures { λ _. ⌜ now (out .exit) ≡ placed (now (items .entry)) at (now (out .entry)) ⌝ }
+{
+    let mut done = 0;
+    while done < items.len() {
+        out[at + done] = items[done];
+        done += 1;
     }
 }

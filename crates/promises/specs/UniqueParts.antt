@@ -14,6 +14,7 @@ use Rattle.item.proofs.pack_path
 use Rattle.item.proofs.pack_step
 use Rattle.item.proofs.turn
 use Rattle.item.proofs.meets
+use Rattle.item.proofs.put_items
 use Rattle.names.proofs.name_start
 use Rattle.names.proofs.name_part
 use Rattle.names.proofs.index
@@ -91,6 +92,9 @@ TurnUnique = UniqueAnswer turn.Kinds.ps turn.Kinds.r (λ κs a. IsAxis (a .0)) t
 
 abbrev pub MeetsUnique : Type 0
 MeetsUnique = UniqueAnswer meets.Kinds.ps meets.Kinds.r (λ κs a. IsTest (a .0)) meets.Reads.Post
+
+abbrev pub PutItemsUnique : Type 0
+PutItemsUnique = Unique put_items.Kinds.ps put_items.Kinds.r put_items.Reads.Pre put_items.Reads.Post (λ κs x. now (x .1 .0) ∷ [])
 
 -- NAMES.
 abbrev pub NameStartUnique : Type 0

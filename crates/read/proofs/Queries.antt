@@ -28,6 +28,8 @@ use Rattle.theorems.proofs.Exactly.{read-any-names}
 use Rattle.token.specs.declared.Cursor.{Cursor}
 use Rattle.ahead.specs.declared.Lead.the-variants.{Alone, Before, NoPath}
 use Rattle.ahead.specs.Looking.{tokensAt, Past, Leads}
+use Rattle.item.specs.Placed.{placed}
+use Rattle.item.proofs.Placing.{placed-first}
 use Rattle.read.specs.declared.Part.{Part}
 use Rattle.read.specs.declared.Part.the-variants.{Done, NoQuery, TooDeep, UnknownName}
 use Rattle.read.specs.Parts.{Wrote, Gives, Reads, deepIf, pathItems, Finishes, ReadsAll, Sized, Measures, Refusal, Whole, Kept}
@@ -276,8 +278,8 @@ kept-fits few o end room k l =
     record { what = k .what; left = k .left; reads = k .reads; room-enough = omega (arith, k .ends); few = omega (arith, k .ends, k .limited) }
 
 -- The items that were kept are those of the text,
-pub copied : (few old new : List ℕ) (o : Got Query) (end : ℕ) → Kept few o end → end ≤ length few → new ≡ written (take end few) old → new ≡ written (itemsGot o) old
-copied few old new o end k l w = w ∙ ap (λ x. written x old) (k .stands l ∙ sym (ap itemsGot (k .reads)))
+pub copied : (few old new : List ℕ) (o : Got Query) (end : ℕ) → Kept few o end → end ≤ length few → new ≡ placed (take end few) 0 old → new ≡ written (itemsGot o) old
+copied few old new o end k l w = w ∙ placed-first (take end few) old ∙ ap (λ x. written x old) (k .stands l ∙ sym (ap itemsGot (k .reads)))
 
 -- and so are those that are read again.
 pub reread : (few old new : List ℕ) (o : Got Query) (end : ℕ) (r : Part) → Kept few o end → end ≤ length old → ReadsAll old new o r → new ≡ written (itemsGot o) old

@@ -722,18 +722,6 @@ fn answer(
     Answer::Value(end)
 }
 
-// Copies items to the start of the output.
-fn copy(from: &[u32], out: &mut [u32])
-    requires { ⌜ length (now from) ≤ length (now out) ⌝ }
-    ensures { λ _. ⌜ now (out .exit) ≡ written (now (from .entry)) (now (out .entry)) ⌝ }
-{
-    let mut i = 0;
-    while i < from.len() {
-        out[i] = from[i];
-        i += 1;
-    }
-}
-
 // Writes the items of a text that can be read: those kept, where all are there, else by reading again.
 fn write(
     text: &[u8],
@@ -749,7 +737,7 @@ fn write(
     ensures { λ _. ⌜ now (out .exit) ≡ written (itemsGot (readText (lookOf true (now (list .entry))) (now (text .entry)))) (now (out .entry)) ⌝ }
 {
     if end <= few.len() {
-        copy(&few[..end], out);
+        item::put_items(&few[..end], out, 0);
     } else {
         paths(text, list, starts, count, true, out);
     }

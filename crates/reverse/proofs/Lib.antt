@@ -1,4 +1,3 @@
-pub mod Placing
 pub mod Owing
 pub mod Reading
 pub mod Paths

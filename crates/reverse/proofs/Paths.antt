@@ -14,8 +14,9 @@ use Rattle.paper.specs.Query.{Steps, Query, paths}
 use Rattle.paper.specs.Items.{packPath, stepCount, encodeSteps, encodePaths, encode, decode, goodSteps, goodPaths, good}
 use Rattle.paper.proofs.Tests.{and-true}
 use Rattle.paper.proofs.Encoding.{encode-decode}
-use Rattle.reverse.specs.Reverses.{placed, owing, eaten, IsQuery, pathsGot, eachPath, eachGot}
-use Rattle.reverse.proofs.Placing.{placed-nil, placed-after, same-size}
+use Rattle.item.specs.Placed.{placed}
+use Rattle.reverse.specs.Reverses.{owing, eaten, IsQuery, pathsGot, eachPath, eachGot}
+use Rattle.item.proofs.Placing.{placed-nil, placed-after, same-size}
 use Rattle.reverse.proofs.Owing.{owing-path, steps-eaten, none-eaten, count-length}
 use Rattle.reverse.proofs.Reading.{at-place}
 

@@ -14,11 +14,10 @@ use Rattle.item.specs.Unpacked.{unpacked}
 use Rattle.item.specs.declared.Step.{Step}
 use Rattle.item.specs.declared.Item.{Item}
 use Rattle.item.specs.declared.Item.the-variants.{Path, Step as StepItem, And, Or, Not, Bad}
-use Rattle.item.proofs.Saying.{Said, said, pack-path, pack-step}
+use Rattle.item.proofs.Saying.{Said, said, pack-path, pack-step, not-step}
 use Rattle.item.proofs.Item.{the-type}
 use denote.Enum.Declared.{tagOf}
 use types.Run.{OneOf}
-use Rattle.shape.proofs.Operands.{not-step}
 use Rattle.reverse.specs.Reverses.{owedBy, owing, eaten, StepSaid}
 use Rattle.reverse.proofs.Owing.{none-eaten}
 

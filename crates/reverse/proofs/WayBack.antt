@@ -13,8 +13,9 @@ use Rattle.paper.specs.Composition.{turned, atRoot, wayBack, reversed}
 use Rattle.paper.proofs.Fields.{test-small, step-at}
 use Rattle.item.specs.Unpacked.{packed}
 use Rattle.item.specs.declared.Step.{Step}
-use Rattle.reverse.specs.Reverses.{placed, eaten, StepSaid}
-use Rattle.reverse.proofs.Placing.{placed-one, placed-before, placed-after, drop-placed, same-size}
+use Rattle.item.specs.Placed.{placed}
+use Rattle.reverse.specs.Reverses.{eaten, StepSaid}
+use Rattle.item.proofs.Placing.{placed-one, placed-before, placed-after, drop-placed, same-size}
 use Rattle.reverse.proofs.Owing.{good-step, preds-eaten, none-eaten}
 use Rattle.reverse.proofs.Reading.{at-place}
 

@@ -4,7 +4,7 @@ use mathlib.Core.Path.{_≡_}
 use mathlib.Core.Bool.{true}
 use mathlib.Core.List.{List, [], _∷_, _++_}
 use mathlib.Core.Option.{Option, none, some}
-use lib.ListN.{length, take, drop}
+use lib.ListN.{length}
 use Rattle.paper.specs.Query.{Axis, Test, Steps, Query, paths}
 use Rattle.paper.specs.Items.{axisNumber, testNumber, Head, stepAt, encodeExpr, decode, goodTest}
 use Rattle.paper.specs.Composition.{reversed, selectedBy}
@@ -12,10 +12,6 @@ use Rattle.item.specs.Unpacked.{unpacked}
 use Rattle.item.specs.declared.Step.{Step}
 use Rattle.item.specs.declared.Item.{Item}
 use Rattle.item.specs.declared.Item.the-variants.{Path, Step as StepItem, And, Or, Not, Bad}
-
--- These items written from a place on; the rest is untouched.
-abbrev pub placed : List ℕ → ℕ → List ℕ → List ℕ
-placed new at old = take at old ++ (new ++ drop (at + length new) old)
 
 -- How many steps, predicates or operands belong to an item.
 abbrev pub owedBy : Item → ℕ

@@ -9,7 +9,8 @@ ghost use lib.ListN.{length, drop, replicate};
 ghost use Rattle.paper.specs.Query.{Steps, anyNode, stop, bare, pred};
 ghost use Rattle.paper.specs.Items.{orItem, stepCount, encodeExpr, encodeSteps, goodSteps, decode};
 ghost use Rattle.paper.specs.Composition.{atRoot, wayBack, reversed};
-ghost use Rattle.reverse.specs.Reverses.{placed, owing, eaten, IsQuery, pathsGot, StepSaid, reversedItems, eachGot, selectedGot};
+ghost use Rattle.item.specs.Placed.{placed};
+ghost use Rattle.reverse.specs.Reverses.{owing, eaten, IsQuery, pathsGot, StepSaid, reversedItems, eachGot, selectedGot};
 
 // How many steps, predicates or operands belong to an item.
 pub fn owes(w: u32) -> usize
@@ -72,18 +73,6 @@ fn as_step(w: u32) -> Step
     step
 }
 
-// Writes the items from `at` on.
-fn put_items(items: &[u32], out: &mut [u32], at: usize)
-    requires { ⌜ at + length (now items) ≤ length (now out) ⌝ }
-    ensures { λ _. ⌜ now (out .exit) ≡ placed (now (items .entry)) at (now (out .entry)) ⌝ }
-{
-    let mut done = 0;
-    while done < items.len() {
-        out[at + done] = items[done];
-        done += 1;
-    }
-}
-
 // Writes so many `or` items.
 fn put_ors(out: &mut [u32], at: usize, count: usize)
     requires { ⌜ at + count ≤ length (now out) ⌝ }
@@ -131,7 +120,7 @@ fn put_way_back(steps: &[u32], out: &mut [u32], at: usize)
             count,
         });
         back -= next - place;
-        put_items(&steps[place + 1..next], out, back);
+        item::put_items(&steps[place + 1..next], out, back);
         place = next;
         test = step.test;
         count = step.count;

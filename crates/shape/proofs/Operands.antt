@@ -20,7 +20,7 @@ use Rattle.paper.proofs.Encoding.{from-operand, from-within}
 use Rattle.item.specs.declared.Item.{Item}
 use Rattle.item.specs.declared.Item.the-variants.{Path, Step as StepItem, And, Or, Not, Bad}
 use Rattle.item.proofs.Saying.{Said}
-use Rattle.item.proofs.Unpacking.{no-path, no-step}
+use Rattle.item.proofs.Unpacking.{no-path}
 use Rattle.item.proofs.Item.{the-type}
 use denote.Enum.Declared.{tagOf}
 use types.Run.{OneOf, miss}
@@ -179,15 +179,6 @@ pub operand-past : (within : List ℕ → Taken Expr) (items : List ℕ) (at : �
 unfolding takeOperand
 operand-past within items at l = rw (drop-of-length-le items l)
 
--- Where an item is no step, no step stands there.
-pub not-step : (w : ℕ) (i : Item) → Said w i → OneOf (0 ∷ 2 ∷ 3 ∷ 4 ∷ 5 ∷ []) (tagOf the-type i) → stepAt w ≡ none
-not-step w (Path count) s k = no-step w (λ e. omega (arith, path-found w count s .0))
-not-step w (StepItem st) s k = absurd (miss (0 ∷ 2 ∷ 3 ∷ 4 ∷ 5 ∷ []) 1 tt k)
-not-step w And s k = no-step w (λ e. omega arith)
-not-step w Or s k = no-step w (λ e. omega arith)
-not-step w Not s k = no-step w (λ e. omega arith)
-not-step w Bad s k = s .1
-
 -- What can be raised: walks are no deeper than 64 and no higher than the items.
 pub small : {A : Type 0} (items : List ℕ) (at depth : ℕ) (taken : Taken A) (nestOf heightOf : A → ℕ) (r : Walked) → depth ≤ 64 → length items * 4 < 2 ^ 63
     → Walks items at depth taken nestOf heightOf r → Small r
@@ -218,12 +209,3 @@ module _ (items : List ℕ) (at depth : ℕ) (l : at < length items) (z : depth 
       Walks items (at + 1) less (takeExpr (takeWithin less) (drop (at + 1) items)) nestExpr heightExpr r
       → Walks items at d (takeOperand (takeWithin d) (drop at items)) nestOperand heightExpr (raisedBy r 1 1))
       (λ d. walk-not items at d l e r) depth z
-
--- Where an item is no path, no path stands there.
-pub not-path : (w : ℕ) (i : Item) → Said w i → OneOf (1 ∷ 2 ∷ 3 ∷ 4 ∷ 5 ∷ []) (tagOf the-type i) → pathAt w ≡ none
-not-path w (Path count) s k = absurd (miss (1 ∷ 2 ∷ 3 ∷ 4 ∷ 5 ∷ []) 0 tt k)
-not-path w (StepItem st) s k = no-path w (λ e. omega (arith, step-found w (s .0) (s .1) .0))
-not-path w And s k = no-path w (λ e. omega arith)
-not-path w Or s k = no-path w (λ e. omega arith)
-not-path w Not s k = no-path w (λ e. omega arith)
-not-path w Bad s k = s .0

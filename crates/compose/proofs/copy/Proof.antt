@@ -8,7 +8,7 @@ use mathlib.Core.List.{List}
 use denote.Ref.{now}
 use lib.ListN.{length, getD, set, take, drop, length-set}
 use lib.Seq.{paste, paste-zero, paste-suc}
-use Rattle.reverse.proofs.Placing.{copied-all}
+use Rattle.item.proofs.Placing.{copied-all}
 use Rattle.compose.proofs.Copying.{ahead, of-part, part-length}
 use Rattle.compose.proofs.copy.Statement.{statement}
 use Rattle.compose.proofs.copy.Tie as tie

@@ -5,8 +5,8 @@ use mathlib.Core.Path.{sym, _∙_, ap}
 use mathlib.Core.List.{List}
 use denote.Ref.{now}
 use lib.ListN.{length, take, drop}
-use Rattle.reverse.specs.Reverses.{placed}
-use Rattle.reverse.proofs.Placing.{placed-one, same-size}
+use Rattle.item.specs.Placed.{placed}
+use Rattle.item.proofs.Placing.{placed-one, same-size}
 use Rattle.compose.specs.Pieces.{guardedItem}
 use Rattle.compose.proofs.Copying.{part-length}
 use Rattle.compose.proofs.Reading.{guarded-room, step-fields, no-step-guarded, step-guarded}

@@ -7,8 +7,9 @@ use denote.Ref.{now}
 use lib.ListN.{length}
 use Rattle.paper.specs.Items.{decode}
 use Rattle.paper.specs.Answers.{composedGot}
-use Rattle.reverse.specs.Reverses.{placed, eachGot, selectedGot}
-use Rattle.reverse.proofs.Placing.{same-size}
+use Rattle.item.specs.Placed.{placed}
+use Rattle.reverse.specs.Reverses.{eachGot, selectedGot}
+use Rattle.item.proofs.Placing.{same-size}
 use Rattle.compose.specs.Pieces.{guardedPath}
 use Rattle.compose.proofs.Composed.{composed-parts, chosen-is, whole-written, count-least}
 use borrow.Author.Needs.{needs}

@@ -7,8 +7,8 @@ use denote.Ref.{now}
 use lib.ListN.{take, drop, length-set}
 use Rattle.paper.specs.Items.{packPath}
 use Rattle.item.specs.Unpacked.{packed}
-use Rattle.reverse.specs.Reverses.{placed}
-use Rattle.reverse.proofs.Placing.{two-put, same-size}
+use Rattle.item.specs.Placed.{placed}
+use Rattle.item.proofs.Placing.{two-put, same-size}
 use Rattle.compose.specs.Pieces.{someNodeItems}
 use Rattle.compose.proofs.Copying.{then-chosen, part-length}
 use borrow.Author.Needs.{needs}

@@ -3,8 +3,7 @@ use mathlib.Core.Path.{sym, _∙_}
 use lib.ListN.{getD}
 use denote.Ref.{now}
 use Rattle.paper.proofs.Tests.{none-some}
-use Rattle.item.proofs.Saying.{said}
-use Rattle.shape.proofs.Operands.{not-step}
+use Rattle.item.proofs.Saying.{said, not-step}
 use borrow.Author.Needs.{needs}
 use Rattle.keep.proofs.step_at.Statement.{statement}
 use Rattle.keep.proofs.step_at.Tie as tie

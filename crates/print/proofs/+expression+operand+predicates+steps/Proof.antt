@@ -15,10 +15,10 @@ use Rattle.paper.specs.Printing.{relativePieces, predsPieces}
 use Rattle.paper.specs.Answers.{unknownTest}
 use Rattle.paper.proofs.Tests.{none-some, some-inj}
 use Rattle.paper.proofs.Fields.{step-found}
-use Rattle.item.proofs.Saying.{said}
+use Rattle.item.proofs.Saying.{said, not-step}
 use Rattle.shape.specs.Walks.{operators}
 use Rattle.shape.proofs.Operators.{Operator}
-use Rattle.shape.proofs.Operands.{not-step, operators-there}
+use Rattle.shape.proofs.Operands.{operators-there}
 use Rattle.pen.proofs.Putting.{puts-long}
 use Rattle.print.proofs.Unknowns.{known-test}
 use Rattle.print.proofs.Chains.{Turn, turn-start, turn-low, turn-long, turn-onward, turn-and, turn-or, turn-done}

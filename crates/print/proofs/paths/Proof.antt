@@ -5,8 +5,7 @@ use lib.ListN.{length, getD}
 use borrow.Author.Needs.{needs}
 use denote.Ref.{now}
 use Rattle.paper.specs.Names.{namesOf}
-use Rattle.item.proofs.Saying.{said}
-use Rattle.shape.proofs.Operands.{not-path}
+use Rattle.item.proofs.Saying.{said, not-path}
 use Rattle.pen.proofs.Putting.{puts-long}
 use Rattle.print.proofs.Queries.{PathsRest, paths-start, path-there, path-steps, paths-more, paths-done}
 use Rattle.print.proofs.paths.Statement.{statement}

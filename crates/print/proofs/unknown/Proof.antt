@@ -4,8 +4,7 @@ use mathlib.Core.Option.{none}
 use borrow.Author.Needs.{needs}
 use Rattle.paper.specs.Items.{testNumber, stepAt}
 use Rattle.paper.proofs.Fields.{step-found}
-use Rattle.item.proofs.Saying.{said}
-use Rattle.shape.proofs.Operands.{not-step}
+use Rattle.item.proofs.Saying.{said, not-step}
 use Rattle.print.proofs.Unknowns.{unknown-test}
 use Rattle.print.proofs.unknown.Statement.{statement}
 use Rattle.print.proofs.unknown.Tie as tie

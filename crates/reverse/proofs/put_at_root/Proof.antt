@@ -6,8 +6,8 @@ use mathlib.Core.List.{List, [], _∷_}
 use denote.Ref.{now}
 use lib.ListN.{set, length-set}
 use Rattle.paper.specs.Items.{packPath, notItem}
-use Rattle.reverse.specs.Reverses.{placed}
-use Rattle.reverse.proofs.Placing.{then-one, two-put}
+use Rattle.item.specs.Placed.{placed}
+use Rattle.item.proofs.Placing.{then-one, two-put}
 use borrow.Author.Needs.{needs}
 use Rattle.reverse.proofs.put_at_root.Statement.{statement}
 use Rattle.reverse.proofs.put_at_root.Tie as tie

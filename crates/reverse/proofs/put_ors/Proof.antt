@@ -9,7 +9,7 @@ use denote.Ref.{now}
 use lib.ListN.{length, set, replicate, length-set, length-replicate, getD-replicate}
 use lib.Seq.{paste, paste-zero, paste-suc}
 use Rattle.paper.specs.Items.{orItem}
-use Rattle.reverse.proofs.Placing.{copied-all}
+use Rattle.item.proofs.Placing.{copied-all}
 use Rattle.reverse.proofs.put_ors.Statement.{statement}
 use Rattle.reverse.proofs.put_ors.Tie as tie
 

@@ -6,8 +6,9 @@ use mathlib.Core.List.{List}
 use denote.Ref.{now}
 use lib.ListN.{length, replicate, length-append, length-replicate}
 use Rattle.paper.specs.Items.{orItem, decode}
-use Rattle.reverse.specs.Reverses.{placed, reversedItems, eachGot}
-use Rattle.reverse.proofs.Placing.{same-size, placed-after}
+use Rattle.item.specs.Placed.{placed}
+use Rattle.reverse.specs.Reverses.{reversedItems, eachGot}
+use Rattle.item.proofs.Placing.{same-size, placed-after}
 use Rattle.reverse.proofs.Selected.{selected-parts}
 use borrow.Author.Needs.{needs}
 use Rattle.reverse.proofs.put_selected.Statement.{statement}

@@ -9,12 +9,12 @@ use denote.Ref.{now}
 use lib.ListN.{length, getD, drop}
 use Rattle.paper.specs.Items.{takePreds, takeSteps, takeWithin}
 use Rattle.paper.specs.Query.{stop, step, bare, pred}
-use Rattle.item.proofs.Saying.{said}
+use Rattle.item.proofs.Saying.{said, not-step}
 use Rattle.shape.specs.Walks.{operators}
 use Rattle.shape.proofs.Walking.{Turn, turn-start, turn-stuck, turn-onward, term-low, turn-and, turn-or, turn-done}
 use Rattle.shape.proofs.Walking.{Row, row-start, row-more, row-stuck, row-done, stepRows, step-row, no-step-row, bad-step-row, past-step-row}
 use Rattle.shape.proofs.Walking.{predRows, pred-next, bad-pred-row}
-use Rattle.shape.proofs.Operands.{operand-past, not-step, operand-deep, operand-rest, operator-item, operators-there, walk-path, opens-joined, opens-not, walk-none, operand-bare, small}
+use Rattle.shape.proofs.Operands.{operand-past, operand-deep, operand-rest, operator-item, operators-there, walk-path, opens-joined, opens-not, walk-none, operand-bare, small}
 use Prim.Native.Nat.{ℕ, _<_}
 use borrow.Fn.Kinds.{In}
 use borrow.Fn.PlainCycle.{Measures, is, falls, and}

@@ -4,8 +4,7 @@ use native.Mathlib.Omega.{arith}
 use borrow.Author.Needs.{needs}
 use denote.Ref.{now}
 use lib.ListN.{length, getD}
-use Rattle.item.proofs.Saying.{said}
-use Rattle.shape.proofs.Operands.{not-path}
+use Rattle.item.proofs.Saying.{said, not-path}
 use Rattle.shape.proofs.Queries.{PathsLeft, paths-start, paths-none, paths-bad, paths-more, paths-done, no-items}
 use Rattle.shape.proofs.measure.Statement.{statement}
 use Rattle.shape.proofs.measure.Tie as tie

@@ -1,16 +1,21 @@
 -- Laws of writing in place: one piece after the other, one before the other, and what is untouched. Assumes nothing.
 use Prim.Native.Nat.{ℕ, _+_, _-_, _≤_, _<_}
 use native.Mathlib.Omega.{arith}
-use native.Mathlib.Nat.{add-zero}
+use native.Mathlib.Nat.{zero-add, add-zero}
 use native.Mathlib.Numerals.{add-one}
 use mathlib.Core.Path.{_≡_, refl, sym, _∙_, ap, ap₂}
 use mathlib.Core.List.{List, [], _∷_, _++_, append-assoc}
 use lib.ListN.{length, take, drop, set, length-append, length-drop, take-append-drop}
 use lib.Seq.{length-take-le, take-length, set-split, take-append-le, drop-append-add, take-at, drop-at, take-take, drop-drop, paste}
-use Rattle.reverse.specs.Reverses.{placed}
+use Rattle.paper.specs.Tools.{written}
+use Rattle.item.specs.Placed.{placed}
 
 pub placed-nil : (old : List ℕ) (at : ℕ) → placed [] at old ≡ old
 placed-nil old at = ap (λ (k : ℕ). take at old ++ drop k old) (add-zero at) ∙ take-append-drop at old
+
+-- What is placed at the start is written there.
+pub placed-first : (new old : List ℕ) → placed new 0 old ≡ written new old
+placed-first new old = ap (λ (k : ℕ). new ++ drop k old) (zero-add (length new))
 
 -- A store is one item placed.
 pub placed-one : (old : List ℕ) (at w : ℕ) → at < length old → set old at w ≡ placed (w ∷ []) at old

@@ -1,4 +1,4 @@
--- `reverse::put_items` meets its contract. The invariant: so many items are copied. The measure is what is left of them. Assumes nothing.
+-- `item::put_items` meets its contract. The invariant: so many items are copied. The measure is what is left of them. Assumes nothing.
 use borrow.Author.Needs.{needs}
 use Prim.Native.Nat.{_+_, ℕ, _-_, _≤_}
 use native.Mathlib.Omega.{arith}
@@ -8,9 +8,9 @@ use mathlib.Core.List.{List}
 use denote.Ref.{now}
 use lib.ListN.{length, getD, set, length-set}
 use lib.Seq.{paste, paste-zero, paste-suc}
-use Rattle.reverse.proofs.Placing.{copied-all}
-use Rattle.reverse.proofs.put_items.Statement.{statement}
-use Rattle.reverse.proofs.put_items.Tie as tie
+use Rattle.item.proofs.Placing.{copied-all}
+use Rattle.item.proofs.put_items.Statement.{statement}
+use Rattle.item.proofs.put_items.Tie as tie
 
 abbrev Inv-loop : tie.InvT-loop
 Inv-loop items out₀ at done₀ out done = (done ≤ length items) × (length out ≡ length out₀) × (out ≡ paste out₀ at items done)
