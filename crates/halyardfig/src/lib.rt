@@ -83,7 +83,7 @@ pub extern "C" fn halyardfig_run(
     code(run::run(query, parent, kind, given, marks, scratch))
 }
 
-// Writes the marked nodes as a table: `table::extract` for C.
+// Writes the marked nodes as a table: `extract::extract` for C.
 #[no_mangle]
 pub extern "C" fn halyardfig_extract(
     parent: &[u16],
@@ -96,5 +96,5 @@ pub extern "C" fn halyardfig_extract(
     ensures { λ _. ⌜ now («out_parent» .exit) ≡ extractParents (tableOf (now (parent .entry)) (now (kind .entry))) (now (marks .entry)) (now («out_parent» .entry)) (length (now («out_kind» .entry))) ⌝ }
     ensures { λ _. ⌜ now («out_kind» .exit) ≡ extractKinds (tableOf (now (parent .entry)) (now (kind .entry))) (now (marks .entry)) (length (now («out_parent» .entry))) (now («out_kind» .entry)) ⌝ }
 {
-    code(table::extract(parent, kind, marks, out_parent, out_kind))
+    code(extract::extract(parent, kind, marks, out_parent, out_kind))
 }

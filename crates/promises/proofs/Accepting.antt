@@ -28,7 +28,7 @@ use Rattle.paper.proofs.Keeping.{length-kept}
 use Rattle.paper.proofs.Extracting.{length-pick}
 use Rattle.run.specs.Rooms.{roomAnswer}
 use Rattle.run.proofs.Answering as run
-use Rattle.table.proofs.Lines as table
+use Rattle.extract.proofs.Lines as extract
 use Rattle.theorems.proofs.Forms.{read-back}
 use Rattle.promises.specs.Entries.{IsComposition, Shows, tableLeft}
 
@@ -173,14 +173,14 @@ length-kinds t marks = length-pick marks (λ i. kindOf t i) (nodes t)
 module _ (t : Table) (marks : List ℕ) (n : ℕ) (parents kinds : List ℕ) (h : extractAnswer t marks (length parents) (length kinds) ≡ value n) where
   pub took : Took t marks n parents kinds
   took =
-      let w = table.accepted t marks (length parents) (length kinds) n h in
+      let w = extract.accepted t marks (length parents) (length kinds) n h in
       let count = markedCount t marks in
       let last = line 10 (short (length parents) count) (value count) in
-      let judged = sym (table.right-lengths t marks (length parents) (length kinds) (w .agree)) ∙ h in
+      let judged = sym (extract.right-lengths t marks (length parents) (length kinds) (w .agree)) ∙ h in
       let seven = line-value 7 n (tableFault t) (line 8 (marksFault t marks) last) judged in
       let eight = line-value 8 n (marksFault t marks) last (seven .1) in
       let counted = sym (value-same (line-value 10 n (short (length parents) count) (value count) (eight .1) .1)) in
-      let wrote = table.wrote t marks parents kinds n h in
+      let wrote = extract.wrote t marks parents kinds n h in
       record {
         table-good = w .table;
         marks-good = w .closed;

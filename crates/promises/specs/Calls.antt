@@ -14,7 +14,7 @@ use Rattle.read.proofs.read
 use Rattle.print.proofs.print
 use Rattle.compose.proofs.compose
 use Rattle.run.proofs.run
-use Rattle.table.proofs.extract
+use Rattle.extract.proofs.extract
 
 -- A call of `read::read`, which held `old` in the slice for items.
 pub record ReadCall (text list old : List ℕ) (answer : Answer) (out : List ℕ) : Type 0 where
@@ -59,7 +59,7 @@ pub record RunCall (query parents kinds given : List ℕ) (answer : Answer) (mar
   pub given-lent : now (args .1 .1 .1 .0) ≡ given
   pub marks-left : now (exit .1 .1 .1 .1 .0) ≡ marks
 
--- A call of `table::extract`, which left these columns.
+-- A call of `extract::extract`, which left these columns.
 pub record ExtractCall (parents kinds marks : List ℕ) (answer : Answer) (newParents newKinds : List ℕ) : Type 0 where
   pub κs : Lfts 5
   pub args : Dens κs extract.Kinds.ps

@@ -5,7 +5,7 @@ use Rattle.read.proofs.read
 use Rattle.print.proofs.print
 use Rattle.compose.proofs.compose
 use Rattle.run.proofs.run
-use Rattle.table.proofs.extract
+use Rattle.extract.proofs.extract
 use Rattle.report.proofs.report
 use Rattle.halyardfig.proofs.halyardfig_read
 use Rattle.halyardfig.proofs.halyardfig_print

@@ -45,6 +45,7 @@ use Rattle.lines.proofs.line_end
 use Rattle.lines.proofs.line_start
 use Rattle.lines.proofs.put_refusal
 use Rattle.lines.proofs.put_result
+use Rattle.table.proofs.wide
 use Rattle.table.proofs.table_fault
 use Rattle.table.proofs.marks_fault
 use Rattle.table.proofs.count
@@ -195,6 +196,9 @@ abbrev pub PutResultUnique : Type 0
 PutResultUnique = Unique put_result.Kinds.ps put_result.Kinds.r put_result.Reads.Pre put_result.Reads.Post (λ κs x. now (x .0) ∷ [])
 
 -- TABLES.
+abbrev pub WideUnique : Type 0
+WideUnique = UniqueAnswer wide.Kinds.ps wide.Kinds.r wide.Reads.Pre wide.Reads.Post
+
 abbrev pub TableFaultUnique : Type 0
 TableFaultUnique = UniqueAnswer table_fault.Kinds.ps table_fault.Kinds.r table_fault.Reads.Pre table_fault.Reads.Post
 

@@ -1,5 +1,3 @@
 pub mod Nodes
 pub mod Firsts
 pub mod Ways
-pub mod Writes
-pub mod Lines

@@ -5,17 +5,13 @@ use native.Mathlib.Omega.{arith}
 use native.Mathlib.Decide.{ℕ-discrete, decLt}
 use mathlib.Core.Path.{_≡_, refl, sym, _∙_, ap}
 use mathlib.Core.Bool.{Bool, true, false, _||_}
-use mathlib.Core.List.{List}
 use mathlib.Core.Logic.{by-cases}
-use mathlib.Core.Option.{none}
 use lib.Dec.{eqb}
-use lib.ListN.{length, getD}
 use borrow.Author.Tests.{eqb-true, eq-eqb, ne-eqb}
-use Rattle.paper.specs.Document.{Table, nodes, parentOf, kindOf, climbs, over, goodNode, tableFault, marksFault, tableOf}
+use Rattle.paper.specs.Document.{Table, nodes, parentOf, kindOf, climbs, over, goodNode}
 use Rattle.paper.proofs.Tests.{and-true, or-left}
-use Rattle.paper.proofs.Trees.{Tree, tree, closed}
-use Rattle.paper.proofs.Extracting.{good-later, in-order}
-use Rattle.table.specs.Climbs.{shapeOf, Falls, Ordered}
+use Rattle.paper.proofs.Extracting.{good-later}
+use Rattle.table.specs.Climbs.{Falls}
 
 twice : (b : Bool) → (b || b) ≡ b
 twice true = refl
@@ -83,27 +79,3 @@ falls-good t (suc n) h g =
     one n w zero e z q = absurd (omega arith)
     one n w (suc k) e z q =
         omega (arith, way-low t n w k (parentOf t (suc k)) (omega arith) (good-later t k q .1))
-
--- KINDS DO NOT MATTER to the way up.
-pub over-shape : (parents kinds : List ℕ) (i j : ℕ) → over (tableOf parents kinds) i j ≡ over (shapeOf parents) i j
-unfolding over
-over-shape parents kinds i j = go (length parents) i
-  where
-    go : (far i : ℕ) → climbs (tableOf parents kinds) far i j ≡ climbs (shapeOf parents) far i j
-    go zero i = refl
-    go (suc far) i = ap (λ b. eqb i j || b) (go far (getD parents i 0))
-
--- What the checks found is what the writing asks.
-pub ordered : (parents kinds marks : List ℕ) → tableFault (tableOf parents kinds) ≡ none → marksFault (tableOf parents kinds) marks ≡ none → Ordered parents marks
-ordered parents kinds marks ft fm =
-    let t = tableOf parents kinds in
-    let w = tree t ft in
-    record {
-      tree = record { within = omega arith; root = λ z. w .root; falls = λ k z l. w .falls k z l };
-      order = λ i l. sym (over-shape parents kinds i (getD parents (suc i) 0)) ∙ in-order t ft i l;
-      closed = closed t marks fm;
-    }
-
--- As a tree it has the laws of trees.
-pub shape-tree : (parents marks : List ℕ) → Ordered parents marks → 0 < length parents → Tree (shapeOf parents)
-shape-tree parents marks o z = record { rooted = z; root = o .tree .root z; falls = o .tree .falls }

@@ -1,4 +1,4 @@
--- `halyardfig_extract` meets its contract: the code of what `table::extract` answers, which is small, and what that writes. Assumes nothing.
+-- `halyardfig_extract` meets its contract: the code of what `extract::extract` answers, which is small, and what that writes. Assumes nothing.
 use borrow.Author.Needs.{needs}
 use Rattle.theorems.proofs.Bounds.{extract-small}
 use Rattle.halyardfig.proofs.Coding.{coded}

@@ -1,4 +1,4 @@
--- `table::copy_parents` meets its contract. The loop's invariant: the new parents of the marked nodes before `i` are written, `n` of them, the rest is untouched, and `last` is the last of those nodes.
+-- `extract::copy_parents` meets its contract. The loop's invariant: the new parents of the marked nodes before `i` are written, `n` of them, the rest is untouched, and `last` is the last of those nodes.
 -- The measure is the marks that are left. Assumes nothing.
 use Prim.Native.Nat.{_+_, _-_, _≤_, _<_}
 use native.Mathlib.Omega.{arith}
@@ -9,10 +9,10 @@ use lib.ListN.{length, getD}
 use denote.Ref.{now}
 use Rattle.paper.specs.Tools.{written}
 use Rattle.paper.specs.Extraction.{pickFrom}
-use Rattle.table.specs.Climbs.{Last, newParent}
-use Rattle.table.proofs.Writes.{Written, room, nothing, one-more, no-more, found-at, last-new, last-kept}
-use Rattle.table.proofs.copy_parents.Statement.{statement}
-use Rattle.table.proofs.copy_parents.Tie as tie
+use Rattle.extract.specs.Numbering.{Last, newParent}
+use Rattle.extract.proofs.Writes.{Written, room, nothing, one-more, no-more, found-at, last-new, last-kept}
+use Rattle.extract.proofs.copy_parents.Statement.{statement}
+use Rattle.extract.proofs.copy_parents.Tie as tie
 
 abbrev Inv-loop : tie.InvT-loop
 Inv-loop parent marks out₀ last₀ n₀ i₀ out last n i = (i ≤ length marks) × Written marks (newParent parent marks) out₀ out n i × (0 < n → Last marks i last)

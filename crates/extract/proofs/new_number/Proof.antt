@@ -1,4 +1,4 @@
--- `table::new_number` meets its contract. The loop's invariant: `at` is a marked node no greater than `from`, `new` is its new number, and `wanted` is over it.
+-- `extract::new_number` meets its contract. The loop's invariant: `at` is a marked node no greater than `from`, `new` is its new number, and `wanted` is over it.
 -- The measure is `at`. Assumes nothing.
 use Prim.Native.Nat.{_+_, _≤_, _<_}
 use native.Mathlib.Omega.{arith}
@@ -10,10 +10,10 @@ use denote.Ref.{now}
 use Rattle.paper.specs.Document.{over, marked}
 use Rattle.paper.specs.Extraction.{rank}
 use Rattle.paper.proofs.Extracting.{rank-less}
-use Rattle.table.specs.Climbs.{shapeOf}
+use Rattle.extract.specs.Numbering.{shapeOf}
 use Rattle.table.proofs.Ways.{way-up, way-low}
-use Rattle.table.proofs.new_number.Statement.{statement}
-use Rattle.table.proofs.new_number.Tie as tie
+use Rattle.extract.proofs.new_number.Statement.{statement}
+use Rattle.extract.proofs.new_number.Tie as tie
 
 abbrev Inv-loop : tie.InvT-loop
 Inv-loop parent marks out from number wanted at₀ new₀ at new = (at ≤ from) × (marked marks at ≡ true) × (new ≡ rank marks at) × (over (shapeOf parent) at wanted ≡ true)

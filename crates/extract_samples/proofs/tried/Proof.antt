@@ -1,12 +1,12 @@
--- `table_samples::tried` meets its contract: the parts lent are as long as the rooms say, and the columns are whole again after the call. Assumes nothing.
+-- `extract_samples::tried` meets its contract: the parts lent are as long as the rooms say, and the columns are whole again after the call. Assumes nothing.
 use Prim.Native.Nat.{ℕ}
 use native.Mathlib.Omega.{arith}
 use mathlib.Core.Path.{sym}
 use mathlib.Core.List.{List, [], _∷_}
 use lib.Seq.{length-take-le, length-front}
 use borrow.Author.Needs.{needs}
-use Rattle.table_samples.proofs.tried.Statement.{statement}
-use Rattle.table_samples.proofs.tried.Tie as tie
+use Rattle.extract_samples.proofs.tried.Statement.{statement}
+use Rattle.extract_samples.proofs.tried.Tie as tie
 
 -- What both columns hold before the call.
 abbrev nines : List ℕ

@@ -1,4 +1,4 @@
--- `table::answer` meets its contract: its tests are the lines of an extract, in their order. Assumes nothing.
+-- `extract::answer` meets its contract: its tests are the lines of an extract, in their order. Assumes nothing.
 use mathlib.Core.Path.{_≡_, sym, _∙_, ap}
 use mathlib.Core.Bool.{not, _||_}
 use mathlib.Core.Option.{none, some}
@@ -13,11 +13,11 @@ use Rattle.paper.specs.Document.{Table, nodes, tableFault, marksFault, tableOf}
 use Rattle.paper.specs.Extraction.{rank}
 use Rattle.paper.specs.Answers.{value, line, short, markedCount, extractAnswer}
 use Rattle.paper.proofs.Tests.{or-left, or-right}
 use Rattle.table.specs.Faults.{faultOf}
 use Rattle.table.proofs.Nodes.{inside}
-use Rattle.table.proofs.Lines.{too-long, Agree, right-lengths}
-use Rattle.table.proofs.answer.Statement.{statement}
-use Rattle.table.proofs.answer.Tie as tie
+use Rattle.extract.proofs.Lines.{too-long, Agree, right-lengths}
+use Rattle.extract.proofs.answer.Statement.{statement}
+use Rattle.extract.proofs.answer.Tie as tie
 
 -- The table lent, as the clauses name it.
 abbrev lent : tie.Start → Table

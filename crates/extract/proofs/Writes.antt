@@ -10,7 +10,7 @@ use lib.ListN.{length, getD, set, drop, length-set, List·getD-append}
 use Rattle.paper.specs.Tools.{written}
 use Rattle.paper.specs.Document.{marked}
 use Rattle.paper.specs.Extraction.{rank, pickFrom}
-use Rattle.table.specs.Climbs.{Last}
+use Rattle.extract.specs.Numbering.{Last}
 use Rattle.paper.proofs.Extracting.{rank-marked, rank-unmarked, rank-less, pick-marked, pick-unmarked, length-pick, pick-at, write-next}
 
 -- How far a pass over the marks has come: it has written n values, those of the marked nodes before node i, over `old`.

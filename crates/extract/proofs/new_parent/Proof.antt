@@ -1,4 +1,4 @@
--- `table::new_parent` meets its contract. Below a marked node the root is marked, so there is a marked node before it, and the parent is over that one.
+-- `extract::new_parent` meets its contract. Below a marked node the root is marked, so there is a marked node before it, and the parent is over that one.
 -- A new number is no greater than the old one, so it fits. Assumes nothing.
 use Prim.Native.Nat.{_+_, _<_}
 use native.Mathlib.Omega.{arith}
@@ -10,10 +10,10 @@ use Rattle.paper.specs.Document.{over}
 use Rattle.paper.specs.Extraction.{rank}
 use Rattle.paper.proofs.Trees.{over-root, over-marked}
 use Rattle.paper.proofs.Extracting.{rank-le, rank-mono, rank-less, over-last}
-use Rattle.table.specs.Climbs.{shapeOf}
-use Rattle.table.proofs.Ways.{shape-tree}
-use Rattle.table.proofs.new_parent.Statement.{statement}
-use Rattle.table.proofs.new_parent.Tie as tie
+use Rattle.extract.specs.Numbering.{shapeOf}
+use Rattle.extract.proofs.Ordering.{shape-tree}
+use Rattle.extract.proofs.new_parent.Statement.{statement}
+use Rattle.extract.proofs.new_parent.Tie as tie
 
 -- A marked node that is not the root comes after the root, which is marked.
 after-root : (c : tie.Else1) → 0 < c .before .before .before .before .args .n

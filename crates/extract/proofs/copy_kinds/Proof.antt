@@ -1,4 +1,4 @@
--- `table::copy_kinds` meets its contract. The loop's invariant: the kinds of the marked nodes before `i` are written, `n` of them, and the rest is untouched.
+-- `extract::copy_kinds` meets its contract. The loop's invariant: the kinds of the marked nodes before `i` are written, `n` of them, and the rest is untouched.
 -- The measure is the marks that are left. Assumes nothing.
 use Prim.Native.Nat.{_-_, _≤_, _<_}
 use native.Mathlib.Omega.{arith}
@@ -8,9 +8,9 @@ use lib.ListN.{length, getD}
 use denote.Ref.{now}
 use Rattle.paper.specs.Tools.{written}
 use Rattle.paper.specs.Extraction.{pickFrom}
-use Rattle.table.proofs.Writes.{Written, room, nothing, one-more, no-more}
-use Rattle.table.proofs.copy_kinds.Statement.{statement}
-use Rattle.table.proofs.copy_kinds.Tie as tie
+use Rattle.extract.proofs.Writes.{Written, room, nothing, one-more, no-more}
+use Rattle.extract.proofs.copy_kinds.Statement.{statement}
+use Rattle.extract.proofs.copy_kinds.Tie as tie
 
 abbrev Inv-loop : tie.InvT-loop
 Inv-loop kind marks out₀ n₀ i₀ out n i = (i ≤ length marks) × Written marks (λ k. getD kind k 0) out₀ out n i

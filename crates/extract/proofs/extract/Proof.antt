@@ -1,4 +1,4 @@
--- `table::extract` meets its contract: where the answer is a value all that the writing asks was found, and where it is a refusal nothing is written. Assumes nothing.
+-- `extract::extract` meets its contract: where the answer is a value all that the writing asks was found, and where it is a refusal nothing is written. Assumes nothing.
 use native.Mathlib.Omega.{arith}
 use mathlib.Core.Path.{_≡_, sym, _∙_, ap}
 use borrow.Author.Needs.{needs}
@@ -9,10 +9,10 @@ use Rattle.paper.specs.Document.{Table, tableOf}
 use Rattle.paper.specs.Extraction.{pickFrom, extracted}
 use Rattle.paper.specs.Answers.{value, extractAnswer}
 use Rattle.paper.specs.Told.{told}
-use Rattle.table.proofs.Ways.{ordered}
-use Rattle.table.proofs.Lines.{Accepted, accepted, refused, wrote}
-use Rattle.table.proofs.extract.Statement.{statement}
-use Rattle.table.proofs.extract.Tie as tie
+use Rattle.extract.proofs.Ordering.{ordered}
+use Rattle.extract.proofs.Lines.{Accepted, accepted, refused, wrote}
+use Rattle.extract.proofs.extract.Statement.{statement}
+use Rattle.extract.proofs.extract.Tie as tie
 
 -- The table lent, as the clauses name it.
 abbrev lent : tie.Start → Table

@@ -53,7 +53,7 @@ fn tried(parent: &[u16], kind: &[u16], marks: &[u8], parent_room: usize, kind_ro
     let mut new_kind = [9u16; 7];
     if parent_room <= 7 {
         if kind_room <= 7 {
-            let said = table::extract(
+            let said = extract::extract(
                 parent,
                 kind,
                 marks,

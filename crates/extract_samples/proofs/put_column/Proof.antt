@@ -1,10 +1,10 @@
--- `table_samples::put_column` meets its contract. The loop's invariant: `i` is at most the column's length. The measure is what is left of it. Assumes nothing.
+-- `extract_samples::put_column` meets its contract. The loop's invariant: `i` is at most the column's length. The measure is what is left of it. Assumes nothing.
 use Prim.Native.Nat.{_≤_, _-_}
 use native.Mathlib.Omega.{arith}
 use borrow.Author.Needs.{needs}
 use lib.ListN.{length}
-use Rattle.table_samples.proofs.put_column.Statement.{statement}
-use Rattle.table_samples.proofs.put_column.Tie as tie
+use Rattle.extract_samples.proofs.put_column.Statement.{statement}
+use Rattle.extract_samples.proofs.put_column.Tie as tie
 
 abbrev Inv-loop : tie.InvT-loop
 Inv-loop column i₀ i = i ≤ length column
