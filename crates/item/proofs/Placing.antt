@@ -21,6 +21,13 @@ placed-first new old = ap (λ (k : ℕ). new ++ drop k old) (zero-add (length ne
 pub placed-one : (old : List ℕ) (at w : ℕ) → at < length old → set old at w ≡ placed (w ∷ []) at old
 placed-one old at w l = set-split old at w l ∙ ap (λ (k : ℕ). take at old ++ w ∷ drop k old) (sym (add-one at))
 
+-- What is placed takes the place of as many items.
+pub placed-cut : (front gone back new old : List ℕ) (at : ℕ) → old ≡ front ++ (gone ++ back) → length front ≡ at → length gone ≡ length new → placed new at old ≡ front ++ (new ++ back)
+placed-cut front gone back new old at h f g =
+    ap₂ (λ (x y : List ℕ). x ++ (new ++ y)) (ap (take at) h ∙ take-at front (gone ++ back) at f)
+    (ap (drop (at + length new)) (h ∙ sym (append-assoc front gone back)) ∙
+    drop-at (front ++ gone) back (at + length new) (omega (arith, length-append front gone)))
+
 -- The front, with what is placed, has the length it should.
 front-length : (new old : List ℕ) (at : ℕ) → at ≤ length old → length (take at old ++ new) ≡ at + length new
 front-length new old at l = length-append (take at old) new ∙ ap (λ (k : ℕ). k + length new) (length-take-le at old l)

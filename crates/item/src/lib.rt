@@ -2,7 +2,7 @@
 ghost use mathlib.Core.Path.{_≡_};
 ghost use mathlib.Core.Bool.{true};
 ghost use Prim.Native.Nat.{_+_, _%_, _≤_, _<_};
-ghost use lib.ListN.{length};
+ghost use lib.ListN.{length, replicate};
 ghost use Rattle.paper.specs.Query.{Axis, Test};
 ghost use Rattle.paper.specs.Items.{axisNumber, testNumber, packPath, goodTest};
 ghost use Rattle.paper.specs.Composition.{turned};
@@ -166,5 +166,17 @@ pub fn put_items(items: &[u32], out: &mut [u32], at: usize)
     while done < items.len() {
         out[at + done] = items[done];
         done += 1;
+    }
+}
+
+// Writes one item at so many places from `at` on.
+pub fn put_same(out: &mut [u32], at: usize, count: usize, w: u32)
+    requires { ⌜ at + count ≤ length (now out) ⌝ }
+    ensures { λ _. ⌜ now (out .exit) ≡ placed (replicate count w) at (now (out .entry)) ⌝ }
+{
+    let mut i = 0;
+    while i < count {
+        out[at + i] = w;
+        i += 1;
     }
 }

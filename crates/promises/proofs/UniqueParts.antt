@@ -19,7 +19,7 @@ use Rattle.pen.specs.Putting.{Puts}
 use Rattle.table.specs.declared.Fault.{Fault}
 use Rattle.table.specs.declared.Fault.the-variants.{Nothing, At}
 use Rattle.table.specs.Faults.{faultOf}
-use Rattle.promises.specs.UniqueParts.{UnpackUnique, PackPathUnique, PackStepUnique, TurnUnique, MeetsUnique, PutItemsUnique}
+use Rattle.promises.specs.UniqueParts.{UnpackUnique, PackPathUnique, PackStepUnique, TurnUnique, MeetsUnique, PutItemsUnique, PutSameUnique}
 use Rattle.promises.specs.UniqueParts.{NameStartUnique, NamePartUnique, IndexUnique, FindUnique, SpellUnique, WhiteSpaceUnique, TakeUnique}
 use Rattle.promises.specs.UniqueParts.{MarkUnique, WordAheadUnique, JoinedUnique, PathLeadUnique, OpeningUnique, AxisAheadUnique, TestCallUnique}
 use Rattle.promises.specs.UniqueParts.{RunOfUnique, StepsUnique, MeasureUnique, WideUnique, TableFaultUnique, MarksFaultUnique, CountUnique}
@@ -47,6 +47,9 @@ meets-unique κs a u v x y g p q = same (p (g .0) (g .1 .0) (g .1 .1)) (q (g .0)
 
 pub put-items-unique : PutItemsUnique
 put-items-unique κs a u v x y g p q = (refl, same-slice p q)
+
+pub put-same-unique : PutSameUnique
+put-same-unique κs a u v x y g p q = (refl, same-slice p q)
 
 -- NAMES AND TOKENS.
 pub name-start-unique : NameStartUnique

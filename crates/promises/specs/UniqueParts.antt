@@ -15,6 +15,7 @@ use Rattle.item.proofs.pack_step
 use Rattle.item.proofs.turn
 use Rattle.item.proofs.meets
 use Rattle.item.proofs.put_items
+use Rattle.item.proofs.put_same
 use Rattle.names.proofs.name_start
 use Rattle.names.proofs.name_part
 use Rattle.names.proofs.index
@@ -96,6 +97,9 @@ MeetsUnique = UniqueAnswer meets.Kinds.ps meets.Kinds.r (λ κs a. IsTest (a .0)
 
 abbrev pub PutItemsUnique : Type 0
 PutItemsUnique = Unique put_items.Kinds.ps put_items.Kinds.r put_items.Reads.Pre put_items.Reads.Post (λ κs x. now (x .1 .0) ∷ [])
+
+abbrev pub PutSameUnique : Type 0
+PutSameUnique = Unique put_same.Kinds.ps put_same.Kinds.r put_same.Reads.Pre put_same.Reads.Post (λ κs x. now (x .0) ∷ [])
 
 -- NAMES.
 abbrev pub NameStartUnique : Type 0

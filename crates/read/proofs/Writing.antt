@@ -4,10 +4,12 @@ use native.Mathlib.Omega.{arith}
 use mathlib.Core.Path.{_≡_, refl, sym, _∙_, ap, ap₂, subst}
 use mathlib.Core.Bool.{Bool, true, false}
 use mathlib.Core.List.{List, [], _∷_, _++_, append-assoc, append-nil}
-use lib.ListN.{length, getD, set, take, drop, replicate, length-append, length-drop, take-append-drop, length-replicate, replicate-append-replicate}
+use lib.ListN.{length, getD, set, take, drop, replicate, length-append, length-drop, take-append-drop, length-replicate}
 use lib.Seq.{length-take-le, take-suc, take-all, set-at, getD-at}
 use Rattle.paper.specs.Limits.{itemLimit}
-use Rattle.read.specs.Parts.{Wrote, Grouped, Moved, Filled, deepItem, deepItems}
+use Rattle.item.specs.Placed.{placed}
+use Rattle.item.proofs.Placing.{placed-cut}
+use Rattle.read.specs.Parts.{Wrote, Grouped, Moved, deepItem, deepItems}
 
 -- A list of so many elements, cut in two.
 record Cut (l : List ℕ) (m n : ℕ) : Type 0 where
@@ -109,25 +111,6 @@ long-enough old front gone back h = omega (arith, ap length h, length-append fro
 pub put-past : (old : List ℕ) (place item : ℕ) → length old ≤ place → Wrote old old place (item ∷ [])
 put-past old place item l = record { puts = λ front gone back h lf lg small. absurd (omega (arith, long-enough old front gone back h)) }
 
--- FILLING, one place after the other.
-pub filled-none : (old : List ℕ) (place item : ℕ) → Filled old old place 0 item
-filled-none old place item = record { puts = λ front gone back h lf lg. h ∙ ap (λ g. front ++ (g ++ back)) (nil gone lg) }
-
-pub filled-more : (old out new : List ℕ) (place i item : ℕ) → Filled old out place i item → new ≡ set out (place + i) item → Filled old new place (i + 1) item
-filled-more old out new place i item f is =
-    record {
-      puts =
-          λ front gone back h lf lg.
-          let l = last-of gone i (omega arith) in
-          let one : out ≡ front ++ (replicate i item ++ ((l .last ∷ []) ++ back)) =
-          f .puts front (l .init) ((l .last ∷ []) ++ back) (h ∙ ap (λ g. front ++ (g ++ back)) (l .is) ∙ ap (λ g. front ++ g) (append-assoc (l .init) (l .last ∷ []) back)) lf (l .long) in
-          let long : length (front ++ replicate i item) ≡ place + i = length-append front (replicate i item) ∙ ap₂ (λ (m n : ℕ). m + n) lf (length-replicate i item) in
-          let two : new ≡ (front ++ replicate i item) ++ item ∷ back =
-          is ∙ ap (λ o. set o (place + i) item) (one ∙ sym (append-assoc front (replicate i item) (l .last ∷ back))) ∙ set-at (front ++ replicate i item) (l .last) back item (place + i) long in
-          two ∙ append-assoc front (replicate i item) (item ∷ back) ∙
-          ap (λ g. front ++ g) (sym (append-assoc (replicate i item) (item ∷ []) back) ∙ ap (λ g. g ++ back) (replicate-append-replicate i 1 item));
-    }
-
 -- MOVING, from the end back: what is left to move, and what has moved past the gap.
 pub record Half (out front raw back : List ℕ) (place count i : ℕ) : Type 0 where
   pub still : List ℕ
@@ -213,13 +196,13 @@ grouped-short old place end count item l =
           absurd (omega (arith, ap length h, length-append front (raw ++ (gone ++ back)), length-append raw (gone ++ back), length-append gone back));
     }
 
-pub grouped-done : (old mid new : List ℕ) (place end count item : ℕ) → Moved old mid place end count → Filled mid new place count item → Grouped old new place end count item
+pub grouped-done : (old mid new : List ℕ) (place end count item : ℕ) → Moved old mid place end count → new ≡ placed (replicate count item) place mid → Grouped old new place end count item
 grouped-done old mid new place end count item m f =
     record {
       puts =
           λ front raw gone back h lf lr lg.
           let p = m .puts front raw gone back h lf lr lg in
-          f .puts front (p .gap) (raw ++ back) (p .is) lf (p .wide);
+          f ∙ placed-cut front (p .gap) (raw ++ back) (replicate count item) mid place (p .is) lf (p .wide ∙ sym (length-replicate count item));
     }
 
 -- THE STEP THAT `//` STANDS FOR, written or not.

@@ -127,9 +127,6 @@ pub record Moved (old new : List ℕ) (place end count : ℕ) : Type 0 where
   pub puts : (front raw gone back : List ℕ) → old ≡ front ++ (raw ++ (gone ++ back)) → length front ≡ place → place + length raw ≡ end → length gone ≡ count
       → MovedTo new front raw back count
 
-pub record Filled (old new : List ℕ) (place count item : ℕ) : Type 0 where
-  pub puts : (front gone back : List ℕ) → old ≡ front ++ (gone ++ back) → length front ≡ place → length gone ≡ count → new ≡ front ++ (replicate count item ++ back)
-
 -- What every reading function asks: a text that is not too long, a list with its starts, a place in the text.
 pub record Ready (text list starts : List ℕ) (count from depth : ℕ) : Type 0 where
   pub short : length text ≤ textLimit

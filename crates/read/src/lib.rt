@@ -34,7 +34,7 @@ ghost use Rattle.paper.specs.declared.Answer.the-variants.{Value};
 ghost use Rattle.item.specs.Unpacked.{packed};
 ghost use Rattle.names.specs.Listing.{Indexed};
 ghost use Rattle.ahead.specs.Looking.{tokensAt};
-ghost use Rattle.read.specs.Parts.{lookOf, Wrote, Grouped, deepItems, deepIf, stepItems, Reads, passSort, Heads, Closes, Numbered, Moved, Filled, Ready, pathItems, Finishes, ReadsAll, Kept, Measures, Refusal};
+ghost use Rattle.read.specs.Parts.{lookOf, Wrote, Grouped, deepItems, deepIf, stepItems, Reads, passSort, Heads, Closes, Numbered, Moved, Ready, pathItems, Finishes, ReadsAll, Kept, Measures, Refusal};
 
 // What reading a part of a query comes to: the cursor past it and the place past its items, or a refusal with its place.
 pub enum Part {
@@ -229,18 +229,6 @@ fn move_up(out: &mut [u32], place: usize, end: usize, count: usize)
     }
 }
 
-// Puts an item at each of `count` places.
-fn fill(out: &mut [u32], place: usize, count: usize, item: u32)
-    requires { ⌜ place + count ≤ length (now out) ⌝ }
-    ensures { λ _. ⌜ Filled (now (out .entry)) (now (out .exit)) place count item ⌝ }
-{
-    let mut i: usize = 0;
-    while i < count {
-        out[place + i] = item;
-        i += 1;
-    }
-}
-
 // Puts so many of an operator's items before what stands from `place` to `end`, where there is room for them.
 fn group(out: &mut [u32], place: usize, end: usize, count: usize, item: u32)
     requires { ⌜ (place ≤ end) × (end < 200000) × (count < 200000) ⌝ }
@@ -253,7 +241,7 @@ fn group(out: &mut [u32], place: usize, end: usize, count: usize, item: u32)
         return;
     }
     move_up(out, place, end, count);
-    fill(out, place, count, item);
+    item::put_same(out, place, count, item);
 }
 
 // PATH, STEP AND EXPRESSION.

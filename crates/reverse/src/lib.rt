@@ -5,9 +5,9 @@ use item::Step;
 ghost use mathlib.Core.Path.{_≡_};
 ghost use Prim.Native.Nat.{_+_, _≤_, _<_};
 ghost use mathlib.Core.Bool.{true};
-ghost use lib.ListN.{length, drop, replicate};
+ghost use lib.ListN.{length, drop};
 ghost use Rattle.paper.specs.Query.{Steps, anyNode, stop, bare, pred};
-ghost use Rattle.paper.specs.Items.{orItem, stepCount, encodeExpr, encodeSteps, goodSteps, decode};
+ghost use Rattle.paper.specs.Items.{stepCount, encodeExpr, encodeSteps, goodSteps, decode};
 ghost use Rattle.paper.specs.Composition.{atRoot, wayBack, reversed};
 ghost use Rattle.item.specs.Placed.{placed};
 ghost use Rattle.reverse.specs.Reverses.{owing, eaten, IsQuery, pathsGot, StepSaid, reversedItems, eachGot, selectedGot};
@@ -71,18 +71,6 @@ fn as_step(w: u32) -> Step
         };
     };
     step
-}
-
-// Writes so many `or` items.
-fn put_ors(out: &mut [u32], at: usize, count: usize)
-    requires { ⌜ at + count ≤ length (now out) ⌝ }
-    ensures { λ _. ⌜ now (out .exit) ≡ placed (replicate count orItem) at (now (out .entry)) ⌝ }
-{
-    let mut done = 0;
-    while done < count {
-        out[at + done] = item::OR;
-        done += 1;
-    }
 }
 
 // `not(parent::node())`, three items.
@@ -164,7 +152,7 @@ pub fn put_selected(inner: &[u32], paths: usize, out: &mut [u32], at: usize)
     requires { ⌜ (IsQuery (now inner)) × (length (now inner) ≤ 4096) × (paths ≡ pathsGot (decode (now inner))) × (at + length (selectedGot (decode (now inner))) ≤ length (now out)) ⌝ }
     ensures { λ _. ⌜ now (out .exit) ≡ placed (selectedGot (decode (now (inner .entry)))) at (now (out .entry)) ⌝ }
 {
-    put_ors(out, at, paths - 1);
+    item::put_same(out, at, paths - 1, item::OR);
     put_reverses(inner, out, at + (paths - 1));
 }
 

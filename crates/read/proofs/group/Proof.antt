@@ -16,16 +16,16 @@ returns-2 c = grouped-short _ _ _ _ _ (c .if2 .taken)
 move-up-requires : tie.Need-move-up-requires
 move-up-requires c κs = search needs
 
-fill-requires : tie.Need-fill-requires
-fill-requires c κs = search needs
+put-same-requires : tie.Need-put-same-requires
+put-same-requires c κs = search needs
 
 same-length : tie.Need-same-length
 same-length c = search needs
 
 returns-3 : tie.Need-returns-3
-returns-3 c = grouped-done _ _ _ _ _ _ _ (c .before .before .before .before .before .before .move-up .ensures) (c .before .before .fill .ensures)
+returns-3 c = grouped-done _ _ _ _ _ _ _ (c .before .before .before .before .before .before .move-up .ensures) (c .before .before .put-same .ensures)
 
 pub group-spec : {M : Type 1} → statement M
 group-spec =
     tie.close
-    (tie.spec returns add-if2 returns-2 move-up-requires fill-requires same-length returns-3)
+    (tie.spec returns add-if2 returns-2 move-up-requires put-same-requires same-length returns-3)

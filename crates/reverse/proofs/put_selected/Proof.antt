@@ -14,8 +14,8 @@ use borrow.Author.Needs.{needs}
 use Rattle.reverse.proofs.put_selected.Statement.{statement}
 use Rattle.reverse.proofs.put_selected.Tie as tie
 
-sub-put-ors : tie.Need-sub-put-ors
-sub-put-ors c =
+sub-put-same : tie.Need-sub-put-same
+sub-put-same c =
     let a = c .before .before .before .args in
     let inner = now (a .inner) in
     let old = now (a .out) in
@@ -26,8 +26,8 @@ sub-put-ors c =
     let whole = ap length (parts .1) in
     omega (arith, parts .0)
 
-put-ors-requires : tie.Need-put-ors-requires
-put-ors-requires c κs =
+put-same-requires : tie.Need-put-same-requires
+put-same-requires c κs =
     let a = c .before .before .before .args in
     let inner = now (a .inner) in
     let old = now (a .out) in
@@ -72,7 +72,7 @@ put-reverses-requires c κs =
     let n = length-append ors (eachGot reversedItems (decode inner)) in
     let k = length-replicate (a .paths - 1) orItem in
     let whole = ap length (parts .1) in
-    (c .before .before .before .before .before .before .before .pre .0, c .before .before .before .before .before .before .before .pre .1, omega (arith, c .before .before .before .before .before .before .before .pre .3, same-size ors old (c .before .before .before .put-ors .last .0) (a .at) (c .before .before .before .put-ors .ensures) (omega (arith, c .before .before .before .before .before .before .before .pre .3))))
+    (c .before .before .before .before .before .before .before .pre .0, c .before .before .before .before .before .before .before .pre .1, omega (arith, c .before .before .before .before .before .before .before .pre .3, same-size ors old (c .before .before .before .put-same .last .0) (a .at) (c .before .before .before .put-same .ensures) (omega (arith, c .before .before .before .before .before .before .before .pre .3))))
 
 same-length : tie.Need-same-length
 same-length c = search needs
@@ -87,7 +87,7 @@ returns c =
     let n = length-append ors (eachGot reversedItems (decode inner)) in
     let k = length-replicate (a .paths - 1) orItem in
     let whole = ap length (parts .1) in
-    c .before .before .put-reverses .ensures ∙ ap (placed (eachGot reversedItems (decode inner)) (a .at + (a .paths - 1))) (c .before .before .before .before .before .before .put-ors .ensures) ∙
+    c .before .before .put-reverses .ensures ∙ ap (placed (eachGot reversedItems (decode inner)) (a .at + (a .paths - 1))) (c .before .before .before .before .before .before .put-same .ensures) ∙
     placed-after ors (eachGot reversedItems (decode inner)) old (a .at) (a .at + (a .paths - 1)) (omega (arith, c .before .before .before .before .before .before .before .before .before .before .pre .3)) (omega arith) ∙
     ap (λ (x : List ℕ). placed x (a .at) old) (sym (parts .1))
 
@@ -95,8 +95,8 @@ pub put-selected-spec : {M : Type 1} → statement M
 put-selected-spec =
     tie.close
     (tie.spec
-    sub-put-ors
-    put-ors-requires
+    sub-put-same
+    put-same-requires
     sub-put-reverses
     add-put-reverses
     put-reverses-requires
