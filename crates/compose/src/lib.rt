@@ -4,7 +4,7 @@ use item::Step;
 use paper::Answer;
 use shape::Shape;
 ghost use mathlib.Core.Path.{_≡_};
-ghost use Prim.Native.Nat.{_+_, _≤_, _<_, max};
+ghost use Prim.Native.Nat.{_+_, _≤_, _<_};
 ghost use lib.ListN.{length, take, drop};
 ghost use Rattle.paper.specs.Items.{decode};
 ghost use Rattle.paper.specs.Tools.{written};
@@ -174,13 +174,6 @@ fn composed_size(outer: &[u32], count: usize) -> usize
     outer.len() + steps * (5 + 2 * count) + paths * (3 + count)
 }
 
-// The larger of two numbers.
-fn larger(a: usize, b: usize) -> usize
-    ensures { λ r. ⌜ r ≡ max a b ⌝ }
-{
-    if a < b { b } else { a }
-}
-
 // Writes the composition, and answers the number of its items.
 pub fn compose(outer: &[u32], inner: &[u32], out: &mut [u32]) -> Answer
     ensures { λ r. ⌜ (told r ≡ composeAnswer (now (outer .entry)) (now (inner .entry)) (length (now (out .entry))))
@@ -208,7 +201,7 @@ pub fn compose(outer: &[u32], inner: &[u32], out: &mut [u32]) -> Answer
     else {
         return Answer::BadQuery(1);
     };
-    let nesting = outer_nesting + 2 + larger(2, inner_nesting);
+    let nesting = outer_nesting + 2 + shape::larger(2, inner_nesting);
     if paper::BRACKET_LIMIT < nesting {
         return Answer::TooNested(nesting);
     }

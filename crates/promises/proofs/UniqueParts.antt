@@ -22,7 +22,7 @@ use Rattle.table.specs.Faults.{faultOf}
 use Rattle.promises.specs.UniqueParts.{UnpackUnique, PackPathUnique, PackStepUnique, TurnUnique, MeetsUnique, PutItemsUnique, PutSameUnique}
 use Rattle.promises.specs.UniqueParts.{NameStartUnique, NamePartUnique, IndexUnique, FindUnique, SpellUnique, WhiteSpaceUnique, TakeUnique}
 use Rattle.promises.specs.UniqueParts.{MarkUnique, WordAheadUnique, JoinedUnique, PathLeadUnique, OpeningUnique, AxisAheadUnique, TestCallUnique}
-use Rattle.promises.specs.UniqueParts.{RunOfUnique, StepsUnique, MeasureUnique, WideUnique, TableFaultUnique, MarksFaultUnique, CountUnique}
+use Rattle.promises.specs.UniqueParts.{LargerUnique, RunOfUnique, StepsUnique, MeasureUnique, WideUnique, TableFaultUnique, MarksFaultUnique, CountUnique}
 use Rattle.promises.specs.UniqueParts.{PutByteUnique, PutUnique, PutSlashUnique, PutBarUnique, PutOpenUnique, PutOrUnique, PutAndUnique, PutNotUnique, PutHeadUnique}
 use Rattle.promises.specs.UniqueParts.{LineEndUnique, LineStartUnique, PutRefusalUnique, PutResultUnique}
 use Rattle.promises.specs.UniqueParts.{FillUnique, CopyUnique, KeepUnique, AddUnique, FlipUnique, KeepSecondUnique, AddSecondUnique, KeepMetUnique, AlongUnique}
@@ -114,6 +114,9 @@ module _ {A : Type 0} (items : List ℕ) (at depth : ℕ) (taken : Taken A) (nes
   walk-unique (Done m nest high) Malformed p q = none-some (same (sym q) (sym (p .reads)))
   walk-unique Malformed (Done n nest high) p q = none-some (same (sym p) (sym (q .reads)))
   walk-unique Malformed Malformed p q = refl
+
+pub larger-unique : LargerUnique
+larger-unique κs a u v x y g p q = same p q
 
 pub run-of-unique : RunOfUnique
 run-of-unique κs a u v x y g p q = same (p .0) (q .0)

@@ -30,6 +30,7 @@ use Rattle.ahead.proofs.path_lead
 use Rattle.ahead.proofs.opening
 use Rattle.ahead.proofs.axis_ahead
 use Rattle.ahead.proofs.test_call
+use Rattle.shape.proofs.larger
 use Rattle.shape.proofs.run_of
 use Rattle.shape.proofs.steps
 use Rattle.shape.proofs.measure
@@ -147,6 +148,9 @@ abbrev pub TestCallUnique : Type 0
 TestCallUnique = UniqueAnswer test_call.Kinds.ps test_call.Kinds.r test_call.Reads.Pre test_call.Reads.Post
 
 -- SHAPES.
+abbrev pub LargerUnique : Type 0
+LargerUnique = UniqueAnswer larger.Kinds.ps larger.Kinds.r larger.Reads.Pre larger.Reads.Post
+
 abbrev pub RunOfUnique : Type 0
 RunOfUnique = UniqueAnswer run_of.Kinds.ps run_of.Kinds.r run_of.Reads.Pre run_of.Reads.Post
 
