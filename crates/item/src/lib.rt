@@ -1,12 +1,10 @@
 // The items of a query: the fields of one by shifts and masks, and several written from a place on. Only this crate knows bit positions.
 ghost use mathlib.Core.Path.{_≡_};
-ghost use mathlib.Core.Bool.{true};
 ghost use Prim.Native.Nat.{_+_, _%_, _≤_, _<_};
 ghost use lib.ListN.{length, replicate};
-ghost use Rattle.paper.specs.Query.{Axis, Test};
-ghost use Rattle.paper.specs.Items.{axisNumber, testNumber, packPath, goodTest};
+ghost use Rattle.paper.specs.Query.{Axis};
+ghost use Rattle.paper.specs.Items.{axisNumber, packPath};
 ghost use Rattle.paper.specs.Composition.{turned};
-ghost use Rattle.paper.specs.Selection.{meets};
 ghost use Rattle.item.specs.Unpacked.{unpacked, packed};
 ghost use Rattle.item.specs.Placed.{placed};
 
@@ -142,18 +140,6 @@ pub fn turn(axis: u32) -> u32
         3 => 4,
         4 => 3,
         _ => axis,
-    }
-}
-
-// Is the test met by a node of this kind?
-pub fn meets(test: u32, kind: u32) -> bool
-    ensures { λ r. ⌜ ((t : Test) → goodTest t ≡ true → test ≡ testNumber t → r ≡ meets t kind) ⌝ }
-{
-    match test {
-        0 => true,
-        1 => kind == 1,
-        258 => 2 <= kind,
-        _ => kind == test,
     }
 }
 

@@ -35,10 +35,6 @@ and-all : (b : Bool) → b ≡ (b && true)
 and-all true = refl
 and-all false = refl
 
-and-and : (a b c : Bool) → ((a && b) && c) ≡ (a && b && c)
-and-and true b c = refl
-and-and false b c = refl
-
 regroup : (a b c : Bool) → ((a && b) && c) ≡ (a && (b && c))
 regroup true b c = refl
 regroup false b c = refl

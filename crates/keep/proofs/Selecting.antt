@@ -99,20 +99,6 @@ pub record Going (t : Table) (m : List ℕ) (items : List ℕ) (at count place l
   pub inside : place ≤ length items
 
 module _ (t : Table) (m : List ℕ) (items : List ℕ) (at count room : ℕ) (f : Fits items at (nodes t) room (takeSteps (takeWithin bracketLimit) count (drop at items)) (λ s. 1 + heightSteps s)) where
-  pub going-start : (sets : List ℕ) → Going t m items at count at count sets sets
-  going-start sets =
-      record {
-        steps = f .what;
-        ahead = f .what;
-        rest = f .rest;
-        reads = f .reads;
-        goes-on = f .reads;
-        low = omega arith;
-        set = λ g h. (g, h, λ k. refl);
-        onward = omega arith;
-        inside = f .inside;
-      }
-
   -- The next step can be read: its item, its predicates, and the steps after it.
   pub record Next (place left : ℕ) (ahead : Steps) (rest : List ℕ) (h : Head) : Type 0 where
     pub later : Steps

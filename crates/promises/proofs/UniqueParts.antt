@@ -19,7 +19,7 @@ use Rattle.pen.specs.Putting.{Puts}
 use Rattle.table.specs.declared.Fault.{Fault}
 use Rattle.table.specs.declared.Fault.the-variants.{Nothing, At}
 use Rattle.table.specs.Faults.{faultOf}
-use Rattle.promises.specs.UniqueParts.{UnpackUnique, PackPathUnique, PackStepUnique, TurnUnique, MeetsUnique, PutItemsUnique, PutSameUnique}
+use Rattle.promises.specs.UniqueParts.{UnpackUnique, PackPathUnique, PackStepUnique, TurnUnique, PutItemsUnique, PutSameUnique}
 use Rattle.promises.specs.UniqueParts.{NameStartUnique, NamePartUnique, IndexUnique, FindUnique, SpellUnique, WhiteSpaceUnique, TakeUnique}
 use Rattle.promises.specs.UniqueParts.{MarkUnique, WordAheadUnique, JoinedUnique, PathLeadUnique, OpeningUnique, AxisAheadUnique, TestCallUnique}
 use Rattle.promises.specs.UniqueParts.{LargerUnique, RunOfUnique, StepsUnique, MeasureUnique, WideUnique, TableFaultUnique, MarksFaultUnique, CountUnique}
@@ -41,9 +41,6 @@ pack-step-unique κs a u v x y g p q = same p q
 
 pub turn-unique : TurnUnique
 turn-unique κs a u v x y g p q = same (p (g .0) (g .1)) (q (g .0) (g .1))
-
-pub meets-unique : MeetsUnique
-meets-unique κs a u v x y g p q = same (p (g .0) (g .1 .0) (g .1 .1)) (q (g .0) (g .1 .0) (g .1 .1))
 
 pub put-items-unique : PutItemsUnique
 put-items-unique κs a u v x y g p q = (refl, same-slice p q)

@@ -1,5 +1,5 @@
 -- The contract of each public function below the entry points leaves one answer and one content of each slice.
--- Five of the contracts speak of some arguments only: `turn` and `along` of the numbers of axes, `meets` and `keep_met` of those of tests, `put_head` of both; and `sets` speaks of bytes that are 0 or 1.
+-- Four of the contracts speak of some arguments only: `turn` and `along` of the numbers of axes, `keep_met` of those of tests, `put_head` of both; and `sets` speaks of bytes that are 0 or 1.
 use Prim.Native.Nat.{ℕ}
 use mathlib.Core.Path.{_≡_}
 use mathlib.Core.Bool.{Bool, true}
@@ -13,7 +13,6 @@ use Rattle.item.proofs.unpack
 use Rattle.item.proofs.pack_path
 use Rattle.item.proofs.pack_step
 use Rattle.item.proofs.turn
-use Rattle.item.proofs.meets
 use Rattle.item.proofs.put_items
 use Rattle.item.proofs.put_same
 use Rattle.names.proofs.name_start
@@ -92,9 +91,6 @@ PackStepUnique = UniqueAnswer pack_step.Kinds.ps pack_step.Kinds.r pack_step.Rea
 
 abbrev pub TurnUnique : Type 0
 TurnUnique = UniqueAnswer turn.Kinds.ps turn.Kinds.r (λ κs a. IsAxis (a .0)) turn.Reads.Post
-
-abbrev pub MeetsUnique : Type 0
-MeetsUnique = UniqueAnswer meets.Kinds.ps meets.Kinds.r (λ κs a. IsTest (a .0)) meets.Reads.Post
 
 abbrev pub PutItemsUnique : Type 0
 PutItemsUnique = Unique put_items.Kinds.ps put_items.Kinds.r put_items.Reads.Pre put_items.Reads.Post (λ κs x. now (x .1 .0) ∷ [])
