@@ -265,6 +265,9 @@ static void read_syntax(void)
         {"/a[self ::\tb]", 0, 4},
         {"/a[b][c][d]", 0, 8},
         {"//a\n|\n//b", 0, 6},
+        {"\r/\ra\r[\rself\r::\rb\rand\rnot\r(\rnode\r(\r)\r)\r]\r|\r//\r*\r", 0, 11},
+        {"/a\r\n/b\r\n", 0, 3},
+        {"/a\r\nb", 3, 4},
         {"/a[not(not(b))]", 0, 6},
         {"/descendant-or-self::node()/a", 0, 3},
     };
