@@ -1,4 +1,4 @@
--- 01, "The document": the node table and the marks, with what is wrong with bad ones.
+-- docs/SCOPE.md, "The document": the node table and the marks, with what is wrong with bad ones.
 use Prim.Native.Nat.{ℕ, zero, suc}
 use mathlib.Core.Bool.{Bool, not, _&&_, _||_, cond}
 use mathlib.Core.List.{List}

@@ -1,4 +1,4 @@
--- 01, "The query in memory": the items, one number each, in prefix order.
+-- docs/SCOPE.md, "The query in memory": the items, one number each, in prefix order.
 use Prim.Native.Nat.{ℕ, zero, suc, _+_, _*_, _/_, _%_}
 use mathlib.Core.Bool.{Bool, true, false, _&&_, _||_, cond}
 use mathlib.Core.List.{List, [], _∷_, _++_}

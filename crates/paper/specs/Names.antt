@@ -1,4 +1,4 @@
--- 01, "The part of XPath": names, and the lent list that they come from.
+-- docs/SCOPE.md, "The part of XPath": names, and the lent list that they come from.
 use Prim.Native.Nat.{ℕ, suc}
 use mathlib.Core.Bool.{Bool, true, false, not, _&&_, _||_, cond}
 use mathlib.Core.List.{List, [], _∷_, map}

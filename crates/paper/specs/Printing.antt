@@ -1,4 +1,4 @@
--- 01, "Printing": the text of a query, with the axes written out.
+-- docs/SCOPE.md, "Printing": the text of a query, with the axes written out.
 use Prim.Native.Nat.{ℕ, _+_, _-_, max}
 use mathlib.Core.Bool.{Bool, true, false}
 use mathlib.Core.List.{List, [], _∷_, _++_}

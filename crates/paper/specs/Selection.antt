@@ -1,4 +1,4 @@
--- 01, "Run": what a query selects inside marks, as XPath 1.0 says it, and what the subtree rule keeps.
+-- docs/SCOPE.md, "Run": what a query selects inside marks, as XPath 1.0 says it, and what the subtree rule keeps.
 use Prim.Native.Nat.{ℕ, _+_}
 use mathlib.Core.Bool.{Bool, true, not, _&&_, _||_, cond}
 use mathlib.Core.List.{List}
