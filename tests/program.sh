@@ -1,5 +1,5 @@
 #!/usr/bin/env bash
-# Runs the printing program on document 01's sample, on the examples of docs/VIEWS.md and at the edges of its input.
+# Runs the printing program on the sample of docs/SCOPE.md, on the examples of docs/VIEWS.md and at the edges of its input.
 set -u
 cd "$(dirname "$0")/.." || exit 2
 

@@ -1,4 +1,5 @@
-/* The samples of document 01, through the C interface. */
+/* docs/SCOPE.md, "Samples on both sides": the samples, through the C interface; and what they leave out of `*` and of
+ * items. */
 #include "halyardfig.h"
 #include "making.h"
 
@@ -58,10 +59,17 @@ static void run_samples(void)
     static const struct {
         const char *name, *text, *marks;
     } samples[] = {
-        {"P1", "/", "1111111"},        {"P2", "/b", "0000000"},
-        {"P3", "/a/b[c]", "1111100"},  {"P4", "/a/b[not(c)]", "1100011"},
-        {"P5", "//text()", "1111100"}, {"P6", "//d/../..", "1111111"},
-        {"P7", "/..", "0000000"},      {"P8 alone", "/a[not(b/c)]", "0000000"},
+        {"P1", "/", "1111111"},
+        {"P2", "/b", "0000000"},
+        {"P3", "/a/b[c]", "1111100"},
+        {"P4", "/a/b[not(c)]", "1100011"},
+        {"P5", "//text()", "1111100"},
+        {"P6", "//d/../..", "1111111"},
+        {"P7", "/..", "0000000"},
+        {"P8 alone", "/a[not(b/c)]", "0000000"},
+        {"* and the root", "/self::*", "0000000"},
+        {"* and text", "//c/*", "0000000"},
+        {"* and an element", "/*", "1111111"},
     };
     static struct query query;
     for (size_t i = 0; i < sizeof samples / sizeof samples[0]; i++) {
@@ -139,6 +147,49 @@ static void read_samples(void)
     answer_is("64 brackets", read_text(&query, text), REFUSED(4, 66));
 }
 
+/* Steps on one name or node, as the samples below have them. */
+#define A_STEP STEP_ITEM(CHILD, FIRST_NAME, 0)
+#define B_STEP STEP_ITEM(CHILD, FIRST_NAME + 1, 0)
+#define C_STEP STEP_ITEM(CHILD, FIRST_NAME + 2, 0)
+#define D_STEP STEP_ITEM(CHILD, FIRST_NAME + 3, 0)
+#define ANY_BELOW STEP_ITEM(DESCENDANT_OR_SELF, NODE_TEST, 0)
+#define A_WITH_ONE STEP_ITEM(CHILD, FIRST_NAME, 1)
+#define ONE PATH_ITEM(1)
+
+/* Texts with the items that they are, in prefix order. */
+static void item_samples(void)
+{
+    static const struct {
+        const char *text;
+        size_t count;
+        uint32_t items[20];
+    } samples[] = {
+        {"/", 1, {PATH_ITEM(0)}},
+        {"/|//a", 4, {PATH_ITEM(0), PATH_ITEM(2), ANY_BELOW, A_STEP}},
+        {"/a[(b)]", 4, {ONE, A_WITH_ONE, ONE, B_STEP}},
+        {"/a[b or c and d or not(a//b)]/..",
+         17,
+         {PATH_ITEM(2), A_WITH_ONE, OR_ITEM, OR_ITEM, ONE, B_STEP, AND_ITEM, ONE, C_STEP, ONE, D_STEP, NOT_ITEM,
+          PATH_ITEM(3), A_STEP, ANY_BELOW, B_STEP, STEP_ITEM(PARENT, NODE_TEST, 0)}},
+        {" / descendant-or-self :: node ( ) [ a ] [ text() ] ",
+         6,
+         {ONE, STEP_ITEM(DESCENDANT_OR_SELF, NODE_TEST, 2), ONE, A_STEP, ONE, STEP_ITEM(CHILD, TEXT_TEST, 0)}},
+        {"/a[(a or b) and (b and c) or (c or d)]",
+         19,
+         {ONE, A_WITH_ONE, OR_ITEM, AND_ITEM, OR_ITEM, ONE, A_STEP, ONE, B_STEP, AND_ITEM, ONE, B_STEP, ONE, C_STEP,
+          OR_ITEM, ONE, C_STEP, ONE, D_STEP}},
+        {"/ancestor-or-self::*[self::d]",
+         4,
+         {ONE, STEP_ITEM(ANCESTOR_OR_SELF, ANY_TEST, 1), ONE, STEP_ITEM(SELF, FIRST_NAME + 3, 0)}},
+    };
+    static struct query query;
+    for (size_t i = 0; i < sizeof samples / sizeof samples[0]; i++) {
+        answer_is(samples[i].text, read_text(&query, samples[i].text), samples[i].count);
+        tally(memcmp(query.items, samples[i].items, samples[i].count * sizeof query.items[0]) == 0,
+              "`%s` is read as other items", samples[i].text);
+    }
+}
+
 static void printed_sample(void)
 {
     static const char expected[] =
@@ -162,6 +213,7 @@ int main(void)
     composed_samples();
     size_samples();
     read_samples();
+    item_samples();
     printed_sample();
     return group_end();
 }
