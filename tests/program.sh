@@ -52,3 +52,4 @@ prints '49,153 bytes' 'refused input 1 0' < <(times 49153 /)
 prints '49,152 bytes in one line' 'refused outer 1 0' < <(times 49152 /)
 
 echo "program: $passed passed, $failed failed"
+[ "$failed" -eq 0 ]
