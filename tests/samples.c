@@ -70,6 +70,8 @@ static void run_samples(void)
         {"* and the root", "/self::*", "0000000"},
         {"* and text", "//c/*", "0000000"},
         {"* and an element", "/*", "1111111"},
+        {"docs/VIEWS.md, row 2 alone", "/a[b/c]", "1111111"},
+        {"docs/VIEWS.md, row 4 alone", "//b", "1111111"},
     };
     static struct query query;
     for (size_t i = 0; i < sizeof samples / sizeof samples[0]; i++) {
@@ -86,6 +88,11 @@ static void composed_samples(void)
         {"P8", "/a[not(b/c)]", "/a/b/d", "1100011"},
         {"P9", "/", "/a/b/d", "1100011"},
         {"P10", "/", "/b", "0000000"},
+        {"docs/VIEWS.md, row 2", "/a[b/c]", "/a/b/d", "0000000"},
+        {"docs/VIEWS.md, row 4", "//b", "/a/b/d", "1100011"},
+        {"docs/VIEWS.md, row 5", "//text()", "/a/b/d", "0000000"},
+        {"docs/VIEWS.md, a view of all", "/", "//b", "1111111"},
+        {"docs/VIEWS.md, a view by not", "/", "//b[not(c)]", "1100011"},
     };
     static struct query made;
     for (size_t i = 0; i < sizeof samples / sizeof samples[0]; i++) {
