@@ -1,4 +1,4 @@
--- The grammar of queries over tokens, as 01 and XPath 1.0 have it, and what reading owes to it; the proofs are in proofs/. A token stands with its place, which plays no part (`PlacesApart`).
+-- docs/SCOPE.md, "The part of XPath" and demand 2: the grammar of queries over tokens, as 01 and XPath 1.0 have it, and what reading owes to it; the proofs are in proofs/. A token stands with its place, which plays no part (`PlacesApart`).
 -- Each relation `XIn ts x rest` says: the tokens ts are those of x, then rest. No relation looks ahead.
 use Prim.Native.Nat.{ℕ, zero, suc, _+_, _<_}
 use mathlib.Core.Path.{_≡_}
