@@ -12,7 +12,8 @@
  * memory that a call writes does not overlap other memory lent to the same call.
  * Lengths count elements, not bytes. No call allocates, and none keeps what it is lent.
  * Calls share nothing: threads may call at once, as long as what one call writes is lent to no other.
- * No call uses more than HALYARDFIG_STACK_BYTES of stack, whatever it is lent.
+ * No call uses more than HALYARDFIG_STACK_BYTES of stack, whatever it is lent; that is measured on the deepest and
+ * longest inputs, and not proved.
  *
  * A caller that does not know how much room a call needs lends it none (length 0, the pointer still not null):
  * the place of refusal 10 is the number needed.
