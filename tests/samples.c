@@ -102,28 +102,40 @@ static void composed_samples(void)
     }
 }
 
-/* A text of one part so many times. */
-static const char *repeated(const char *start, const char *part, size_t times, const char *middle, const char *end)
+/* Room for a text that is built. */
+struct built {
+    char text[TEXT_ROOM + 1];
+    size_t used;
+};
+
+static void add_times(struct built *built, const char *part, size_t times)
 {
-    static char text[TEXT_ROOM + 1];
-    size_t used = (size_t)snprintf(text, sizeof text, "%s", start);
     for (size_t i = 0; i < times; i++)
-        used += (size_t)snprintf(text + used, sizeof text - used, "%s", part);
-    used += (size_t)snprintf(text + used, sizeof text - used, "%s", middle);
-    for (size_t i = 0; i < times; i++)
-        used += (size_t)snprintf(text + used, sizeof text - used, "%s", end);
-    return text;
+        built->used += (size_t)snprintf(built->text + built->used, sizeof built->text - built->used, "%s", part);
+}
+
+/* A start, one part so many times, a middle, and an end as many times. */
+static const char *repeated(struct built *built, const char *start, const char *part, size_t times, const char *middle,
+                            const char *end)
+{
+    built->used = 0;
+    add_times(built, start, 1);
+    add_times(built, part, times);
+    add_times(built, middle, 1);
+    add_times(built, end, times);
+    return built->text;
 }
 
 static void size_samples(void)
 {
     static struct query made;
+    static struct built built;
     answer_is("P11", compose_texts(&made, "/", "/"), 9);
     answer_is("P12", compose_texts(&made, "//a", "/b|/c"), 81);
-    answer_is("227 steps", compose_texts(&made, repeated("", "/a", 227, "", ""), "/b"), 4096);
-    answer_is("228 steps", compose_texts(&made, repeated("", "/a", 228, "", ""), "/b"), REFUSED(10, 4114));
-    answer_is("nesting 61", compose_texts(&made, repeated("/a", "[a", 61, "", "]"), "/b"), REFUSED(9, 65));
-    uint64_t sixty = compose_texts(&made, repeated("/a", "[a", 60, "", "]"), "/b");
+    answer_is("227 steps", compose_texts(&made, repeated(&built, "", "/a", 227, "", ""), "/b"), 4096);
+    answer_is("228 steps", compose_texts(&made, repeated(&built, "", "/a", 228, "", ""), "/b"), REFUSED(10, 4114));
+    answer_is("nesting 61", compose_texts(&made, repeated(&built, "/a", "[a", 61, "", "]"), "/b"), REFUSED(9, 65));
+    uint64_t sixty = compose_texts(&made, repeated(&built, "/a", "[a", 60, "", "]"), "/b");
     tally(halyardfig_refused(sixty) == 0, "nesting 60 on /b is refused: %u at %u", halyardfig_refused(sixty),
           halyardfig_place(sixty));
 }
@@ -144,14 +156,15 @@ static void read_samples(void)
         {"/e", 5, 1},
     };
     static struct query query;
+    static struct built built;
     for (size_t i = 0; i < sizeof samples / sizeof samples[0]; i++)
         answer_is(samples[i].text, read_text(&query, samples[i].text), REFUSED(samples[i].number, samples[i].place));
-    answer_is("63 brackets", read_text(&query, repeated("/a[", "(", 63, "b", ")")), REFUSED(3, 130));
-    char text[256];
-    snprintf(text, sizeof text, "%s]", repeated("/a[", "(", 63, "b", ")"));
-    answer_is("63 brackets, closed", read_text(&query, text), 4);
-    snprintf(text, sizeof text, "%s]", repeated("/a[", "(", 64, "b", ")"));
-    answer_is("64 brackets", read_text(&query, text), REFUSED(4, 66));
+    answer_is("63 brackets", read_text(&query, repeated(&built, "/a[", "(", 63, "b", ")")), REFUSED(3, 130));
+    add_times(&built, "]", 1);
+    answer_is("63 brackets, closed", read_text(&query, built.text), 4);
+    repeated(&built, "/a[", "(", 64, "b", ")");
+    add_times(&built, "]", 1);
+    answer_is("64 brackets", read_text(&query, built.text), REFUSED(4, 66));
 }
 
 /* Steps on one name or node, as the samples below have them. */
