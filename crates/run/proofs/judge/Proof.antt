@@ -1,4 +1,4 @@
--- `run::room` meets its contract: its tests are the lines of a run, in their order. Assumes nothing.
+-- `run::judge` meets its contract: its tests are the lines of a run, in their order. Assumes nothing.
 use Prim.Native.Nat.{ℕ, _+_, _*_}
 use native.Mathlib.Omega.{arith}
 use mathlib.Core.Path.{sym, _∙_, ap}
@@ -15,10 +15,10 @@ use Rattle.paper.proofs.Tests.{or-left, or-right}
 use Rattle.paper.proofs.Sizes.{size-decoded, height-size}
 use Rattle.table.specs.Faults.{faultOf}
 use Rattle.table.proofs.Nodes.{inside}
-use Rattle.run.proofs.Answering.{Agree, shaped-none, shaped-some, room-long, room-six, room-seven, room-eight, room-ten, room-value, scratch-small}
+use Rattle.run.proofs.Answering.{Agree, shaped-none, shaped-some, judged-long, judged-six, judged-seven, judged-eight, judged-ten, judged-value, scratch-small}
 use borrow.Author.Needs.{needs}
-use Rattle.run.proofs.room.Statement.{statement}
-use Rattle.run.proofs.room.Tie as tie
+use Rattle.run.proofs.judge.Statement.{statement}
+use Rattle.run.proofs.judge.Tie as tie
 
 returns : tie.Need-returns
 returns c =
@@ -26,7 +26,7 @@ returns c =
     let q = now (a .query) in
     let t = tableOf (now (a .parent)) (now (a .kind)) in
     let g = now (a .given) in
-    room-long q t g (a .marks-room) (a .scratch-room) (or-left (not (eqb (a .marks-room) (nodes t))) (or-left (not (eqb (length g) (nodes t))) (or-left (not (eqb (length (t .kinds)) (nodes t))) (or-left (ltb nodeLimit (nodes t)) (lt-ltb itemLimit (length q) (c .if1 .taken))))))
+    judged-long q t g (a .marks-room) (a .scratch-room) (or-left (not (eqb (a .marks-room) (nodes t))) (or-left (not (eqb (length g) (nodes t))) (or-left (not (eqb (length (t .kinds)) (nodes t))) (or-left (ltb nodeLimit (nodes t)) (lt-ltb itemLimit (length q) (c .if1 .taken))))))
 
 returns-2 : tie.Need-returns-2
 returns-2 c =
@@ -34,7 +34,7 @@ returns-2 c =
     let q = now (a .query) in
     let t = tableOf (now (a .parent)) (now (a .kind)) in
     let g = now (a .given) in
-    room-long q t g (a .marks-room) (a .scratch-room) (or-left (not (eqb (a .marks-room) (nodes t))) (or-left (not (eqb (length g) (nodes t))) (or-left (not (eqb (length (t .kinds)) (nodes t))) (or-right (tooLong q itemLimit) (lt-ltb nodeLimit (nodes t) (c .if2 .taken))))))
+    judged-long q t g (a .marks-room) (a .scratch-room) (or-left (not (eqb (a .marks-room) (nodes t))) (or-left (not (eqb (length g) (nodes t))) (or-left (not (eqb (length (t .kinds)) (nodes t))) (or-right (tooLong q itemLimit) (lt-ltb nodeLimit (nodes t) (c .if2 .taken))))))
 
 returns-3 : tie.Need-returns-3
 returns-3 c =
@@ -42,7 +42,7 @@ returns-3 c =
     let q = now (a .query) in
     let t = tableOf (now (a .parent)) (now (a .kind)) in
     let g = now (a .given) in
-    room-long q t g (a .marks-room) (a .scratch-room) (or-left (not (eqb (a .marks-room) (nodes t))) (or-left (not (eqb (length g) (nodes t))) (or-right (tooLong q itemLimit || ltb nodeLimit (nodes t)) (ap not (ne-eqb (length (t .kinds)) (nodes t) (c .if3 .taken))))))
+    judged-long q t g (a .marks-room) (a .scratch-room) (or-left (not (eqb (a .marks-room) (nodes t))) (or-left (not (eqb (length g) (nodes t))) (or-right (tooLong q itemLimit || ltb nodeLimit (nodes t)) (ap not (ne-eqb (length (t .kinds)) (nodes t) (c .if3 .taken))))))
 
 returns-4 : tie.Need-returns-4
 returns-4 c =
@@ -50,7 +50,7 @@ returns-4 c =
     let q = now (a .query) in
     let t = tableOf (now (a .parent)) (now (a .kind)) in
     let g = now (a .given) in
-    room-long q t g (a .marks-room) (a .scratch-room) (or-left (not (eqb (a .marks-room) (nodes t))) (or-right (tooLong q itemLimit || ltb nodeLimit (nodes t) || not (eqb (length (t .kinds)) (nodes t))) (ap not (ne-eqb (length g) (nodes t) (c .if4 .taken)))))
+    judged-long q t g (a .marks-room) (a .scratch-room) (or-left (not (eqb (a .marks-room) (nodes t))) (or-right (tooLong q itemLimit || ltb nodeLimit (nodes t) || not (eqb (length (t .kinds)) (nodes t))) (ap not (ne-eqb (length g) (nodes t) (c .if4 .taken)))))
 
 returns-5 : tie.Need-returns-5
 returns-5 c =
@@ -58,7 +58,7 @@ returns-5 c =
     let q = now (a .query) in
     let t = tableOf (now (a .parent)) (now (a .kind)) in
     let g = now (a .given) in
-    room-long q t g (a .marks-room) (a .scratch-room) (or-right (tooLong q itemLimit || ltb nodeLimit (nodes t) || not (eqb (length (t .kinds)) (nodes t)) || not (eqb (length g) (nodes t))) (ap not (ne-eqb (a .marks-room) (nodes t) (c .if5 .taken))))
+    judged-long q t g (a .marks-room) (a .scratch-room) (or-right (tooLong q itemLimit || ltb nodeLimit (nodes t) || not (eqb (length (t .kinds)) (nodes t)) || not (eqb (length g) (nodes t))) (ap not (ne-eqb (a .marks-room) (nodes t) (c .if5 .taken))))
 
 -- Past the five tests of line 1 the lengths are right.
 agree : (c : tie.Else5)
@@ -84,7 +84,7 @@ returns-6 c =
     let q = now (a .query) in
     let t = tableOf (now (a .parent)) (now (a .kind)) in
     let g = now (a .given) in
-    room-six q t g (a .marks-room) (a .scratch-room) (agree (c .before .before .before)) (shaped-none (decode q) (sym (c .enum-told .given .1) ∙ c .before .before .measure .ensures))
+    judged-six q t g (a .marks-room) (a .scratch-room) (agree (c .before .before .before)) (shaped-none (decode q) (sym (c .enum-told .given .1) ∙ c .before .before .measure .ensures))
 
 table-fault-requires : tie.Need-table-fault-requires
 table-fault-requires c κs = search needs
@@ -99,7 +99,7 @@ returns-7 c =
     let t = tableOf (now (a .parent)) (now (a .kind)) in
     let g = now (a .given) in
     shaped-some (decode q) _ _ (sym (c .before .before .before .before .before .shaped .given .1) ∙ c .before .before .before .before .before .before .before .measure .ensures)
-    (λ x d h. room-seven q t g (a .marks-room) (a .scratch-room) x _ (agree (c .before .before .before .before .before .before .before .before)) d (sym (c .before .before .before .table-fault .ensures) ∙ ap faultOf (c .before .i .given .1)))
+    (λ x d h. judged-seven q t g (a .marks-room) (a .scratch-room) x _ (agree (c .before .before .before .before .before .before .before .before)) d (sym (c .before .before .before .table-fault .ensures) ∙ ap faultOf (c .before .i .given .1)))
 
 enum-told-2 : tie.Need-enum-told-2
 enum-told-2 c = search needs
@@ -120,7 +120,7 @@ returns-8 c =
     let g = now (a .given) in
     shaped-some (decode q) _ _ (sym (c .before .before .before .before .before .before .before .before .shaped .given .1) ∙ c .before .before .before .before .before .before .before .before .before .before .measure .ensures)
     (λ x d h.
-    room-eight q t g (a .marks-room) (a .scratch-room) x _ (agree (c .before .before .before .before .before .before .before .before .before .before .before)) d (sym (c .before .before .before .before .before .before .table-fault .ensures) ∙ ap faultOf (c .before .before .before .before .enum-told2 .given .1))
+    judged-eight q t g (a .marks-room) (a .scratch-room) x _ (agree (c .before .before .before .before .before .before .before .before .before .before .before)) d (sym (c .before .before .before .before .before .before .table-fault .ensures) ∙ ap faultOf (c .before .before .before .before .enum-told2 .given .1))
     (sym (c .before .before .before .marks-fault .ensures (now (a .kind))) ∙ ap faultOf (c .before .i2 .given .1)))
 
 enum-told-3 : tie.Need-enum-told-3
@@ -157,7 +157,7 @@ returns-9 c =
     (λ x d h.
     let same = ap (λ (k : ℕ). nodes t * 2 * (k + 1)) h in
     ap (refusal 10) same ∙
-    room-ten q t g (a .marks-room) (a .scratch-room) x (agree (c .before .before .before .before .before .before .before .before .before .before .before)) d (sym (c .before .before .before .before .before .before .table-fault .ensures) ∙ ap faultOf (c .before .before .before .before .enum-told2 .given .1))
+    judged-ten q t g (a .marks-room) (a .scratch-room) x (agree (c .before .before .before .before .before .before .before .before .before .before .before)) d (sym (c .before .before .before .before .before .before .table-fault .ensures) ∙ ap faultOf (c .before .before .before .before .enum-told2 .given .1))
     (sym (c .before .before .before .marks-fault .ensures (now (a .kind))) ∙ ap faultOf (c .before .enum-told3 .given .1)) (omega (arith, same, c .if6 .taken)))
 
 returns-10 : tie.Need-returns-10
@@ -170,11 +170,11 @@ returns-10 c =
     (λ x d h.
     let same = ap (λ (k : ℕ). nodes t * 2 * (k + 1)) h in
     ap value same ∙
-    room-value q t g (a .marks-room) (a .scratch-room) x (agree (c .before .before .before .before .before .before .before .before .before .before .before)) d (sym (c .before .before .before .before .before .before .table-fault .ensures) ∙ ap faultOf (c .before .before .before .before .enum-told2 .given .1))
+    judged-value q t g (a .marks-room) (a .scratch-room) x (agree (c .before .before .before .before .before .before .before .before .before .before .before)) d (sym (c .before .before .before .before .before .before .table-fault .ensures) ∙ ap faultOf (c .before .before .before .before .enum-told2 .given .1))
     (sym (c .before .before .before .marks-fault .ensures (now (a .kind))) ∙ ap faultOf (c .before .enum-told3 .given .1)) (omega (arith, same, c .if6 .left)))
 
-pub room-spec : {M : Type 1} → statement M
-room-spec =
+pub judge-spec : {M : Type 1} → statement M
+judge-spec =
     tie.close
     (tie.spec
     returns
