@@ -136,9 +136,9 @@ module _ (look : List ℕ → Option ℕ) (within : ℕ → List Placed → Got 
 
 -- STEPS BY THEIR HEADS.
 module _ (look : List ℕ → Option ℕ) (within : ℕ → List Placed → Got Expr) (text old new : List ℕ) (from slot : ℕ) where
-  pub plain-done : (axis word past : ℕ) → PlainStep look text from axis past (λ w. readStep look w (tokensAt text from)) → (0 < 8192 → word ≡ packed (record { axis = axis; test = 0; count = 0 }))
-      → Wrote old new slot (word ∷ []) → Gives text old new from slot (3 * from + 2) slot (readStep look within (tokensAt text from)) stepItems past (slot + 1)
-  plain-done axis word past h right v =
+  pub plain-done : (axis made past : ℕ) → PlainStep look text from axis past (λ w. readStep look w (tokensAt text from)) → (0 < 8192 → made ≡ packed (record { axis = axis; test = 0; count = 0 }))
+      → Wrote old new slot (made ∷ []) → Gives text old new from slot (3 * from + 2) slot (readStep look within (tokensAt text from)) stepItems past (slot + 1)
+  plain-done axis made past h right v =
       record {
         what = record { axis = h .way; test = _; preds = _ };
         reads = h .reads within;

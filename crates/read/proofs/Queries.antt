@@ -41,10 +41,10 @@ use Rattle.read.proofs.Operands.{reads-from}
 
 -- AN ABSOLUTE PATH.
 module _ (look : List ℕ → Option ℕ) (within : ℕ → List Placed → Got Expr) (text old new : List ℕ) (from slot : ℕ) where
-  pub path-alone : (word : ℕ) (past : Cursor) → Leads text from (Alone past) → word ≡ packPath 0 → Wrote old new slot (word ∷ [])
+  pub path-alone : (made : ℕ) (past : Cursor) → Leads text from (Alone past) → made ≡ packPath 0 → Wrote old new slot (made ∷ [])
       → Gives text old new from slot (3 * from) slot (readPath look within (tokensAt text from)) pathItems (past .at) (slot + 1)
   unfolding readPath
-  path-alone word past l e v =
+  path-alone made past l e v =
       record {
         what = stop;
         reads = rw (l .0, l .1, l .2 .rest, l .3);

@@ -115,11 +115,11 @@ module _ (look : List ℕ → Option ℕ) (within : ℕ → List Placed → Got 
           (l .goes-on ∙ ap (λ o. then o (λ ps. got (l .build ps))) (there f z ∙ ap (λ o. then o (λ e left. then (readPreds look within f left) (λ ps. got (pred e ps)))) h)))
 
     -- None comes: the step's item is put before its predicates.
-    pub preds-done : (new : List ℕ) (axis test word : ℕ) (a : Axis) (t : Test) → axis ≡ axisNumber a → test ≡ testNumber t → sees paper.openSquare (tokensAt text here) ≡ false
-        → (taken < 8192 → word ≡ packed (record { axis = axis; test = test; count = taken })) → Wrote out new slot (word ∷ [])
+    pub preds-done : (new : List ℕ) (axis test made : ℕ) (a : Axis) (t : Test) → axis ≡ axisNumber a → test ≡ testNumber t → sees paper.openSquare (tokensAt text here) ≡ false
+        → (taken < 8192 → made ≡ packed (record { axis = axis; test = test; count = taken })) → Wrote out new slot (made ∷ [])
         → Gives text old new from slot (3 * from) (slot + 1) (readTail look within a t (tokensAt text from)) stepItems here filled
     unfolding readTail
-    preds-done new axis test word a t ea et s right v =
+    preds-done new axis test made a t ea et s right v =
         let ps = l .build bare in
         let code : encodePreds ps ≡ l .raw = l .codes bare ∙ append-nil (l .raw) in
         let count : predCount ps ≡ taken = l .counts bare ∙ (omega arith) in
@@ -128,7 +128,7 @@ module _ (look : List ℕ → Option ℕ) (within : ℕ → List Placed → Got 
           reads = ap (λ o. then o (λ ps. got (record { axis = a; test = t; preds = ps }))) (l .goes-on ∙ ap (λ o. then o (λ ps. got (l .build ps))) (over (l .fuel)));
           wrote =
               rw (code, count)
-              (wrote-head old out new slot word (packStep a t taken) (l .raw) (l .wrote) v (λ few. right (omega (arith, l .few)) ∙ rw (ea, et)));
+              (wrote-head old out new slot made (packStep a t taken) (l .raw) (l .wrote) v (λ few. right (omega (arith, l .few)) ∙ rw (ea, et)));
           ends = omega (arith, l .ends, ap length code);
           onward = l .onward;
           inside = l .inside;
@@ -298,16 +298,16 @@ module _ (look : List ℕ → Option ℕ) (within : ℕ → List Placed → Got 
         }
 
     -- Neither comes: the path's item is put before its steps.
-    pub steps-done : (new : List ℕ) (word place : ℕ) → Joins text past (Nothing place) → (taken < 8192 → word ≡ packPath taken) → Wrote out new slot (word ∷ [])
+    pub steps-done : (new : List ℕ) (made place : ℕ) → Joins text past (Nothing place) → (taken < 8192 → made ≡ packPath taken) → Wrote out new slot (made ∷ [])
         → Gives text old new from slot (3 * from) slot all pathItems past filled
-    steps-done new word place j right v =
+    steps-done new made place j right v =
         let s = l .build stop in
         let code : encodeSteps s ≡ l .raw = l .codes stop ∙ append-nil (l .raw) in
         let count : stepCount s ≡ taken = l .counts stop ∙ (omega arith) in
         record {
           what = s;
           reads = l .goes-on ∙ rw (j .0, j .1);
-          wrote = rw (code, count) (wrote-head old out new slot word (packPath taken) (l .raw) (l .wrote) v (λ few. right (omega (arith, l .few))));
+          wrote = rw (code, count) (wrote-head old out new slot made (packPath taken) (l .raw) (l .wrote) v (λ few. right (omega (arith, l .few))));
           ends = omega (arith, l .ends, ap length code);
           onward = l .onward;
           inside = l .inside;

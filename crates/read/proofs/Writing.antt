@@ -69,9 +69,9 @@ wrote-more old mid new slot end xs ys w e v =
     }
 
 -- An item right before those written.
-pub wrote-head : (old mid new : List ℕ) (slot word item : ℕ) (xs : List ℕ) → Wrote old mid (slot + 1) xs → Wrote mid new slot (word ∷ []) → (length xs < itemLimit → word ≡ item)
+pub wrote-head : (old mid new : List ℕ) (slot made item : ℕ) (xs : List ℕ) → Wrote old mid (slot + 1) xs → Wrote mid new slot (made ∷ []) → (length xs < itemLimit → made ≡ item)
     → Wrote old new slot (item ∷ xs)
-wrote-head old mid new slot word item xs w v right =
+wrote-head old mid new slot made item xs w v right =
     record { puts = λ front gone back h lf lg small. go front gone back h lf lg small }
   where
     go : (front gone back : List ℕ) → old ≡ front ++ (gone ++ back) → length front ≡ slot → length gone ≡ suc (length xs) → suc (length xs) ≤ itemLimit → new ≡ front ++ ((item ∷ xs) ++ back)
@@ -79,7 +79,7 @@ wrote-head old mid new slot word item xs w v right =
     go front (g ∷ gs) back h lf lg small =
         let one : mid ≡ (front ++ (g ∷ [])) ++ (xs ++ back) =
         w .puts (front ++ (g ∷ [])) gs back (h ∙ sym (append-assoc front (g ∷ []) (gs ++ back))) (length-append front (g ∷ []) ∙ (omega arith)) (omega arith) (omega arith) in
-        let two : new ≡ front ++ ((word ∷ []) ++ (xs ++ back)) = v .puts front (g ∷ []) (xs ++ back) (one ∙ append-assoc front (g ∷ []) (xs ++ back)) lf refl (omega arith) in
+        let two : new ≡ front ++ ((made ∷ []) ++ (xs ++ back)) = v .puts front (g ∷ []) (xs ++ back) (one ∙ append-assoc front (g ∷ []) (xs ++ back)) lf refl (omega arith) in
         two ∙ ap (λ (i : ℕ). front ++ ((i ∷ xs) ++ back)) (right (omega arith))
 
 -- Operators before a run.
@@ -206,9 +206,9 @@ grouped-done old mid new slot end count item m f =
     }
 
 -- THE STEP THAT `//` STANDS FOR, written or not.
-pub deep-there : (old new : List ℕ) (slot word : ℕ) (deep : Bool) → deep ≡ true → (0 < 8192 → word ≡ deepItem) → Wrote old new slot (word ∷ [])
+pub deep-there : (old new : List ℕ) (slot made : ℕ) (deep : Bool) → deep ≡ true → (0 < 8192 → made ≡ deepItem) → Wrote old new slot (made ∷ [])
     → (Wrote old new slot (deepItems deep)) × (slot + 1 ≡ slot + length (deepItems deep))
-deep-there old new slot word deep d right w = rw d (subst (λ (i : ℕ). Wrote old new slot (i ∷ [])) (right (omega arith)) w, refl)
+deep-there old new slot made deep d right w = rw d (subst (λ (i : ℕ). Wrote old new slot (i ∷ [])) (right (omega arith)) w, refl)
 
 pub deep-not : (old : List ℕ) (slot : ℕ) (deep : Bool) → deep ≡ false → (Wrote old old slot (deepItems deep)) × (slot ≡ slot + length (deepItems deep))
 deep-not old slot deep d = rw d (wrote-nothing old slot, omega arith)

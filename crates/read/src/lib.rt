@@ -1,6 +1,7 @@
 // The reader: from text to query. One pass measures the text and keeps its items if they are few; those are then copied, or the same functions write into the output.
 // A `place` is a byte of the text, a `slot` an item of the output.
 // Recursion opens a bracket each time, so at most 65 deep.
+// The list, its starts and their count are arguments of their own, since every function over a struct that holds a reference is proved by hand; `lookup` says whether names are looked up in the list.
 use ahead::Ahead;
 use ahead::AxisAhead;
 use ahead::Call;
