@@ -27,10 +27,10 @@ abbrev begun : tie.Else2 → tie.Start
 begun c = c .before .before .before .before .before
 
 outer-few : (c : tie.Else2) → length (outer (begun c)) ≤ itemLimit
-outer-few c = c .before .if1 .left
+outer-few c = omega (arith, c .before .if1 .left)
 
 inner-few : (c : tie.Else2) → length (inner (begun c)) ≤ itemLimit
-inner-few c = c .if2 .left
+inner-few c = omega (arith, c .if2 .left)
 
 -- Halfway through line 6 the outer items are a query.
 abbrev outer-read : tie.After-outer-shape → tie.Else2
@@ -74,7 +74,7 @@ left c =
     let nested = past-9 c .before in
     let both = past-6 nested in
     ending _ _ _ (outer-few (past-1 both)) (inner-few (past-1 both)) _ _ (outer-shaped (inner-read both)) (inner-shaped both) (nested .larger .result) (deep nested) (nested .larger .ensures) refl
-    (past-9 c .if3 .left) (c .before .selected-size .result) (c .composed-size .result) (c .before .selected-size .ensures .0) (c .composed-size .ensures)
+    (omega (arith, past-9 c .if3 .left)) (c .before .selected-size .result) (c .composed-size .result) (c .before .selected-size .ensures .0) (c .composed-size .ensures)
 
 returns : tie.Need-returns
 returns c =

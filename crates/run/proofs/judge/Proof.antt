@@ -40,7 +40,7 @@ begun c = c .before .before .before .before .before .before .before .before .bef
 
 agree : (c : tie.Else5) → Agree (query (begun c)) (table (begun c)) (given (begun c)) (begun c .args .marks-room) (begun c .args .scratch-room)
 agree c =
-    record { items-few = c .before .before .before .before .if1 .left; nodes-few = c .before .before .before .if2 .left; kinds-all = c .before .before .if3 .left; given-all = c .before .if4 .left; marks-all = c .if5 .left }
+    record { items-few = omega (arith, c .before .before .before .before .if1 .left); nodes-few = omega (arith, c .before .before .before .if2 .left); kinds-all = c .before .before .if3 .left; given-all = c .before .if4 .left; marks-all = c .if5 .left }
 
 -- Past line 6 the items are a query.
 abbrev past-1 : tie.After-shaped → tie.Else5
