@@ -10,6 +10,7 @@ use lib.Dec.{ltb}
 use lib.ListN.{length}
 use borrow.Author.Tests.{lt-ltb, le-ltb, ltb-true}
 use Rattle.paper.specs.Tools.{written, when}
+use Rattle.paper.specs.Limits.{itemLimit}
 use Rattle.paper.specs.Query.{Steps, Query, paths}
 use Rattle.paper.specs.Items.{stepCount, encodeSteps, encodePaths, encode, decode, goodSteps, goodPaths, good}
 use Rattle.paper.specs.Measures.{size, nesting}
@@ -95,6 +96,13 @@ pub accepted : (outer inner old out : List ℕ) (n : ℕ) → composeAnswer oute
 unfolding composeOut
 accepted outer inner old out n e w = (sym e, w ∙ ap (λ (a : Answer). atExit a (composedGot (decode outer) (decode inner)) old) (sym e))
 
+-- What is left past line 9: line 10 by the size, or the value.
+pub record Ending (outer inner : List ℕ) (room number : ℕ) : Type 0 where
+  pub lacks-room : room < number → composeAnswer outer inner room ≡ refusal 10 number
+  pub over-long : number ≤ room → itemLimit < number → composeAnswer outer inner room ≡ refusal 10 number
+  pub fits : number ≤ room → number ≤ itemLimit → composeAnswer outer inner room ≡ value number
+  pub counts : number ≡ length (composedGot (decode outer) (decode inner))
+
 -- THE ANSWER, line by line.
 module _ (outer inner : List ℕ) (room : ℕ) where
   pub line-1-outer : 4096 < length outer → composeAnswer outer inner room ≡ refusal 1 0
@@ -138,7 +146,7 @@ module _ (outer inner : List ℕ) (room : ℕ) where
         line-9 h = later ∙ rw (← deep-is, lt-ltb 64 deep h)
 
         module _ (shallow : deep ≤ 64) (count number : ℕ) (ec : count ≡ length (selectedGot (decode inner))) (en : number ≡ sizeGot (decode outer) count) where
-          pub size-is : number ≡ size whole
+          size-is : number ≡ size whole
           unfolding composedSize selectedSize
           size-is =
               let s : count ≡ selectedSize (i .query) =
@@ -149,14 +157,17 @@ module _ (outer inner : List ℕ) (room : ℕ) where
           last-lines : composeAnswer outer inner room ≡ line 10 (shortOfItems room number) (value number)
           last-lines = later ∙ rw (← deep-is, le-ltb 64 deep shallow, ← size-is)
 
-          pub line-10-room : room < number → composeAnswer outer inner room ≡ refusal 10 number
+          line-10-room : room < number → composeAnswer outer inner room ≡ refusal 10 number
           line-10-room h = last-lines ∙ rw (lt-ltb room number h)
 
-          pub line-10-size : number ≤ room → 4096 < number → composeAnswer outer inner room ≡ refusal 10 number
+          line-10-size : number ≤ room → 4096 < number → composeAnswer outer inner room ≡ refusal 10 number
           line-10-size h l = last-lines ∙ rw (le-ltb room number h, lt-ltb 4096 number l)
 
-          pub line-value : number ≤ room → number ≤ 4096 → composeAnswer outer inner room ≡ value number
+          line-value : number ≤ room → number ≤ 4096 → composeAnswer outer inner room ≡ value number
           line-value h l = last-lines ∙ rw (le-ltb room number h, le-ltb 4096 number l)
 
-          pub number-is : number ≡ length (composedGot (decode outer) (decode inner))
+          number-is : number ≡ length (composedGot (decode outer) (decode inner))
           number-is = size-is ∙ sym (size-items whole) ∙ ap length (sym (ap₂ composedGot (o .decodes) (i .decodes)))
+
+          pub ending : Ending outer inner room number
+          ending = record { lacks-room = line-10-room; over-long = line-10-size; fits = line-value; counts = number-is }

@@ -50,10 +50,10 @@ module _ (look : List ℕ → Option ℕ) (text : List ℕ) (from axis : ℕ) (a
       }
 
   -- Neither `*` nor a word.
-  pub tested-wrong : (spot : ℕ) → sees paper.star (tokensAt text from) ≡ false → sees (paper.word []) (tokensAt text from) ≡ false → letters (next (tokensAt text from)) ≡ []
-      → spot ≡ at (tokensAt text from) → (within : ℕ → List Placed → Got Expr) → readTested look within a (tokensAt text from) ≡ refused 3 spot
+  pub tested-wrong : (place : ℕ) → sees paper.star (tokensAt text from) ≡ false → sees (paper.word []) (tokensAt text from) ≡ false → letters (next (tokensAt text from)) ≡ []
+      → place ≡ at (tokensAt text from) → (within : ℕ → List Placed → Got Expr) → readTested look within a (tokensAt text from) ≡ refused 3 place
   unfolding readTested
-  tested-wrong spot s w l e within =
+  tested-wrong place s w l e within =
       let call = sees paper.openRound (drop 1 (tokensAt text from)) in
       rw (s, l, and-false call, w, ← e)
 
@@ -108,8 +108,8 @@ module _ (look : List ℕ → Option ℕ) (text : List ℕ) (from axis : ℕ) (a
             inside = h .3 .inside;
             fewer = omega (arith, p .fewer, q .fewer, h .3 .fewer);
           }
-      tested-call (Wrong spot) h = λ within. which .reads within ∙ rw (h .0, ← h .1)
-      tested-call (Unknown spot) h = absurd h
+      tested-call (Wrong place) h = λ within. which .reads within ∙ rw (h .0, ← h .1)
+      tested-call (Unknown place) h = absurd h
 
     -- A name.
     module _ (none-called : Calls text w mid NoCall) where
@@ -142,8 +142,8 @@ module _ (look : List ℕ → Option ℕ) (text : List ℕ) (from axis : ℕ) (a
             fewer = omega (arith, p .fewer);
           }
 
-      pub tested-unknown : (spot : ℕ) → look w ≡ none → spot ≡ at (tokensAt text from) → (within : ℕ → List Placed → Got Expr) → readTested look within a (tokensAt text from) ≡ refused 5 spot
-      tested-unknown spot h e within = named-next within ∙ rw (h, ← e)
+      pub tested-unknown : (place : ℕ) → look w ≡ none → place ≡ at (tokensAt text from) → (within : ℕ → List Placed → Got Expr) → readTested look within a (tokensAt text from) ≡ refused 5 place
+      tested-unknown place h e within = named-next within ∙ rw (h, ← e)
 
 -- THE HEAD. What is read from a later place on is what is read from here.
 heads-from : (look : List ℕ → Option ℕ) (text : List ℕ) (from mid : ℕ) (o p : Outcome) (r : Head) → ((within : ℕ → List Placed → Got Expr) → o within ≡ p within) → from ≤ mid
@@ -169,8 +169,8 @@ heads-from look text from mid o p (Tested axis test past) e l f h =
       inside = h .inside;
       fewer = omega (arith, h .fewer);
     }
-heads-from look text from mid o p (Wrong spot) e l f h = λ within. e within ∙ h within
-heads-from look text from mid o p (Unknown spot) e l f h = λ within. e within ∙ h within
+heads-from look text from mid o p (Wrong place) e l f h = λ within. e within ∙ h within
+heads-from look text from mid o p (Unknown place) e l f h = λ within. e within ∙ h within
 
 module _ (look : List ℕ → Option ℕ) (text : List ℕ) (from : ℕ) where
   pub head-dot : (past : ℕ) → sees paper.dot (tokensAt text from) ≡ true → Past text from past → PlainStep look text from 0 past (λ within. readStep look within (tokensAt text from))
