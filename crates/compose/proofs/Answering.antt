@@ -9,9 +9,10 @@ use mathlib.Core.Option.{Option, none, some}
 use lib.Dec.{ltb}
 use lib.ListN.{length}
 use borrow.Author.Tests.{lt-ltb, le-ltb, ltb-true}
+use Rattle.paper.specs.Limits.{bracketLimit}
 use Rattle.paper.specs.Tools.{written, when}
 use Rattle.paper.specs.Query.{Steps, Query, paths}
-use Rattle.paper.specs.Items.{stepCount, encodeSteps, encodePaths, encode, decode, goodSteps, goodPaths, good}
+use Rattle.paper.specs.Items.{stepCount, encodeSteps, encodePaths, encode, decode, goodSteps, goodPaths, good, countBound}
 use Rattle.paper.specs.Measures.{size, nesting}
 use Rattle.paper.specs.Answers.{Answer, value, refusal, line, atExit, shortOfItems, composedGot, composeAnswer, composeOut}
 use Rattle.paper.specs.Composition.{composed, stepsInPaths, selectedSize, composedSize, composedNesting}
@@ -33,8 +34,8 @@ use Rattle.compose.proofs.Items.{steps-steps, steps-append, count-path}
 paths-steps : (ps : List Steps) → goodPaths ps ≡ true → stepItems (encodePaths ps) ≡ stepsInPaths ps
 paths-steps [] g = refl
 paths-steps (p ∷ ps) g =
-    let h = and-true (ltb (stepCount p) 8192 && goodSteps p) (goodPaths ps) g in
-    let k = and-true (ltb (stepCount p) 8192) (goodSteps p) (h .0) in
+    let h = and-true (ltb (stepCount p) countBound && goodSteps p) (goodPaths ps) g in
+    let k = and-true (ltb (stepCount p) countBound) (goodSteps p) (h .0) in
     omega (
       arith,
       paths-steps ps (h .1),
@@ -70,7 +71,7 @@ pub record Shaped (items : List ℕ) (n : ℕ) : Type 0 where
   pub query : Query
   pub decodes : decode items ≡ some query
   pub nests : n ≡ nesting query
-  pub shallow : n ≤ 64
+  pub shallow : n ≤ bracketLimit
 
 pub shape-some : (items : List ℕ) (s : Shape) (n h : ℕ) → s ≡ shapeOf (decode items) → s ≡ Fine n h → Shaped items n
 shape-some items s n h e f = go (decode items) refl (sym e ∙ f)
@@ -119,7 +120,7 @@ module _ (outer inner : List ℕ) (room : ℕ) where
       whole = composed (o .query) (i .query)
 
       later : composeAnswer outer inner room
-          ≡ line 9 (when (ltb 64 (nesting whole)) (nesting whole)) (line 10 (shortOfItems room (size whole)) (value (size whole)))
+          ≡ line 9 (when (ltb bracketLimit (nesting whole)) (nesting whole)) (line 10 (shortOfItems room (size whole)) (value (size whole)))
       unfolding composeAnswer
       later = rw (le-ltb 4096 (length outer) a, le-ltb 4096 (length inner) b, o .decodes, i .decodes)
 
@@ -134,10 +135,10 @@ module _ (outer inner : List ℕ) (room : ℕ) where
               i .nests,
             )
 
-        pub line-9 : 64 < deep → composeAnswer outer inner room ≡ refusal 9 deep
-        line-9 h = later ∙ rw (← deep-is, lt-ltb 64 deep h)
+        pub line-9 : bracketLimit < deep → composeAnswer outer inner room ≡ refusal 9 deep
+        line-9 h = later ∙ rw (← deep-is, lt-ltb bracketLimit deep h)
 
-        module _ (shallow : deep ≤ 64) (count number : ℕ) (ec : count ≡ length (selectedGot (decode inner))) (en : number ≡ sizeGot (decode outer) count) where
+        module _ (shallow : deep ≤ bracketLimit) (count number : ℕ) (ec : count ≡ length (selectedGot (decode inner))) (en : number ≡ sizeGot (decode outer) count) where
           pub size-is : number ≡ size whole
           unfolding composedSize selectedSize
           size-is =
@@ -147,7 +148,7 @@ module _ (outer inner : List ℕ) (room : ℕ) where
               en ∙ ap₂ (λ (x : Option Query) (k : ℕ). sizeGot x k) (o .decodes) s ∙ sym (composed-size (o .query) (i .query))
 
           last-lines : composeAnswer outer inner room ≡ line 10 (shortOfItems room number) (value number)
-          last-lines = later ∙ rw (← deep-is, le-ltb 64 deep shallow, ← size-is)
+          last-lines = later ∙ rw (← deep-is, le-ltb bracketLimit deep shallow, ← size-is)
 
           pub line-10-room : room < number → composeAnswer outer inner room ≡ refusal 10 number
           line-10-room h = last-lines ∙ rw (lt-ltb room number h)

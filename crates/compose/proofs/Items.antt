@@ -8,7 +8,7 @@ use mathlib.Core.Bool.{true}
 use mathlib.Core.List.{List, [], _∷_, _++_, append-assoc}
 use lib.ListN.{length, length-append}
 use Rattle.paper.specs.Query.{Axis, Test, Expr, path, both, either, negated, Steps, stop, step, Preds, bare, pred}
-use Rattle.paper.specs.Items.{packPath, packStep, pathAt, stepAt, andItem, orItem, notItem, stepCount, predCount, encodeExpr, encodeSteps, encodePreds, goodTest, goodExpr, goodSteps, goodPreds}
+use Rattle.paper.specs.Items.{packPath, packStep, pathAt, stepAt, andItem, orItem, notItem, stepCount, predCount, encodeExpr, encodeSteps, encodePreds, goodTest, goodExpr, goodSteps, goodPreds, countBound}
 use Rattle.paper.specs.Composition.{guardExpr, guardSteps, guardPreds, stepsInExpr, stepsInSteps, stepsInPreds}
 use Rattle.paper.proofs.Tests.{and-true}
 use Rattle.item.specs.Unpacked.{unpacked}
@@ -17,11 +17,11 @@ use Rattle.reverse.proofs.Owing.{good-step, good-path, owing-path, owing-step, 
 use Rattle.compose.specs.Pieces.{isStep, stepItem, stepItems, visibleItems, guardedAs, guardedItem, guardedItems, Raisable}
 
 -- Whether an item is a step, and what guarding makes of it.
-pub count-path : (n : ℕ) → n < 8192 → stepItem (packPath n) ≡ 0
+pub count-path : (n : ℕ) → n < countBound → stepItem (packPath n) ≡ 0
 unfolding stepItem
 count-path n l = ap isStep (unpack-path n l)
 
-count-step : (a : Axis) (t : Test) (n : ℕ) → goodTest t ≡ true → n < 8192 → stepItem (packStep a t n) ≡ 1
+count-step : (a : Axis) (t : Test) (n : ℕ) → goodTest t ≡ true → n < countBound → stepItem (packStep a t n) ≡ 1
 unfolding stepItem
 count-step a t n g l = ap isStep (unpack-step a t n g l)
 
@@ -30,11 +30,11 @@ unfolding stepItem unpacked pathAt stepAt
 count-operators = (refl, refl, refl)
 
 module _ (chosen : List ℕ) where
-  guarded-path : (n : ℕ) → n < 8192 → guardedItem chosen (packPath n) ≡ packPath n ∷ []
+  guarded-path : (n : ℕ) → n < countBound → guardedItem chosen (packPath n) ≡ packPath n ∷ []
   unfolding guardedItem
   guarded-path n l = ap (guardedAs chosen (packPath n)) (unpack-path n l)
 
-  guarded-step : (a : Axis) (t : Test) (n : ℕ) → goodTest t ≡ true → n < 8192 → guardedItem chosen (packStep a t n) ≡ packStep a t (suc n) ∷ visibleItems chosen
+  guarded-step : (a : Axis) (t : Test) (n : ℕ) → goodTest t ≡ true → n < countBound → guardedItem chosen (packStep a t n) ≡ packStep a t (suc n) ∷ visibleItems chosen
   unfolding guardedItem
   guarded-step a t n g l =
       ap (guardedAs chosen (packStep a t n)) (unpack-step a t n g l) ∙ ap (λ (k : ℕ). packStep a t k ∷ visibleItems chosen) (add-one n)

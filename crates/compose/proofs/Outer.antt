@@ -5,7 +5,7 @@ use mathlib.Core.Path.{_≡_, refl, sym, _∙_, ap, ap₂, subst}
 use mathlib.Core.List.{List, [], _∷_, _++_}
 use lib.ListN.{length, take, drop, set, length-append, length-set}
 use Rattle.paper.specs.Query.{Steps}
-use Rattle.paper.specs.Items.{packPath, stepCount, encodeSteps, decode}
+use Rattle.paper.specs.Items.{packPath, stepCount, encodeSteps, decode, countBound}
 use Rattle.item.specs.Placed.{placed}
 use Rattle.reverse.specs.Reverses.{eachPath, eachGot}
 use Rattle.item.proofs.Placing.{placed-one, drop-placed, same-size}
@@ -21,7 +21,7 @@ module _ (outer old out : List ℕ) (from count place at next steps : ℕ) (p : 
   abbrev chosen : List ℕ
   chosen = take count (drop from old)
 
-  pub raised-few : steps + 1 < 8192
+  pub raised-few : steps + 1 < countBound
   raised-few = omega (arith, t .counts, t .few, t .ends, t .later .inside)
 
   pub path-room : at + 1 + length (guardedItems chosen (encodeSteps p)) + 3 ≤ from

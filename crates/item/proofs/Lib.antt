@@ -1,4 +1,4 @@
 pub mod Unpacking
-pub mod Turning
+pub mod Meeting
 pub mod Saying
 pub mod Placing

@@ -1,4 +1,5 @@
 pub mod Tests
+pub mod Axes
 pub mod Fields
 pub mod Decoding
 pub mod Encoding
