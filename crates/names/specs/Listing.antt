@@ -15,6 +15,10 @@ use Rattle.names.specs.declared.Found.{Found}
 use Rattle.names.specs.declared.Found.the-variants.{At, Nothing}
 use Rattle.names.specs.declared.Part.{Part}
 
+-- How many starts are kept: one a name, and the end of the list.
+abbrev pub startsCount : ℕ
+startsCount = namesLimit + 1
+
 -- Where line v stands: from its start up to its LF, right before the next line's start.
 abbrev pub partOf : List ℕ → ℕ → Part
 partOf starts v = record { start = getD starts v 0; len = getD starts (suc v) 0 - 1 - getD starts v 0 }

@@ -16,6 +16,7 @@ pub const NAME_LIMIT: usize = 64;
 pub const NAMES_LIMIT: usize = 256;
 // The kind of an element of the first name, and the greatest kind.
 pub const ELEMENT_KIND: u16 = 2;
+
 pub const KIND_LIMIT: u16 = 257;
 
 // What an entry point answers: the value, or a refusal with its place. specs/Told.antt gives document 01's number of each.
