@@ -9,7 +9,7 @@ use mathlib.Core.Option.{Option, none, some}
 use lib.Dec.{ltb}
 use lib.ListN.{length}
 use borrow.Author.Tests.{lt-ltb, le-ltb, ltb-true}
-use Rattle.paper.specs.Limits.{bracketLimit}
+use Rattle.paper.specs.Limits.{bracketLimit, itemLimit}
 use Rattle.paper.specs.Tools.{written, when}
 use Rattle.paper.specs.Query.{Steps, Query, paths}
 use Rattle.paper.specs.Items.{stepCount, encodeSteps, encodePaths, encode, decode, goodSteps, goodPaths, good, countBound}
@@ -56,7 +56,7 @@ size-got items steps count ps q es ep =
     ap (λ (o : Option Query). sizeGot o count) (sym (q .decodes))
 
 -- A product of two numbers within limits.
-pub product : (a b : ℕ) → a ≤ 4096 → b ≤ 65536 → a * b ≤ 268435456
+pub product : (a b : ℕ) → a ≤ itemLimit → b ≤ 65536 → a * b ≤ 268435456
 product a b ha hb = mul-le-mul ha hb
 
 -- What the shape of items says of them.
@@ -98,22 +98,22 @@ accepted outer inner old out n e w = (sym e, w ∙ ap (λ (a : Answer). atExit a
 
 -- THE ANSWER, line by line.
 module _ (outer inner : List ℕ) (room : ℕ) where
-  pub line-1-outer : 4096 < length outer → composeAnswer outer inner room ≡ refusal 1 0
+  pub line-1-outer : itemLimit < length outer → composeAnswer outer inner room ≡ refusal 1 0
   unfolding composeAnswer
-  line-1-outer h = rw (lt-ltb 4096 (length outer) h)
+  line-1-outer h = rw (lt-ltb itemLimit (length outer) h)
 
-  pub line-1-inner : length outer ≤ 4096 → 4096 < length inner → composeAnswer outer inner room ≡ refusal 1 0
+  pub line-1-inner : length outer ≤ itemLimit → itemLimit < length inner → composeAnswer outer inner room ≡ refusal 1 0
   unfolding composeAnswer
-  line-1-inner a h = rw (le-ltb 4096 (length outer) a, lt-ltb 4096 (length inner) h)
+  line-1-inner a h = rw (le-ltb itemLimit (length outer) a, lt-ltb itemLimit (length inner) h)
 
-  module _ (a : length outer ≤ 4096) (b : length inner ≤ 4096) where
+  module _ (a : length outer ≤ itemLimit) (b : length inner ≤ itemLimit) where
     pub line-6-outer : decode outer ≡ none → composeAnswer outer inner room ≡ refusal 6 0
     unfolding composeAnswer
-    line-6-outer d = rw (le-ltb 4096 (length outer) a, le-ltb 4096 (length inner) b, d)
+    line-6-outer d = rw (le-ltb itemLimit (length outer) a, le-ltb itemLimit (length inner) b, d)
 
     pub line-6-inner : (m : ℕ) → Shaped outer m → decode inner ≡ none → composeAnswer outer inner room ≡ refusal 6 1
     unfolding composeAnswer
-    line-6-inner m o d = rw (le-ltb 4096 (length outer) a, le-ltb 4096 (length inner) b, o .decodes, d)
+    line-6-inner m o d = rw (le-ltb itemLimit (length outer) a, le-ltb itemLimit (length inner) b, o .decodes, d)
 
     module _ (m n : ℕ) (o : Shaped outer m) (i : Shaped inner n) where
       abbrev whole : Query
@@ -122,7 +122,7 @@ module _ (outer inner : List ℕ) (room : ℕ) where
       later : composeAnswer outer inner room
           ≡ line 9 (when (ltb bracketLimit (nesting whole)) (nesting whole)) (line 10 (shortOfItems room (size whole)) (value (size whole)))
       unfolding composeAnswer
-      later = rw (le-ltb 4096 (length outer) a, le-ltb 4096 (length inner) b, o .decodes, i .decodes)
+      later = rw (le-ltb itemLimit (length outer) a, le-ltb itemLimit (length inner) b, o .decodes, i .decodes)
 
       module _ (r deep : ℕ) (er : r ≡ max 2 n) (ed : deep ≡ m + 2 + r) where
         deep-is : deep ≡ nesting whole
@@ -153,11 +153,11 @@ module _ (outer inner : List ℕ) (room : ℕ) where
           pub line-10-room : room < number → composeAnswer outer inner room ≡ refusal 10 number
           line-10-room h = last-lines ∙ rw (lt-ltb room number h)
 
-          pub line-10-size : number ≤ room → 4096 < number → composeAnswer outer inner room ≡ refusal 10 number
-          line-10-size h l = last-lines ∙ rw (le-ltb room number h, lt-ltb 4096 number l)
+          pub line-10-size : number ≤ room → itemLimit < number → composeAnswer outer inner room ≡ refusal 10 number
+          line-10-size h l = last-lines ∙ rw (le-ltb room number h, lt-ltb itemLimit number l)
 
-          pub line-value : number ≤ room → number ≤ 4096 → composeAnswer outer inner room ≡ value number
-          line-value h l = last-lines ∙ rw (le-ltb room number h, le-ltb 4096 number l)
+          pub line-value : number ≤ room → number ≤ itemLimit → composeAnswer outer inner room ≡ value number
+          line-value h l = last-lines ∙ rw (le-ltb room number h, le-ltb itemLimit number l)
 
           pub number-is : number ≡ length (composedGot (decode outer) (decode inner))
           number-is = size-is ∙ sym (size-items whole) ∙ ap length (sym (ap₂ composedGot (o .decodes) (i .decodes)))

@@ -7,6 +7,7 @@ use mathlib.Core.Path.{_≡_, refl, sym, _∙_, ap, ap₂}
 use mathlib.Core.Bool.{true}
 use mathlib.Core.List.{List, [], _∷_, _++_, append-assoc}
 use lib.ListN.{length, length-append}
+use Rattle.paper.specs.Limits.{itemLimit}
 use Rattle.paper.specs.Query.{Axis, Test, Expr, path, both, either, negated, Steps, stop, step, Preds, bare, pred}
 use Rattle.paper.specs.Items.{packPath, packStep, pathAt, stepAt, andItem, orItem, notItem, stepCount, predCount, encodeExpr, encodeSteps, encodePreds, goodTest, goodExpr, goodSteps, goodPreds, countBound}
 use Rattle.paper.specs.Composition.{guardExpr, guardSteps, guardPreds, stepsInExpr, stepsInSteps, stepsInPreds}
@@ -88,7 +89,7 @@ raisable-append [] ys rx ry = ry
 raisable-append (x ∷ xs) ys rx ry = (rx .0, raisable-append xs ys (rx .1) ry)
 
 mutual
-  expr-raisable : (e : Expr) → goodExpr e ≡ true → length (encodeExpr e) ≤ 4096 → Raisable (encodeExpr e)
+  expr-raisable : (e : Expr) → goodExpr e ≡ true → length (encodeExpr e) ≤ itemLimit → Raisable (encodeExpr e)
   expr-raisable (path s) g l =
       let h = good-path s g in
       (omega (arith, owing-path (stepCount s) (h .0), count-length s), steps-raisable s (h .1) (omega arith))
@@ -102,7 +103,7 @@ mutual
       (omega (arith, owing-operators .1), raisable-append (encodeExpr a) (encodeExpr b) (expr-raisable a (h .0) (omega arith)) (expr-raisable b (h .1) (omega arith)))
   expr-raisable (negated a) g l = (omega (arith, owing-operators .2), expr-raisable a g (omega arith))
 
-  pub steps-raisable : (s : Steps) → goodSteps s ≡ true → length (encodeSteps s) ≤ 4096 → Raisable (encodeSteps s)
+  pub steps-raisable : (s : Steps) → goodSteps s ≡ true → length (encodeSteps s) ≤ itemLimit → Raisable (encodeSteps s)
   steps-raisable stop g l = tt
   steps-raisable (step a t ps r) g l =
       let h = good-step a t ps r g in
@@ -111,7 +112,7 @@ mutual
         raisable-append (encodePreds ps) (encodeSteps r) (preds-raisable ps (h .preds) (omega arith)) (steps-raisable r (h .later) (omega arith)),
       )
 
-  preds-raisable : (ps : Preds) → goodPreds ps ≡ true → length (encodePreds ps) ≤ 4096 → Raisable (encodePreds ps)
+  preds-raisable : (ps : Preds) → goodPreds ps ≡ true → length (encodePreds ps) ≤ itemLimit → Raisable (encodePreds ps)
   preds-raisable bare g l = tt
   preds-raisable (pred x ps) g l =
       let h = and-true (goodExpr x) (goodPreds ps) g in

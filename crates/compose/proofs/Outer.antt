@@ -4,6 +4,7 @@ use native.Mathlib.Omega.{arith}
 use mathlib.Core.Path.{_≡_, refl, sym, _∙_, ap, ap₂, subst}
 use mathlib.Core.List.{List, [], _∷_, _++_}
 use lib.ListN.{length, take, drop, set, length-append, length-set}
+use Rattle.paper.specs.Limits.{itemLimit}
 use Rattle.paper.specs.Query.{Steps}
 use Rattle.paper.specs.Items.{packPath, stepCount, encodeSteps, decode, countBound}
 use Rattle.item.specs.Placed.{placed}
@@ -16,7 +17,7 @@ use Rattle.compose.proofs.Items.{steps-raisable}
 
 module _ (outer old out : List ℕ) (from count place at next steps : ℕ) (p : Steps) (ps : List Steps)
     (w : Writing (guardedPath (take count (drop from old))) outer old out 0 place at) (e : w .rest ≡ p ∷ ps) (t : Top outer place next steps p ps)
-    (few : length outer ≤ 4096)
+    (few : length outer ≤ itemLimit)
     (room : length (eachGot (guardedPath (take count (drop from old))) (decode outer)) ≤ from + count) (fits : from + count ≤ length old) where
   abbrev chosen : List ℕ
   chosen = take count (drop from old)

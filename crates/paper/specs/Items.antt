@@ -47,15 +47,18 @@ testOf zero = some anyNode
 testOf (suc zero) = some textNode
 testOf (suc (suc v)) = cond (ltb v namesLimit) (some (named v)) (cond (eqb v namesLimit) (some anyElement) none)
 
--- The fields of an item: an axis has 3 bits, a test 9, and a count 13, so each is below its bound.
+-- The fields of an item: an axis has 3 bits, a test 9, and a count 13, so each is below its bound, and a count is at most its limit.
 abbrev pub axisBound : ℕ
 axisBound = 8
 
 abbrev pub testBound : ℕ
 testBound = 512
 
+abbrev pub countLimit : ℕ
+countLimit = 8191
+
 abbrev pub countBound : ℕ
-countBound = 8192
+countBound = countLimit + 1
 
 -- A path item: kind 0 in bits 0 to 2, the step count in bits 3 to 15.
 abbrev pub packPath : ℕ → ℕ

@@ -10,7 +10,7 @@ use lib.ListN.{length, drop}
 use lib.Seq.{drop-drop}
 use Rattle.paper.specs.Tokens.{Placed, sort}
 use Rattle.paper.specs.Query.{Expr, path, negated, Steps}
-use Rattle.paper.specs.Items.{notItem, encodeExpr}
+use Rattle.paper.specs.Items.{notItem, encodeExpr, countBound}
 use Rattle.paper.specs.Reading.{Got, got, refused, then, next, at, readTail, readStep, readSteps, readOperand, readExpr, readWithin}
 use Rattle.read.specs.declared.Part.{Part}
 use Rattle.read.specs.declared.Part.the-variants.{Done, NoQuery, TooDeep, UnknownName}
@@ -136,7 +136,7 @@ module _ (look : List ℕ → Option ℕ) (within : ℕ → List Placed → Got 
 
 -- STEPS BY THEIR HEADS.
 module _ (look : List ℕ → Option ℕ) (within : ℕ → List Placed → Got Expr) (text old new : List ℕ) (from place : ℕ) where
-  pub plain-done : (axis word past : ℕ) → PlainStep look text from axis past (λ w. readStep look w (tokensAt text from)) → (0 < 8192 → word ≡ packed (record { axis = axis; test = 0; count = 0 }))
+  pub plain-done : (axis word past : ℕ) → PlainStep look text from axis past (λ w. readStep look w (tokensAt text from)) → (0 < countBound → word ≡ packed (record { axis = axis; test = 0; count = 0 }))
       → Wrote old new place (word ∷ []) → Gives text old new from place (3 * from + 2) place (readStep look within (tokensAt text from)) stepItems past (place + 1)
   plain-done axis word past h right v =
       record {

@@ -9,7 +9,7 @@ use lib.ListN.{length, drop, length-append}
 use Rattle.paper.specs.Tokens as paper
 use Rattle.paper.specs.Tokens.{Placed}
 use Rattle.paper.specs.Query.{Axis, Test, Expr, path, both, either, negated, Steps, stop, Preds, bare, pred}
-use Rattle.paper.specs.Items.{axisNumber, testNumber, packPath, packStep, stepCount, predCount, encodeExpr, encodeSteps, encodePreds}
+use Rattle.paper.specs.Items.{axisNumber, testNumber, packPath, packStep, stepCount, predCount, encodeExpr, encodeSteps, encodePreds, countBound}
 use Rattle.paper.specs.Reading.{Got, got, refused, then, at, sees, Step, before, deep, readPreds, readTail, readStep, readSteps}
 use Rattle.token.specs.declared.Cursor.{Cursor}
 use Rattle.item.specs.Unpacked.{packed}
@@ -116,7 +116,7 @@ module _ (look : List ℕ → Option ℕ) (within : ℕ → List Placed → Got 
 
     -- None comes: the step's item is put before its predicates.
     pub preds-done : (new : List ℕ) (axis test word : ℕ) (a : Axis) (t : Test) → axis ≡ axisNumber a → test ≡ testNumber t → sees paper.openSquare (tokensAt text here) ≡ false
-        → (taken < 8192 → word ≡ packed (record { axis = axis; test = test; count = taken })) → Wrote out new place (word ∷ [])
+        → (taken < countBound → word ≡ packed (record { axis = axis; test = test; count = taken })) → Wrote out new place (word ∷ [])
         → Gives text old new from place (3 * from) (place + 1) (readTail look within a t (tokensAt text from)) stepItems here filled
     unfolding readTail
     preds-done new axis test word a t ea et s right v =
@@ -298,7 +298,7 @@ module _ (look : List ℕ → Option ℕ) (within : ℕ → List Placed → Got 
         }
 
     -- Neither comes: the path's item is put before its steps.
-    pub steps-done : (new : List ℕ) (word spot : ℕ) → Joins text past (Nothing spot) → (taken < 8192 → word ≡ packPath taken) → Wrote out new place (word ∷ [])
+    pub steps-done : (new : List ℕ) (word spot : ℕ) → Joins text past (Nothing spot) → (taken < countBound → word ≡ packPath taken) → Wrote out new place (word ∷ [])
         → Gives text old new from place (3 * from) place all pathItems past filled
     steps-done new word spot j right v =
         let s = l .build stop in

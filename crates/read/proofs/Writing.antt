@@ -6,6 +6,7 @@ use mathlib.Core.Bool.{Bool, true, false}
 use mathlib.Core.List.{List, [], _∷_, _++_, append-assoc, append-nil}
 use lib.ListN.{length, getD, set, take, drop, replicate, length-append, length-drop, take-append-drop, length-replicate}
 use lib.Seq.{length-take-le, take-suc, take-all, set-at, getD-at}
+use Rattle.paper.specs.Items.{countBound}
 use Rattle.paper.specs.Limits.{itemLimit}
 use Rattle.item.specs.Placed.{placed}
 use Rattle.item.proofs.Placing.{placed-cut}
@@ -206,7 +207,7 @@ grouped-done old mid new place end count item m f =
     }
 
 -- THE STEP THAT `//` STANDS FOR, written or not.
-pub deep-there : (old new : List ℕ) (place word : ℕ) (deep : Bool) → deep ≡ true → (0 < 8192 → word ≡ deepItem) → Wrote old new place (word ∷ [])
+pub deep-there : (old new : List ℕ) (place word : ℕ) (deep : Bool) → deep ≡ true → (0 < countBound → word ≡ deepItem) → Wrote old new place (word ∷ [])
     → (Wrote old new place (deepItems deep)) × (place + 1 ≡ place + length (deepItems deep))
 deep-there old new place word deep d right w = rw d (subst (λ (i : ℕ). Wrote old new place (i ∷ [])) (right (omega arith)) w, refl)
 

@@ -26,15 +26,15 @@ ghost use lib.ListN.{length, take, drop};
 ghost use Rattle.paper.specs.Tools.{written};
 ghost use Rattle.paper.specs.Limits.{bracketLimit};
 ghost use Rattle.paper.specs.Query.{Axis, Test};
-ghost use Rattle.paper.specs.Items.{axisNumber, testNumber, packPath, encodeExpr};
+ghost use Rattle.paper.specs.Items.{axisNumber, testNumber, packPath, encodeExpr, axisBound, testBound, countBound};
 ghost use Rattle.paper.specs.Reading.{then, got, readTail, readTested, readStep, readSteps, readOperand, readExpr, readPath, readWithin, readText};
 ghost use Rattle.paper.specs.Answers.{readAnswer, readOut, readLast, lineGot, itemsGot};
 ghost use Rattle.paper.specs.Told.{told};
 ghost use Rattle.paper.specs.declared.Answer.the-variants.{Value};
 ghost use Rattle.item.specs.Unpacked.{packed};
 ghost use Rattle.names.specs.Listing.{Indexed};
-ghost use Rattle.ahead.specs.Looking.{tokensAt};
-ghost use Rattle.read.specs.Parts.{lookOf, Wrote, Grouped, deepItems, deepIf, stepItems, Reads, passSort, Heads, Closes, Numbered, Moved, Ready, pathItems, Finishes, ReadsAll, Kept, Measures, Refusal};
+ghost use Rattle.ahead.specs.Looking.{tokensAt, markSorts};
+ghost use Rattle.read.specs.Parts.{lookOf, Wrote, Grouped, deepItems, deepIf, stepItems, Reads, passSort, Heads, Closes, Numbered, Moved, Ready, pathItems, Finishes, ReadsAll, Kept, Measures, Refusal, placeBound};
 
 // What reading a part of a query comes to: the cursor past it and the place past its items, or a refusal with its place.
 pub enum Part {
@@ -73,7 +73,7 @@ fn called(text: &[u8], cursor: Cursor, axis: u32, test: u32) -> Head
 fn number(
     text: &[u8],
     list: &[u8],
-    starts: &[u16; 257],
+    starts: &[u16; names::STARTS],
     count: usize,
     known: bool,
     start: usize,
@@ -94,7 +94,7 @@ fn number(
 fn tested(
     text: &[u8],
     list: &[u8],
-    starts: &[u16; 257],
+    starts: &[u16; names::STARTS],
     count: usize,
     known: bool,
     cursor: Cursor,
@@ -137,7 +137,7 @@ fn tested(
 fn step_head(
     text: &[u8],
     list: &[u8],
-    starts: &[u16; 257],
+    starts: &[u16; names::STARTS],
     count: usize,
     known: bool,
     cursor: Cursor,
@@ -180,7 +180,7 @@ fn put(out: &mut [u32], place: usize, item: u32)
 
 // Puts the step that `//` stands for, where it is written; the place past it.
 fn put_deep(out: &mut [u32], place: usize, deep: bool) -> usize
-    requires { ⌜ place < 200000 ⌝ }
+    requires { ⌜ place < placeBound ⌝ }
     ensures { λ r. ⌜ (Wrote (now (out .entry)) (now (out .exit)) place (deepItems deep)) × (r ≡ place + length (deepItems deep)) ⌝ }
 {
     if deep {
@@ -196,9 +196,9 @@ fn put_deep(out: &mut [u32], place: usize, deep: bool) -> usize
 
 // The item of a path; 0 for more steps than an item can say.
 fn path_word(count: usize) -> u32
-    ensures { λ r. ⌜ (count < 8192 → r ≡ packPath count) ⌝ }
+    ensures { λ r. ⌜ (count < countBound → r ≡ packPath count) ⌝ }
 {
-    if count < 8192 {
+    if count < item::COUNT_BOUND {
         item::pack_path(count)
     } else {
         0
@@ -207,10 +207,10 @@ fn path_word(count: usize) -> u32
 
 // The item of a step; 0 for more predicates than an item can say.
 fn step_word(axis: u32, test: u32, count: usize) -> u32
-    requires { ⌜ (axis < 8) × (test < 512) ⌝ }
-    ensures { λ r. ⌜ (count < 8192 → r ≡ packed (record { axis = axis; test = test; count = count })) ⌝ }
+    requires { ⌜ (axis < axisBound) × (test < testBound) ⌝ }
+    ensures { λ r. ⌜ (count < countBound → r ≡ packed (record { axis = axis; test = test; count = count })) ⌝ }
 {
-    if count < 8192 {
+    if count < item::COUNT_BOUND {
         item::pack_step(item::Step { axis, test, count })
     } else {
         0
@@ -231,7 +231,7 @@ fn move_up(out: &mut [u32], place: usize, end: usize, count: usize)
 
 // Puts so many of an operator's items before what stands from `place` to `end`, where there is room for them.
 fn group(out: &mut [u32], place: usize, end: usize, count: usize, item: u32)
-    requires { ⌜ (place ≤ end) × (end < 200000) × (count < 200000) ⌝ }
+    requires { ⌜ (place ≤ end) × (end < placeBound) × (count < placeBound) ⌝ }
     ensures { λ _. ⌜ Grouped (now (out .entry)) (now (out .exit)) place end count item ⌝ }
 {
     if count == 0 {
@@ -250,7 +250,7 @@ fn group(out: &mut [u32], place: usize, end: usize, count: usize, item: u32)
 fn expression(
     text: &[u8],
     list: &[u8],
-    starts: &[u16; 257],
+    starts: &[u16; names::STARTS],
     count: usize,
     known: bool,
     cursor: Cursor,
@@ -311,7 +311,7 @@ fn expression(
 fn operand(
     text: &[u8],
     list: &[u8],
-    starts: &[u16; 257],
+    starts: &[u16; names::STARTS],
     count: usize,
     known: bool,
     cursor: Cursor,
@@ -385,7 +385,7 @@ fn operand(
 fn bracketed(
     text: &[u8],
     list: &[u8],
-    starts: &[u16; 257],
+    starts: &[u16; names::STARTS],
     count: usize,
     known: bool,
     cursor: Cursor,
@@ -396,7 +396,7 @@ fn bracketed(
     closer: usize,
 ) -> Part
     requires { ⌜ Ready (now text) (now list) (now starts) count (cursor .at) depth ⌝ }
-    requires { ⌜ (place ≤ 3 * cursor .at) × (closer < 11) ⌝ }
+    requires { ⌜ (place ≤ 3 * cursor .at) × (closer < markSorts) ⌝ }
     ensures { λ r. ⌜ Reads (now (text .entry)) (now (out .entry)) (now (out .exit)) (cursor .at) place (3 * cursor .at) place (then (readWithin (lookOf known (now (list .entry))) depth bracket (tokensAt (now (text .entry)) (cursor .at))) (passSort closer)) encodeExpr r ⌝ }
 {
     if depth == 0 {
@@ -427,7 +427,7 @@ fn bracketed(
 fn steps(
     text: &[u8],
     list: &[u8],
-    starts: &[u16; 257],
+    starts: &[u16; names::STARTS],
     count: usize,
     known: bool,
     cursor: Cursor,
@@ -470,7 +470,7 @@ fn steps(
 fn step(
     text: &[u8],
     list: &[u8],
-    starts: &[u16; 257],
+    starts: &[u16; names::STARTS],
     count: usize,
     known: bool,
     cursor: Cursor,
@@ -515,7 +515,7 @@ fn step(
 fn predicates(
     text: &[u8],
     list: &[u8],
-    starts: &[u16; 257],
+    starts: &[u16; names::STARTS],
     count: usize,
     known: bool,
     cursor: Cursor,
@@ -526,7 +526,7 @@ fn predicates(
     test: u32,
 ) -> Part
     requires { ⌜ Ready (now text) (now list) (now starts) count (cursor .at) depth ⌝ }
-    requires { ⌜ (place < 3 * cursor .at) × (axis < 8) × (test < 512) ⌝ }
+    requires { ⌜ (place < 3 * cursor .at) × (axis < axisBound) × (test < testBound) ⌝ }
     ensures { λ r. ⌜ ((a : Axis) (t : Test) → axis ≡ axisNumber a → test ≡ testNumber t → Reads (now (text .entry)) (now (out .entry)) (now (out .exit)) (cursor .at) place (3 * cursor .at) (place + 1) (readTail (lookOf known (now (list .entry))) (readWithin (lookOf known (now (list .entry))) depth) a t (tokensAt (now (text .entry)) (cursor .at))) stepItems r) ⌝ }
 {
     let mut here = cursor;
@@ -574,7 +574,7 @@ fn predicates(
 fn path(
     text: &[u8],
     list: &[u8],
-    starts: &[u16; 257],
+    starts: &[u16; names::STARTS],
     count: usize,
     known: bool,
     cursor: Cursor,
@@ -632,7 +632,7 @@ fn finished(text: &[u8], cursor: Cursor, end: usize) -> Part
 fn paths(
     text: &[u8],
     list: &[u8],
-    starts: &[u16; 257],
+    starts: &[u16; names::STARTS],
     count: usize,
     known: bool,
     out: &mut [u32],
@@ -659,7 +659,13 @@ fn paths(
 }
 
 // What the text is, measured: nothing is kept of what is written.
-fn measure(text: &[u8], list: &[u8], starts: &[u16; 257], count: usize, known: bool) -> Part
+fn measure(
+    text: &[u8],
+    list: &[u8],
+    starts: &[u16; names::STARTS],
+    count: usize,
+    known: bool,
+) -> Part
     requires { ⌜ Ready (now text) (now list) (now starts) count 0 bracketLimit ⌝ }
     ensures { λ r. ⌜ Measures (readText (lookOf known (now (list .entry))) (now (text .entry))) r ⌝ }
 {
@@ -684,7 +690,7 @@ fn refusal(part: Part) -> Answer
 fn answer(
     text: &[u8],
     list: &[u8],
-    starts: &[u16; 257],
+    starts: &[u16; names::STARTS],
     count: usize,
     few: &mut [u32],
     room: usize,
@@ -714,7 +720,7 @@ fn answer(
 fn write(
     text: &[u8],
     list: &[u8],
-    starts: &[u16; 257],
+    starts: &[u16; names::STARTS],
     count: usize,
     few: &[u32],
     end: usize,
@@ -742,7 +748,7 @@ pub fn read(text: &[u8], list: &[u8], out: &mut [u32]) -> Answer
     if paper::LIST_LIMIT < list.len() {
         return Answer::TooLong;
     }
-    let mut starts = [0u16; 257];
+    let mut starts = [0u16; names::STARTS];
     let listed = names::index(list, &mut starts);
     match listed {
         Listed::Bad(start) => Answer::BadName(start),

@@ -1,4 +1,6 @@
 -- `compose::put_last` meets its contract: the step, then the path with S. Assumes nothing.
+use Rattle.paper.specs.Query.{descendantOrSelf, ancestorOrSelf, anyNode}
+use Rattle.paper.specs.Items.{axisNumber, testNumber}
 use Prim.Native.Nat.{_+_}
 use native.Mathlib.Omega.{arith}
 use mathlib.Core.Path.{_≡_, refl, _∙_, ap}
@@ -35,9 +37,9 @@ same-length c =
     let at = c .before .before .before .before .before .before .args .at in
     let chosen = take (c .before .before .before .before .before .before .args .count) (drop (c .before .before .before .before .before .before .args .from) old) in
     let len = part-length old (c .before .before .before .before .before .before .args .from) (c .before .before .before .before .before .before .args .count) (omega arith) in
-    let head = packed (record { axis = 3; test = 0; count = 1 }) in
+    let head = packed (record { axis = axisNumber descendantOrSelf; test = testNumber anyNode; count = 1 }) in
     let wrote : c .before .before .put-some-node .last .1 .0 ≡ placed (lastItems chosen) at old =
-    then-chosen (someNodeItems 4) (head ∷ []) old _ (c .before .before .put-some-node .last .1 .0) at (at + 1) (c .before .before .before .before .before .before .args .from) (c .before .before .before .before .before .before .args .count)
+    then-chosen (someNodeItems (axisNumber ancestorOrSelf)) (head ∷ []) old _ (c .before .before .put-some-node .last .1 .0) at (at + 1) (c .before .before .before .before .before .before .args .from) (c .before .before .before .before .before .before .args .count)
     (ap (set old at) (c .before .before .before .before .pack-step .ensures) ∙ placed-one old at head (omega arith)) (c .before .before .put-some-node .ensures .0) refl (omega arith) (omega arith) in
     same-size (lastItems chosen) old _ at wrote (omega arith)
 
@@ -47,9 +49,9 @@ returns c =
     let at = c .before .before .before .before .before .before .args .at in
     let chosen = take (c .before .before .before .before .before .before .args .count) (drop (c .before .before .before .before .before .before .args .from) old) in
     let len = part-length old (c .before .before .before .before .before .before .args .from) (c .before .before .before .before .before .before .args .count) (omega arith) in
-    let head = packed (record { axis = 3; test = 0; count = 1 }) in
+    let head = packed (record { axis = axisNumber descendantOrSelf; test = testNumber anyNode; count = 1 }) in
     let wrote : c .before .before .put-some-node .last .1 .0 ≡ placed (lastItems chosen) at old =
-    then-chosen (someNodeItems 4) (head ∷ []) old _ (c .before .before .put-some-node .last .1 .0) at (at + 1) (c .before .before .before .before .before .before .args .from) (c .before .before .before .before .before .before .args .count)
+    then-chosen (someNodeItems (axisNumber ancestorOrSelf)) (head ∷ []) old _ (c .before .before .put-some-node .last .1 .0) at (at + 1) (c .before .before .before .before .before .before .args .from) (c .before .before .before .before .before .before .args .count)
     (ap (set old at) (c .before .before .before .before .pack-step .ensures) ∙ placed-one old at head (omega arith)) (c .before .before .put-some-node .ensures .0) refl (omega arith) (omega arith) in
     (wrote, omega (arith, c .before .before .put-some-node .ensures .1))
 

@@ -5,7 +5,8 @@ use mathlib.Core.Path.{_≡_, refl}
 use mathlib.Core.List.{[], _∷_}
 use denote.Ref.{now}
 use lib.ListN.{take, drop, length-set, length-append}
-use Rattle.paper.specs.Items.{orItem}
+use Rattle.paper.specs.Query.{descendantOrSelf, ancestorOrSelf}
+use Rattle.paper.specs.Items.{orItem, axisNumber}
 use Rattle.item.specs.Placed.{placed}
 use Rattle.item.proofs.Placing.{placed-one, same-size}
 use Rattle.compose.specs.Pieces.{someNodeItems, visibleItems}
@@ -32,9 +33,9 @@ put-some-node-requires-2 c κs =
     let at = c .before .before .before .before .before .before .args .at in
     let chosen = take (c .before .before .before .before .before .before .args .count) (drop (c .before .before .before .before .before .before .args .from) old) in
     let len = part-length old (c .before .before .before .before .before .before .args .from) (c .before .before .before .before .before .before .args .count) (omega arith) in
-    let first = then-chosen (someNodeItems 3) (orItem ∷ []) old _ (c .before .before .before .put-some-node .last .1 .0) at (at + 1) (c .before .before .before .before .before .before .args .from) (c .before .before .before .before .before .before .args .count)
+    let first = then-chosen (someNodeItems (axisNumber descendantOrSelf)) (orItem ∷ []) old _ (c .before .before .before .put-some-node .last .1 .0) at (at + 1) (c .before .before .before .before .before .before .args .from) (c .before .before .before .before .before .before .args .count)
     (placed-one old at orItem (omega arith)) (c .before .before .before .put-some-node .ensures .0) refl (omega arith) (omega arith) in
-    (omega arith, omega (arith, c .before .before .before .put-some-node .ensures .1), omega (arith, same-size (orItem ∷ someNodeItems 3 chosen) old _ at first (omega arith)))
+    (omega arith, omega (arith, c .before .before .before .put-some-node .ensures .1), omega (arith, same-size (orItem ∷ someNodeItems (axisNumber descendantOrSelf) chosen) old _ at first (omega arith)))
 
 same-length : tie.Need-same-length
 same-length c =
@@ -42,12 +43,12 @@ same-length c =
     let at = c .before .before .before .before .before .before .before .before .before .args .at in
     let chosen = take (c .before .before .before .before .before .before .before .before .before .args .count) (drop (c .before .before .before .before .before .before .before .before .before .args .from) old) in
     let len = part-length old (c .before .before .before .before .before .before .before .before .before .args .from) (c .before .before .before .before .before .before .before .before .before .args .count) (omega arith) in
-    let first = then-chosen (someNodeItems 3) (orItem ∷ []) old _ (c .before .before .before .before .before .before .put-some-node .last .1 .0) at (at + 1) (c .before .before .before .before .before .before .before .before .before .args .from) (c .before .before .before .before .before .before .before .before .before .args .count)
+    let first = then-chosen (someNodeItems (axisNumber descendantOrSelf)) (orItem ∷ []) old _ (c .before .before .before .before .before .before .put-some-node .last .1 .0) at (at + 1) (c .before .before .before .before .before .before .before .before .before .args .from) (c .before .before .before .before .before .before .before .before .before .args .count)
     (placed-one old at orItem (omega arith)) (c .before .before .before .before .before .before .put-some-node .ensures .0) refl (omega arith) (omega arith) in
     let wrote : c .before .before .put-some-node2 .last .1 .0 ≡ placed (visibleItems chosen) at old =
-    then-chosen (someNodeItems 4) (orItem ∷ someNodeItems 3 chosen) old _ (c .before .before .put-some-node2 .last .1 .0) at (c .before .before .before .before .before .before .put-some-node .result) (c .before .before .before .before .before .before .before .before .before .args .from) (c .before .before .before .before .before .before .before .before .before .args .count)
+    then-chosen (someNodeItems (axisNumber ancestorOrSelf)) (orItem ∷ someNodeItems (axisNumber descendantOrSelf) chosen) old _ (c .before .before .put-some-node2 .last .1 .0) at (c .before .before .before .before .before .before .put-some-node .result) (c .before .before .before .before .before .before .before .before .before .args .from) (c .before .before .before .before .before .before .before .before .before .args .count)
     first (c .before .before .put-some-node2 .ensures .0) (omega (arith, c .before .before .before .before .before .before .put-some-node .ensures .1)) (omega arith) (omega (arith, c .before .before .before .before .before .before .put-some-node .ensures .1)) in
-    same-size (visibleItems chosen) old _ at wrote (omega (arith, length-append (someNodeItems 3 chosen) (someNodeItems 4 chosen)))
+    same-size (visibleItems chosen) old _ at wrote (omega (arith, length-append (someNodeItems (axisNumber descendantOrSelf) chosen) (someNodeItems (axisNumber ancestorOrSelf) chosen)))
 
 returns : tie.Need-returns
 returns c =
@@ -55,10 +56,10 @@ returns c =
     let at = c .before .before .before .before .before .before .before .before .before .args .at in
     let chosen = take (c .before .before .before .before .before .before .before .before .before .args .count) (drop (c .before .before .before .before .before .before .before .before .before .args .from) old) in
     let len = part-length old (c .before .before .before .before .before .before .before .before .before .args .from) (c .before .before .before .before .before .before .before .before .before .args .count) (omega arith) in
-    let first = then-chosen (someNodeItems 3) (orItem ∷ []) old _ (c .before .before .before .before .before .before .put-some-node .last .1 .0) at (at + 1) (c .before .before .before .before .before .before .before .before .before .args .from) (c .before .before .before .before .before .before .before .before .before .args .count)
+    let first = then-chosen (someNodeItems (axisNumber descendantOrSelf)) (orItem ∷ []) old _ (c .before .before .before .before .before .before .put-some-node .last .1 .0) at (at + 1) (c .before .before .before .before .before .before .before .before .before .args .from) (c .before .before .before .before .before .before .before .before .before .args .count)
     (placed-one old at orItem (omega arith)) (c .before .before .before .before .before .before .put-some-node .ensures .0) refl (omega arith) (omega arith) in
     let wrote : c .before .before .put-some-node2 .last .1 .0 ≡ placed (visibleItems chosen) at old =
-    then-chosen (someNodeItems 4) (orItem ∷ someNodeItems 3 chosen) old _ (c .before .before .put-some-node2 .last .1 .0) at (c .before .before .before .before .before .before .put-some-node .result) (c .before .before .before .before .before .before .before .before .before .args .from) (c .before .before .before .before .before .before .before .before .before .args .count)
+    then-chosen (someNodeItems (axisNumber ancestorOrSelf)) (orItem ∷ someNodeItems (axisNumber descendantOrSelf) chosen) old _ (c .before .before .put-some-node2 .last .1 .0) at (c .before .before .before .before .before .before .put-some-node .result) (c .before .before .before .before .before .before .before .before .before .args .from) (c .before .before .before .before .before .before .before .before .before .args .count)
     first (c .before .before .put-some-node2 .ensures .0) (omega (arith, c .before .before .before .before .before .before .put-some-node .ensures .1)) (omega arith) (omega (arith, c .before .before .before .before .before .before .put-some-node .ensures .1)) in
     (wrote, omega (arith, c .before .before .before .before .before .before .put-some-node .ensures .1, c .before .before .put-some-node2 .ensures .1))
 

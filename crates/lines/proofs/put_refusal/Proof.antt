@@ -44,8 +44,8 @@ put-decimal-requires-2 c κs = search needs
 slice-aggregate-put-4 : tie.Need-slice-aggregate-put-4
 slice-aggregate-put-4 c = search needs
 
--- Where the place is put, 63 bytes at most have been put.
-short : (c : tie.After-put-decimal2) → c .put-decimal2 .result ≤ 63
+-- Where the place is put, there is room for the end of the line.
+short : (c : tie.After-put-decimal2) → c .put-decimal2 .result < lineRoom
 short c =
     let apart = c .before .before .before .before in
     let numbered = apart .before .before .before .before .before in
