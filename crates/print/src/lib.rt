@@ -1,5 +1,5 @@
 // The text of a query. The same functions count its bytes, with no room, and write them, with room enough: what does not fit is only counted.
-// Path, step and expression call each other; each round of calls opens a bracket, so there are at most 65.
+// Path, step and expression call each other; each round of calls opens a bracket, so there is at most one more than brackets may be open.
 use item::Item;
 use names::Listed;
 use paper::Answer;

@@ -1,4 +1,4 @@
-// A query in memory: is it one, and then its nesting and height. Recursion opens a bracket each time, so at most 65 deep.
+// A query in memory: is it one, and then its nesting and height. Recursion opens a bracket each time, so it is at most one deeper than brackets may be.
 use item::Item;
 ghost use mathlib.Core.Path.{_≡_};
 ghost use Prim.Native.Nat.{_+_, _^_, _≤_, _<_, max};
