@@ -1,10 +1,11 @@
 -- `lines::put_refusal` meets its contract: the words and numbers of the line one after the other. Assumes nothing.
-use Prim.Native.Nat.{_≤_}
+use Prim.Native.Nat.{_<_}
 use native.Mathlib.Omega.{arith}
 use mathlib.Core.Path.{ap}
 use Rattle.pen.proofs.Putting.{puts-as, puts-both}
 use Rattle.paper.specs.Program.{decimal}
 use borrow.Author.Needs.{needs}
+use Rattle.lines.specs.Lines.{lineRoom}
 use Rattle.lines.proofs.put_refusal.Statement.{statement}
 use Rattle.lines.proofs.put_refusal.Tie as tie
 
