@@ -1,4 +1,4 @@
-// Document 01's limits, for code; the same numbers stand in specs/Limits.antt for the promises.
+// Document 01's limits, for code; the same numbers stand in specs/Limits.antt, and those of kinds in specs/Document.antt, for the promises.
 
 // The most bytes of a text lent for reading.
 pub const TEXT_LIMIT: usize = 32768;
