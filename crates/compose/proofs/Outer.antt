@@ -4,8 +4,9 @@ use native.Mathlib.Omega.{arith}
 use mathlib.Core.Path.{_≡_, refl, sym, _∙_, ap, ap₂, subst}
 use mathlib.Core.List.{List, [], _∷_, _++_}
 use lib.ListN.{length, take, drop, set, length-append, length-set}
+use Rattle.paper.specs.Limits.{itemLimit}
 use Rattle.paper.specs.Query.{Steps}
-use Rattle.paper.specs.Items.{packPath, stepCount, encodeSteps, decode}
+use Rattle.paper.specs.Items.{packPath, stepCount, encodeSteps, decode, countBound}
 use Rattle.item.specs.Placed.{placed}
 use Rattle.reverse.specs.Reverses.{eachPath, eachGot}
 use Rattle.item.proofs.Placing.{placed-one, drop-placed, same-size}

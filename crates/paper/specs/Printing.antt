@@ -23,6 +23,10 @@ axisText parent = ascii "parent"
 axisText descendantOrSelf = ascii "descendant-or-self"
 axisText ancestorOrSelf = ascii "ancestor-or-self"
 
+-- No word of an axis has more bytes.
+abbrev pub axisTextLimit : ℕ
+axisTextLimit = 18
+
 -- The text of a test; a name is spelled as its line of the list.
 abbrev pub testText : List (List ℕ) → Test → List ℕ
 testText names anyNode = ascii "node()"

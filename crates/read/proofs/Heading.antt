@@ -9,23 +9,24 @@ use mathlib.Core.Logic.{⊎-elim}
 use lib.ListN.{length, drop}
 use lib.Seq.{drop-drop}
 use borrow.Author.Tests.{eq-eqb, ne-eqb}
+use Rattle.paper.proofs.Axes.{axis-below}
+use Rattle.paper.specs.Limits.{namesLimit}
 use Rattle.paper.specs.Tools.{ascii, same}
 use Rattle.paper.specs.Tokens as paper
 use Rattle.paper.specs.Tokens.{Placed, sort, letters}
 use Rattle.paper.specs.Query.{Axis, self, child, parent, Test, anyNode, textNode, named, anyElement, Expr}
-use Rattle.paper.specs.Items.{axisNumber, testNumber}
+use Rattle.paper.specs.Items.{axisNumber, testNumber, namedFrom, axisBound}
 use Rattle.paper.specs.Reading.{Got, got, refused, then, next, at, sees, says, axisAhead, Step, readName, readTested, readStep, readTail}
 use Rattle.paper.proofs.Tests.{decide}
 use Rattle.ahead.specs.declared.Call.the-variants.{NoCall}
 use Rattle.ahead.specs.Looking.{tokensAt, Past, AxisWritten, callCode, Calls}
 use Rattle.ahead.proofs.Beginning.{and-false}
-use Rattle.ahead.proofs.Words.{axis-below}
 use Rattle.read.specs.declared.Head.{Head}
 use Rattle.read.specs.declared.Head.the-variants.{Plain, Tested, Wrong, Unknown}
 use Rattle.read.specs.Parts.{Closes, PlainStep, TestedStep, Heads}
 
 -- The number of an axis fits into an item.
-pub axis-small : (a : Axis) (n : ℕ) → n ≡ axisNumber a → n < 8
+pub axis-small : (a : Axis) (n : ℕ) → n ≡ axisNumber a → n < axisBound
 axis-small a n e = omega (arith, axis-below a)
 
 -- THE TEST.
@@ -34,7 +35,7 @@ Outcome = (ℕ → List Placed → Got Expr) → Got Step
 
 module _ (look : List ℕ → Option ℕ) (text : List ℕ) (from axis : ℕ) (a : Axis) (number : axis ≡ axisNumber a) where
   pub tested-star : (past : ℕ) → sees paper.star (tokensAt text from) ≡ true → Past text from past
-      → TestedStep look text from axis 258 past (λ within. readTested look within a (tokensAt text from))
+      → TestedStep look text from axis (testNumber anyElement) past (λ within. readTested look within a (tokensAt text from))
   unfolding readTested
   tested-star past s p =
       record {
@@ -128,7 +129,7 @@ module _ (look : List ℕ → Option ℕ) (text : List ℕ) (from axis : ℕ) (a
           (decide (same (ascii "node") w)))
           (λ (closed : sees paper.openRound (tokensAt text mid) ≡ false). rw (no-star, p .rest, closed, a-word, l)) none-called
 
-      pub tested-name : (v : ℕ) → look w ≡ some v → v < 256 → TestedStep look text from axis (v + 2) mid (λ within. readTested look within a (tokensAt text from))
+      pub tested-name : (v : ℕ) → look w ≡ some v → v < namesLimit → TestedStep look text from axis (v + namedFrom) mid (λ within. readTested look within a (tokensAt text from))
       tested-name v h small =
           record {
             way = a;

@@ -1,4 +1,4 @@
--- The number of a name: it is below 256, and any name will do where none is looked up. Assumes nothing.
+-- The number of a name: it fits an item, and any name will do where none is looked up. Assumes nothing.
 use Prim.Native.Nat.{ℕ, zero, suc, _+_, _<_}
 use native.Mathlib.Omega.{arith}
 use mathlib.Core.Path.{_≡_, refl, sym, _∙_, ap}

@@ -10,7 +10,7 @@ use lib.ListN.{length, drop}
 use lib.Seq.{drop-drop}
 use Rattle.paper.specs.Tokens.{Placed, sort}
 use Rattle.paper.specs.Query.{Expr, path, negated, Steps}
-use Rattle.paper.specs.Items.{notItem, encodeExpr}
+use Rattle.paper.specs.Items.{notItem, encodeExpr, countBound}
 use Rattle.paper.specs.Reading.{Got, got, refused, then, next, at, readTail, readStep, readSteps, readOperand, readExpr, readWithin}
 use Rattle.read.specs.declared.Part.{Part}
 use Rattle.read.specs.declared.Part.the-variants.{Done, NoQuery, TooDeep, UnknownName}

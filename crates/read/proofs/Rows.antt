@@ -9,7 +9,7 @@ use lib.ListN.{length, drop, length-append}
 use Rattle.paper.specs.Tokens as paper
 use Rattle.paper.specs.Tokens.{Placed}
 use Rattle.paper.specs.Query.{Axis, Test, Expr, path, both, either, negated, Steps, stop, Preds, bare, pred}
-use Rattle.paper.specs.Items.{axisNumber, testNumber, packPath, packStep, stepCount, predCount, encodeExpr, encodeSteps, encodePreds}
+use Rattle.paper.specs.Items.{axisNumber, testNumber, packPath, packStep, stepCount, predCount, encodeExpr, encodeSteps, encodePreds, countBound}
 use Rattle.paper.specs.Reading.{Got, got, refused, then, at, sees, Step, before, deep, readPreds, readTail, readStep, readSteps}
 use Rattle.token.specs.declared.Cursor.{Cursor}
 use Rattle.item.specs.Unpacked.{packed}

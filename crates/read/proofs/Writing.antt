@@ -6,6 +6,7 @@ use mathlib.Core.Bool.{Bool, true, false}
 use mathlib.Core.List.{List, [], _∷_, _++_, append-assoc, append-nil}
 use lib.ListN.{length, getD, set, take, drop, replicate, length-append, length-drop, take-append-drop, length-replicate}
 use lib.Seq.{length-take-le, take-suc, take-all, set-at, getD-at}
+use Rattle.paper.specs.Items.{countBound}
 use Rattle.paper.specs.Limits.{itemLimit}
 use Rattle.item.specs.Placed.{placed}
 use Rattle.item.proofs.Placing.{placed-cut}

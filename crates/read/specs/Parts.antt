@@ -6,7 +6,7 @@ use mathlib.Core.List.{List, [], _∷_, _++_}
 use mathlib.Core.Option.{Option, none, some}
 use lib.Dec.{eqb}
 use lib.ListN.{length, take, drop, replicate}
-use Rattle.paper.specs.Limits.{textLimit, itemLimit, bracketLimit}
+use Rattle.paper.specs.Limits.{textLimit, itemLimit, bracketLimit, namesLimit}
 use Rattle.paper.specs.Names.{namesOf, numberOf}
 use Rattle.paper.specs.Tokens as paper
 use Rattle.paper.specs.Tokens.{Placed, sort}
@@ -40,6 +40,10 @@ pub record Wrote (old new : List ℕ) (slot : ℕ) (items : List ℕ) : Type 0 w
 pub record Grouped (old new : List ℕ) (slot end count item : ℕ) : Type 0 where
   pub puts : (front raw gone back : List ℕ) → old ≡ front ++ (raw ++ (gone ++ back)) → length front ≡ slot → slot + length raw ≡ end → length gone ≡ count
       → new ≡ front ++ (replicate count item ++ (raw ++ back))
+
+-- Items are put at places below this: a text of the most bytes gives at most three a byte.
+abbrev pub placeBound : ℕ
+placeBound = 200000
 
 -- The item of the step that `//` stands for, where it is written.
 abbrev pub deepItem : ℕ
@@ -112,9 +116,9 @@ Closes text from axis test (Tested axis′ test′ past) = (axis′ ≡ axis) ×
 Closes text from axis test (Wrong place) = (sees paper.closeRound (tokensAt text from) ≡ false) × (place ≡ at (tokensAt text from))
 Closes text from axis test (Unknown place) = ⊥
 
--- The number of a name, of which an item can say 256.
+-- The number of a name, of which an item can say so many.
 abbrev pub Numbered : Option ℕ → Found → Type 0
-Numbered look (At v) = (look ≡ some v) × (v < 256)
+Numbered look (At v) = (look ≡ some v) × (v < namesLimit)
 Numbered look Nothing = look ≡ none
 
 -- MOVING. What stands from `slot` to `end` stands `count` further on.

@@ -28,7 +28,7 @@ ghost use lib.ListN.{length, take, drop};
 ghost use Rattle.paper.specs.Tools.{written};
 ghost use Rattle.paper.specs.Limits.{bracketLimit};
 ghost use Rattle.paper.specs.Query.{Axis, Test};
-ghost use Rattle.paper.specs.Items.{axisNumber, testNumber, packPath, encodeExpr};
+ghost use Rattle.paper.specs.Items.{axisNumber, testNumber, packPath, encodeExpr, axisBound, testBound, countBound};
 ghost use Rattle.paper.specs.Reading.{then, got, readTail, readTested, readStep, readSteps, readOperand, readExpr, readPath, readWithin, readText};
 ghost use Rattle.paper.specs.Answers.{readAnswer, readOut, readLast, lineGot, itemsGot};
 ghost use Rattle.paper.specs.Told.{told};
@@ -75,7 +75,7 @@ fn called(text: &[u8], cursor: Cursor, axis: u32, test: u32) -> Head
 fn number(
     text: &[u8],
     list: &[u8],
-    starts: &[u16; 257],
+    starts: &[u16; names::STARTS],
     count: usize,
     lookup: bool,
     start: usize,
@@ -96,7 +96,7 @@ fn number(
 fn tested(
     text: &[u8],
     list: &[u8],
-    starts: &[u16; 257],
+    starts: &[u16; names::STARTS],
     count: usize,
     lookup: bool,
     cursor: Cursor,
@@ -139,7 +139,7 @@ fn tested(
 fn step_head(
     text: &[u8],
     list: &[u8],
-    starts: &[u16; 257],
+    starts: &[u16; names::STARTS],
     count: usize,
     lookup: bool,
     cursor: Cursor,
@@ -200,7 +200,7 @@ fn put_deep(out: &mut [u32], slot: usize, deep: bool) -> usize
 fn item_of_path(count: usize) -> u32
     ensures { λ r. ⌜ (count < 8192 → r ≡ packPath count) ⌝ }
 {
-    if count < 8192 {
+    if count < item::COUNT_BOUND {
         item::pack_path(count)
     } else {
         0
@@ -212,7 +212,7 @@ fn item_of_step(axis: u32, test: u32, count: usize) -> u32
     requires { ⌜ (axis < 8) × (test < 512) ⌝ }
     ensures { λ r. ⌜ (count < 8192 → r ≡ packed (record { axis = axis; test = test; count = count })) ⌝ }
 {
-    if count < 8192 {
+    if count < item::COUNT_BOUND {
         item::pack_step(item::Step { axis, test, count })
     } else {
         0
@@ -252,7 +252,7 @@ fn group(out: &mut [u32], slot: usize, end: usize, count: usize, item: u32)
 fn expression(
     text: &[u8],
     list: &[u8],
-    starts: &[u16; 257],
+    starts: &[u16; names::STARTS],
     count: usize,
     lookup: bool,
     cursor: Cursor,
@@ -313,7 +313,7 @@ fn expression(
 fn operand(
     text: &[u8],
     list: &[u8],
-    starts: &[u16; 257],
+    starts: &[u16; names::STARTS],
     count: usize,
     lookup: bool,
     cursor: Cursor,
@@ -387,7 +387,7 @@ fn operand(
 fn bracketed(
     text: &[u8],
     list: &[u8],
-    starts: &[u16; 257],
+    starts: &[u16; names::STARTS],
     count: usize,
     lookup: bool,
     cursor: Cursor,
@@ -429,7 +429,7 @@ fn bracketed(
 fn steps(
     text: &[u8],
     list: &[u8],
-    starts: &[u16; 257],
+    starts: &[u16; names::STARTS],
     count: usize,
     lookup: bool,
     cursor: Cursor,
@@ -472,7 +472,7 @@ fn steps(
 fn step(
     text: &[u8],
     list: &[u8],
-    starts: &[u16; 257],
+    starts: &[u16; names::STARTS],
     count: usize,
     lookup: bool,
     cursor: Cursor,
@@ -517,7 +517,7 @@ fn step(
 fn predicates(
     text: &[u8],
     list: &[u8],
-    starts: &[u16; 257],
+    starts: &[u16; names::STARTS],
     count: usize,
     lookup: bool,
     cursor: Cursor,
@@ -576,7 +576,7 @@ fn predicates(
 fn path(
     text: &[u8],
     list: &[u8],
-    starts: &[u16; 257],
+    starts: &[u16; names::STARTS],
     count: usize,
     lookup: bool,
     cursor: Cursor,
@@ -634,7 +634,7 @@ fn finished(text: &[u8], cursor: Cursor, end: usize) -> Part
 fn paths(
     text: &[u8],
     list: &[u8],
-    starts: &[u16; 257],
+    starts: &[u16; names::STARTS],
     count: usize,
     lookup: bool,
     out: &mut [u32],
@@ -686,7 +686,7 @@ fn answer_of(part: Part) -> Answer
 fn answer(
     text: &[u8],
     list: &[u8],
-    starts: &[u16; 257],
+    starts: &[u16; names::STARTS],
     count: usize,
     few: &mut [u32],
     room: usize,
@@ -716,7 +716,7 @@ fn answer(
 fn write(
     text: &[u8],
     list: &[u8],
-    starts: &[u16; 257],
+    starts: &[u16; names::STARTS],
     count: usize,
     few: &[u32],
     end: usize,
@@ -744,7 +744,7 @@ pub fn read(text: &[u8], list: &[u8], out: &mut [u32]) -> Answer
     if paper::LIST_LIMIT < list.len() {
         return Answer::TooLong;
     }
-    let mut starts = [0u16; 257];
+    let mut starts = [0u16; names::STARTS];
     let listed = names::index(list, &mut starts);
     match listed {
         Listed::Bad(start) => Answer::BadName(start),

@@ -159,7 +159,7 @@ module _ (query : List ℕ) (t : Table) (given : List ℕ) (marksRoom scratchRoo
 pub scratch-small : (query : List ℕ) (t : Table) (q : Query) → length query ≤ itemLimit → nodes t ≤ nodeLimit → decode query ≡ some q → nodes t * 2 * (height q + 1) ≤ 33562624
 scratch-small query t q li ln d =
     let h : height q + 1 ≤ 4097 = omega (arith, height-size q, size-decoded query q d) in
-    let n : nodes t * 2 ≤ 8192 = omega arith in
+    let n : nodes t * 2 ≤ nodeLimit * 2 = omega arith in
     le-trans (mul-le-mul n h) (omega arith)
 
 -- A run answers what refused it, and writes nothing,
