@@ -146,7 +146,7 @@ module _ (outer inner : List ℕ) (room : ℕ) where
         pub line-9 : bracketLimit < deep → composeAnswer outer inner room ≡ refusal 9 deep
         line-9 h = later ∙ rw (← deep-is, lt-ltb bracketLimit deep h)
 
-        module _ (shallow : deep ≤ 64) (count number : ℕ) (ec : count ≡ length (selectedGot (decode inner))) (en : number ≡ sizeGot (decode outer) count) where
+        module _ (shallow : deep ≤ bracketLimit) (count number : ℕ) (ec : count ≡ length (selectedGot (decode inner))) (en : number ≡ sizeGot (decode outer) count) where
           size-is : number ≡ size whole
           unfolding composedSize selectedSize
           size-is =
@@ -161,11 +161,11 @@ module _ (outer inner : List ℕ) (room : ℕ) where
           line-10-room : room < number → composeAnswer outer inner room ≡ refusal 10 number
           line-10-room h = last-lines ∙ rw (lt-ltb room number h)
 
-          line-10-size : number ≤ room → 4096 < number → composeAnswer outer inner room ≡ refusal 10 number
-          line-10-size h l = last-lines ∙ rw (le-ltb room number h, lt-ltb 4096 number l)
+          line-10-size : number ≤ room → itemLimit < number → composeAnswer outer inner room ≡ refusal 10 number
+          line-10-size h l = last-lines ∙ rw (le-ltb room number h, lt-ltb itemLimit number l)
 
-          line-value : number ≤ room → number ≤ 4096 → composeAnswer outer inner room ≡ value number
-          line-value h l = last-lines ∙ rw (le-ltb room number h, le-ltb 4096 number l)
+          line-value : number ≤ room → number ≤ itemLimit → composeAnswer outer inner room ≡ value number
+          line-value h l = last-lines ∙ rw (le-ltb room number h, le-ltb itemLimit number l)
 
           number-is : number ≡ length (composedGot (decode outer) (decode inner))
           number-is = size-is ∙ sym (size-items whole) ∙ ap length (sym (ap₂ composedGot (o .decodes) (i .decodes)))

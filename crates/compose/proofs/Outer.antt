@@ -22,7 +22,7 @@ pub record Guards (outer old out : List ℕ) (from count place at next steps : �
   pub later : List Steps
   pub here : writes .rest ≡ path ∷ later
   pub top : Top outer place next steps path later
-  pub few : length outer ≤ 4096
+  pub few : length outer ≤ itemLimit
   pub room : length (eachGot (guardedPath (take count (drop from old))) (decode outer)) ≤ from + count
   pub fits : from + count ≤ length old
 
@@ -30,7 +30,7 @@ module _ {outer old out : List ℕ} {from count place at next steps : ℕ} (g : 
   abbrev chosen : List ℕ
   chosen = take count (drop from old)
 
-  pub raised-few : steps + 1 < 8192
+  pub raised-few : steps + 1 < countBound
   raised-few = omega (arith, g .top .counts, g .top .few, g .top .ends, g .top .later .inside)
 
   pub path-room : at + 1 + length (guardedItems chosen (encodeSteps (g .path))) + 3 ≤ from

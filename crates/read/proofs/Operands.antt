@@ -136,7 +136,7 @@ module _ (look : List ℕ → Option ℕ) (within : ℕ → List Placed → Got 
 
 -- STEPS BY THEIR HEADS.
 module _ (look : List ℕ → Option ℕ) (within : ℕ → List Placed → Got Expr) (text old new : List ℕ) (from slot : ℕ) where
-  pub plain-done : (axis made past : ℕ) → PlainStep look text from axis past (λ w. readStep look w (tokensAt text from)) → (0 < 8192 → made ≡ packed (record { axis = axis; test = 0; count = 0 }))
+  pub plain-done : (axis made past : ℕ) → PlainStep look text from axis past (λ w. readStep look w (tokensAt text from)) → (0 < countBound → made ≡ packed (record { axis = axis; test = 0; count = 0 }))
       → Wrote old new slot (made ∷ []) → Gives text old new from slot (3 * from + 2) slot (readStep look within (tokensAt text from)) stepItems past (slot + 1)
   plain-done axis made past h right v =
       record {

@@ -116,7 +116,7 @@ module _ (look : List ℕ → Option ℕ) (within : ℕ → List Placed → Got 
 
     -- None comes: the step's item is put before its predicates.
     pub preds-done : (new : List ℕ) (axis test made : ℕ) (a : Axis) (t : Test) → axis ≡ axisNumber a → test ≡ testNumber t → sees paper.openSquare (tokensAt text here) ≡ false
-        → (taken < 8192 → made ≡ packed (record { axis = axis; test = test; count = taken })) → Wrote out new slot (made ∷ [])
+        → (taken < countBound → made ≡ packed (record { axis = axis; test = test; count = taken })) → Wrote out new slot (made ∷ [])
         → Gives text old new from slot (3 * from) (slot + 1) (readTail look within a t (tokensAt text from)) stepItems here filled
     unfolding readTail
     preds-done new axis test made a t ea et s right v =
@@ -298,7 +298,7 @@ module _ (look : List ℕ → Option ℕ) (within : ℕ → List Placed → Got 
         }
 
     -- Neither comes: the path's item is put before its steps.
-    pub steps-done : (new : List ℕ) (made place : ℕ) → Joins text past (Nothing place) → (taken < 8192 → made ≡ packPath taken) → Wrote out new slot (made ∷ [])
+    pub steps-done : (new : List ℕ) (made place : ℕ) → Joins text past (Nothing place) → (taken < countBound → made ≡ packPath taken) → Wrote out new slot (made ∷ [])
         → Gives text old new from slot (3 * from) slot all pathItems past filled
     steps-done new made place j right v =
         let s = l .build stop in

@@ -207,7 +207,7 @@ grouped-done old mid new slot end count item m f =
     }
 
 -- THE STEP THAT `//` STANDS FOR, written or not.
-pub deep-there : (old new : List ℕ) (slot made : ℕ) (deep : Bool) → deep ≡ true → (0 < 8192 → made ≡ deepItem) → Wrote old new slot (made ∷ [])
+pub deep-there : (old new : List ℕ) (slot made : ℕ) (deep : Bool) → deep ≡ true → (0 < countBound → made ≡ deepItem) → Wrote old new slot (made ∷ [])
     → (Wrote old new slot (deepItems deep)) × (slot + 1 ≡ slot + length (deepItems deep))
 deep-there old new slot made deep d right w = rw d (subst (λ (i : ℕ). Wrote old new slot (i ∷ [])) (right (omega arith)) w, refl)
 

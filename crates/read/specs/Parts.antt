@@ -42,8 +42,8 @@ pub record Grouped (old new : List ℕ) (slot end count item : ℕ) : Type 0 whe
       → new ≡ front ++ (replicate count item ++ (raw ++ back))
 
 -- Items are put at places below this: a text of the most bytes gives at most three a byte.
-abbrev pub placeBound : ℕ
-placeBound = 200000
+abbrev pub slotBound : ℕ
+slotBound = 200000
 
 -- The item of the step that `//` stands for, where it is written.
 abbrev pub deepItem : ℕ

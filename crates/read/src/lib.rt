@@ -1,6 +1,6 @@
 // The reader: from text to query. One pass measures the text and keeps its items if they are few; those are then copied, or the same functions write into the output.
 // A `place` is a byte of the text, a `slot` an item of the output.
-// Recursion opens a bracket each time, so at most 65 deep.
+// Recursion opens a bracket each time, so it goes one deeper than the limit on brackets.
 // The list, its starts and their count are arguments of their own, since every function over a struct that holds a reference is proved by hand; `lookup` says whether names are looked up in the list.
 use ahead::Ahead;
 use ahead::AxisAhead;
@@ -35,8 +35,8 @@ ghost use Rattle.paper.specs.Told.{told};
 ghost use Rattle.paper.specs.declared.Answer.the-variants.{Value};
 ghost use Rattle.item.specs.Unpacked.{packed};
 ghost use Rattle.names.specs.Listing.{Indexed};
-ghost use Rattle.ahead.specs.Looking.{tokensAt};
-ghost use Rattle.read.specs.Parts.{lookOf, Wrote, Grouped, deepItems, deepIf, stepItems, Reads, passSort, Heads, Closes, Numbered, Moved, Ready, pathItems, Finishes, ReadsAll, Kept, Measures, AnswerOf};
+ghost use Rattle.ahead.specs.Looking.{tokensAt, markSorts};
+ghost use Rattle.read.specs.Parts.{lookOf, Wrote, Grouped, deepItems, deepIf, stepItems, Reads, passSort, Heads, Closes, Numbered, Moved, Ready, pathItems, Finishes, ReadsAll, Kept, Measures, AnswerOf, slotBound};
 
 // What reading a part of a query comes to: the cursor past it and the slot past its items, or a refusal with its place in the text.
 pub enum Part {
@@ -182,7 +182,7 @@ fn put(out: &mut [u32], slot: usize, item: u32)
 
 // Puts the step that `//` stands for, where it is written; the slot past it.
 fn put_deep(out: &mut [u32], slot: usize, deep: bool) -> usize
-    requires { ⌜ slot < 200000 ⌝ }
+    requires { ⌜ slot < slotBound ⌝ }
     ensures { λ r. ⌜ (Wrote (now (out .entry)) (now (out .exit)) slot (deepItems deep)) × (r ≡ slot + length (deepItems deep)) ⌝ }
 {
     if deep {
@@ -198,7 +198,7 @@ fn put_deep(out: &mut [u32], slot: usize, deep: bool) -> usize
 
 // The item of a path; 0 for more steps than an item can say.
 fn item_of_path(count: usize) -> u32
-    ensures { λ r. ⌜ (count < 8192 → r ≡ packPath count) ⌝ }
+    ensures { λ r. ⌜ (count < countBound → r ≡ packPath count) ⌝ }
 {
     if count < item::COUNT_BOUND {
         item::pack_path(count)
@@ -209,8 +209,8 @@ fn item_of_path(count: usize) -> u32
 
 // The item of a step; 0 for more predicates than an item can say.
 fn item_of_step(axis: u32, test: u32, count: usize) -> u32
-    requires { ⌜ (axis < 8) × (test < 512) ⌝ }
-    ensures { λ r. ⌜ (count < 8192 → r ≡ packed (record { axis = axis; test = test; count = count })) ⌝ }
+    requires { ⌜ (axis < axisBound) × (test < testBound) ⌝ }
+    ensures { λ r. ⌜ (count < countBound → r ≡ packed (record { axis = axis; test = test; count = count })) ⌝ }
 {
     if count < item::COUNT_BOUND {
         item::pack_step(item::Step { axis, test, count })
@@ -233,7 +233,7 @@ fn move_up(out: &mut [u32], slot: usize, end: usize, count: usize)
 
 // Puts so many of an operator's items before what stands from `slot` to `end`, where there is room for them.
 fn group(out: &mut [u32], slot: usize, end: usize, count: usize, item: u32)
-    requires { ⌜ (slot ≤ end) × (end < 200000) × (count < 200000) ⌝ }
+    requires { ⌜ (slot ≤ end) × (end < slotBound) × (count < slotBound) ⌝ }
     ensures { λ _. ⌜ Grouped (now (out .entry)) (now (out .exit)) slot end count item ⌝ }
 {
     if count == 0 {
@@ -398,7 +398,7 @@ fn bracketed(
     closer: usize,
 ) -> Part
     requires { ⌜ Ready (now text) (now list) (now starts) count (cursor .at) depth ⌝ }
-    requires { ⌜ (slot ≤ 3 * cursor .at) × (closer < 11) ⌝ }
+    requires { ⌜ (slot ≤ 3 * cursor .at) × (closer < markSorts) ⌝ }
     ensures { λ r. ⌜ Reads (now (text .entry)) (now (out .entry)) (now (out .exit)) (cursor .at) slot (3 * cursor .at) slot (then (readWithin (lookOf lookup (now (list .entry))) depth bracket (tokensAt (now (text .entry)) (cursor .at))) (passSort closer)) encodeExpr r ⌝ }
 {
     if depth == 0 {
@@ -528,7 +528,7 @@ fn predicates(
     test: u32,
 ) -> Part
     requires { ⌜ Ready (now text) (now list) (now starts) count (cursor .at) depth ⌝ }
-    requires { ⌜ (slot < 3 * cursor .at) × (axis < 8) × (test < 512) ⌝ }
+    requires { ⌜ (slot < 3 * cursor .at) × (axis < axisBound) × (test < testBound) ⌝ }
     ensures { λ r. ⌜ ((a : Axis) (t : Test) → axis ≡ axisNumber a → test ≡ testNumber t → Reads (now (text .entry)) (now (out .entry)) (now (out .exit)) (cursor .at) slot (3 * cursor .at) (slot + 1) (readTail (lookOf lookup (now (list .entry))) (readWithin (lookOf lookup (now (list .entry))) depth) a t (tokensAt (now (text .entry)) (cursor .at))) stepItems r) ⌝ }
 {
     let mut here = cursor;
@@ -661,7 +661,13 @@ fn paths(
 }
 
 // What the text is, measured: nothing is kept of what is written.
-fn measure(text: &[u8], list: &[u8], starts: &[u16; 257], count: usize, lookup: bool) -> Part
+fn measure(
+    text: &[u8],
+    list: &[u8],
+    starts: &[u16; names::STARTS],
+    count: usize,
+    lookup: bool,
+) -> Part
     requires { ⌜ Ready (now text) (now list) (now starts) count 0 bracketLimit ⌝ }
     ensures { λ r. ⌜ Measures (readText (lookOf lookup (now (list .entry))) (now (text .entry))) r ⌝ }
 {

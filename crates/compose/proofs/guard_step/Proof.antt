@@ -5,6 +5,8 @@ use mathlib.Core.Path.{_≡_, refl, _∙_, ap}
 use mathlib.Core.List.{List, [], _∷_}
 use denote.Ref.{now}
 use lib.ListN.{take, drop, set, length-set, length-append}
+use Rattle.paper.specs.Query.{descendantOrSelf, ancestorOrSelf}
+use Rattle.paper.specs.Items.{axisNumber}
 use Rattle.item.specs.Unpacked.{packed}
 use Rattle.item.specs.Placed.{placed}
 use Rattle.item.proofs.Placing.{placed-one, same-size}
@@ -63,7 +65,7 @@ same-length c =
     let start = begun put in
     let len = part-length (old start) (start .args .from) (start .args .count) (omega arith) in
     same-size (guardedStep (chosen start) (start .args .step)) (old start) _ (start .args .at) (wrote put)
-    (omega (arith, length-append (someNodeItems 3 (chosen start)) (someNodeItems 4 (chosen start))))
+    (omega (arith, length-append (someNodeItems (axisNumber descendantOrSelf) (chosen start)) (someNodeItems (axisNumber ancestorOrSelf) (chosen start))))
 
 returns : tie.Need-returns
 returns c = (wrote (c .before .before), omega (arith, c .before .before .put-visible .ensures .1))

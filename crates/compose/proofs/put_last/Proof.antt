@@ -5,6 +5,8 @@ use mathlib.Core.Path.{_≡_, refl, _∙_, ap}
 use mathlib.Core.List.{List, [], _∷_}
 use denote.Ref.{now}
 use lib.ListN.{length, take, drop, set, length-set}
+use Rattle.paper.specs.Query.{descendantOrSelf, ancestorOrSelf, anyNode}
+use Rattle.paper.specs.Items.{axisNumber, testNumber}
 use Rattle.item.specs.Unpacked.{packed}
 use Rattle.item.specs.Placed.{placed}
 use Rattle.item.proofs.Placing.{placed-one, same-size}
@@ -32,8 +34,8 @@ wrote : (c : tie.After-put-some-node) → c .put-some-node .last .1 .0 ≡ place
 wrote c =
     let start = begun c in
     let at = start .args .at in
-    let head = packed (record { axis = 3; test = 0; count = 1 }) in
-    then-chosen (someNodeItems 4) (head ∷ []) (old start) _ (c .put-some-node .last .1 .0) at (at + 1) (start .args .from) (start .args .count)
+    let head = packed (record { axis = axisNumber descendantOrSelf; test = testNumber anyNode; count = 1 }) in
+    then-chosen (someNodeItems (axisNumber ancestorOrSelf)) (head ∷ []) (old start) _ (c .put-some-node .last .1 .0) at (at + 1) (start .args .from) (start .args .count)
     (ap (set (old start) at) (c .before .before .pack-step .ensures) ∙ placed-one (old start) at head (omega arith)) (c .put-some-node .ensures .0) refl (omega arith) (omega arith)
 
 pack-step-requires : tie.Need-pack-step-requires

@@ -5,7 +5,8 @@ use mathlib.Core.Path.{_≡_, refl}
 use mathlib.Core.List.{List, [], _∷_}
 use denote.Ref.{now}
 use lib.ListN.{length, take, drop, length-set, length-append}
-use Rattle.paper.specs.Items.{orItem}
+use Rattle.paper.specs.Query.{descendantOrSelf, ancestorOrSelf}
+use Rattle.paper.specs.Items.{orItem, axisNumber}
 use Rattle.item.specs.Placed.{placed}
 use Rattle.item.proofs.Placing.{placed-one, same-size}
 use Rattle.compose.specs.Pieces.{someNodeItems, visibleItems}
@@ -28,11 +29,11 @@ long start = part-length (old start) (start .args .from) (start .args .count) (o
 abbrev begun : tie.After-put-some-node → tie.Start
 begun c = c .before .before .before
 
-first : (c : tie.After-put-some-node) → c .put-some-node .last .1 .0 ≡ placed (orItem ∷ someNodeItems 3 (chosen (begun c))) (begun c .args .at) (old (begun c))
+first : (c : tie.After-put-some-node) → c .put-some-node .last .1 .0 ≡ placed (orItem ∷ someNodeItems (axisNumber descendantOrSelf) (chosen (begun c))) (begun c .args .at) (old (begun c))
 first c =
     let start = begun c in
     let at = start .args .at in
-    then-chosen (someNodeItems 3) (orItem ∷ []) (old start) _ (c .put-some-node .last .1 .0) at (at + 1) (start .args .from) (start .args .count) (placed-one (old start) at orItem (omega arith)) (c .put-some-node .ensures .0) refl
+    then-chosen (someNodeItems (axisNumber descendantOrSelf)) (orItem ∷ []) (old start) _ (c .put-some-node .last .1 .0) at (at + 1) (start .args .from) (start .args .count) (placed-one (old start) at orItem (omega arith)) (c .put-some-node .ensures .0) refl
     (omega arith) (omega arith)
 
 -- After the second: all above with S.
@@ -45,7 +46,7 @@ wrote c =
     let at = start .args .at in
     let len = long start in
     let ends = half c .put-some-node .ensures .1 in
-    then-chosen (someNodeItems 4) (orItem ∷ someNodeItems 3 (chosen start)) (old start) _ (c .put-some-node2 .last .1 .0) at (half c .put-some-node .result) (start .args .from) (start .args .count) (first (half c)) (c .put-some-node2 .ensures .0)
+    then-chosen (someNodeItems (axisNumber ancestorOrSelf)) (orItem ∷ someNodeItems (axisNumber descendantOrSelf) (chosen start)) (old start) _ (c .put-some-node2 .last .1 .0) at (half c .put-some-node .result) (start .args .from) (start .args .count) (first (half c)) (c .put-some-node2 .ensures .0)
     (omega arith) (omega arith) (omega arith)
 
 mul-out : tie.Need-mul-out
@@ -65,14 +66,14 @@ put-some-node-requires-2 c κs =
     let one = c .before .before .before in
     let start = begun one in
     let len = long start in
-    (omega arith, omega (arith, one .put-some-node .ensures .1), omega (arith, same-size (orItem ∷ someNodeItems 3 (chosen start)) (old start) _ (start .args .at) (first one) (omega arith)))
+    (omega arith, omega (arith, one .put-some-node .ensures .1), omega (arith, same-size (orItem ∷ someNodeItems (axisNumber descendantOrSelf) (chosen start)) (old start) _ (start .args .at) (first one) (omega arith)))
 
 same-length : tie.Need-same-length
 same-length c =
     let both = c .before .before in
     let start = begun (half both) in
     let len = long start in
-    same-size (visibleItems (chosen start)) (old start) _ (start .args .at) (wrote both) (omega (arith, length-append (someNodeItems 3 (chosen start)) (someNodeItems 4 (chosen start))))
+    same-size (visibleItems (chosen start)) (old start) _ (start .args .at) (wrote both) (omega (arith, length-append (someNodeItems (axisNumber descendantOrSelf) (chosen start)) (someNodeItems (axisNumber ancestorOrSelf) (chosen start))))
 
 returns : tie.Need-returns
 returns c =

@@ -10,6 +10,7 @@ use lib.Dec.{eqb}
 use lib.ListN.{length, take, drop, replicate}
 use lib.Seq.{length-take-le}
 use denote.Ref.{now}
+use Rattle.paper.specs.Limits.{bracketLimit}
 use Rattle.paper.specs.Items.{takeSteps, takeWithin}
 use Rattle.paper.specs.Measures.{heightSteps, height}
 use Rattle.paper.specs.Document.{Table, nodes, marked, tableOf}
@@ -148,7 +149,7 @@ forward-requires c κs =
     let l = read-in path .loop in
     let start = begun (read-in path) in (
       start .pre .0,
-      subst (λ (r : ℕ). Fits (items start) (l .place + 1) (nodes (table start)) r (takeSteps (takeWithin 64) (path .path-at .result) (drop (l .place + 1) (items start))) (λ s. 1 + heightSteps s)) (sym (rooted-length root)) (next path .steps),
+      subst (λ (r : ℕ). Fits (items start) (l .place + 1) (nodes (table start)) r (takeSteps (takeWithin bracketLimit) (path .path-at .result) (drop (l .place + 1) (items start))) (λ s. 1 + heightSteps s)) (sym (rooted-length root)) (next path .steps),
     )
 
 slice-reshare-prefix-add : tie.Need-slice-reshare-prefix-add Inv-loop μ-loop
