@@ -1,6 +1,6 @@
 -- Numbers before and after an extraction: `rank-onto`, `extracted-kind`, `extracted-parent`, `some-renumbered`, `extracted-twice`.
 pub mod Renumber
--- The laws of an axis: `converse`, `leads-inside`, `leads-renumbered`; no other proof here splits on the axis.
+-- What composition asks of an axis beside the laws of `paper`: `leads-inside`, `leads-renumbered`; no other proof here splits on the axis.
 pub mod Axes
 -- What one step needs and gives, for `finds` and `arrives` alike: `goes`, `went`.
 pub mod Stepping
