@@ -4,7 +4,7 @@
 #include <stdio.h>
 #include <string.h>
 
-/* The queries of source document 000, as far as the library's part of XPath says them. */
+/* The queries of the paper on subtree queries (docs/SCOPE.md), as far as the library's part of XPath says them. */
 static const char q1_text[] = "/site/regions/europe";
 static const char q2_text[] = "//item[not(quantity)]|//item/location";
 static const char q3_text[] = "//item[location or desc]";
@@ -89,7 +89,7 @@ static void compositions(const struct document *document)
     read_query(document, q1_text, &q1);
     read_query(document, q2_text, &q2);
     read_query(document, q3_text, &q3);
-    head_of_runs("The queries of document 000, alone and composed");
+    head_of_runs("The queries of the paper on subtree queries, alone and composed");
     row_of_run("Q1", document, &q1);
     row_of_run("Q2", document, &q2);
     row_of_run("Q3", document, &q3);

@@ -22,7 +22,7 @@ static uint16_t kind_of(struct document *document, const char *name)
         snprintf(document->name[v], sizeof document->name[v], "%s", name);
         document->list_length += (size_t)sprintf((char *)document->list + document->list_length, "%s\n", name);
     }
-    return (uint16_t)(FIRST_NAME + v);
+    return (uint16_t)(HALYARDFIG_KIND_ELEMENT + v);
 }
 
 /* Adds a child to the open node, and answers it; past the limit it answers the open node. */
@@ -59,7 +59,7 @@ static void add_leaf(struct document *document, const char *name)
     size_t nodes = document->nodes;
     uint16_t before = open_element(document, name);
     if (document->nodes > nodes)
-        add(document, TEXT_KIND);
+        add(document, HALYARDFIG_KIND_TEXT);
     close_element(document, before);
 }
 

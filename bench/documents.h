@@ -2,10 +2,12 @@
 #ifndef DOCUMENTS_H
 #define DOCUMENTS_H
 
+#include <halyardfig.h>
 #include <stddef.h>
 #include <stdint.h>
 
-enum { NODE_ROOM = 4096, NAME_ROOM = 256, LIST_ROOM = 8192, TEXT_KIND = 1, FIRST_NAME = 2 };
+/* Room for the largest of each that the library takes. */
+enum { NODE_ROOM = HALYARDFIG_NODES, NAME_ROOM = HALYARDFIG_NAMES, LIST_ROOM = HALYARDFIG_NAMES_BYTES };
 
 struct document {
     size_t nodes;

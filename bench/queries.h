@@ -4,7 +4,7 @@
 
 #include "documents.h"
 
-enum { ITEM_ROOM = 4096, TEXT_ROOM = 32768 };
+enum { ITEM_ROOM = HALYARDFIG_QUERY_ITEMS, TEXT_ROOM = HALYARDFIG_TEXT_BYTES };
 
 struct query {
     size_t count;

@@ -7,9 +7,9 @@
 
 static xmlNodePtr new_node(xmlDocPtr tree, const struct document *document, size_t i)
 {
-    if (document->kind[i] == TEXT_KIND)
+    if (document->kind[i] == HALYARDFIG_KIND_TEXT)
         return xmlNewDocText(tree, BAD_CAST "t");
-    return xmlNewDocNode(tree, NULL, BAD_CAST document->name[document->kind[i] - FIRST_NAME], NULL);
+    return xmlNewDocNode(tree, NULL, BAD_CAST document->name[document->kind[i] - HALYARDFIG_KIND_ELEMENT], NULL);
 }
 
 static void *load(const struct document *document)

@@ -28,8 +28,8 @@ std::uintptr_t address(const pugi::xml_node &node)
 
 pugi::xml_node add_node(pugi::xml_node parent, const document &document, std::size_t i)
 {
-    if (document.kind[i] != TEXT_KIND)
-        return parent.append_child(document.name[document.kind[i] - FIRST_NAME]);
+    if (document.kind[i] != HALYARDFIG_KIND_TEXT)
+        return parent.append_child(document.name[document.kind[i] - HALYARDFIG_KIND_ELEMENT]);
     pugi::xml_node node = parent.append_child(pugi::node_pcdata);
     node.set_value("t");
     return node;

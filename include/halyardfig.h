@@ -11,6 +11,12 @@
  * Pointers are not null and are aligned for their type, even where a length is 0;
  * memory that a call writes does not overlap other memory lent to the same call.
  * Lengths count elements, not bytes. No call allocates, and none keeps what it is lent.
+ * Calls share nothing: threads may call at once, as long as what one call writes is lent to no other.
+ * No call uses more than HALYARDFIG_STACK_BYTES of stack, whatever it is lent; that is measured on the deepest and
+ * longest inputs, and not proved.
+ *
+ * A caller that does not know how much room a call needs lends it none (length 0, the pointer still not null):
+ * the place of refusal 10 is the number needed.
  *
  * An answer below 2^32 is the call's value. Any other answer is a refusal:
  * its number times 2^32, plus its place.
@@ -43,6 +49,14 @@
 #define HALYARDFIG_NAME_BYTES 64
 #define HALYARDFIG_NAMES 256
 #define HALYARDFIG_NESTING 64
+
+/* The stack that a call uses, at most. */
+#define HALYARDFIG_STACK_BYTES 65536
+
+/* The kinds of nodes; an element with the name v has the kind HALYARDFIG_KIND_ELEMENT + v. */
+#define HALYARDFIG_KIND_ROOT 0
+#define HALYARDFIG_KIND_TEXT 1
+#define HALYARDFIG_KIND_ELEMENT 2
 
 /* The refusal numbers. */
 #define HALYARDFIG_REFUSED_LENGTH 1
@@ -111,7 +125,10 @@ uint64_t halyardfig_compose(const uint32_t *outer, size_t outer_len, const uint3
  * the given marks of the nodes selected, of all above them and of all below them.
  * Value: the number of nodes kept. Scratch needs nodes x 2 x (height + 1) bytes, where a path's height
  * is 1 + the greatest of its predicates, and that of `and`, `or` and `not` 1 + the greatest below;
- * that part of it is zero afterwards, the rest untouched.
+ * that part of it is zero afterwards, the rest untouched. To learn the number, run with a scratch of length 0:
+ * where nothing else is refused, the place of refusal 10 is the bytes needed for this query on this table.
+ * That place counts all nodes of the table, marked or not, and the marks written say where hidden nodes stand:
+ * both are for the caller, and halyardfig_extract makes what may be shown.
  * Refuses, in this order: 1 (query over 4,096 items, over 4,096 nodes, columns or marks of unequal length),
  * 6 (place 0), 7 (place: the node), 8 (place: the node), 10 (place: the bytes of scratch needed).
  */

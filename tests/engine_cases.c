@@ -153,7 +153,7 @@ static bool composed_query(struct dice *dice)
     make_document(dice, 25);
     for (unsigned throws = 0; throws < 4; throws++) {
         uint64_t refused = make_composed(dice);
-        if (refused == 10)
+        if (refused == HALYARDFIG_REFUSED_ROOM)
             return true;
         if (refused != 0 || !run_query(&composed))
             return complain("a good composition is refused");

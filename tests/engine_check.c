@@ -1,5 +1,6 @@
 /* Reads cases from standard input and holds them to libxml2's XPath under the subtree rule. */
 #define _GNU_SOURCE
+#include "halyardfig.h"
 #include "support.h"
 
 #include <libxml/tree.h>
@@ -8,7 +9,7 @@
 #include <stdlib.h>
 #include <string.h>
 
-enum { NODES = 4096, NAMES = 256, TEXT_KIND = 1 };
+enum { NODES = HALYARDFIG_NODES, NAMES = HALYARDFIG_NAMES };
 
 static struct {
     char *what;
@@ -49,8 +50,9 @@ static xmlDocPtr build(void)
     for (size_t i = 1; i < now.nodes; i++) {
         if (now.marks[i] == 0)
             continue;
-        tree[i] = now.kind[i] == TEXT_KIND ? xmlNewDocText(document, BAD_CAST "t")
-                                           : xmlNewDocNode(document, NULL, BAD_CAST now.names[now.kind[i] - 2], NULL);
+        tree[i] = now.kind[i] == HALYARDFIG_KIND_TEXT
+                      ? xmlNewDocText(document, BAD_CAST "t")
+                      : xmlNewDocNode(document, NULL, BAD_CAST now.names[now.kind[i] - HALYARDFIG_KIND_ELEMENT], NULL);
         append(tree[now.parent[i]], tree[i]);
     }
     for (size_t i = 0; i < now.nodes; i++)

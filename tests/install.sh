@@ -1,7 +1,8 @@
 #!/usr/bin/env bash
 # Installs into a folder of its own, then compiles and runs the README's C example against what was installed.
-# The variables compiler and emulator say how programs for x86-64 are built and run here.
+# The variables compiler and emulator say how programs for x86-64 are built and run here; emulator may be empty.
 set -u
+: "${compiler:?}" "${emulator?}"
 cd "$(dirname "$0")/.." || exit 2
 
 passed=0
@@ -28,6 +29,7 @@ installed() {
 
 # The example is the README's one block of C.
 example_compiles() {
+    # shellcheck disable=SC2016
     sed -n '/^```c$/,/^```$/p' README.md | sed '1d;$d' >"$prefix/example.c"
     local flags
     flags=$(PKG_CONFIG_PATH=$prefix/lib/pkgconfig pkg-config --cflags --libs halyardfig) || return 1
@@ -46,3 +48,4 @@ step 'the README example, compiled' example_compiles
 step 'the README example, run' example_runs
 
 echo "install: $passed passed, $failed failed"
+[ "$failed" -eq 0 ]

@@ -4,19 +4,6 @@
 #include <stdlib.h>
 #include <string.h>
 
-enum { SELF, CHILD, PARENT, DESCENDANT_OR_SELF, ANCESTOR_OR_SELF, AXES };
-enum { NODE_TEST = 0, TEXT_TEST = 1, FIRST_NAME = 2, ANY_TEST = 258 };
-
-uint32_t path_item(unsigned steps)
-{
-    return steps << 3;
-}
-
-uint32_t step_item(unsigned axis, unsigned test, unsigned predicates)
-{
-    return 1 | axis << 3 | test << 6 | predicates << 15;
-}
-
 /* Name lists. */
 
 void list_of(struct list *list, const char *names)
@@ -75,7 +62,8 @@ const uint8_t *name_at(const struct list *list, unsigned v, size_t *length)
 
 static uint16_t random_kind(struct dice *dice, unsigned names)
 {
-    return names == 0 || chance(dice, 20) ? 1 : (uint16_t)(2 + below(dice, names));
+    return names == 0 || chance(dice, 20) ? HALYARDFIG_KIND_TEXT
+                                          : (uint16_t)(HALYARDFIG_KIND_ELEMENT + below(dice, names));
 }
 
 void make_table(struct dice *dice, struct table *table, size_t nodes, unsigned names)
@@ -84,10 +72,10 @@ void make_table(struct dice *dice, struct table *table, size_t nodes, unsigned n
     table->nodes = nodes;
     for (size_t i = 0; i < nodes; i++) {
         size_t above = i == 0 ? 0 : i - 1;
-        while (above != 0 && (table->kind[above] == 1 || chance(dice, climb)))
+        while (above != 0 && (table->kind[above] == HALYARDFIG_KIND_TEXT || chance(dice, climb)))
             above = table->parent[above];
         table->parent[i] = (uint16_t)above;
-        table->kind[i] = i == 0 ? 0 : random_kind(dice, names);
+        table->kind[i] = i == 0 ? HALYARDFIG_KIND_ROOT : random_kind(dice, names);
         table->marks[i] = 1;
     }
 }
@@ -151,7 +139,7 @@ static void make_step(struct making *making, unsigned nesting)
     unsigned predicates = 0;
     while (nesting > 0 && !is_full(making) && predicates < 3 && chance(making->dice, 30))
         predicates++;
-    put(making, step_item(random_axis(making->dice), random_test(making->dice, making->bounds.names), predicates));
+    put(making, STEP_ITEM(random_axis(making->dice), random_test(making->dice, making->bounds.names), predicates));
     for (unsigned i = 0; i < predicates; i++)
         make_expr(making, nesting - 1);
 }
@@ -161,7 +149,7 @@ static void make_path(struct making *making, unsigned nesting, unsigned least)
     unsigned steps = least;
     while (!is_full(making) && steps < 5 && chance(making->dice, 50))
         steps++;
-    put(making, path_item(steps));
+    put(making, PATH_ITEM(steps));
     for (unsigned i = 0; i < steps; i++)
         make_step(making, nesting);
 }
@@ -191,8 +179,8 @@ void make_query(struct dice *dice, struct query *query, struct bounds bounds)
 
 static void put_leaf(struct making *making)
 {
-    put(making, path_item(1));
-    put(making, step_item(random_axis(making->dice), random_test(making->dice, making->bounds.names), 0));
+    put(making, PATH_ITEM(1));
+    put(making, STEP_ITEM(random_axis(making->dice), random_test(making->dice, making->bounds.names), 0));
 }
 
 static void make_deep_expr(struct making *making, unsigned nesting);
@@ -200,8 +188,8 @@ static void make_deep_expr(struct making *making, unsigned nesting);
 /* A step with one predicate that is nested one less deep. */
 static void make_deep_path(struct making *making, unsigned nesting)
 {
-    put(making, path_item(1));
-    put(making, step_item(random_axis(making->dice), random_test(making->dice, making->bounds.names), 1));
+    put(making, PATH_ITEM(1));
+    put(making, STEP_ITEM(random_axis(making->dice), random_test(making->dice, making->bounds.names), 1));
     make_deep_expr(making, nesting - 1);
 }
 
@@ -249,16 +237,16 @@ void make_deep_query(struct dice *dice, struct query *query, unsigned nesting, u
 static void make_long_steps(struct making *making)
 {
     unsigned steps = (unsigned)making->bounds.items - 1;
-    put(making, path_item(steps));
+    put(making, PATH_ITEM(steps));
     for (unsigned i = 0; i < steps; i++)
-        put(making, step_item(random_axis(making->dice), random_test(making->dice, making->bounds.names), 0));
+        put(making, STEP_ITEM(random_axis(making->dice), random_test(making->dice, making->bounds.names), 0));
 }
 
 static void make_long_predicates(struct making *making)
 {
     unsigned predicates = (unsigned)(making->bounds.items - 2) / 2;
-    put(making, path_item(1));
-    put(making, step_item(CHILD, NODE_TEST, predicates));
+    put(making, PATH_ITEM(1));
+    put(making, STEP_ITEM(CHILD, NODE_TEST, predicates));
     for (unsigned i = 0; i < predicates; i++)
         put_leaf(making);
 }
@@ -268,7 +256,7 @@ static void make_long_paths(struct making *making)
     while (making->query->count + 2 <= making->bounds.items)
         put_leaf(making);
     if (making->query->count < making->bounds.items)
-        put(making, path_item(0));
+        put(making, PATH_ITEM(0));
 }
 
 /* Operators stand before their operands; `or` stands outside `and`, so that no bracket is printed. */
@@ -276,8 +264,8 @@ static void make_long_operands(struct making *making)
 {
     unsigned operators = (unsigned)(making->bounds.items - 4) / 3;
     unsigned ors = (unsigned)below(making->dice, operators + 1);
-    put(making, path_item(1));
-    put(making, step_item(DESCENDANT_OR_SELF, NODE_TEST, 1));
+    put(making, PATH_ITEM(1));
+    put(making, STEP_ITEM(DESCENDANT_OR_SELF, NODE_TEST, 1));
     for (unsigned i = 0; i < operators; i++)
         put(making, i < ors ? OR_ITEM : AND_ITEM);
     for (unsigned i = 0; i <= operators; i++)
@@ -358,7 +346,11 @@ static void write_test(struct writing *writing, unsigned test)
 
 static void write_axis(struct writing *writing, unsigned axis)
 {
-    static const char *const names[AXES] = {"self", "child", "parent", "descendant-or-self", "ancestor-or-self"};
+    static const char *const names[AXES] = {[SELF] = "self",
+                                            [CHILD] = "child",
+                                            [PARENT] = "parent",
+                                            [DESCENDANT_OR_SELF] = "descendant-or-self",
+                                            [ANCESTOR_OR_SELF] = "ancestor-or-self"};
     if (axis == CHILD && chance(writing->dice, 70))
         return;
     put_token(writing, names[axis]);
@@ -369,7 +361,7 @@ static void write_expr(struct writing *writing);
 
 static void write_step(struct writing *writing, uint32_t item)
 {
-    unsigned axis = item >> 3 & 7, test = item >> 6 & 511, predicates = item >> 15;
+    unsigned axis = item >> AXIS_BIT & 7, test = item >> TEST_BIT & MOST_TEST, predicates = item >> PREDICATES_BIT;
     bool shortens = test == NODE_TEST && predicates == 0 && chance(writing->dice, 70);
     if (shortens && (axis == SELF || axis == PARENT)) {
         put_token(writing, axis == SELF ? "." : "..");
@@ -390,7 +382,7 @@ static void write_steps(struct writing *writing, unsigned steps, bool absolute)
     bool joined = !absolute;
     for (; steps > 0; steps--) {
         uint32_t item = writing->query->items[writing->at++];
-        bool plain = item == step_item(DESCENDANT_OR_SELF, NODE_TEST, 0);
+        bool plain = item == STEP_ITEM(DESCENDANT_OR_SELF, NODE_TEST, 0);
         if (plain && !joined && steps > 1 && chance(writing->dice, 80)) {
             put_token(writing, "//");
             joined = true;
@@ -498,9 +490,9 @@ static uint32_t odd_item(struct dice *dice)
     if (throw == 0)
         return (uint32_t)roll(dice);
     if (throw < 3)
-        return path_item((unsigned)below(dice, 3));
+        return PATH_ITEM(below(dice, 3));
     if (throw < 5)
-        return step_item((unsigned)below(dice, 6), (unsigned)below(dice, 4), (unsigned)below(dice, 3));
+        return STEP_ITEM(below(dice, AXES + 1), below(dice, 4), below(dice, 3));
     return (uint32_t)below(dice, 6);
 }
 
@@ -542,7 +534,8 @@ void damage_table(struct dice *dice, struct table *table)
         if (throw == 0)
             table->parent[node] = (uint16_t)below(dice, table->nodes + 2);
         else if (throw == 1)
-            table->kind[node] = chance(dice, 50) ? (uint16_t)below(dice, 3) : (uint16_t)between(dice, 256, 259);
+            table->kind[node] =
+                chance(dice, 50) ? (uint16_t)below(dice, 3) : (uint16_t)(HALYARDFIG_NAMES + below(dice, 4));
         else if (throw == 2)
             table->marks[node] ^= 1;
         else

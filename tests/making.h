@@ -2,9 +2,16 @@
 #ifndef MAKING_H
 #define MAKING_H
 
+#include "halyardfig.h"
 #include "support.h"
 
-enum { LIST_ROOM = 8192, NODE_ROOM = 4096, ITEM_ROOM = 4096, TEXT_ROOM = 32768 };
+/* Room for the largest of each that can be lent. */
+enum {
+    LIST_ROOM = HALYARDFIG_NAMES_BYTES,
+    NODE_ROOM = HALYARDFIG_NODES,
+    ITEM_ROOM = HALYARDFIG_QUERY_ITEMS,
+    TEXT_ROOM = HALYARDFIG_TEXT_BYTES
+};
 
 struct list {
     uint8_t bytes[LIST_ROOM];
@@ -38,10 +45,14 @@ struct bounds {
     unsigned names;
 };
 
-/* The items of document 01's layout. */
-uint32_t path_item(unsigned steps);
-uint32_t step_item(unsigned axis, unsigned test, unsigned predicates);
+/* The items, by the layout of docs/SCOPE.md, "The query in memory". */
 enum { AND_ITEM = 2, OR_ITEM = 3, NOT_ITEM = 4 };
+enum { SELF, CHILD, PARENT, DESCENDANT_OR_SELF, ANCESTOR_OR_SELF, AXES };
+enum { NODE_TEST = 0, TEXT_TEST = 1, FIRST_NAME = 2, ANY_TEST = 258, MOST_TEST = 511, MOST_COUNT = 8191 };
+enum { AXIS_BIT = 3, TEST_BIT = 6, PREDICATES_BIT = 15 };
+#define PATH_ITEM(steps) ((uint32_t)(steps) << 3)
+#define STEP_ITEM(axis, test, predicates)                                                                              \
+    (1 | (uint32_t)(axis) << AXIS_BIT | (uint32_t)(test) << TEST_BIT | (uint32_t)(predicates) << PREDICATES_BIT)
 
 void list_of(struct list *list, const char *names);
 void make_list(struct dice *dice, struct list *list, unsigned names);

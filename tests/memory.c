@@ -53,12 +53,12 @@ static uint32_t any_item(struct dice *dice)
     if (throw == 0)
         return (uint32_t)roll(dice);
     if (throw < 7)
-        return path_item((unsigned)below(dice, 3));
+        return PATH_ITEM(below(dice, 3));
     if (throw < 14)
-        return step_item((unsigned)below(dice, 5), (unsigned)below(dice, 5), (unsigned)below(dice, 3));
+        return STEP_ITEM(below(dice, AXES), below(dice, 5), below(dice, 3));
     if (throw < 19)
-        return (uint32_t)between(dice, 2, 4);
-    return path_item((unsigned)below(dice, 8192));
+        return (uint32_t)between(dice, AND_ITEM, NOT_ITEM);
+    return PATH_ITEM(below(dice, MOST_COUNT + 1));
 }
 
 static void any_query(struct dice *dice, struct query *made)
@@ -105,7 +105,7 @@ static size_t agreeing(struct dice *dice)
 static bool in_range(const char *call, uint64_t first, size_t most_value)
 {
     uint64_t number = halyardfig_refused(first);
-    if (number > 10 || (number == 0 && halyardfig_value(first) > most_value))
+    if (number > HALYARDFIG_REFUSED_ROOM || (number == 0 && halyardfig_value(first) > most_value))
         return complain("%s gives an answer out of range", call);
     return twin_answer == first || complain("%s answers otherwise the second time", call);
 }

@@ -1,4 +1,4 @@
-/* The library against the model of document 01, on good, damaged and edge input, and the laws between calls. */
+/* The library against the model of docs/SCOPE.md, on good, damaged and edge input, and the laws between calls. */
 #include "halyardfig.h"
 #include "paper.h"
 #include "twin.h"
@@ -17,7 +17,7 @@ static void make_any_query(struct dice *dice, struct query *made, unsigned names
 {
     size_t throw = below(dice, 20);
     if (throw == 0)
-        make_deep_query(dice, made, (unsigned)between(dice, 0, 64), names);
+        make_deep_query(dice, made, (unsigned)between(dice, 0, HALYARDFIG_NESTING), names);
     else if (throw == 1)
         make_long_query(dice, made, between(dice, 4, 1500), names);
     else
@@ -26,7 +26,7 @@ static void make_any_query(struct dice *dice, struct query *made, unsigned names
 
 static void make_any_list(struct dice *dice)
 {
-    make_list(dice, &list, chance(dice, 3) ? 256 : (unsigned)below(dice, 8));
+    make_list(dice, &list, chance(dice, 3) ? HALYARDFIG_NAMES : (unsigned)below(dice, 8));
 }
 
 /* Room that is often just enough or just short. */
@@ -44,7 +44,7 @@ static bool reads_good_text(struct dice *dice)
     size_t room = near(dice, query.count);
     if (!twin_read(dice, text.bytes, text.length, list.bytes, list.length, room))
         return false;
-    if (text.overflowed || halyardfig_refused(twin_answer) == 4 || room < query.count)
+    if (text.overflowed || halyardfig_refused(twin_answer) == HALYARDFIG_REFUSED_BRACKET || room < query.count)
         return true;
     bool same = twin_answer == query.count && memcmp(twin_items(), query.items, query.count * sizeof(uint32_t)) == 0;
     if (!same)
@@ -76,7 +76,7 @@ static bool reads_many_brackets(struct dice *dice)
     list_of(&list, "a b");
     memcpy(text.bytes, "/a[", 3);
     text.length = 3;
-    for (size_t left = between(dice, 60, 68); left > 0; left--) {
+    for (size_t left = between(dice, HALYARDFIG_NESTING - 4, HALYARDFIG_NESTING + 4); left > 0; left--) {
         const char *opening = opens[below(dice, sizeof opens / sizeof opens[0])];
         memcpy(text.bytes + text.length, opening, strlen(opening));
         text.length += strlen(opening);
@@ -128,7 +128,7 @@ static bool composes(struct dice *dice)
     make_query(dice, &inner, (struct bounds){50 - items, (unsigned)below(dice, 4), 3, names});
     if (chance(dice, 10))
         damage_query(dice, chance(dice, 50) ? &outer : &inner);
-    if (!twin_compose(dice, outer.items, outer.count, inner.items, inner.count, 5000))
+    if (!twin_compose(dice, outer.items, outer.count, inner.items, inner.count, ITEM_ROOM + 1000))
         return false;
     size_t need = halyardfig_value(twin_answer);
     if (halyardfig_refused(twin_answer) != 0)
@@ -145,13 +145,13 @@ static bool composes_at_the_edges(struct dice *dice)
 {
     bool deep = chance(dice, 50);
     if (deep) {
-        make_deep_query(dice, &outer, (unsigned)below(dice, 65), 2);
-        make_deep_query(dice, &inner, (unsigned)below(dice, 65), 2);
+        make_deep_query(dice, &outer, (unsigned)between(dice, 0, HALYARDFIG_NESTING), 2);
+        make_deep_query(dice, &inner, (unsigned)between(dice, 0, HALYARDFIG_NESTING), 2);
     } else {
         make_long_query(dice, &outer, between(dice, 4, 300), 2);
-        make_long_query(dice, &inner, between(dice, 4, chance(dice, 20) ? 4096 : 30), 2);
+        make_long_query(dice, &inner, between(dice, 4, chance(dice, 20) ? ITEM_ROOM : 30), 2);
     }
-    return twin_compose(dice, outer.items, outer.count, inner.items, inner.count, 4096);
+    return twin_compose(dice, outer.items, outer.count, inner.items, inner.count, ITEM_ROOM);
 }
 
 static bool runs(struct dice *dice)
@@ -174,7 +174,7 @@ static bool runs_long_and_deep(struct dice *dice)
 {
     make_table(dice, &table, between(dice, 1, 12), 2);
     if (chance(dice, 50))
-        make_deep_query(dice, &query, (unsigned)between(dice, 1, 64), 2);
+        make_deep_query(dice, &query, (unsigned)between(dice, 1, HALYARDFIG_NESTING), 2);
     else
         make_long_query(dice, &query, between(dice, 4, 600), 2);
     size_t need = table.nodes * 2 * (measure(query.items, query.count).height + 1);
@@ -227,7 +227,7 @@ static void make_composition(struct dice *dice, unsigned names)
         make_query(dice, &outer, (struct bounds){between(dice, 1, 15), (unsigned)below(dice, 4), 2, names});
         make_query(dice, &inner, (struct bounds){between(dice, 1, 12), (unsigned)below(dice, 3), 2, names});
         answer = halyardfig_compose(outer.items, outer.count, inner.items, inner.count, composed.items, ITEM_ROOM);
-    } while (halyardfig_refused(answer) == 10);
+    } while (halyardfig_refused(answer) == HALYARDFIG_REFUSED_ROOM);
     composed.count = halyardfig_value(answer);
 }
 
@@ -298,13 +298,13 @@ static void change_hidden(struct dice *dice, const struct table *from, const uin
         dropped[i] = i != 0 && (dropped[from->parent[i]] || (hidden && chance(dice, 30)));
         if (dropped[i])
             continue;
-        bool renamed = hidden && from->kind[i] != 1 && chance(dice, 30);
+        bool renamed = hidden && from->kind[i] != HALYARDFIG_KIND_TEXT && chance(dice, 30);
         to->parent[to->nodes] = new_number[from->parent[i]];
-        to->kind[to->nodes] = renamed ? (uint16_t)(2 + below(dice, names)) : from->kind[i];
+        to->kind[to->nodes] = renamed ? (uint16_t)(HALYARDFIG_KIND_ELEMENT + below(dice, names)) : from->kind[i];
         new_number[i] = (uint16_t)to->nodes++;
-        if (from->kind[i] != 1 && chance(dice, 10)) {
+        if (from->kind[i] != HALYARDFIG_KIND_TEXT && chance(dice, 10)) {
             to->parent[to->nodes] = new_number[i];
-            to->kind[to->nodes++] = (uint16_t)(1 + below(dice, names + 1));
+            to->kind[to->nodes++] = (uint16_t)(HALYARDFIG_KIND_TEXT + below(dice, names + 1));
         }
     }
     memset(to->marks, 1, NODE_ROOM);

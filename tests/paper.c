@@ -1,6 +1,8 @@
-/* Document 01 in plain C: queries as trees, sets node by node, nothing shared with the library. */
+/* docs/SCOPE.md in plain C: queries as trees, sets node by node; of the library it has only the limits in the header.
+ */
 #include "paper.h"
 
+#include "halyardfig.h"
 #include "support.h"
 
 #include <stdio.h>
@@ -8,17 +10,21 @@
 #include <string.h>
 
 enum form { FORM_PATH, FORM_STEP, FORM_AND, FORM_OR, FORM_NOT };
-enum axis { AXIS_SELF, AXIS_CHILD, AXIS_PARENT, AXIS_DESCENDANT_OR_SELF, AXIS_ANCESTOR_OR_SELF, AXES };
+enum axis { AXIS_SELF, AXIS_CHILD, AXIS_PARENT, AXIS_DESCENDANT_OR_SELF, AXIS_ANCESTOR_OR_SELF };
+enum { AXES = AXIS_ANCESTOR_OR_SELF + 1 };
 enum { TEST_NODE = 0, TEST_TEXT = 1, TEST_NAME = 2, TEST_ANY = 258, TEST_UNKNOWN = 259 };
-enum { MOST_TEXT = 32768, MOST_LIST = 8192, MOST_ITEMS = 4096, MOST_NODES = 4096 };
-enum { MOST_NAMES = 256, MOST_NAME_BYTES = 64, MOST_NESTING = 64, MOST_KIND = 257 };
+enum { MOST_KIND = HALYARDFIG_KIND_ELEMENT + HALYARDFIG_NAMES - 1 };
 enum { POOL_BYTES = 1 << 27, BUILT_MOST = 20000 };
 
-static const char *const axis_words[AXES] = {"self", "child", "parent", "descendant-or-self", "ancestor-or-self"};
+static const char *const axis_words[AXES] = {[AXIS_SELF] = "self",
+                                             [AXIS_CHILD] = "child",
+                                             [AXIS_PARENT] = "parent",
+                                             [AXIS_DESCENDANT_OR_SELF] = "descendant-or-self",
+                                             [AXIS_ANCESTOR_OR_SELF] = "ancestor-or-self"};
 
 /* A step: its predicates and the step after it are lists; place is its name's byte or its item's index. */
 struct step {
-    unsigned axis;
+    enum axis axis;
     unsigned test;
     size_t place;
     struct expr *predicates;
@@ -52,7 +58,7 @@ static void must(bool holds, const char *what)
 {
     if (holds)
         return;
-    printf("the model contradicts document 01: %s\n", what);
+    printf("the model contradicts docs/SCOPE.md: %s\n", what);
     abort();
 }
 
@@ -72,7 +78,7 @@ static struct expr *new_path(struct step *steps)
     return made;
 }
 
-static struct step *new_step(unsigned axis, unsigned test, struct expr *predicates)
+static struct step *new_step(enum axis axis, unsigned test, struct expr *predicates)
 {
     struct step *made = take_zeroed(sizeof *made);
     made->axis = axis;
@@ -84,8 +90,8 @@ static struct step *new_step(unsigned axis, unsigned test, struct expr *predicat
 /* The name list. */
 
 struct names {
-    const uint8_t *start[MOST_NAMES];
-    size_t length[MOST_NAMES];
+    const uint8_t *start[HALYARDFIG_NAMES];
+    size_t length[HALYARDFIG_NAMES];
     size_t count;
 };
 
@@ -126,8 +132,8 @@ static uint64_t take_names(struct names *names, const uint8_t *list, size_t list
         while (at + length < list_len && list[at + length] != '\n')
             length++;
         bool ended = at + length < list_len;
-        bool good = ended && is_name(list + at, length) && length <= MOST_NAME_BYTES && names->count < MOST_NAMES &&
-                    test_named(names, list + at, length) == TEST_UNKNOWN;
+        bool good = ended && is_name(list + at, length) && length <= HALYARDFIG_NAME_BYTES &&
+                    names->count < HALYARDFIG_NAMES && test_named(names, list + at, length) == TEST_UNKNOWN;
         if (!good)
             return REFUSED(2, at);
         names->start[names->count] = list + at;
@@ -238,7 +244,7 @@ struct scan {
     bool call_word;
     bool not_word;
     size_t open;
-    enum sort brackets[MOST_NESTING + 1];
+    enum sort brackets[HALYARDFIG_NESTING + 1];
 };
 
 static bool go(struct scan *scan, enum state state)
@@ -382,7 +388,7 @@ static uint64_t check_syntax(const uint8_t *text, size_t length)
         token = next_token(text, length, place);
         if (!take(&scan, &token))
             return REFUSED(3, token.place);
-        if (scan.open > MOST_NESTING)
+        if (scan.open > HALYARDFIG_NESTING)
             return REFUSED(4, token.place);
         place = token.place + token.length;
     } while (token.sort != END);
@@ -452,9 +458,9 @@ static struct step *parse_step(struct parse *parse)
         advance(parse);
         return new_step(token.sort == DOT ? AXIS_SELF : AXIS_PARENT, TEST_NODE, NULL);
     }
-    unsigned axis = AXIS_CHILD;
+    enum axis axis = AXIS_CHILD;
     if (after(parse, &token).sort == COLONS) {
-        axis = axis_named(&token);
+        axis = (enum axis)axis_named(&token);
         advance(parse);
         advance(parse);
     }
@@ -580,7 +586,8 @@ static void encode_all(struct items *items, const struct expr *expr)
 
 static void encode_step(struct items *items, const struct step *step)
 {
-    put_item(items, FORM_STEP | step->axis << 3 | step->test << 6 | (uint32_t)count_exprs(step->predicates) << 15);
+    put_item(items,
+             FORM_STEP | (uint32_t)step->axis << 3 | step->test << 6 | (uint32_t)count_exprs(step->predicates) << 15);
     encode_all(items, step->predicates);
 }
 
@@ -617,7 +624,7 @@ static struct step *decode_step(struct source *source)
     unsigned axis = item >> 3 & 7, test = item >> 6 & 511, predicates = item >> 15 & 8191;
     if ((item & 7) != FORM_STEP || item >> 28 != 0 || axis >= AXES || test > TEST_ANY)
         return NULL;
-    struct step *step = new_step(axis, test, NULL);
+    struct step *step = new_step((enum axis)axis, test, NULL);
     step->place = place;
     for (struct expr **link = &step->predicates; predicates > 0; predicates--, link = &(*link)->next)
         if ((*link = decode(source)) == NULL || ((*link)->form == FORM_PATH && (*link)->steps == NULL))
@@ -848,7 +855,7 @@ static size_t query_steps(const struct expr *path)
 static struct expr *good_query(const uint32_t *items, size_t count)
 {
     struct expr *query = decode_paths(items, count);
-    return query != NULL && nesting_of(query) <= MOST_NESTING ? query : NULL;
+    return query != NULL && nesting_of(query) <= HALYARDFIG_NESTING ? query : NULL;
 }
 
 struct measures measure(const uint32_t *query, size_t query_len)
@@ -868,11 +875,22 @@ struct measures measure(const uint32_t *query, size_t query_len)
 
 /* Composition. */
 
-static unsigned turned(unsigned axis)
+/* Every axis has its own case, here and in `leads`, so that the compiler refuses one that is forgotten. */
+static enum axis turned(enum axis axis)
 {
-    static const unsigned turns[AXES] = {AXIS_SELF, AXIS_PARENT, AXIS_CHILD, AXIS_ANCESTOR_OR_SELF,
-                                         AXIS_DESCENDANT_OR_SELF};
-    return turns[axis];
+    switch (axis) {
+    case AXIS_SELF:
+        return AXIS_SELF;
+    case AXIS_CHILD:
+        return AXIS_PARENT;
+    case AXIS_PARENT:
+        return AXIS_CHILD;
+    case AXIS_DESCENDANT_OR_SELF:
+        return AXIS_ANCESTOR_OR_SELF;
+    case AXIS_ANCESTOR_OR_SELF:
+        return AXIS_DESCENDANT_OR_SELF;
+    }
+    abort();
 }
 
 /* not(parent::node()) */
@@ -903,7 +921,7 @@ static struct expr *reverses(const struct expr *inner)
     return joined;
 }
 
-static struct expr *somewhere(unsigned axis, struct expr *selected)
+static struct expr *somewhere(enum axis axis, struct expr *selected)
 {
     return new_path(new_step(axis, TEST_NODE, selected));
 }
@@ -959,13 +977,14 @@ static void compose_trees(struct expr *outer, const struct expr *inner)
 
 static uint64_t check_table(const uint16_t *parent, const uint16_t *kind, size_t nodes)
 {
-    if (nodes == 0 || parent[0] != 0 || kind[0] != 0)
+    if (nodes == 0 || parent[0] != 0 || kind[0] != HALYARDFIG_KIND_ROOT)
         return REFUSED(7, 0);
     for (size_t i = 1; i < nodes; i++) {
         size_t above = i - 1;
         while (above != parent[i] && above != 0)
             above = parent[above];
-        if (above != parent[i] || kind[above] == 1 || kind[i] == 0 || kind[i] > MOST_KIND)
+        if (above != parent[i] || kind[above] == HALYARDFIG_KIND_TEXT || kind[i] == HALYARDFIG_KIND_ROOT ||
+            kind[i] > MOST_KIND)
             return REFUSED(7, i);
     }
     return 0;
@@ -993,7 +1012,7 @@ static bool is_above_or_same(const struct document *document, size_t high, size_
     return low == high;
 }
 
-static bool leads(const struct document *document, unsigned axis, size_t from, size_t to)
+static bool leads(const struct document *document, enum axis axis, size_t from, size_t to)
 {
     switch (axis) {
     case AXIS_SELF:
@@ -1004,16 +1023,17 @@ static bool leads(const struct document *document, unsigned axis, size_t from, s
         return from != 0 && document->parent[from] == to;
     case AXIS_DESCENDANT_OR_SELF:
         return is_above_or_same(document, from, to);
-    default:
+    case AXIS_ANCESTOR_OR_SELF:
         return is_above_or_same(document, to, from);
     }
+    abort();
 }
 
 static bool meets(unsigned test, unsigned kind)
 {
     if (test == TEST_NODE)
         return true;
-    return test == TEST_ANY ? kind >= 2 : kind == test;
+    return test == TEST_ANY ? kind >= HALYARDFIG_KIND_ELEMENT : kind == test;
 }
 
 static bool holds(const struct document *document, struct expr *expr, size_t node);
@@ -1111,7 +1131,7 @@ static size_t keep_subtrees(const struct document *document, const uint8_t *sele
     return count;
 }
 
-/* The five calls, each with its refusals in the order of document 01. */
+/* The five calls, each with its refusals in the order of docs/SCOPE.md, "Numbers refused". */
 
 uint64_t model_read(const uint8_t *text, size_t text_len, const uint8_t *names, size_t names_len, uint32_t *out,
                     size_t out_len)
@@ -1119,7 +1139,7 @@ uint64_t model_read(const uint8_t *text, size_t text_len, const uint8_t *names, 
     static struct names taken;
     uint64_t refusal;
     pool_used = 0;
-    if (text_len > MOST_TEXT || names_len > MOST_LIST)
+    if (text_len > HALYARDFIG_TEXT_BYTES || names_len > HALYARDFIG_NAMES_BYTES)
         return REFUSED(1, 0);
     if ((refusal = take_names(&taken, names, names_len)) != 0 || (refusal = check_syntax(text, text_len)) != 0)
         return refusal;
@@ -1129,7 +1149,7 @@ uint64_t model_read(const uint8_t *text, size_t text_len, const uint8_t *names, 
         return REFUSED(5, parse.unknown_place);
     struct items counted = {NULL, 0, 0};
     encode_all(&counted, query);
-    if (counted.count > out_len || counted.count > MOST_ITEMS)
+    if (counted.count > out_len || counted.count > HALYARDFIG_QUERY_ITEMS)
         return REFUSED(10, counted.count);
     struct items written = {out, out_len, 0};
     encode_all(&written, query);
@@ -1153,7 +1173,7 @@ uint64_t model_print(const uint32_t *query, size_t query_len, const uint8_t *nam
     static struct names taken;
     uint64_t refusal;
     pool_used = 0;
-    if (query_len > MOST_ITEMS || names_len > MOST_LIST)
+    if (query_len > HALYARDFIG_QUERY_ITEMS || names_len > HALYARDFIG_NAMES_BYTES)
         return REFUSED(1, 0);
     if ((refusal = take_names(&taken, names, names_len)) != 0)
         return refusal;
@@ -1176,7 +1196,7 @@ uint64_t model_compose(const uint32_t *outer, size_t outer_len, const uint32_t *
                        size_t out_len)
 {
     pool_used = 0;
-    if (outer_len > MOST_ITEMS || inner_len > MOST_ITEMS)
+    if (outer_len > HALYARDFIG_QUERY_ITEMS || inner_len > HALYARDFIG_QUERY_ITEMS)
         return REFUSED(1, 0);
     struct expr *outer_tree = good_query(outer, outer_len);
     if (outer_tree == NULL)
@@ -1195,9 +1215,9 @@ uint64_t model_compose(const uint32_t *outer, size_t outer_len, const uint32_t *
         must(counted.count == size, "size of a composition");
         must(nesting_of(outer_tree) == nesting, "nesting of a composition");
     }
-    if (nesting > MOST_NESTING)
+    if (nesting > HALYARDFIG_NESTING)
         return REFUSED(9, nesting);
-    if (size > out_len || size > MOST_ITEMS)
+    if (size > out_len || size > HALYARDFIG_QUERY_ITEMS)
         return REFUSED(10, size);
     struct items written = {out, out_len, 0};
     encode_all(&written, outer_tree);
@@ -1211,7 +1231,8 @@ uint64_t model_run(const uint32_t *query, size_t query_len, const uint16_t *pare
     uint64_t refusal;
     size_t nodes = parent_len;
     pool_used = 0;
-    if (query_len > MOST_ITEMS || nodes > MOST_NODES || kind_len != nodes || given_len != nodes || marks_len != nodes)
+    if (query_len > HALYARDFIG_QUERY_ITEMS || nodes > HALYARDFIG_NODES || kind_len != nodes || given_len != nodes ||
+        marks_len != nodes)
         return REFUSED(1, 0);
     struct expr *tree = good_query(query, query_len);
     if (tree == NULL)
@@ -1232,10 +1253,10 @@ uint64_t model_extract(const uint16_t *parent, size_t parent_len, const uint16_t
                        const uint8_t *marks, size_t marks_len, uint16_t *out_parent, size_t out_parent_len,
                        uint16_t *out_kind, size_t out_kind_len)
 {
-    static uint16_t renumbered[MOST_NODES];
+    static uint16_t renumbered[HALYARDFIG_NODES];
     uint64_t refusal;
     size_t nodes = parent_len, count = 0;
-    if (nodes > MOST_NODES || kind_len != nodes || marks_len != nodes || out_parent_len != out_kind_len)
+    if (nodes > HALYARDFIG_NODES || kind_len != nodes || marks_len != nodes || out_parent_len != out_kind_len)
         return REFUSED(1, 0);
     if ((refusal = check_table(parent, kind, nodes)) != 0 || (refusal = check_marks(parent, marks, nodes)) != 0)
         return refusal;

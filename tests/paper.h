@@ -1,5 +1,5 @@
 /*
- * Document 01 in plain C, as an independent model of the five calls.
+ * docs/SCOPE.md in plain C, as an independent model of the five calls.
  * Each model call takes what the library's call takes, answers alike and writes alike.
  */
 #ifndef PAPER_H

@@ -1,5 +1,5 @@
 #!/usr/bin/env bash
-# Runs the printing program on document 01's sample, on the examples of docs/VIEWS.md and at the edges of its input.
+# Runs the printing program on the sample of docs/SCOPE.md, on the examples of docs/VIEWS.md and at the edges of its input.
 set -u
 cd "$(dirname "$0")/.." || exit 2
 
@@ -54,3 +54,4 @@ prints '49,153 bytes' 'refused input 1 0' < <(times 49153 /)
 prints '49,152 bytes in one line' 'refused outer 1 0' < <(times 49152 /)
 
 echo "program: $passed passed, $failed failed"
+[ "$failed" -eq 0 ]

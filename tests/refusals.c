@@ -1,4 +1,4 @@
-/* Every refusal of every call at its edges, in the order of document 01, with what it may and may not write. */
+/* Every refusal of every call at its edges, in the order of docs/SCOPE.md, with what it may and may not write. */
 #define _GNU_SOURCE
 #include "halyardfig.h"
 #include "making.h"
@@ -8,7 +8,8 @@
 #include <string.h>
 #include <sys/mman.h>
 
-enum { PIECES = 6, FILL = 0x5A, LONGEST = 1 << 17 };
+enum { PIECES = 6, FILL = 0x5A, LONGEST = 1 << 17, BUILT_MOST = 4 };
+enum { LAST_KIND = HALYARDFIG_KIND_ELEMENT + HALYARDFIG_NAMES - 1 };
 
 /* Memory lent to one call, and how it was before. */
 static struct {
@@ -17,6 +18,10 @@ static struct {
     size_t bytes;
 } pieces[PIECES];
 static unsigned piece_count;
+
+/* Strings built for one call. */
+static char built[BUILT_MOST][LONGEST];
+static unsigned built_count;
 
 static void *offer(const void *from, size_t bytes)
 {
@@ -52,6 +57,7 @@ static void expect(const char *what, uint64_t answer, uint64_t expected, const s
           halyardfig_refused(answer), halyardfig_place(answer), halyardfig_refused(expected),
           halyardfig_place(expected), untouched ? "" : "; wrote where it may not");
     piece_count = 0;
+    built_count = 0;
 }
 
 /* Reading. */
@@ -80,32 +86,36 @@ static char *add(char *text, const char *part, size_t times)
     return text;
 }
 
+/* An empty string that no other string of the same call shares. */
 static char *fresh(void)
 {
-    static char text[LONGEST];
+    if (built_count == BUILT_MOST)
+        abort();
+    char *text = built[built_count++];
     text[0] = 0;
     return text;
 }
 
 static void read_lengths(void)
 {
-    static uint8_t text[32769], names[8193];
+    static uint8_t text[TEXT_ROOM + 1], names[LIST_ROOM + 1];
+    enum { LINE = HALYARDFIG_NAME_BYTES + 1, LINES = (LIST_ROOM - 2) / LINE };
+    _Static_assert(LINES * LINE + 2 == LIST_ROOM, "the longest names and one short name fill the list");
     memset(text, ' ', sizeof text);
-    text[32767] = '/';
-    text[32768] = ' ';
-    read_bytes("text of 32,768 bytes", text, 32768, abcd, strlen(abcd), 1, 1);
-    read_bytes("text of 32,769 bytes", text, 32769, abcd, strlen(abcd), 1, REFUSED(1, 0));
-    read_bytes("long text before bad list", text, 32769, "1", 1, 1, REFUSED(1, 0));
-    for (unsigned i = 0; i < 126; i++) {
-        memset(names + i * 65, 'n', 64);
-        names[i * 65] = (uint8_t)('A' + i / 26);
-        names[i * 65 + 1] = (uint8_t)('a' + i % 26);
-        names[i * 65 + 64] = '\n';
+    text[TEXT_ROOM - 1] = '/';
+    read_bytes("longest text", text, TEXT_ROOM, abcd, strlen(abcd), 1, 1);
+    read_bytes("text too long", text, TEXT_ROOM + 1, abcd, strlen(abcd), 1, REFUSED(1, 0));
+    read_bytes("long text before bad list", text, TEXT_ROOM + 1, "1", 1, 1, REFUSED(1, 0));
+    for (unsigned i = 0; i < LINES; i++) {
+        memset(names + i * LINE, 'n', HALYARDFIG_NAME_BYTES);
+        names[i * LINE] = (uint8_t)('A' + i / 26);
+        names[i * LINE + 1] = (uint8_t)('a' + i % 26);
+        names[i * LINE + HALYARDFIG_NAME_BYTES] = '\n';
     }
-    memcpy(names + 8190, "a\n", 2);
-    read_bytes("list of 8,192 bytes", "/a", 2, names, 8192, 2, 2);
-    read_bytes("list of 8,193 bytes", "/a", 2, names, 8193, 2, REFUSED(1, 0));
-    read_bytes("long list before bad text", "", 0, names, 8193, 2, REFUSED(1, 0));
+    memcpy(names + LINES * LINE, "a\n", 2);
+    read_bytes("longest list", "/a", 2, names, LIST_ROOM, 2, 2);
+    read_bytes("list too long", "/a", 2, names, LIST_ROOM + 1, 2, REFUSED(1, 0));
+    read_bytes("long list before bad text", "", 0, names, LIST_ROOM + 1, 2, REFUSED(1, 0));
 }
 
 static void read_lists(void)
@@ -130,14 +140,14 @@ static void read_lists(void)
     read_is("/", "", 1, 1);
     read_is("/a", "", 2, REFUSED(5, 1));
     read_is("bad", "1\n", 0, REFUSED(2, 0));
-    read_is("/a", add(add(fresh(), "a", 64), "\n", 1), 2, REFUSED(5, 1));
-    read_is("/a", add(add(fresh(), "a", 65), "\n", 1), 2, REFUSED(2, 0));
+    read_is("/a", add(add(fresh(), "a", HALYARDFIG_NAME_BYTES), "\n", 1), 2, REFUSED(5, 1));
+    read_is("/a", add(add(fresh(), "a", HALYARDFIG_NAME_BYTES + 1), "\n", 1), 2, REFUSED(2, 0));
     struct list list;
     struct dice dice = {1};
-    make_list(&dice, &list, 256);
-    read_bytes("256 names", "/", 1, list.bytes, list.length, 1, 1);
+    make_list(&dice, &list, HALYARDFIG_NAMES);
+    read_bytes("all names", "/", 1, list.bytes, list.length, 1, 1);
     memcpy(list.bytes + list.length, "zz\n", 3);
-    read_bytes("257 names", "/", 1, list.bytes, list.length + 3, 1, REFUSED(2, list.length));
+    read_bytes("one name too many", "/", 1, list.bytes, list.length + 3, 1, REFUSED(2, list.length));
 }
 
 static void read_syntax(void)
@@ -230,6 +240,9 @@ static void read_syntax(void)
         {"/a/e/f", 5, 3},
         {"/a[and]", 5, 3},
         {"/a[or or or]", 5, 3},
+        {"/and[and and or or or and or]", 5, 1},
+        {"/a[and b]", 3, 7},
+        {"/a[b][e][(]", 3, 10},
         {"/a[b or or]", 5, 8},
         {"/a[not]", 5, 3},
         {"/a[not/b]", 5, 3},
@@ -276,31 +289,33 @@ static void read_syntax(void)
     read_bytes("a zero byte", "/a\0", 3, abcd, strlen(abcd), 9, REFUSED(3, 2));
 }
 
-/* `/a[` and 63 `(`: 64 are open. */
-static char *sixty_four_open(void)
+/* `/a[` and `(` so often that no further bracket may open; and the length of that. */
+enum { ROUND = HALYARDFIG_NESTING - 1, OPEN = 3 + ROUND };
+
+static char *all_open(void)
 {
-    return add(add(fresh(), "/a[", 1), "(", 63);
+    return add(add(fresh(), "/a[", 1), "(", ROUND);
 }
 
 static void read_brackets(void)
 {
-    char *text = sixty_four_open();
-    read_is(add(add(add(text, "b", 1), ")", 63), "]", 1), abcd, 9, 4);
-    read_is(add(sixty_four_open(), "b", 1), abcd, 9, REFUSED(3, 67));
-    read_is(add(sixty_four_open(), "(", 1), abcd, 9, REFUSED(4, 66));
-    read_is(add(sixty_four_open(), "(((((( 1", 1), abcd, 9, REFUSED(4, 66));
-    read_is(add(sixty_four_open(), "b[c]", 1), abcd, 9, REFUSED(4, 67));
-    read_is(add(sixty_four_open(), "e[c]", 1), abcd, 9, REFUSED(4, 67));
-    read_is(add(sixty_four_open(), "not(b", 1), abcd, 9, REFUSED(4, 69));
-    read_is(add(sixty_four_open(), "not (b", 1), abcd, 9, REFUSED(4, 70));
-    read_is(add(sixty_four_open(), "b(", 1), abcd, 9, REFUSED(3, 67));
-    read_is(add(sixty_four_open(), "[", 1), abcd, 9, REFUSED(3, 66));
-    read_is(add(sixty_four_open(), "b.(", 1), abcd, 9, REFUSED(3, 68));
-    read_is(add(sixty_four_open(), "] (", 1), abcd, 9, REFUSED(3, 66));
-    read_is(add(add(add(sixty_four_open(), "node()", 1), ")", 63), "]", 1), abcd, 9, 4);
-    read_is(add(add(add(sixty_four_open(), "b) and (c", 1), ")", 63), "]", 1), abcd, 9, 7);
-    read_is(add(add(add(fresh(), "/a", 1), "[a", 64), "]", 64), abcd, 999, 130);
-    read_is(add(add(add(fresh(), "/a", 1), "[a", 65), "]", 65), abcd, 999, REFUSED(4, 130));
+    read_is(add(add(add(all_open(), "b", 1), ")", ROUND), "]", 1), abcd, 9, 4);
+    read_is(add(all_open(), "b", 1), abcd, 9, REFUSED(3, OPEN + 1));
+    read_is(add(all_open(), "(", 1), abcd, 9, REFUSED(4, OPEN));
+    read_is(add(all_open(), "(((((( 1", 1), abcd, 9, REFUSED(4, OPEN));
+    read_is(add(all_open(), "b[c]", 1), abcd, 9, REFUSED(4, OPEN + 1));
+    read_is(add(all_open(), "e[c]", 1), abcd, 9, REFUSED(4, OPEN + 1));
+    read_is(add(all_open(), "not(b", 1), abcd, 9, REFUSED(4, OPEN + 3));
+    read_is(add(all_open(), "not (b", 1), abcd, 9, REFUSED(4, OPEN + 4));
+    read_is(add(all_open(), "b(", 1), abcd, 9, REFUSED(3, OPEN + 1));
+    read_is(add(all_open(), "[", 1), abcd, 9, REFUSED(3, OPEN));
+    read_is(add(all_open(), "b.(", 1), abcd, 9, REFUSED(3, OPEN + 2));
+    read_is(add(all_open(), "] (", 1), abcd, 9, REFUSED(3, OPEN));
+    read_is(add(add(add(all_open(), "node()", 1), ")", ROUND), "]", 1), abcd, 9, 4);
+    read_is(add(add(add(all_open(), "b) and (c", 1), ")", ROUND), "]", 1), abcd, 9, 7);
+    enum { DEEPEST = HALYARDFIG_NESTING, OVER = HALYARDFIG_NESTING + 1 };
+    read_is(add(add(add(fresh(), "/a", 1), "[a", DEEPEST), "]", DEEPEST), abcd, 999, 2 + 2 * DEEPEST);
+    read_is(add(add(add(fresh(), "/a", 1), "[a", OVER), "]", OVER), abcd, 999, REFUSED(4, 2 + 2 * DEEPEST));
 }
 
 static void read_rooms(void)
@@ -310,14 +325,15 @@ static void read_rooms(void)
     read_is("/a", abcd, 2, 2);
     read_is("/a[b]", abcd, 3, REFUSED(10, 4));
     read_is("/e", abcd, 0, REFUSED(5, 1));
-    read_is(add(fresh(), "/a", 4095), abcd, 4096, 4096);
-    read_is(add(fresh(), "/a", 4095), abcd, 5000, 4096);
-    read_is(add(fresh(), "/a", 4095), abcd, 4095, REFUSED(10, 4096));
-    read_is(add(fresh(), "/a", 4096), abcd, 5000, REFUSED(10, 4097));
-    read_is(add(fresh(), "/a", 16384), abcd, 5000, REFUSED(10, 16385));
-    read_is(add(add(fresh(), "//.", 10922), " ", 2), abcd, 5000, REFUSED(10, 21845));
-    read_is(add(add(fresh(), "/a", 1), "[a]", 8192), abcd, 5000, REFUSED(10, 16386));
-    read_is(add(add(fresh(), "/", 1), "|/", 8193), abcd, 9000, REFUSED(10, 8194));
+    enum { SHORT = TEXT_ROOM / 2, SHORTS = TEXT_ROOM / 3, MANY = 8000, ROOM = ITEM_ROOM + 1000 };
+    read_is(add(fresh(), "/a", ITEM_ROOM - 1), abcd, ITEM_ROOM, ITEM_ROOM);
+    read_is(add(fresh(), "/a", ITEM_ROOM - 1), abcd, ROOM, ITEM_ROOM);
+    read_is(add(fresh(), "/a", ITEM_ROOM - 1), abcd, ITEM_ROOM - 1, REFUSED(10, ITEM_ROOM));
+    read_is(add(fresh(), "/a", ITEM_ROOM), abcd, ROOM, REFUSED(10, ITEM_ROOM + 1));
+    read_is(add(fresh(), "/a", SHORT), abcd, ROOM, REFUSED(10, SHORT + 1));
+    read_is(add(add(fresh(), "//.", SHORTS), " ", TEXT_ROOM % 3), abcd, ROOM, REFUSED(10, 2 * SHORTS + 1));
+    read_is(add(add(fresh(), "/a", 1), "[a]", MANY), abcd, ROOM, REFUSED(10, 2 + 2 * MANY));
+    read_is(add(add(fresh(), "/", 1), "|/", MANY), abcd, 2 * ROOM, REFUSED(10, MANY + 1));
 }
 
 /* Queries in memory. */
@@ -376,7 +392,7 @@ static void extract_is(const char *what, const struct table *table, struct lengt
 }
 
 static const uint32_t root_query[] = {0};
-static const uint32_t good_inner[] = {1 << 3, 1 | 1 << 3 | 3 << 6};
+static const uint32_t good_inner[] = {PATH_ITEM(1), STEP_ITEM(CHILD, FIRST_NAME + 1, 0)};
 
 static struct table one_node(void)
 {
@@ -389,15 +405,15 @@ static void malformed_is_refused(const char *what, const uint32_t *query, size_t
     static struct table table;
     table = one_node();
     print_is(what, query, count, abcd, 9000, REFUSED(6, 0));
-    compose_is(what, query, count, good_inner, 2, 4096, REFUSED(6, 0));
-    compose_is(what, good_inner, 2, query, count, 4096, REFUSED(6, 1));
-    compose_is(what, query, count, query, count, 4096, REFUSED(6, 0));
+    compose_is(what, query, count, good_inner, 2, ITEM_ROOM, REFUSED(6, 0));
+    compose_is(what, good_inner, 2, query, count, ITEM_ROOM, REFUSED(6, 1));
+    compose_is(what, query, count, query, count, ITEM_ROOM, REFUSED(6, 0));
     run_is(what, query, count, &table, (struct lengths){1, 1, 1, 1, 20000}, REFUSED(6, 0), 0);
 }
 
 static void malformed_items(void)
 {
-    const uint32_t path = 1 << 3, step = 1 | 1 << 3, guarded = step | 1 << 15;
+    const uint32_t path = PATH_ITEM(1), step = STEP_ITEM(CHILD, NODE_TEST, 0), guarded = STEP_ITEM(CHILD, NODE_TEST, 1);
     const struct {
         const char *what;
         uint32_t items[7];
@@ -413,19 +429,19 @@ static void malformed_items(void)
         {"kind 6", {6}, 1},
         {"kind 7", {7}, 1},
         {"path without its step", {path}, 1},
-        {"path with too few steps", {2 << 3, step}, 2},
+        {"path with too few steps", {PATH_ITEM(2), step}, 2},
         {"path with too many steps", {path, step, step}, 3},
-        {"path of 8,191 steps", {8191 << 3, step}, 2},
+        {"path of the most steps", {PATH_ITEM(MOST_COUNT), step}, 2},
         {"path inside a path", {path, path, step}, 3},
         {"bit 16 of a path", {path | 1 << 16, step}, 2},
         {"bit 31 of a path", {path | 1u << 31, step}, 2},
         {"bit 31 of the root path", {1u << 31}, 1},
         {"bit 28 of a step", {path, step | 1 << 28}, 2},
         {"bit 31 of a step", {path, step | 1u << 31}, 2},
-        {"axis 5", {path, 1 | 5 << 3}, 2},
-        {"axis 7", {path, 1 | 7 << 3}, 2},
-        {"test 259", {path, step | 259 << 6}, 2},
-        {"test 511", {path, step | 511 << 6}, 2},
+        {"first number that is no axis", {path, STEP_ITEM(AXES, NODE_TEST, 0)}, 2},
+        {"axis 7", {path, STEP_ITEM(7, NODE_TEST, 0)}, 2},
+        {"first number that is no test", {path, STEP_ITEM(CHILD, ANY_TEST + 1, 0)}, 2},
+        {"greatest number of a test", {path, STEP_ITEM(CHILD, MOST_TEST, 0)}, 2},
         {"predicate missing", {path, guarded}, 2},
         {"predicate is a step", {path, guarded, step}, 3},
         {"predicate of no steps", {path, guarded, 0}, 3},
@@ -437,8 +453,8 @@ static void malformed_items(void)
         {"bit 3 of and", {path, guarded, AND_ITEM | 8, path, step, path, step}, 7},
         {"bit 31 of or", {path, guarded, OR_ITEM | 1u << 31, path, step, path, step}, 7},
         {"bit 15 of not", {path, guarded, NOT_ITEM | 1 << 15, path, step}, 5},
-        {"two predicates promised", {path, step | 2 << 15, path, step}, 4},
-        {"8,191 predicates promised", {path, step | 8191 << 15, path, step}, 4},
+        {"two predicates promised", {path, STEP_ITEM(CHILD, NODE_TEST, 2), path, step}, 4},
+        {"the most predicates promised", {path, STEP_ITEM(CHILD, NODE_TEST, MOST_COUNT), path, step}, 4},
     };
     for (size_t i = 0; i < sizeof bad / sizeof bad[0]; i++)
         malformed_is_refused(bad[i].what, bad[i].items, bad[i].count);
@@ -448,49 +464,54 @@ static void malformed_items(void)
 static size_t nested(uint32_t *items, size_t nesting)
 {
     for (size_t i = 0; i <= nesting; i++) {
-        items[2 * i] = 1 << 3;
-        items[2 * i + 1] = 1 | 1 << 3 | (i < nesting ? 1 << 15 : 0);
+        items[2 * i] = PATH_ITEM(1);
+        items[2 * i + 1] = STEP_ITEM(CHILD, NODE_TEST, i < nesting);
     }
     return 2 * nesting + 2;
 }
 
 static void nested_items(void)
 {
-    static uint32_t items[4096];
+    static uint32_t items[ITEM_ROOM];
     static struct table table;
+    enum { DEEPEST = HALYARDFIG_NESTING, HEIGHT = DEEPEST + 1, SCRATCH = 2 * (HEIGHT + 1) };
     table = one_node();
-    size_t count = nested(items, 65);
-    malformed_is_refused("nesting 65", items, count);
-    count = nested(items, 64);
-    run_is("nesting 64", items, count, &table, (struct lengths){1, 1, 1, 1, 133}, 0, 132);
-    run_is("nesting 64, scratch short", items, count, &table, (struct lengths){1, 1, 1, 1, 131}, REFUSED(10, 132), 0);
-    print_is("nesting 64", items, count, "", 9000, 1 + 65 * 13 + 128);
-    for (size_t i = 0; i < 4096; i++)
+    size_t count = nested(items, DEEPEST + 1);
+    malformed_is_refused("nested too deep", items, count);
+    count = nested(items, DEEPEST);
+    run_is("deepest", items, count, &table, (struct lengths){1, 1, 1, 1, SCRATCH + 1}, 0, SCRATCH);
+    run_is("deepest, scratch short", items, count, &table, (struct lengths){1, 1, 1, 1, SCRATCH - 1},
+           REFUSED(10, SCRATCH), 0);
+    print_is("deepest", items, count, "", 9000, 1 + (DEEPEST + 1) * strlen("child::node()") + 2 * DEEPEST);
+    for (size_t i = 0; i < ITEM_ROOM; i++)
         items[i] = NOT_ITEM;
-    malformed_is_refused("4,096 not", items, 4096);
-    items[0] = 1 << 3;
-    items[1] = 1 | 1 << 3 | 1 << 15;
-    items[4094] = 1 << 3;
-    items[4095] = 1 | 1 << 3;
-    malformed_is_refused("4,092 not in a predicate", items, 4096);
+    malformed_is_refused("not alone", items, ITEM_ROOM);
+    items[0] = PATH_ITEM(1);
+    items[1] = STEP_ITEM(CHILD, NODE_TEST, 1);
+    items[ITEM_ROOM - 2] = PATH_ITEM(1);
+    items[ITEM_ROOM - 1] = STEP_ITEM(CHILD, NODE_TEST, 0);
+    malformed_is_refused("not again and again in a predicate", items, ITEM_ROOM);
 }
 
 static void print_refusals(void)
 {
-    static uint32_t zeros[4097];
-    static char names[8194];
-    memset(names, 'a', 8193);
-    const uint32_t named[] = {2 << 3, 1 | 1 << 3 | 2 << 6, 1 | 1 << 3 | 6 << 6}, bad[] = {5};
-    print_is("4,096 items", zeros, 4096, "", 8191, 8191);
-    print_is("4,096 items, room short", zeros, 4096, "", 8190, REFUSED(10, 8191));
-    print_is("4,097 items", zeros, 4097, "1", 0, REFUSED(1, 0));
-    print_is("list of 8,193 bytes", bad, 1, names, 9, REFUSED(1, 0));
+    static uint32_t zeros[ITEM_ROOM + 1];
+    static char names[LIST_ROOM + 2];
+    enum { BYTES = 2 * ITEM_ROOM - 1 };
+    memset(names, 'a', LIST_ROOM + 1);
+    const uint32_t named[] = {PATH_ITEM(2), STEP_ITEM(CHILD, FIRST_NAME, 0), STEP_ITEM(CHILD, FIRST_NAME + 4, 0)};
+    const uint32_t bad[] = {5};
+    print_is("longest query", zeros, ITEM_ROOM, "", BYTES, BYTES);
+    print_is("longest query, room short", zeros, ITEM_ROOM, "", BYTES - 1, REFUSED(10, BYTES));
+    print_is("query too long", zeros, ITEM_ROOM + 1, "1", 0, REFUSED(1, 0));
+    print_is("list too long", bad, 1, names, 9, REFUSED(1, 0));
     print_is("bad list before bad query", bad, 1, "a\na\n", 9, REFUSED(2, 2));
-    print_is("bad query before unknown name", (uint32_t[]){1 << 3, named[2], 5}, 3, "", 0, REFUSED(6, 0));
+    print_is("bad query before unknown name", (uint32_t[]){PATH_ITEM(1), named[2], 5}, 3, "", 0, REFUSED(6, 0));
     print_is("unknown name before room", named, 3, abcd, 0, REFUSED(5, 2));
     print_is("first unknown name", named, 3, "", 99, REFUSED(5, 1));
-    print_is("last name of 256", (uint32_t[]){1 << 3, 1 | 257 << 6}, 2, abcd, 99, REFUSED(5, 1));
-    print_is("any name needs no list", (uint32_t[]){1 << 3, 1 | 258 << 6}, 2, "", 8, 8);
+    print_is("last name of all", (uint32_t[]){PATH_ITEM(1), STEP_ITEM(SELF, ANY_TEST - 1, 0)}, 2, abcd, 99,
+             REFUSED(5, 1));
+    print_is("any name needs no list", (uint32_t[]){PATH_ITEM(1), STEP_ITEM(SELF, ANY_TEST, 0)}, 2, "", 8, 8);
     print_is("no room", root_query, 1, "", 0, REFUSED(10, 1));
     print_is("room for one byte", root_query, 1, "", 1, 1);
     print_is("room over", root_query, 1, "", 99, 1);
@@ -500,24 +521,26 @@ static void print_refusals(void)
 
 static void compose_refusals(void)
 {
-    static uint32_t zeros[4097], deep[4096];
+    static uint32_t zeros[ITEM_ROOM + 1], deep[ITEM_ROOM];
     const uint32_t bad[] = {5};
-    compose_is("outer of 4,097 items", zeros, 4097, bad, 1, 0, REFUSED(1, 0));
-    compose_is("inner of 4,097 items", bad, 1, zeros, 4097, 0, REFUSED(1, 0));
-    compose_is("4,096 inner paths", root_query, 1, zeros, 4096, 4096, REFUSED(10, 1 + 3 + 24575));
-    compose_is("4,096 outer paths", zeros, 4096, root_query, 1, 4096, REFUSED(10, 4096 + 4096 * 8));
-    size_t count = nested(deep, 61);
-    compose_is("bad inner before nesting", deep, count, bad, 1, 4096, REFUSED(6, 1));
-    compose_is("outer nested 61", deep, count, good_inner, 2, 0, REFUSED(9, 65));
-    compose_is("inner nested 61", good_inner, 2, deep, count, 4096, 2 + 5 + 2 * 128 + 3 + 128);
-    count = nested(deep, 62);
-    compose_is("inner nested 62", good_inner, 2, deep, count, 4096, 2 + 5 + 2 * 130 + 3 + 130);
-    count = nested(deep, 63);
-    compose_is("inner nested 63", good_inner, 2, deep, count, 0, REFUSED(9, 65));
-    compose_is("both nested 63", deep, count, deep, count, 0, REFUSED(9, 128));
-    count = nested(deep, 60);
-    compose_is("outer nested 60", deep, count, good_inner, 2, 4096, 122 + 61 * 17 + 9);
-    compose_is("outer nested 60, no room", deep, count, good_inner, 2, 0, REFUSED(10, 122 + 61 * 17 + 9));
+    enum { DEEPEST = HALYARDFIG_NESTING, OVER = DEEPEST + 1, INNER_MOST = DEEPEST - 2, OUTER_MOST = DEEPEST - 4 };
+    compose_is("outer too long", zeros, ITEM_ROOM + 1, bad, 1, 0, REFUSED(1, 0));
+    compose_is("inner too long", bad, 1, zeros, ITEM_ROOM + 1, 0, REFUSED(1, 0));
+    compose_is("the most inner paths", root_query, 1, zeros, ITEM_ROOM, ITEM_ROOM, REFUSED(10, 3 + 6 * ITEM_ROOM));
+    compose_is("the most outer paths", zeros, ITEM_ROOM, root_query, 1, ITEM_ROOM, REFUSED(10, 9 * ITEM_ROOM));
+    size_t count = nested(deep, OUTER_MOST + 1);
+    compose_is("bad inner before nesting", deep, count, bad, 1, ITEM_ROOM, REFUSED(6, 1));
+    compose_is("outer too deep", deep, count, good_inner, 2, 0, REFUSED(9, OVER));
+    compose_is("inner as deep", good_inner, 2, deep, count, ITEM_ROOM, 2 + 5 + 3 + 3 * (count + 4));
+    count = nested(deep, INNER_MOST);
+    compose_is("inner deepest", good_inner, 2, deep, count, ITEM_ROOM, 2 + 5 + 3 + 3 * (count + 4));
+    count = nested(deep, INNER_MOST + 1);
+    compose_is("inner too deep", good_inner, 2, deep, count, 0, REFUSED(9, OVER));
+    compose_is("both too deep", deep, count, deep, count, 0, REFUSED(9, 2 * (INNER_MOST + 1) + 2));
+    count = nested(deep, OUTER_MOST);
+    size_t size = count + (OUTER_MOST + 1) * 17 + 9;
+    compose_is("outer deepest", deep, count, good_inner, 2, ITEM_ROOM, size);
+    compose_is("outer deepest, no room", deep, count, good_inner, 2, 0, REFUSED(10, size));
     compose_is("room one short", root_query, 1, root_query, 1, 8, REFUSED(10, 9));
     compose_is("room just right", root_query, 1, root_query, 1, 9, 9);
     compose_is("room over", root_query, 1, root_query, 1, 5000, 9);
@@ -544,39 +567,40 @@ static void lengths_are_checked(void)
     extract_is("output unequal", &seven, (struct lengths){.parent = 7, .kind = 7, .marks = 7}, 8, 7, REFUSED(1, 0));
     for (size_t i = 1; i < NODE_ROOM; i++) {
         large.parent[i] = (uint16_t)(i - 1);
-        large.kind[i] = 257;
+        large.kind[i] = LAST_KIND;
     }
     memset(large.marks, 1, NODE_ROOM);
-    run_is("4,096 nodes", root_query, 1, &large, (struct lengths){4096, 4096, 4096, 4096, 16384}, 4096, 16384);
-    run_is("4,096 nodes, scratch short", root_query, 1, &large, (struct lengths){4096, 4096, 4096, 4096, 16383},
-           REFUSED(10, 16384), 0);
-    extract_is("4,096 nodes", &large, (struct lengths){.parent = 4096, .kind = 4096, .marks = 4096}, 4096, 4096, 4096);
+    struct lengths all = {NODE_ROOM, NODE_ROOM, NODE_ROOM, NODE_ROOM, 4 * NODE_ROOM};
+    run_is("the most nodes", root_query, 1, &large, all, NODE_ROOM, 4 * NODE_ROOM);
+    extract_is("the most nodes", &large, all, NODE_ROOM, NODE_ROOM, NODE_ROOM);
+    all.scratch--;
+    run_is("the most nodes, scratch short", root_query, 1, &large, all, REFUSED(10, 4 * NODE_ROOM), 0);
 }
 
 /* A table with one node more than the limit. */
 static void too_many_nodes(void)
 {
-    static uint16_t column[4097];
-    static uint8_t marks[4097];
-    enum { MANY = 4097 };
+    enum { MANY = NODE_ROOM + 1, SCRATCH = 4 * MANY };
+    static uint16_t column[MANY];
+    static uint8_t marks[MANY];
     const uint16_t *parent = offer(column, sizeof column), *kind = offer(column, sizeof column);
     const uint8_t *given = offer(marks, sizeof marks);
     uint16_t *out_parent = offer(NULL, sizeof column), *out_kind = offer(NULL, sizeof column);
-    expect("extract of 4,097 nodes",
+    expect("extract of too many nodes",
            halyardfig_extract(parent, MANY, kind, MANY, given, MANY, out_parent, MANY, out_kind, MANY), REFUSED(1, 0),
            (size_t[]){0, 0, 0, 0, 0});
     const uint32_t *query = offer(root_query, sizeof root_query);
     parent = offer(column, sizeof column);
     kind = offer(column, sizeof column);
     given = offer(marks, sizeof marks);
-    uint8_t *out = offer(NULL, sizeof marks), *scratch = offer(NULL, 20000);
-    expect("run on 4,097 nodes",
-           halyardfig_run(query, 1, parent, MANY, kind, MANY, given, MANY, out, MANY, scratch, 20000), REFUSED(1, 0),
+    uint8_t *out = offer(NULL, sizeof marks), *scratch = offer(NULL, SCRATCH);
+    expect("run on too many nodes",
+           halyardfig_run(query, 1, parent, MANY, kind, MANY, given, MANY, out, MANY, scratch, SCRATCH), REFUSED(1, 0),
            (size_t[]){0, 0, 0, 0, 0, 0});
-    uint32_t long_query[4097] = {0};
+    static uint32_t long_query[ITEM_ROOM + 1];
     static struct table table;
     table = one_node();
-    run_is("query of 4,097 items", long_query, 4097, &table, (struct lengths){1, 1, 1, 1, 9}, REFUSED(1, 0), 0);
+    run_is("query too long", long_query, ITEM_ROOM + 1, &table, (struct lengths){1, 1, 1, 1, 9}, REFUSED(1, 0), 0);
 }
 
 static void table_is(const char *what, const struct table *table, uint64_t expected)
@@ -596,11 +620,21 @@ static void bad_tables(void)
         unsigned node, parent, kind;
         unsigned place;
     } bad[] = {
-        {"root with a parent", 0, 1, 0, 0}, {"root of kind 1", 0, 0, 1, 0},       {"root of kind 2", 0, 0, 2, 0},
-        {"second root", 3, 2, 0, 3},        {"kind 258", 3, 2, 258, 3},           {"kind 65,535", 6, 5, 65535, 6},
-        {"its own parent", 3, 3, 4, 3},     {"a later parent", 3, 4, 4, 3},       {"parent outside", 6, 7, 5, 6},
-        {"parent 65,535", 1, 65535, 2, 1},  {"a sibling's child", 6, 2, 5, 6},    {"child of text", 5, 4, 3, 5},
-        {"text with a child", 2, 1, 1, 3},  {"text as first parent", 1, 0, 1, 2}, {"no ancestor", 6, 3, 5, 6},
+        {"root with a parent", 0, 1, 0, 0},
+        {"root of kind 1", 0, 0, 1, 0},
+        {"root of kind 2", 0, 0, 2, 0},
+        {"second root", 3, 2, 0, 3},
+        {"kind too large", 3, 2, LAST_KIND + 1, 3},
+        {"kind 65,535", 6, 5, 65535, 6},
+        {"its own parent", 3, 3, 4, 3},
+        {"a later parent", 3, 4, 4, 3},
+        {"parent outside", 6, 7, 5, 6},
+        {"parent 65,535", 1, 65535, 2, 1},
+        {"a sibling's child", 6, 2, 5, 6},
+        {"child of text", 5, 4, 3, 5},
+        {"text with a child", 2, 1, 1, 3},
+        {"text as first parent", 1, 0, 1, 2},
+        {"no ancestor", 6, 3, 5, 6},
     };
     static struct table table;
     for (size_t i = 0; i < sizeof bad / sizeof bad[0]; i++) {
@@ -648,7 +682,9 @@ static void rooms(void)
     run_is("no scratch", root_query, 1, &table, (struct lengths){7, 7, 7, 7, 0}, REFUSED(10, 28), 0);
     run_is("scratch just right", root_query, 1, &table, (struct lengths){7, 7, 7, 7, 28}, 7, 28);
     run_is("scratch over", root_query, 1, &table, (struct lengths){7, 7, 7, 7, 4000}, 7, 28);
-    const uint32_t height_four[] = {1 << 3, 1 | 1 << 3 | 1 << 15, OR_ITEM, NOT_ITEM, 1 << 3, 1, 1 << 3, 1};
+    const uint32_t height_four[] = {
+        PATH_ITEM(1), STEP_ITEM(CHILD, NODE_TEST, 1), OR_ITEM,      NOT_ITEM,
+        PATH_ITEM(1), STEP_ITEM(SELF, NODE_TEST, 0),  PATH_ITEM(1), STEP_ITEM(SELF, NODE_TEST, 0)};
     run_is("height 4", height_four, 8, &table, (struct lengths){7, 7, 7, 7, 69}, REFUSED(10, 70), 0);
     run_is("height 4", height_four, 8, &table, (struct lengths){7, 7, 7, 7, 75}, 7, 70);
     memset(table.marks, 0, 7);

@@ -1,4 +1,5 @@
-/* The samples of document 01, through the C interface. */
+/* docs/SCOPE.md, "Samples on both sides": the samples, through the C interface; and what they leave out of `*` and of
+ * items. */
 #include "halyardfig.h"
 #include "making.h"
 
@@ -58,10 +59,19 @@ static void run_samples(void)
     static const struct {
         const char *name, *text, *marks;
     } samples[] = {
-        {"P1", "/", "1111111"},        {"P2", "/b", "0000000"},
-        {"P3", "/a/b[c]", "1111100"},  {"P4", "/a/b[not(c)]", "1100011"},
-        {"P5", "//text()", "1111100"}, {"P6", "//d/../..", "1111111"},
-        {"P7", "/..", "0000000"},      {"P8 alone", "/a[not(b/c)]", "0000000"},
+        {"P1", "/", "1111111"},
+        {"P2", "/b", "0000000"},
+        {"P3", "/a/b[c]", "1111100"},
+        {"P4", "/a/b[not(c)]", "1100011"},
+        {"P5", "//text()", "1111100"},
+        {"P6", "//d/../..", "1111111"},
+        {"P7", "/..", "0000000"},
+        {"P8 alone", "/a[not(b/c)]", "0000000"},
+        {"* and the root", "/self::*", "0000000"},
+        {"* and text", "//c/*", "0000000"},
+        {"* and an element", "/*", "1111111"},
+        {"docs/VIEWS.md, row 2 alone", "/a[b/c]", "1111111"},
+        {"docs/VIEWS.md, row 4 alone", "//b", "1111111"},
     };
     static struct query query;
     for (size_t i = 0; i < sizeof samples / sizeof samples[0]; i++) {
@@ -78,6 +88,11 @@ static void composed_samples(void)
         {"P8", "/a[not(b/c)]", "/a/b/d", "1100011"},
         {"P9", "/", "/a/b/d", "1100011"},
         {"P10", "/", "/b", "0000000"},
+        {"docs/VIEWS.md, row 2", "/a[b/c]", "/a/b/d", "0000000"},
+        {"docs/VIEWS.md, row 4", "//b", "/a/b/d", "1100011"},
+        {"docs/VIEWS.md, row 5", "//text()", "/a/b/d", "0000000"},
+        {"docs/VIEWS.md, a view of all", "/", "//b", "1111111"},
+        {"docs/VIEWS.md, a view by not", "/", "//b[not(c)]", "1100011"},
     };
     static struct query made;
     for (size_t i = 0; i < sizeof samples / sizeof samples[0]; i++) {
@@ -87,28 +102,40 @@ static void composed_samples(void)
     }
 }
 
-/* A text of one part so many times. */
-static const char *repeated(const char *start, const char *part, size_t times, const char *middle, const char *end)
+/* Room for a text that is built. */
+struct built {
+    char text[TEXT_ROOM + 1];
+    size_t used;
+};
+
+static void add_times(struct built *built, const char *part, size_t times)
 {
-    static char text[TEXT_ROOM + 1];
-    size_t used = (size_t)snprintf(text, sizeof text, "%s", start);
     for (size_t i = 0; i < times; i++)
-        used += (size_t)snprintf(text + used, sizeof text - used, "%s", part);
-    used += (size_t)snprintf(text + used, sizeof text - used, "%s", middle);
-    for (size_t i = 0; i < times; i++)
-        used += (size_t)snprintf(text + used, sizeof text - used, "%s", end);
-    return text;
+        built->used += (size_t)snprintf(built->text + built->used, sizeof built->text - built->used, "%s", part);
+}
+
+/* A start, one part so many times, a middle, and an end as many times. */
+static const char *repeated(struct built *built, const char *start, const char *part, size_t times, const char *middle,
+                            const char *end)
+{
+    built->used = 0;
+    add_times(built, start, 1);
+    add_times(built, part, times);
+    add_times(built, middle, 1);
+    add_times(built, end, times);
+    return built->text;
 }
 
 static void size_samples(void)
 {
     static struct query made;
+    static struct built built;
     answer_is("P11", compose_texts(&made, "/", "/"), 9);
     answer_is("P12", compose_texts(&made, "//a", "/b|/c"), 81);
-    answer_is("227 steps", compose_texts(&made, repeated("", "/a", 227, "", ""), "/b"), 4096);
-    answer_is("228 steps", compose_texts(&made, repeated("", "/a", 228, "", ""), "/b"), REFUSED(10, 4114));
-    answer_is("nesting 61", compose_texts(&made, repeated("/a", "[a", 61, "", "]"), "/b"), REFUSED(9, 65));
-    uint64_t sixty = compose_texts(&made, repeated("/a", "[a", 60, "", "]"), "/b");
+    answer_is("227 steps", compose_texts(&made, repeated(&built, "", "/a", 227, "", ""), "/b"), 4096);
+    answer_is("228 steps", compose_texts(&made, repeated(&built, "", "/a", 228, "", ""), "/b"), REFUSED(10, 4114));
+    answer_is("nesting 61", compose_texts(&made, repeated(&built, "/a", "[a", 61, "", "]"), "/b"), REFUSED(9, 65));
+    uint64_t sixty = compose_texts(&made, repeated(&built, "/a", "[a", 60, "", "]"), "/b");
     tally(halyardfig_refused(sixty) == 0, "nesting 60 on /b is refused: %u at %u", halyardfig_refused(sixty),
           halyardfig_place(sixty));
 }
@@ -129,14 +156,58 @@ static void read_samples(void)
         {"/e", 5, 1},
     };
     static struct query query;
+    static struct built built;
     for (size_t i = 0; i < sizeof samples / sizeof samples[0]; i++)
         answer_is(samples[i].text, read_text(&query, samples[i].text), REFUSED(samples[i].number, samples[i].place));
-    answer_is("63 brackets", read_text(&query, repeated("/a[", "(", 63, "b", ")")), REFUSED(3, 130));
-    char text[256];
-    snprintf(text, sizeof text, "%s]", repeated("/a[", "(", 63, "b", ")"));
-    answer_is("63 brackets, closed", read_text(&query, text), 4);
-    snprintf(text, sizeof text, "%s]", repeated("/a[", "(", 64, "b", ")"));
-    answer_is("64 brackets", read_text(&query, text), REFUSED(4, 66));
+    answer_is("63 brackets", read_text(&query, repeated(&built, "/a[", "(", 63, "b", ")")), REFUSED(3, 130));
+    add_times(&built, "]", 1);
+    answer_is("63 brackets, closed", read_text(&query, built.text), 4);
+    repeated(&built, "/a[", "(", 64, "b", ")");
+    add_times(&built, "]", 1);
+    answer_is("64 brackets", read_text(&query, built.text), REFUSED(4, 66));
+}
+
+/* Steps on one name or node, as the samples below have them. */
+#define A_STEP STEP_ITEM(CHILD, FIRST_NAME, 0)
+#define B_STEP STEP_ITEM(CHILD, FIRST_NAME + 1, 0)
+#define C_STEP STEP_ITEM(CHILD, FIRST_NAME + 2, 0)
+#define D_STEP STEP_ITEM(CHILD, FIRST_NAME + 3, 0)
+#define ANY_BELOW STEP_ITEM(DESCENDANT_OR_SELF, NODE_TEST, 0)
+#define A_WITH_ONE STEP_ITEM(CHILD, FIRST_NAME, 1)
+#define ONE PATH_ITEM(1)
+
+/* Texts with the items that they are, in prefix order. */
+static void item_samples(void)
+{
+    static const struct {
+        const char *text;
+        size_t count;
+        uint32_t items[20];
+    } samples[] = {
+        {"/", 1, {PATH_ITEM(0)}},
+        {"/|//a", 4, {PATH_ITEM(0), PATH_ITEM(2), ANY_BELOW, A_STEP}},
+        {"/a[(b)]", 4, {ONE, A_WITH_ONE, ONE, B_STEP}},
+        {"/a[b or c and d or not(a//b)]/..",
+         17,
+         {PATH_ITEM(2), A_WITH_ONE, OR_ITEM, OR_ITEM, ONE, B_STEP, AND_ITEM, ONE, C_STEP, ONE, D_STEP, NOT_ITEM,
+          PATH_ITEM(3), A_STEP, ANY_BELOW, B_STEP, STEP_ITEM(PARENT, NODE_TEST, 0)}},
+        {" / descendant-or-self :: node ( ) [ a ] [ text() ] ",
+         6,
+         {ONE, STEP_ITEM(DESCENDANT_OR_SELF, NODE_TEST, 2), ONE, A_STEP, ONE, STEP_ITEM(CHILD, TEXT_TEST, 0)}},
+        {"/a[(a or b) and (b and c) or (c or d)]",
+         19,
+         {ONE, A_WITH_ONE, OR_ITEM, AND_ITEM, OR_ITEM, ONE, A_STEP, ONE, B_STEP, AND_ITEM, ONE, B_STEP, ONE, C_STEP,
+          OR_ITEM, ONE, C_STEP, ONE, D_STEP}},
+        {"/ancestor-or-self::*[self::d]",
+         4,
+         {ONE, STEP_ITEM(ANCESTOR_OR_SELF, ANY_TEST, 1), ONE, STEP_ITEM(SELF, FIRST_NAME + 3, 0)}},
+    };
+    static struct query query;
+    for (size_t i = 0; i < sizeof samples / sizeof samples[0]; i++) {
+        answer_is(samples[i].text, read_text(&query, samples[i].text), samples[i].count);
+        tally(memcmp(query.items, samples[i].items, samples[i].count * sizeof query.items[0]) == 0,
+              "`%s` is read as other items", samples[i].text);
+    }
 }
 
 static void printed_sample(void)
@@ -162,6 +233,7 @@ int main(void)
     composed_samples();
     size_samples();
     read_samples();
+    item_samples();
     printed_sample();
     return group_end();
 }

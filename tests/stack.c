@@ -10,7 +10,7 @@
 #include <ucontext.h>
 #include <unistd.h>
 
-enum { STACK_BYTES = 1 << 18, STACK_LIMIT = 65536, PAINT = 0xC7 };
+enum { STACK_BYTES = 1 << 18, PAINT = 0xC7 };
 enum { SCRATCH_ROOM = 1 << 25, PRINT_ROOM = 1 << 19, MIXED_TEXTS = 60, NAMED_MOST = 100 };
 
 enum call { READ, PRINT, COMPOSE, RUN, EXTRACT, CALLS };
@@ -129,7 +129,7 @@ static void measure_call(enum call which, const char *input)
 /* Tries the query in memory as it is in every call that takes one. */
 static void measure_query(const char *input)
 {
-    static const uint32_t simple[] = {1 << 3, 1 | 1 << 3 | 2 << 6};
+    static const uint32_t simple[] = {PATH_ITEM(1), STEP_ITEM(CHILD, FIRST_NAME, 0)};
     measure_call(PRINT, input);
     measure_call(RUN, input);
     outer = query;
@@ -249,11 +249,12 @@ static void measure_nested(const char *const *choice, size_t choices, unsigned d
 
 static void measure_depths(const char *const *choice, size_t choices)
 {
-    static const unsigned depths[] = {60, 62, 63, 64};
+    static const unsigned depths[] = {HALYARDFIG_NESTING - 4, HALYARDFIG_NESTING - 2, HALYARDFIG_NESTING - 1,
+                                      HALYARDFIG_NESTING};
     for (size_t i = 0; i < sizeof depths / sizeof depths[0]; i++)
         measure_nested(choice, choices, depths[i], true);
-    measure_nested(choice, choices, 64, false);
-    measure_nested(choice, choices, 65, true);
+    measure_nested(choice, choices, HALYARDFIG_NESTING, false);
+    measure_nested(choice, choices, HALYARDFIG_NESTING + 1, true);
     measure_nested(choice, choices, 2000, false);
 }
 
@@ -268,7 +269,7 @@ static void paired_openings(void)
     for (size_t i = 0; i < OPENINGS; i++)
         for (size_t j = 0; j < OPENINGS; j++) {
             const char *pair[] = {openings[i], openings[j]};
-            measure_nested(pair, 2, 64, true);
+            measure_nested(pair, 2, HALYARDFIG_NESTING, true);
         }
 }
 
@@ -309,7 +310,7 @@ static void long_texts(void)
     measure_run_of("/a[", "not(", "", 4000);
     measure_run_of("/a[", "(", "", 16000);
     measure_run_of("/a", "[a", "", 4000);
-    measure_run_of("/", "a", "", 64);
+    measure_run_of("/", "a", "", HALYARDFIG_NAME_BYTES);
     measure_run_of("", " ", "/", 100);
     measure_run_of("/a[", "a/", "a]", 4000);
     measure_run_of("//", ".//", ".", 2000);
@@ -329,22 +330,22 @@ static void malformed_queries(void)
         const char *what;
         uint32_t first, second;
     } fills[] = {
-        {"4,096 not", NOT_ITEM, NOT_ITEM},
-        {"4,096 or", OR_ITEM, OR_ITEM},
-        {"4,096 and", AND_ITEM, AND_ITEM},
+        {"not alone", NOT_ITEM, NOT_ITEM},
+        {"or alone", OR_ITEM, OR_ITEM},
+        {"and alone", AND_ITEM, AND_ITEM},
         {"or and by turns", OR_ITEM, AND_ITEM},
         {"or not by turns", OR_ITEM, NOT_ITEM},
-        {"paths in predicates", 1 << 3, 1 | 1 << 3 | 1 << 15},
-        {"many steps and predicates", 8191 << 3, 1 | 1 << 3 | 8191 << 15},
-        {"steps only", 1 | 1 << 3, 1 | 1 << 3},
-        {"steps with predicates", 1 | 1 << 3 | 1 << 15, 1 | 1 << 3 | 1 << 15},
-        {"paths only", 1 << 3, 1 << 3},
+        {"paths in predicates", PATH_ITEM(1), STEP_ITEM(CHILD, NODE_TEST, 1)},
+        {"many steps and predicates", PATH_ITEM(MOST_COUNT), STEP_ITEM(CHILD, NODE_TEST, MOST_COUNT)},
+        {"steps only", STEP_ITEM(CHILD, NODE_TEST, 0), STEP_ITEM(CHILD, NODE_TEST, 0)},
+        {"steps with predicates", STEP_ITEM(CHILD, NODE_TEST, 1), STEP_ITEM(CHILD, NODE_TEST, 1)},
+        {"paths only", PATH_ITEM(1), PATH_ITEM(1)},
     };
     for (size_t i = 0; i < sizeof fills / sizeof fills[0]; i++) {
         fill_query(fills[i].first, fills[i].second, ITEM_ROOM);
         measure_query(fills[i].what);
-        query.items[0] = 1 << 3;
-        query.items[1] = 1 | 1 << 3 | 1 << 15;
+        query.items[0] = PATH_ITEM(1);
+        query.items[1] = STEP_ITEM(CHILD, NODE_TEST, 1);
         measure_query(fills[i].what);
     }
 }
@@ -354,7 +355,7 @@ static void long_and_deep_queries(struct dice *dice)
     for (unsigned i = 0; i < MIXED_TEXTS; i++) {
         make_long_query(dice, &query, between(dice, ITEM_ROOM - 20, ITEM_ROOM), 2);
         measure_query("a long query");
-        make_deep_query(dice, &query, (unsigned)between(dice, 58, 64), 2);
+        make_deep_query(dice, &query, (unsigned)between(dice, HALYARDFIG_NESTING - 6, HALYARDFIG_NESTING), 2);
         measure_query("a deep query");
     }
 }
@@ -363,9 +364,9 @@ static void long_and_deep_queries(struct dice *dice)
 static void deep_compositions(struct dice *dice)
 {
     for (unsigned i = 0; i < 2 * MIXED_TEXTS; i++) {
-        unsigned depth = (unsigned)between(dice, 1, 60);
+        unsigned depth = (unsigned)between(dice, 1, HALYARDFIG_NESTING - 4);
         make_deep_query(dice, &outer, depth, 2);
-        make_deep_query(dice, &inner, 62 - depth, 2);
+        make_deep_query(dice, &inner, HALYARDFIG_NESTING - 2 - depth, 2);
         measure_call(COMPOSE, "two deep queries");
     }
 }
@@ -375,7 +376,7 @@ static void make_chain(size_t nodes)
     table.nodes = nodes;
     for (size_t i = 0; i < nodes; i++) {
         table.parent[i] = (uint16_t)(i == 0 ? 0 : i - 1);
-        table.kind[i] = i == 0 ? 0 : 2;
+        table.kind[i] = i == 0 ? HALYARDFIG_KIND_ROOT : HALYARDFIG_KIND_ELEMENT;
         table.marks[i] = 1;
     }
 }
@@ -383,22 +384,22 @@ static void make_chain(size_t nodes)
 static void large_tables(struct dice *dice)
 {
     make_chain(NODE_ROOM);
-    measure_call(EXTRACT, "a chain of 4,096 nodes");
+    measure_call(EXTRACT, "a chain");
     start_text("//a[.//a[../a or not(a)]]");
     measure_text();
     make_table(dice, &table, NODE_ROOM, 2);
     make_marks(dice, &table, 99);
-    measure_call(EXTRACT, "a table of 4,096 nodes");
+    measure_call(EXTRACT, "a table");
     measure_text();
-    table.kind[NODE_ROOM - 1] = 0;
-    measure_call(EXTRACT, "a bad table of 4,096 nodes");
+    table.kind[NODE_ROOM - 1] = HALYARDFIG_KIND_ROOT;
+    measure_call(EXTRACT, "a bad table");
     measure_text();
 }
 
-/* A list of 256 names, a and b among them. */
+/* The longest list of names, a and b among them. */
 static void many_names(struct dice *dice)
 {
-    make_list(dice, &list, 256);
+    make_list(dice, &list, HALYARDFIG_NAMES);
     single_openings();
     mixed_openings(dice);
 }
@@ -408,8 +409,8 @@ static void report(enum call which)
     printf("stack of %s: %zu bytes at most, of %zu inputs, %zu of them accepted; worst: %.60s\n", call_names[which],
            worst[which].bytes, worst[which].inputs, worst[which].accepted, worst[which].input);
     tally(worst[which].accepted > 0, "%s was never accepted", call_names[which]);
-    tally(worst[which].bytes <= STACK_LIMIT, "%s uses %zu bytes of stack, over %d, on %s", call_names[which],
-          worst[which].bytes, STACK_LIMIT, worst[which].input);
+    tally(worst[which].bytes <= HALYARDFIG_STACK_BYTES, "%s uses %zu bytes of stack, over %d, on %s", call_names[which],
+          worst[which].bytes, HALYARDFIG_STACK_BYTES, worst[which].input);
 }
 
 int main(void)

@@ -23,7 +23,7 @@ use Rattle.token.specs.declared.Taken.{Taken}
 use Rattle.token.specs.Taking.{Takes, tokenOf, widthOf, finished}
 use Rattle.token.proofs.Token.{the-type}
 use Rattle.ahead.specs.declared.Ahead.the-variants.{There, Other}
-use Rattle.ahead.specs.Looking.{tokensAt, sortOf, endOf, Past, Looks, leads, OtherByte}
+use Rattle.ahead.specs.Looking.{tokensAt, sortOf, endOf, Past, Looks, leads, OtherByte, markSorts}
 
 -- The sort of a token is the paper's.
 sort-right : (text : List ℕ) (place : ℕ) (t : Token) → sort (tokenOf text place t) ≡ sortOf t
@@ -42,8 +42,8 @@ sort-right text place Finish = refl
 sort-right text place Stray = refl
 sort-right text place (Word count) = refl
 
--- The end of the text is of sort 11.
-goes-on : (t : Token) → (sortOf t ≡ 11 → ⊥) → finished t ≡ false
+-- The end of the text is of the first sort that is no mark's.
+goes-on : (t : Token) → (sortOf t ≡ markSorts → ⊥) → finished t ≡ false
 goes-on Slash h = refl
 goes-on Slashes h = refl
 goes-on Dot h = refl
@@ -127,7 +127,7 @@ mark-letters (paper.word w) h = absurd (h refl)
 
 -- A mark starts with the byte of its sort.
 abbrev Led : ℕ → paper.Token → Type 0
-Led b t = sort t < 11 → b ≡ getD leads (sort t) 0
+Led b t = sort t < markSorts → b ≡ getD leads (sort t) 0
 
 one-led : (b : ℕ) (test : Bool) (t u : paper.Token) → Led b t → Led b u → Led b (cond test t u)
 one-led b true t u p q = p
@@ -152,7 +152,7 @@ led b bs =
     (byte-led b 42 _ _ (λ e l. e) (λ l. absurd (omega arith)))))))))))
 
 -- Where another byte stands than a mark starts with, that mark does not come next.
-pub other-here : (text : List ℕ) (from wanted b : ℕ) → wanted < 11 → b ≡ getD leads wanted 0 → OtherByte text from b
+pub other-here : (text : List ℕ) (from wanted b : ℕ) → wanted < markSorts → b ≡ getD leads wanted 0 → OtherByte text from b
     → (eqb wanted (sort (next (tokensAt text from))) ≡ false) × (from ≡ at (tokensAt text from))
 unfolding tokensAt
 other-here text from wanted b few e o =
@@ -191,7 +191,7 @@ module _ (text : List ℕ) (from : ℕ) (r : Taken) (t : Takes text from r) wher
       }
 
   -- Is it of this sort?
-  pub looks-there : (wanted : ℕ) → wanted < 11 → wanted ≡ sortOf (r .token) → Looks text from (eqb wanted (sort (next (tokensAt text from)))) (There (r .place) (r .next))
+  pub looks-there : (wanted : ℕ) → wanted < markSorts → wanted ≡ sortOf (r .token) → Looks text from (eqb wanted (sort (next (tokensAt text from)))) (There (r .place) (r .next))
   looks-there wanted l e = (eq-eqb wanted _ (e ∙ sym taken-sort), taken-at, taken-past (goes-on (r .token) (λ f. omega arith)))
 
   pub looks-other : (wanted : ℕ) → (wanted ≡ sortOf (r .token) → ⊥) → Looks text from (eqb wanted (sort (next (tokensAt text from)))) (Other (r .place))

@@ -11,8 +11,9 @@ use Rattle.paper.specs.Tools.{ascii, same}
 use Rattle.paper.specs.Tokens as paper
 use Rattle.paper.specs.Tokens.{letters}
 use Rattle.paper.specs.Query.{Axis, self, child, parent, descendantOrSelf, ancestorOrSelf}
-use Rattle.paper.specs.Items.{axisNumber}
+use Rattle.paper.specs.Items.{axisNumber, axes, namedFrom}
 use Rattle.paper.specs.Reading.{next, sees, axisNamed, axisAhead}
+use Rattle.paper.proofs.Axes.{axis-below}
 use Rattle.paper.proofs.Same.{same-turned}
 use Rattle.ahead.specs.Looking.{tokensAt, endOf, Past, AxisWritten, axisCode, callCode}
 
@@ -21,27 +22,27 @@ module _ (w : List ℕ) where
   turned : (v : List ℕ) (b : Bool) → same v w ≡ b → same w v ≡ b
   turned v b h = same-turned w v ∙ h
 
-  pub self-word : same (ascii "self") w ≡ true → 0 ≡ axisCode (axisNamed w)
+  pub self-word : same (ascii "self") w ≡ true → axisNumber self ≡ axisCode (axisNamed w)
   self-word a = rw (turned (ascii "self") true a)
 
-  pub child-word : same (ascii "self") w ≡ false → same (ascii "child") w ≡ true → 1 ≡ axisCode (axisNamed w)
+  pub child-word : same (ascii "self") w ≡ false → same (ascii "child") w ≡ true → axisNumber child ≡ axisCode (axisNamed w)
   child-word a b = rw (turned (ascii "self") false a, turned (ascii "child") true b)
 
-  pub parent-word : same (ascii "self") w ≡ false → same (ascii "child") w ≡ false → same (ascii "parent") w ≡ true → 2 ≡ axisCode (axisNamed w)
+  pub parent-word : same (ascii "self") w ≡ false → same (ascii "child") w ≡ false → same (ascii "parent") w ≡ true → axisNumber parent ≡ axisCode (axisNamed w)
   parent-word a b c = rw (turned (ascii "self") false a, turned (ascii "child") false b, turned (ascii "parent") true c)
 
   pub down-word : same (ascii "self") w ≡ false → same (ascii "child") w ≡ false → same (ascii "parent") w ≡ false → same (ascii "descendant-or-self") w ≡ true
-      → 3 ≡ axisCode (axisNamed w)
+      → axisNumber descendantOrSelf ≡ axisCode (axisNamed w)
   down-word a b c d =
       rw (turned (ascii "self") false a, turned (ascii "child") false b, turned (ascii "parent") false c, turned (ascii "descendant-or-self") true d)
 
   pub up-word : same (ascii "self") w ≡ false → same (ascii "child") w ≡ false → same (ascii "parent") w ≡ false → same (ascii "descendant-or-self") w ≡ false
-      → same (ascii "ancestor-or-self") w ≡ true → 4 ≡ axisCode (axisNamed w)
+      → same (ascii "ancestor-or-self") w ≡ true → axisNumber ancestorOrSelf ≡ axisCode (axisNamed w)
   up-word a b c d e =
       rw (turned (ascii "self") false a, turned (ascii "child") false b, turned (ascii "parent") false c, turned (ascii "descendant-or-self") false d, turned (ascii "ancestor-or-self") true e)
 
   pub other-word : same (ascii "self") w ≡ false → same (ascii "child") w ≡ false → same (ascii "parent") w ≡ false → same (ascii "descendant-or-self") w ≡ false
-      → same (ascii "ancestor-or-self") w ≡ false → 5 ≡ axisCode (axisNamed w)
+      → same (ascii "ancestor-or-self") w ≡ false → axes ≡ axisCode (axisNamed w)
   other-word a b c d e =
       rw (turned (ascii "self") false a, turned (ascii "child") false b, turned (ascii "parent") false c, turned (ascii "descendant-or-self") false d, turned (ascii "ancestor-or-self") false e)
 
@@ -52,26 +53,19 @@ module _ (w : List ℕ) where
   pub text-word : same (ascii "node") w ≡ false → same (ascii "text") w ≡ true → 1 ≡ callCode w
   text-word a b = rw (a, b)
 
-  pub no-call-word : same (ascii "node") w ≡ false → same (ascii "text") w ≡ false → 2 ≡ callCode w
+  pub no-call-word : same (ascii "node") w ≡ false → same (ascii "text") w ≡ false → namedFrom ≡ callCode w
   no-call-word a b = rw (a, b)
 
-  pub call-small : callCode w ≤ 2
+  pub call-small : callCode w ≤ namedFrom
   call-small = go (same (ascii "node") w) (same (ascii "text") w)
     where
-      go : (a b : Bool) → cond a 0 (cond b 1 2) ≤ 2
+      go : (a b : Bool) → cond a 0 (cond b 1 namedFrom) ≤ namedFrom
       go true b = omega arith
       go false true = omega arith
       go false false = omega arith
 
 -- THE AXIS THAT IS WRITTEN.
-pub axis-below : (a : Axis) → axisNumber a < 5
-axis-below self = omega arith
-axis-below child = omega arith
-axis-below parent = omega arith
-axis-below descendantOrSelf = omega arith
-axis-below ancestorOrSelf = omega arith
-
-no-axis : (o : Option Axis) → axisCode o ≡ 5 → o ≡ none
+no-axis : (o : Option Axis) → axisCode o ≡ axes → o ≡ none
 no-axis none h = refl
 no-axis (some a) h = absurd (omega (arith, axis-below a))
 
@@ -86,11 +80,11 @@ module _ (text : List ℕ) (from : ℕ) where
   pub no-colons : (mid : ℕ) → Past text from mid → sees paper.colons (tokensAt text mid) ≡ false → axisAhead (tokensAt text from) ≡ none
   no-colons mid p h = rw (p .rest, h)
 
-  pub no-axis-word : (w : List ℕ) (axis : ℕ) → letters (next (tokensAt text from)) ≡ w → axis ≡ axisCode (axisNamed w) → axis ≡ 5 → axisAhead (tokensAt text from) ≡ none
-  no-axis-word w axis l e five = rw (l, no-axis (axisNamed w) (sym e ∙ five)) (either-none (sees paper.colons (drop 1 (tokensAt text from))))
+  pub no-axis-word : (w : List ℕ) (axis : ℕ) → letters (next (tokensAt text from)) ≡ w → axis ≡ axisCode (axisNamed w) → axis ≡ axes → axisAhead (tokensAt text from) ≡ none
+  no-axis-word w axis l e none-has = rw (l, no-axis (axisNamed w) (sym e ∙ none-has)) (either-none (sees paper.colons (drop 1 (tokensAt text from))))
 
   pub axis-there : (mid past axis : ℕ) (w : List ℕ) → Past text from mid → letters (next (tokensAt text from)) ≡ w → sees paper.colons (tokensAt text mid) ≡ true → Past text mid past
-      → axis ≡ axisCode (axisNamed w) → (axis ≡ 5 → ⊥) → AxisWritten text from axis past
+      → axis ≡ axisCode (axisNamed w) → (axis ≡ axes → ⊥) → AxisWritten text from axis past
   axis-there mid past axis w p l s q e n = go (axisNamed w) refl
     where
       go : (o : Option Axis) → axisNamed w ≡ o → AxisWritten text from axis past

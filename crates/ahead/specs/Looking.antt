@@ -10,8 +10,8 @@ use lib.ListN.{length, getD, drop}
 use Rattle.paper.specs.Tools.{ascii, same}
 use Rattle.paper.specs.Tokens as paper
 use Rattle.paper.specs.Tokens.{Placed, tokensFrom, beyond}
-use Rattle.paper.specs.Query.{Axis}
-use Rattle.paper.specs.Items.{axisNumber}
+use Rattle.paper.specs.Query.{Axis, anyNode, textNode}
+use Rattle.paper.specs.Items.{axisNumber, axes, namedFrom, testNumber}
 use Rattle.paper.specs.Reading.{next, at, sees, says, axisAhead, startsStep}
 use Rattle.token.specs.declared.Token.{Token}
 use Rattle.token.specs.declared.Token.the-variants.{Slash, Slashes, Dot, Dots, Colons, Bar, OpenSquare, CloseSquare, OpenRound, CloseRound, Star, Finish, Stray, Word}
@@ -48,6 +48,10 @@ sortOf Star = 10
 sortOf Finish = 11
 sortOf Stray = 12
 sortOf (Word count) = 13
+
+-- The sorts of marks are those before that of the end of the text.
+abbrev pub markSorts : ℕ
+markSorts = paper.sort paper.finish
 
 -- Where the next token ends.
 abbrev pub endOf : List Placed → ℕ
@@ -109,9 +113,9 @@ Begins text from (Round spot past) =
 Begins text from Path =
     ((says (ascii "not") (tokensAt text from) && sees paper.openRound (drop 1 (tokensAt text from))) ≡ false) × (sees paper.openRound (tokensAt text from) ≡ false)
 
--- AXES AND TESTS. The number of an axis; 5 where a word names none.
+-- AXES AND TESTS. The number of an axis; where a word names none, the number of axes, which none has.
 abbrev pub axisCode : Option Axis → ℕ
-axisCode none = 5
+axisCode none = axes
 axisCode (some a) = axisNumber a
 
 -- The axis that is written; the place past it is where the `::` ends.
@@ -129,11 +133,11 @@ abbrev pub Axes : List ℕ → ℕ → AxisAhead → Type 0
 Axes text from (Named axis past) = AxisWritten text from axis (past .at)
 Axes text from Unnamed = axisAhead (tokensAt text from) ≡ none
 
--- The number of the test that a word calls; 2 where it calls none.
+-- The number of the test that a word calls; where it calls none, that of the first name, which none calls.
 abbrev pub callCode : List ℕ → ℕ
-callCode word = cond (same (ascii "node") word) 0 (cond (same (ascii "text") word) 1 2)
+callCode word = cond (same (ascii "node") word) (testNumber anyNode) (cond (same (ascii "text") word) (testNumber textNode) namedFrom)
 
 -- A test that is called by a word and the `(` that comes next.
 abbrev pub Calls : List ℕ → List ℕ → ℕ → Call → Type 0
-Calls text word from (Inside test past) = (test ≡ callCode word) × (test < 2) × (sees paper.openRound (tokensAt text from) ≡ true) × Past text from (past .at)
-Calls text word from NoCall = ((callCode word ≡ 2) ⊎ (sees paper.openRound (tokensAt text from) ≡ false))
+Calls text word from (Inside test past) = (test ≡ callCode word) × (test < namedFrom) × (sees paper.openRound (tokensAt text from) ≡ true) × Past text from (past .at)
+Calls text word from NoCall = ((callCode word ≡ namedFrom) ⊎ (sees paper.openRound (tokensAt text from) ≡ false))

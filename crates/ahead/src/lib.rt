@@ -10,7 +10,7 @@ ghost use lib.ListN.{length, getD, take, drop};
 ghost use Rattle.paper.specs.Tools.{same};
 ghost use Rattle.paper.specs.Tokens.{sort, letters};
 ghost use Rattle.paper.specs.Reading.{next, axisNamed, startsStep};
-ghost use Rattle.ahead.specs.Looking.{tokensAt, sortOf, leads, OtherByte, Looks, Joins, Leads, Begins, axisCode, Axes, callCode, Calls};
+ghost use Rattle.ahead.specs.Looking.{tokensAt, sortOf, markSorts, leads, OtherByte, Looks, Joins, Leads, Begins, axisCode, Axes, callCode, Calls};
 
 // Is the next token the one looked for? Its place, and the cursor past it.
 pub enum Ahead {
@@ -73,6 +73,10 @@ pub const CLOSE_ROUND: usize = 9;
 
 const STAR: usize = 10;
 
+const FINISH: usize = 11;
+
+const STRAY: usize = 12;
+
 const WORD: usize = 13;
 
 // The numbers that no axis and no called test has.
@@ -87,20 +91,20 @@ fn sort_of(t: Token) -> usize
     ensures { λ r. ⌜ r ≡ sortOf t ⌝ }
 {
     match t {
-        Token::Slash => 0,
-        Token::Slashes => 1,
-        Token::Dot => 2,
-        Token::Dots => 3,
-        Token::Colons => 4,
-        Token::Bar => 5,
-        Token::OpenSquare => 6,
-        Token::CloseSquare => 7,
-        Token::OpenRound => 8,
-        Token::CloseRound => 9,
-        Token::Star => 10,
-        Token::Finish => 11,
-        Token::Stray => 12,
-        Token::Word(_) => 13,
+        Token::Slash => SLASH,
+        Token::Slashes => SLASHES,
+        Token::Dot => DOT,
+        Token::Dots => DOTS,
+        Token::Colons => COLONS,
+        Token::Bar => BAR,
+        Token::OpenSquare => OPEN_SQUARE,
+        Token::CloseSquare => CLOSE_SQUARE,
+        Token::OpenRound => OPEN_ROUND,
+        Token::CloseRound => CLOSE_ROUND,
+        Token::Star => STAR,
+        Token::Finish => FINISH,
+        Token::Stray => STRAY,
+        Token::Word(_) => WORD,
     }
 }
 
@@ -114,7 +118,7 @@ fn byte_at(bytes: &[u8], i: usize) -> u8
 
 // The byte that a mark of this sort starts with.
 fn first_byte(wanted: usize) -> u8
-    requires { ⌜ wanted < 11 ⌝ }
+    requires { ⌜ wanted < markSorts ⌝ }
     ensures { λ r. ⌜ r ≡ getD leads wanted 0 ⌝ }
 {
     byte_at(b"//..:|[]()*", wanted)
@@ -133,7 +137,7 @@ fn other_byte(text: &[u8], at: usize, b: u8) -> bool
 
 // Is the next token of this sort? Where another byte stands than such a token starts with, it is not, and no token is taken.
 pub fn mark(text: &[u8], cursor: Cursor, wanted: usize) -> Ahead
-    requires { ⌜ (cursor .at ≤ length (now text)) × (wanted < 11) ⌝ }
+    requires { ⌜ (cursor .at ≤ length (now text)) × (wanted < markSorts) ⌝ }
     ensures { λ r. ⌜ Looks (now (text .entry)) (cursor .at) (eqb wanted (sort (next (tokensAt (now (text .entry)) (cursor .at))))) r ⌝ }
 {
     let at = cursor.at;

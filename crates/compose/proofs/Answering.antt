@@ -9,9 +9,11 @@ use mathlib.Core.Option.{Option, none, some}
 use lib.Dec.{ltb}
 use lib.ListN.{length}
 use borrow.Author.Tests.{lt-ltb, le-ltb, ltb-true}
+use Rattle.paper.specs.Limits.{bracketLimit, itemLimit}
 use Rattle.paper.specs.Tools.{written, when}
+use Rattle.paper.specs.Limits.{itemLimit}
 use Rattle.paper.specs.Query.{Steps, Query, paths}
-use Rattle.paper.specs.Items.{stepCount, encodeSteps, encodePaths, encode, decode, goodSteps, goodPaths, good}
+use Rattle.paper.specs.Items.{stepCount, encodeSteps, encodePaths, encode, decode, goodSteps, goodPaths, good, countBound}
 use Rattle.paper.specs.Measures.{size, nesting}
 use Rattle.paper.specs.Answers.{Answer, value, refusal, line, atExit, shortOfItems, composedGot, composeAnswer, composeOut}
 use Rattle.paper.specs.Composition.{composed, stepsInPaths, selectedSize, composedSize, composedNesting}
@@ -33,8 +35,8 @@ use Rattle.compose.proofs.Items.{steps-steps, steps-append, count-path}
 paths-steps : (ps : List Steps) → goodPaths ps ≡ true → stepItems (encodePaths ps) ≡ stepsInPaths ps
 paths-steps [] g = refl
 paths-steps (p ∷ ps) g =
-    let h = and-true (ltb (stepCount p) 8192 && goodSteps p) (goodPaths ps) g in
-    let k = and-true (ltb (stepCount p) 8192) (goodSteps p) (h .0) in
+    let h = and-true (ltb (stepCount p) countBound && goodSteps p) (goodPaths ps) g in
+    let k = and-true (ltb (stepCount p) countBound) (goodSteps p) (h .0) in
     omega (
       arith,
       paths-steps ps (h .1),
@@ -55,7 +57,7 @@ size-got items steps count ps q es ep =
     ap (λ (o : Option Query). sizeGot o count) (sym (q .decodes))
 
 -- A product of two numbers within limits.
-pub product : (a b : ℕ) → a ≤ 4096 → b ≤ 65536 → a * b ≤ 268435456
+pub product : (a b : ℕ) → a ≤ itemLimit → b ≤ 65536 → a * b ≤ 268435456
 product a b ha hb = mul-le-mul ha hb
 
 -- What the shape of items says of them.
@@ -70,7 +72,7 @@ pub record Shaped (items : List ℕ) (n : ℕ) : Type 0 where
   pub query : Query
   pub decodes : decode items ≡ some query
   pub nests : n ≡ nesting query
-  pub shallow : n ≤ 64
+  pub shallow : n ≤ bracketLimit
 
 pub shape-some : (items : List ℕ) (s : Shape) (n h : ℕ) → s ≡ shapeOf (decode items) → s ≡ Fine n h → Shaped items n
 shape-some items s n h e f = go (decode items) refl (sym e ∙ f)
@@ -95,33 +97,40 @@ pub accepted : (outer inner old out : List ℕ) (n : ℕ) → composeAnswer oute
 unfolding composeOut
 accepted outer inner old out n e w = (sym e, w ∙ ap (λ (a : Answer). atExit a (composedGot (decode outer) (decode inner)) old) (sym e))
 
+-- What is left past line 9: line 10 by the size, or the value.
+pub record Ending (outer inner : List ℕ) (room number : ℕ) : Type 0 where
+  pub lacks-room : room < number → composeAnswer outer inner room ≡ refusal 10 number
+  pub over-long : number ≤ room → itemLimit < number → composeAnswer outer inner room ≡ refusal 10 number
+  pub fits : number ≤ room → number ≤ itemLimit → composeAnswer outer inner room ≡ value number
+  pub counts : number ≡ length (composedGot (decode outer) (decode inner))
+
 -- THE ANSWER, line by line.
 module _ (outer inner : List ℕ) (room : ℕ) where
-  pub line-1-outer : 4096 < length outer → composeAnswer outer inner room ≡ refusal 1 0
+  pub line-1-outer : itemLimit < length outer → composeAnswer outer inner room ≡ refusal 1 0
   unfolding composeAnswer
-  line-1-outer h = rw (lt-ltb 4096 (length outer) h)
+  line-1-outer h = rw (lt-ltb itemLimit (length outer) h)
 
-  pub line-1-inner : length outer ≤ 4096 → 4096 < length inner → composeAnswer outer inner room ≡ refusal 1 0
+  pub line-1-inner : length outer ≤ itemLimit → itemLimit < length inner → composeAnswer outer inner room ≡ refusal 1 0
   unfolding composeAnswer
-  line-1-inner a h = rw (le-ltb 4096 (length outer) a, lt-ltb 4096 (length inner) h)
+  line-1-inner a h = rw (le-ltb itemLimit (length outer) a, lt-ltb itemLimit (length inner) h)
 
-  module _ (a : length outer ≤ 4096) (b : length inner ≤ 4096) where
+  module _ (a : length outer ≤ itemLimit) (b : length inner ≤ itemLimit) where
     pub line-6-outer : decode outer ≡ none → composeAnswer outer inner room ≡ refusal 6 0
     unfolding composeAnswer
-    line-6-outer d = rw (le-ltb 4096 (length outer) a, le-ltb 4096 (length inner) b, d)
+    line-6-outer d = rw (le-ltb itemLimit (length outer) a, le-ltb itemLimit (length inner) b, d)
 
     pub line-6-inner : (m : ℕ) → Shaped outer m → decode inner ≡ none → composeAnswer outer inner room ≡ refusal 6 1
     unfolding composeAnswer
-    line-6-inner m o d = rw (le-ltb 4096 (length outer) a, le-ltb 4096 (length inner) b, o .decodes, d)
+    line-6-inner m o d = rw (le-ltb itemLimit (length outer) a, le-ltb itemLimit (length inner) b, o .decodes, d)
 
     module _ (m n : ℕ) (o : Shaped outer m) (i : Shaped inner n) where
       abbrev whole : Query
       whole = composed (o .query) (i .query)
 
       later : composeAnswer outer inner room
-          ≡ line 9 (when (ltb 64 (nesting whole)) (nesting whole)) (line 10 (shortOfItems room (size whole)) (value (size whole)))
+          ≡ line 9 (when (ltb bracketLimit (nesting whole)) (nesting whole)) (line 10 (shortOfItems room (size whole)) (value (size whole)))
       unfolding composeAnswer
-      later = rw (le-ltb 4096 (length outer) a, le-ltb 4096 (length inner) b, o .decodes, i .decodes)
+      later = rw (le-ltb itemLimit (length outer) a, le-ltb itemLimit (length inner) b, o .decodes, i .decodes)
 
       module _ (r deep : ℕ) (er : r ≡ max 2 n) (ed : deep ≡ m + 2 + r) where
         deep-is : deep ≡ nesting whole
@@ -134,11 +143,11 @@ module _ (outer inner : List ℕ) (room : ℕ) where
               i .nests,
             )
 
-        pub line-9 : 64 < deep → composeAnswer outer inner room ≡ refusal 9 deep
-        line-9 h = later ∙ rw (← deep-is, lt-ltb 64 deep h)
+        pub line-9 : bracketLimit < deep → composeAnswer outer inner room ≡ refusal 9 deep
+        line-9 h = later ∙ rw (← deep-is, lt-ltb bracketLimit deep h)
 
-        module _ (shallow : deep ≤ 64) (count number : ℕ) (ec : count ≡ length (selectedGot (decode inner))) (en : number ≡ sizeGot (decode outer) count) where
-          pub size-is : number ≡ size whole
+        module _ (shallow : deep ≤ bracketLimit) (count number : ℕ) (ec : count ≡ length (selectedGot (decode inner))) (en : number ≡ sizeGot (decode outer) count) where
+          size-is : number ≡ size whole
           unfolding composedSize selectedSize
           size-is =
               let s : count ≡ selectedSize (i .query) =
@@ -147,16 +156,19 @@ module _ (outer inner : List ℕ) (room : ℕ) where
               en ∙ ap₂ (λ (x : Option Query) (k : ℕ). sizeGot x k) (o .decodes) s ∙ sym (composed-size (o .query) (i .query))
 
           last-lines : composeAnswer outer inner room ≡ line 10 (shortOfItems room number) (value number)
-          last-lines = later ∙ rw (← deep-is, le-ltb 64 deep shallow, ← size-is)
+          last-lines = later ∙ rw (← deep-is, le-ltb bracketLimit deep shallow, ← size-is)
 
-          pub line-10-room : room < number → composeAnswer outer inner room ≡ refusal 10 number
+          line-10-room : room < number → composeAnswer outer inner room ≡ refusal 10 number
           line-10-room h = last-lines ∙ rw (lt-ltb room number h)
 
-          pub line-10-size : number ≤ room → 4096 < number → composeAnswer outer inner room ≡ refusal 10 number
-          line-10-size h l = last-lines ∙ rw (le-ltb room number h, lt-ltb 4096 number l)
+          line-10-size : number ≤ room → itemLimit < number → composeAnswer outer inner room ≡ refusal 10 number
+          line-10-size h l = last-lines ∙ rw (le-ltb room number h, lt-ltb itemLimit number l)
 
-          pub line-value : number ≤ room → number ≤ 4096 → composeAnswer outer inner room ≡ value number
-          line-value h l = last-lines ∙ rw (le-ltb room number h, le-ltb 4096 number l)
+          line-value : number ≤ room → number ≤ itemLimit → composeAnswer outer inner room ≡ value number
+          line-value h l = last-lines ∙ rw (le-ltb room number h, le-ltb itemLimit number l)
 
-          pub number-is : number ≡ length (composedGot (decode outer) (decode inner))
+          number-is : number ≡ length (composedGot (decode outer) (decode inner))
           number-is = size-is ∙ sym (size-items whole) ∙ ap length (sym (ap₂ composedGot (o .decodes) (i .decodes)))
+
+          pub ending : Ending outer inner room number
+          ending = record { lacks-room = line-10-room; over-long = line-10-size; fits = line-value; counts = number-is }

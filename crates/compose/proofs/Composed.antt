@@ -9,7 +9,7 @@ use lib.Dec.{ltb}
 use lib.ListN.{length, take, drop, length-append}
 use lib.Seq.{drop-at, length-take-le, take-at}
 use Rattle.paper.specs.Query.{Axis, descendantOrSelf, ancestorOrSelf, anyNode, Expr, path, Steps, stop, step, Query, paths}
-use Rattle.paper.specs.Items.{axisNumber, packPath, packStep, orItem, stepCount, predCount, encodeExpr, encodeSteps, encodePreds, encodePaths, encode, decode, goodSteps, goodPaths, good}
+use Rattle.paper.specs.Items.{axisNumber, packPath, packStep, orItem, stepCount, predCount, encodeExpr, encodeSteps, encodePreds, encodePaths, encode, decode, goodSteps, goodPaths, good, countBound}
 use Rattle.paper.specs.Tools.{written}
 use Rattle.paper.specs.Answers.{composedGot}
 use Rattle.paper.specs.Composition.{selectedBy, someNode, visible, guardSteps, append, lastStep, composedPath, composed}
@@ -61,8 +61,8 @@ path-items q p g =
 paths-composed : (q : Query) (ps : List Steps) → goodPaths ps ≡ true → encodePaths (map (composedPath q) ps) ≡ eachPath (guardedPath (encodeExpr (selectedBy q))) ps
 paths-composed q [] g = refl
 paths-composed q (p ∷ ps) g =
-    let h = and-true (ltb (stepCount p) 8192 && goodSteps p) (goodPaths ps) g in
-    let k = and-true (ltb (stepCount p) 8192) (goodSteps p) (h .0) in
+    let h = and-true (ltb (stepCount p) countBound && goodSteps p) (goodPaths ps) g in
+    let k = and-true (ltb (stepCount p) countBound) (goodSteps p) (h .0) in
     ap₂ (λ (x y : List ℕ). x ++ y) (path-items q p (k .1)) (paths-composed q ps (h .1))
 
 pub composed-items : (o i : Query) → good o ≡ true → encode (composed o i) ≡ eachPath (guardedPath (encodeExpr (selectedBy i))) (paths o)

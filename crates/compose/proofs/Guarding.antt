@@ -1,4 +1,5 @@
 -- Guarding the items of a path one by one: what was written, and what is still to be. Assumes nothing.
+use Rattle.paper.specs.Items.{countLimit}
 use Prim.Native.Nat.{ℕ, _+_, _≤_, _<_}
 use native.Mathlib.Omega.{arith}
 use mathlib.Core.Path.{_≡_, refl, sym, _∙_, ap, subst}
@@ -38,7 +39,7 @@ still steps old out start place at from count l g room fits =
 
 pub guarded-asks : (steps old out : List ℕ) (start place at from count : ℕ) → place < length steps → Guarded (take count (drop from old)) steps old out start place at
     → start + length (guardedItems (take count (drop from old)) steps) ≤ from → from + count ≤ length old
-    → (owing (getD steps place 0) < 8191) × (at + length (guardedItem (take count (drop from out)) (getD steps place 0)) ≤ from) × (from + count ≤ length out)
+    → (owing (getD steps place 0) < countLimit) × (at + length (guardedItem (take count (drop from out)) (getD steps place 0)) ≤ from) × (from + count ≤ length out)
 guarded-asks steps old out start place at from count l g room fits =
     let chosen = take count (drop from old) in
     let w = getD steps place 0 in

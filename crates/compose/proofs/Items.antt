@@ -7,8 +7,9 @@ use mathlib.Core.Path.{_≡_, refl, sym, _∙_, ap, ap₂}
 use mathlib.Core.Bool.{true}
 use mathlib.Core.List.{List, [], _∷_, _++_, append-assoc}
 use lib.ListN.{length, length-append}
+use Rattle.paper.specs.Limits.{itemLimit}
 use Rattle.paper.specs.Query.{Axis, Test, Expr, path, both, either, negated, Steps, stop, step, Preds, bare, pred}
-use Rattle.paper.specs.Items.{packPath, packStep, pathAt, stepAt, andItem, orItem, notItem, stepCount, predCount, encodeExpr, encodeSteps, encodePreds, goodTest, goodExpr, goodSteps, goodPreds}
+use Rattle.paper.specs.Items.{packPath, packStep, pathAt, stepAt, andItem, orItem, notItem, stepCount, predCount, encodeExpr, encodeSteps, encodePreds, goodTest, goodExpr, goodSteps, goodPreds, countBound}
 use Rattle.paper.specs.Composition.{guardExpr, guardSteps, guardPreds, stepsInExpr, stepsInSteps, stepsInPreds}
 use Rattle.paper.proofs.Tests.{and-true}
 use Rattle.item.specs.Unpacked.{unpacked}
@@ -17,11 +18,11 @@ use Rattle.reverse.proofs.Owing.{good-step, good-path, owing-path, owing-step, 
 use Rattle.compose.specs.Pieces.{isStep, stepItem, stepItems, visibleItems, guardedAs, guardedItem, guardedItems, Raisable}
 
 -- Whether an item is a step, and what guarding makes of it.
-pub count-path : (n : ℕ) → n < 8192 → stepItem (packPath n) ≡ 0
+pub count-path : (n : ℕ) → n < countBound → stepItem (packPath n) ≡ 0
 unfolding stepItem
 count-path n l = ap isStep (unpack-path n l)
 
-count-step : (a : Axis) (t : Test) (n : ℕ) → goodTest t ≡ true → n < 8192 → stepItem (packStep a t n) ≡ 1
+count-step : (a : Axis) (t : Test) (n : ℕ) → goodTest t ≡ true → n < countBound → stepItem (packStep a t n) ≡ 1
 unfolding stepItem
 count-step a t n g l = ap isStep (unpack-step a t n g l)
 
@@ -30,11 +31,11 @@ unfolding stepItem unpacked pathAt stepAt
 count-operators = (refl, refl, refl)
 
 module _ (chosen : List ℕ) where
-  guarded-path : (n : ℕ) → n < 8192 → guardedItem chosen (packPath n) ≡ packPath n ∷ []
+  guarded-path : (n : ℕ) → n < countBound → guardedItem chosen (packPath n) ≡ packPath n ∷ []
   unfolding guardedItem
   guarded-path n l = ap (guardedAs chosen (packPath n)) (unpack-path n l)
 
-  guarded-step : (a : Axis) (t : Test) (n : ℕ) → goodTest t ≡ true → n < 8192 → guardedItem chosen (packStep a t n) ≡ packStep a t (suc n) ∷ visibleItems chosen
+  guarded-step : (a : Axis) (t : Test) (n : ℕ) → goodTest t ≡ true → n < countBound → guardedItem chosen (packStep a t n) ≡ packStep a t (suc n) ∷ visibleItems chosen
   unfolding guardedItem
   guarded-step a t n g l =
       ap (guardedAs chosen (packStep a t n)) (unpack-step a t n g l) ∙ ap (λ (k : ℕ). packStep a t k ∷ visibleItems chosen) (add-one n)
@@ -88,7 +89,7 @@ raisable-append [] ys rx ry = ry
 raisable-append (x ∷ xs) ys rx ry = (rx .0, raisable-append xs ys (rx .1) ry)
 
 mutual
-  expr-raisable : (e : Expr) → goodExpr e ≡ true → length (encodeExpr e) ≤ 4096 → Raisable (encodeExpr e)
+  expr-raisable : (e : Expr) → goodExpr e ≡ true → length (encodeExpr e) ≤ itemLimit → Raisable (encodeExpr e)
   expr-raisable (path s) g l =
       let h = good-path s g in
       (omega (arith, owing-path (stepCount s) (h .0), count-length s), steps-raisable s (h .1) (omega arith))
@@ -102,7 +103,7 @@ mutual
       (omega (arith, owing-operators .1), raisable-append (encodeExpr a) (encodeExpr b) (expr-raisable a (h .0) (omega arith)) (expr-raisable b (h .1) (omega arith)))
   expr-raisable (negated a) g l = (omega (arith, owing-operators .2), expr-raisable a g (omega arith))
 
-  pub steps-raisable : (s : Steps) → goodSteps s ≡ true → length (encodeSteps s) ≤ 4096 → Raisable (encodeSteps s)
+  pub steps-raisable : (s : Steps) → goodSteps s ≡ true → length (encodeSteps s) ≤ itemLimit → Raisable (encodeSteps s)
   steps-raisable stop g l = tt
   steps-raisable (step a t ps r) g l =
       let h = good-step a t ps r g in
@@ -111,7 +112,7 @@ mutual
         raisable-append (encodePreds ps) (encodeSteps r) (preds-raisable ps (h .preds) (omega arith)) (steps-raisable r (h .later) (omega arith)),
       )
 
-  preds-raisable : (ps : Preds) → goodPreds ps ≡ true → length (encodePreds ps) ≤ 4096 → Raisable (encodePreds ps)
+  preds-raisable : (ps : Preds) → goodPreds ps ≡ true → length (encodePreds ps) ≤ itemLimit → Raisable (encodePreds ps)
   preds-raisable bare g l = tt
   preds-raisable (pred x ps) g l =
       let h = and-true (goodExpr x) (goodPreds ps) g in

@@ -4,7 +4,10 @@ use native.Mathlib.Omega.{arith}
 use mathlib.Core.Path.{_≡_, refl, sym, _∙_, ap}
 use mathlib.Core.List.{List, [], _∷_}
 use lib.ListN.{length, getD, drop, drop-of-length-le, length-append}
-use Rattle.paper.proofs.Fields.{axis-small, test-small}
+use Rattle.paper.specs.Query.{descendantOrSelf, ancestorOrSelf}
+use Rattle.paper.specs.Items.{axisBound, testBound, axisNumber}
+use Rattle.paper.proofs.Axes.{axis-small}
+use Rattle.paper.proofs.Fields.{test-small}
 use Rattle.item.specs.Unpacked.{unpacked}
 use Rattle.item.specs.declared.Step.{Step}
 use Rattle.item.specs.declared.Item.{Item}
@@ -70,11 +73,11 @@ pub counted-end : (items : List ℕ) (place : ℕ) → length items ≤ place �
 counted-end items place l = ap stepItems (drop-of-length-le items l)
 
 -- What is needed of a step before it is guarded, and how long it is then.
-pub step-fields : (w : ℕ) (i : Item) (s : Step) → i ≡ unpacked w → i ≡ StepItem s → (s .axis < 8) × (s .test < 512) × (s .count ≡ owing w)
+pub step-fields : (w : ℕ) (i : Item) (s : Step) → i ≡ unpacked w → i ≡ StepItem s → (s .axis < axisBound) × (s .test < testBound) × (s .count ≡ owing w)
 step-fields w i s e f =
     let h = said-step w i s e f in
     (omega (arith, h .axis-is, axis-small (h .axis)), omega (arith, h .test-is, test-small (h .test) (h .fine)), owes-as w i (StepItem s) e f .0)
 
 pub guarded-room : (chosen : List ℕ) (w : ℕ) (i : Item) (s : Step) → i ≡ unpacked w → i ≡ StepItem s → length (guardedItem chosen w) ≡ 6 + length chosen + length chosen
 guarded-room chosen w i s e f =
-    ap length (step-guarded chosen w i s e f) ∙ omega (arith, length-append (someNodeItems 3 chosen) (someNodeItems 4 chosen))
+    ap length (step-guarded chosen w i s e f) ∙ omega (arith, length-append (someNodeItems (axisNumber descendantOrSelf) chosen) (someNodeItems (axisNumber ancestorOrSelf) chosen))

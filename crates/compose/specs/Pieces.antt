@@ -3,8 +3,8 @@ use Prim.Native.Nat.{ℕ, _+_, _*_, _<_}
 use mathlib.Core.List.{List, [], _∷_, _++_}
 use mathlib.Core.Option.{Option, none, some}
 use lib.ListN.{length}
-use Rattle.paper.specs.Query.{Steps, Query, paths}
-use Rattle.paper.specs.Items.{packPath, orItem, stepCount, encodeSteps}
+use Rattle.paper.specs.Query.{Steps, Query, paths, descendantOrSelf, ancestorOrSelf, anyNode}
+use Rattle.paper.specs.Items.{packPath, orItem, stepCount, encodeSteps, axisNumber, testNumber, countLimit}
 use Rattle.paper.specs.Measures.{size}
 use Rattle.paper.specs.Composition.{stepsInPaths}
 use Rattle.item.specs.Unpacked.{unpacked, packed}
@@ -31,14 +31,14 @@ stepItems (w ∷ ws) = stepItem w + stepItems ws
 
 -- `axis::node()[..]`, the items of the predicate being given.
 abbrev pub someNodeItems : ℕ → List ℕ → List ℕ
-someNodeItems axis chosen = packPath 1 ∷ packed (record { axis = axis; test = 0; count = 1 }) ∷ chosen
+someNodeItems axis chosen = packPath 1 ∷ packed (record { axis = axis; test = testNumber anyNode; count = 1 }) ∷ chosen
 
 -- V, and the step that every top-level path gets at its end, from the items of S.
 abbrev pub visibleItems : List ℕ → List ℕ
-visibleItems chosen = orItem ∷ (someNodeItems 3 chosen ++ someNodeItems 4 chosen)
+visibleItems chosen = orItem ∷ (someNodeItems (axisNumber descendantOrSelf) chosen ++ someNodeItems (axisNumber ancestorOrSelf) chosen)
 
 abbrev pub lastItems : List ℕ → List ℕ
-lastItems chosen = packed (record { axis = 3; test = 0; count = 1 }) ∷ someNodeItems 4 chosen
+lastItems chosen = packed (record { axis = axisNumber descendantOrSelf; test = testNumber anyNode; count = 1 }) ∷ someNodeItems (axisNumber ancestorOrSelf) chosen
 
 -- A step item with V as its first predicate, from the numbers of its fields.
 abbrev pub guardedStep : List ℕ → Step → List ℕ
@@ -63,7 +63,7 @@ guardedItems chosen (w ∷ ws) = guardedItem chosen w ++ guardedItems chosen ws
 -- Each count can be raised by one.
 abbrev pub Raisable : List ℕ → Type 0
 Raisable [] = Unit {0}
-Raisable (w ∷ ws) = (owing w < 8191) × Raisable ws
+Raisable (w ∷ ws) = (owing w < countLimit) × Raisable ws
 
 -- A top-level path, guarded and with the last step at its end.
 abbrev pub guardedPath : List ℕ → Steps → List ℕ

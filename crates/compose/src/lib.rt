@@ -4,9 +4,10 @@ use item::Step;
 use paper::Answer;
 use shape::Shape;
 ghost use mathlib.Core.Path.{_≡_};
-ghost use Prim.Native.Nat.{_+_, _≤_, _<_};
+ghost use Prim.Native.Nat.{_+_, _*_, _≤_, _<_};
 ghost use lib.ListN.{length, take, drop};
-ghost use Rattle.paper.specs.Items.{decode};
+ghost use Rattle.paper.specs.Limits.{itemLimit};
+ghost use Rattle.paper.specs.Items.{decode, axisBound, testBound, countLimit};
 ghost use Rattle.paper.specs.Tools.{written};
 ghost use Rattle.paper.specs.Answers.{composedGot, composeAnswer, composeOut};
 ghost use Rattle.paper.specs.Told.{told};
@@ -24,7 +25,7 @@ fn one_step(w: u32) -> usize
 
 // How many of the items are steps.
 fn count_steps(items: &[u32]) -> usize
-    requires { ⌜ length (now items) ≤ 4096 ⌝ }
+    requires { ⌜ length (now items) ≤ itemLimit ⌝ }
     ensures { λ r. ⌜ (r ≡ stepItems (now (items .entry))) × (r ≤ length (now (items .entry))) ⌝ }
 {
     let mut place = 0;
@@ -50,7 +51,7 @@ fn copy(out: &mut [u32], at: usize, from: usize, count: usize)
 
 // `axis::node()[S]`, with S copied from further on.
 fn put_some_node(axis: u32, out: &mut [u32], at: usize, from: usize, count: usize) -> usize
-    requires { ⌜ (axis < 8) × (at + 2 ≤ from) × (from + count ≤ length (now out)) ⌝ }
+    requires { ⌜ (axis < axisBound) × (at + 2 ≤ from) × (from + count ≤ length (now out)) ⌝ }
     ensures { λ r. ⌜ (now (out .exit) ≡ placed (someNodeItems axis (take count (drop from (now (out .entry))))) at (now (out .entry))) × (r ≡ at + 2 + count) ⌝ }
 {
     out[at] = item::pack_path(1);
@@ -88,7 +89,7 @@ fn put_last(out: &mut [u32], at: usize, from: usize, count: usize) -> usize
 
 // A step gets V as its first predicate, whatever its axis.
 fn guard_step(step: Step, out: &mut [u32], at: usize, from: usize, count: usize) -> usize
-    requires { ⌜ (step .axis < 8) × (step .test < 512) × (step .count < 8191) × (at + 6 + count + count ≤ from) × (from + count ≤ length (now out)) ⌝ }
+    requires { ⌜ (step .axis < axisBound) × (step .test < testBound) × (step .count < countLimit) × (at + 6 + count + count ≤ from) × (from + count ≤ length (now out)) ⌝ }
     ensures { λ r. ⌜ (now (out .exit) ≡ placed (guardedStep (take count (drop from (now (out .entry)))) step) at (now (out .entry))) × (r ≡ at + 6 + count + count) ⌝ }
 {
     out[at] = item::pack_step(Step {
@@ -101,7 +102,7 @@ fn guard_step(step: Step, out: &mut [u32], at: usize, from: usize, count: usize)
 
 // One item of a guarded path.
 fn guard_item(w: u32, out: &mut [u32], at: usize, from: usize, count: usize) -> usize
-    requires { ⌜ (owing w < 8191) × (at + length (guardedItem (take count (drop from (now out))) w) ≤ from) × (from + count ≤ length (now out)) ⌝ }
+    requires { ⌜ (owing w < countLimit) × (at + length (guardedItem (take count (drop from (now out))) w) ≤ from) × (from + count ≤ length (now out)) ⌝ }
     ensures { λ r. ⌜ (now (out .exit) ≡ placed (guardedItem (take count (drop from (now (out .entry)))) w) at (now (out .entry)))
         × (r ≡ at + length (guardedItem (take count (drop from (now (out .entry)))) w)) ⌝ }
 {
@@ -130,7 +131,7 @@ fn guard_steps(steps: &[u32], out: &mut [u32], start: usize, from: usize, count:
 
 // The outer paths, each guarded and with the last step at its end; S stands at `from`, the end of all this.
 fn guard_paths(outer: &[u32], out: &mut [u32], from: usize, count: usize)
-    requires { ⌜ (IsQuery (now outer)) × (length (now outer) ≤ 4096)
+    requires { ⌜ (IsQuery (now outer)) × (length (now outer) ≤ itemLimit)
         × (length (eachGot (guardedPath (take count (drop from (now out)))) (decode (now outer))) ≤ from + count) × (from + count ≤ length (now out)) ⌝ }
     ensures { λ _. ⌜ now (out .exit) ≡ placed (eachGot (guardedPath (take count (drop from (now (out .entry))))) (decode (now (outer .entry)))) 0 (now (out .entry)) ⌝ }
 {
@@ -155,7 +156,7 @@ fn put_composed(
     size: usize,
     count: usize,
 )
-    requires { ⌜ (IsQuery (now outer)) × (length (now outer) ≤ 4096) × (IsQuery (now inner)) × (length (now inner) ≤ 4096) × (paths ≡ pathsGot (decode (now inner)))
+    requires { ⌜ (IsQuery (now outer)) × (length (now outer) ≤ itemLimit) × (IsQuery (now inner)) × (length (now inner) ≤ itemLimit) × (paths ≡ pathsGot (decode (now inner)))
         × (count ≡ length (selectedGot (decode (now inner)))) × (size ≡ length (composedGot (decode (now outer)) (decode (now inner)))) × (size ≤ length (now out)) ⌝ }
     ensures { λ _. ⌜ now (out .exit) ≡ written (composedGot (decode (now (outer .entry))) (decode (now (inner .entry)))) (now (out .entry)) ⌝ }
 {
@@ -166,7 +167,7 @@ fn put_composed(
 
 // The size of the composition: 01's w(outer) + t(5 + 2s) + m(3 + s).
 fn composed_size(outer: &[u32], count: usize) -> usize
-    requires { ⌜ (IsQuery (now outer)) × (length (now outer) ≤ 4096) × (count ≤ 24576) ⌝ }
+    requires { ⌜ (IsQuery (now outer)) × (length (now outer) ≤ itemLimit) × (count ≤ 6 * itemLimit) ⌝ }
     ensures { λ r. ⌜ r ≡ sizeGot (decode (now (outer .entry))) count ⌝ }
 {
     let steps = count_steps(outer);

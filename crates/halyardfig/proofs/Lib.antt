@@ -1,1 +1,2 @@
+-- An answer in one number: `coded`.
 pub mod Coding

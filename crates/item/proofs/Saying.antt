@@ -9,7 +9,7 @@ use mathlib.Core.Option.{Option, none, some}
 use lib.Dec.{eqb}
 use borrow.Author.Tests.{eqb-true, eqb-false}
 use Rattle.paper.specs.Query.{Axis, Test}
-use Rattle.paper.specs.Items.{axisNumber, testNumber, pathAt, Head, stepAt, packPath, packStep, goodTest, andItem, orItem, notItem}
+use Rattle.paper.specs.Items.{axisNumber, testNumber, pathAt, Head, stepAt, packPath, packStep, goodTest, andItem, orItem, notItem, countBound}
 use Rattle.paper.proofs.Fields.{path-at, step-at, path-found, step-found}
 use Rattle.item.specs.declared.Step.{Step}
 use Rattle.item.specs.declared.Item.{Item}
@@ -66,20 +66,20 @@ not-path w Not s k = no-path w (λ e. omega arith)
 not-path w Bad s k = s .0
 
 -- UNPACK AFTER PACK.
-pub unpack-path : (count : ℕ) → count < 8192 → unpacked (packPath count) ≡ Path count
+pub unpack-path : (count : ℕ) → count < countBound → unpacked (packPath count) ≡ Path count
 unfolding unpacked
 unpack-path count l = rw (path-at count l)
 
-pub unpack-step : (a : Axis) (t : Test) (count : ℕ) → goodTest t ≡ true → count < 8192
+pub unpack-step : (a : Axis) (t : Test) (count : ℕ) → goodTest t ≡ true → count < countBound
     → unpacked (packStep a t count) ≡ StepItem (numbered (record { axis = a; test = t; count = count }))
 unfolding unpacked
 unpack-step a t count g l = rw (no-path (packStep a t count) (λ e. omega arith), step-at a t count g l)
 
 -- PACK AFTER UNPACK.
-pub pack-path : (w count : ℕ) → Said w (Path count) → (w ≡ packPath count) × (count < 8192)
+pub pack-path : (w count : ℕ) → Said w (Path count) → (w ≡ packPath count) × (count < countBound)
 pack-path w count h = path-found w count h
 
-pub pack-step : (w : ℕ) (s : Step) → Said w (StepItem s) → (w ≡ packed s) × (s .count < 8192)
+pub pack-step : (w : ℕ) (s : Step) → Said w (StepItem s) → (w ≡ packed s) × (s .count < countBound)
 pack-step w s h =
     let f = step-found w (h .0) (h .1) in
-    subst (λ (x : Step). (w ≡ packed x) × (x .count < 8192)) (sym (h .2)) (f .0, f .2)
+    subst (λ (x : Step). (w ≡ packed x) × (x .count < countBound)) (sym (h .2)) (f .0, f .2)

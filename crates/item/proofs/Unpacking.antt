@@ -10,9 +10,11 @@ use native.Mathlib.Decide.{decLt}
 use lib.Dec.{ltb}
 use lib.Bits.{bitAnd, bitOr, and-mask, or-shifted}
 use borrow.Author.Tests.{lt-ltb, le-ltb, eq-eqb, ne-eqb}
-use Rattle.paper.specs.Query.{Axis, self, child, parent, descendantOrSelf, ancestorOrSelf, Test, anyNode, textNode, named, anyElement}
-use Rattle.paper.specs.Items.{axisOf, testOf, pathAt, stepAt}
-use Rattle.paper.proofs.Fields.{axis-found, test-found}
+use Rattle.paper.specs.Limits.{namesLimit}
+use Rattle.paper.specs.Query.{Axis, Test, anyNode, textNode, named, anyElement}
+use Rattle.paper.specs.Items.{axes, axisOf, axisBound, testNumber, testOf, testBound, countBound, pathAt, stepAt}
+use Rattle.paper.proofs.Axes.{axis-found, axis-some, axis-none}
+use Rattle.paper.proofs.Fields.{test-found}
 use Rattle.item.specs.declared.Step.{Step}
 use Rattle.item.specs.declared.Item.the-variants.{Path, Step as StepItem, Bad}
 use Rattle.item.specs.Unpacked.{operatorOf, unpacked, packed}
@@ -40,33 +42,17 @@ pub path-long : (w : ℕ) → w % 8 ≡ 0 → 65536 ≤ w → unpacked w ≡ Bad
 unfolding pathAt
 path-long w k l = no-item w (rw (eq-eqb (w % 8) 0 k, le-ltb w 65536 l)) (no-step w (λ e. omega arith)) (λ e. omega arith) (λ e. omega arith) (λ e. omega arith)
 
--- Kind 1: there is an axis up to 4, and a test up to 258.
-axis-some : (n : ℕ) → n ≤ 4 → (a : Axis) × (axisOf n ≡ some a)
-axis-some zero l = (self, refl)
-axis-some (suc zero) l = (child, refl)
-axis-some (suc (suc zero)) l = (parent, refl)
-axis-some (suc (suc (suc zero))) l = (descendantOrSelf, refl)
-axis-some (suc (suc (suc (suc zero)))) l = (ancestorOrSelf, refl)
-axis-some (suc (suc (suc (suc (suc n))))) l = absurd (omega arith)
-
-axis-none : (n : ℕ) → 4 < n → axisOf n ≡ none
-axis-none zero l = absurd (omega arith)
-axis-none (suc zero) l = absurd (omega arith)
-axis-none (suc (suc zero)) l = absurd (omega arith)
-axis-none (suc (suc (suc zero))) l = absurd (omega arith)
-axis-none (suc (suc (suc (suc zero)))) l = absurd (omega arith)
-axis-none (suc (suc (suc (suc (suc n))))) l = refl
-
-test-some : (n : ℕ) → n ≤ 258 → (t : Test) × (testOf n ≡ some t)
+-- Kind 1: there is a test up to that of `*`.
+test-some : (n : ℕ) → n ≤ testNumber anyElement → (t : Test) × (testOf n ≡ some t)
 test-some zero l = (anyNode, refl)
 test-some (suc zero) l = (textNode, refl)
 test-some (suc (suc v)) l =
-    by-cases (decLt v 256) (λ h. (named v, rw (lt-ltb v 256 h))) (λ h. let e : v ≡ 256 = omega arith in (anyElement, rw (le-ltb v 256 (omega arith), eq-eqb v 256 e)))
+    by-cases (decLt v namesLimit) (λ h. (named v, rw (lt-ltb v namesLimit h))) (λ h. let e : v ≡ namesLimit = omega arith in (anyElement, rw (le-ltb v namesLimit (omega arith), eq-eqb v namesLimit e)))
 
-test-none : (n : ℕ) → 258 < n → testOf n ≡ none
+test-none : (n : ℕ) → testNumber anyElement < n → testOf n ≡ none
 test-none zero l = absurd (omega arith)
 test-none (suc zero) l = absurd (omega arith)
-test-none (suc (suc v)) l = rw (le-ltb v 256 (omega arith), ne-eqb v 256 (λ e. omega arith))
+test-none (suc (suc v)) l = rw (le-ltb v namesLimit (omega arith), ne-eqb v namesLimit (λ e. omega arith))
 
 -- A step that lacks something is no item.
 bad-step : (w : ℕ) → w % 8 ≡ 1 → stepAt w ≡ none → unpacked w ≡ Bad
@@ -76,7 +62,7 @@ pub step-long : (w : ℕ) → w % 8 ≡ 1 → 268435456 ≤ w → unpacked w ≡
 unfolding stepAt
 step-long w k l = bad-step w k (rw (eq-eqb (w % 8) 1 k, le-ltb w 268435456 l))
 
-pub step-axis : (w : ℕ) → w % 8 ≡ 1 → 4 < bitAnd (w / 8) 7 → unpacked w ≡ Bad
+pub step-axis : (w : ℕ) → w % 8 ≡ 1 → axes ≤ bitAnd (w / 8) 7 → unpacked w ≡ Bad
 unfolding stepAt
 step-axis w k l =
     bad-step w k (go (ltb w 268435456) refl)
@@ -88,7 +74,7 @@ step-axis w k l =
     go true p = rw (eq-eqb (w % 8) 1 k, p, none-there)
     go false p = rw (eq-eqb (w % 8) 1 k, p)
 
-pub step-test : (w : ℕ) → w % 8 ≡ 1 → 258 < bitAnd (w / 64) 511 → unpacked w ≡ Bad
+pub step-test : (w : ℕ) → w % 8 ≡ 1 → testNumber anyElement < bitAnd (w / 64) 511 → unpacked w ≡ Bad
 unfolding stepAt
 step-test w k l =
     bad-step w k (go (ltb w 268435456) refl (axisOf (w / 8 % 8)) refl)
@@ -101,7 +87,7 @@ step-test w k l =
     go true p (some a) q = rw (eq-eqb (w % 8) 1 k, p, q, none-there)
     go false p o q = rw (eq-eqb (w % 8) 1 k, p)
 
-pub step-kind : (w : ℕ) → w % 8 ≡ 1 → w < 268435456 → bitAnd (w / 8) 7 ≤ 4 → bitAnd (w / 64) 511 ≤ 258
+pub step-kind : (w : ℕ) → w % 8 ≡ 1 → w < 268435456 → bitAnd (w / 8) 7 < axes → bitAnd (w / 64) 511 ≤ testNumber anyElement
     → unpacked w ≡ StepItem (record { axis = bitAnd (w / 8) 7; test = bitAnd (w / 64) 511; count = w / 32768 })
 unfolding unpacked stepAt
 step-kind w k l ha ht =
@@ -118,7 +104,7 @@ unfolding unpacked
 operator-kind w k = rw (no-path w (λ e. omega arith), no-step w (λ e. omega arith))
 
 -- Shifted fields, put together.
-pub together : (s : Step) → s .axis < 8 → s .test < 512 → s .count < 8192
+pub together : (s : Step) → s .axis < axisBound → s .test < testBound → s .count < countBound
     → bitOr (bitOr (bitOr (s .count * 32768 % 4294967296) (s .test * 64 % 4294967296)) (s .axis * 8 % 4294967296)) 1 ≡ packed s
 together s ha ht hc =
     let a = s .axis in

@@ -1,4 +1,4 @@
--- What a number says as an item, and the number of a step, by document 01's layout.
+-- What a number says as an item, and the number of a step, by the layout of docs/SCOPE.md, "The query in memory".
 use Prim.Native.Nat.{ℕ, _+_, _*_}
 use mathlib.Core.Bool.{cond}
 use mathlib.Core.Option.{Option, none, some}

@@ -3,7 +3,7 @@ ghost use mathlib.Core.Path.{_≡_};
 ghost use Prim.Native.Nat.{_+_, _%_, _≤_, _<_};
 ghost use lib.ListN.{length, replicate};
 ghost use Rattle.paper.specs.Query.{Axis};
-ghost use Rattle.paper.specs.Items.{axisNumber, packPath};
+ghost use Rattle.paper.specs.Items.{axisNumber, axisBound, testBound, countBound, packPath};
 ghost use Rattle.paper.specs.Composition.{turned};
 ghost use Rattle.item.specs.Unpacked.{unpacked, packed};
 ghost use Rattle.item.specs.Placed.{placed};
@@ -15,7 +15,7 @@ pub const OR: u32 = 3;
 
 pub const NOT: u32 = 4;
 
-// The numbers of the axes, and how many there are.
+// The numbers of the axes, and how many there are, which is the least number that is no axis.
 pub const SELF: u32 = 0;
 
 pub const CHILD: u32 = 1;
@@ -36,6 +36,9 @@ pub const TEXT_NODE: u32 = 1;
 pub const NAMED: u32 = 2;
 
 pub const ANY_ELEMENT: u32 = 258;
+
+// Counts in an item are below this.
+pub const COUNT_BOUND: usize = 8192;
 
 // What a step item says: the numbers of its axis and its test, and how many predicates follow.
 pub struct Step {
@@ -75,11 +78,11 @@ fn step_item(w: u32) -> Item
         return Item::Bad;
     }
     let axis = w >> 3 & 7;
-    if 4 < axis {
+    if AXES <= axis {
         return Item::Bad;
     }
     let test = w >> 6 & 511;
-    if 258 < test {
+    if ANY_ELEMENT < test {
         return Item::Bad;
     }
     Item::Step(Step {
@@ -107,16 +110,16 @@ fn operator(w: u32) -> Item
     ensures { λ r. ⌜ r ≡ unpacked w ⌝ }
 {
     match w {
-        2 => Item::And,
-        3 => Item::Or,
-        4 => Item::Not,
+        AND => Item::And,
+        OR => Item::Or,
+        NOT => Item::Not,
         _ => Item::Bad,
     }
 }
 
 // The item of a path.
 pub fn pack_path(count: usize) -> u32
-    requires { ⌜ count < 8192 ⌝ }
+    requires { ⌜ count < countBound ⌝ }
     ensures { λ r. ⌜ r ≡ packPath count ⌝ }
 {
     (count as u32) << 3
@@ -124,22 +127,23 @@ pub fn pack_path(count: usize) -> u32
 
 // The item of a step.
 pub fn pack_step(step: Step) -> u32
-    requires { ⌜ (step .axis < 8) × (step .test < 512) × (step .count < 8192) ⌝ }
+    requires { ⌜ (step .axis < axisBound) × (step .test < testBound) × (step .count < countBound) ⌝ }
     ensures { λ r. ⌜ r ≡ packed step ⌝ }
 {
     (step.count as u32) << 15 | step.test << 6 | step.axis << 3 | 1
 }
 
-// The axis that leads back: child turns into parent, parent into child, the two long axes into each other, and self stays.
+// The axis that leads back: child turns into parent, parent into child, the two long axes into each other, and self stays; what is no axis turns into none.
 pub fn turn(axis: u32) -> u32
     ensures { λ r. ⌜ ((a : Axis) → axis ≡ axisNumber a → r ≡ axisNumber (turned a)) ⌝ }
 {
     match axis {
-        1 => 2,
-        2 => 1,
-        3 => 4,
-        4 => 3,
-        _ => axis,
+        SELF => SELF,
+        CHILD => PARENT,
+        PARENT => CHILD,
+        DESCENDANT_OR_SELF => ANCESTOR_OR_SELF,
+        ANCESTOR_OR_SELF => DESCENDANT_OR_SELF,
+        _ => AXES,
     }
 }
 

@@ -4,27 +4,15 @@ use Prim.Native.Nat.{ℕ}
 use mathlib.Core.Path.{_≡_, refl, sym, _∙_, ap}
 use mathlib.Core.Bool.{Bool, true, false, _&&_}
 use mathlib.Core.List.{List}
-use lib.Dec.{eqb}
-use borrow.Author.Tests.{eqb-true, eq-eqb}
 use Rattle.paper.specs.Tools.{someBelow}
-use Rattle.paper.specs.Query.{Axis, self, child, parent, descendantOrSelf, ancestorOrSelf, Test, Steps, step, Preds}
+use Rattle.paper.specs.Query.{Axis, Test, Steps, step, Preds}
 use Rattle.paper.specs.Document.{Table, nodes, kindOf, marked}
 use Rattle.paper.specs.Selection.{leads, meets, reaches, finds, allHold, arrives}
 use Rattle.paper.specs.Composition.{turned}
-use Rattle.paper.proofs.Tests.{and-true, true-and, agree}
+use Rattle.paper.proofs.Axes.{converse}
+use Rattle.paper.proofs.Tests.{and-true, true-and}
 use Rattle.paper.proofs.Searches.{some-intro, some-elim, some-same, some-agree}
 use Rattle.sets.specs.Sets.{image}
-
--- The turned axis is the converse.
-same-turned : (i j : ℕ) → eqb i j ≡ eqb j i
-same-turned i j = agree (eqb i j) (eqb j i) (λ h. eq-eqb j i (sym (eqb-true i j h))) (λ h. eq-eqb i j (sym (eqb-true j i h)))
-
-converse : (t : Table) (a : Axis) (i j : ℕ) → leads t (turned a) i j ≡ leads t a j i
-converse t self i j = same-turned i j
-converse t child i j = refl
-converse t parent i j = refl
-converse t descendantOrSelf i j = refl
-converse t ancestorOrSelf i j = refl
 
 -- Tests in another order.
 reorder : (m l x f p : Bool) → ((((f && m) && x) && p) && l) ≡ (((m && l) && x) && p && f)

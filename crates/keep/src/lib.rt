@@ -8,6 +8,7 @@ ghost use mathlib.Core.Bool.{Bool, true, false, _&&_, _||_};
 ghost use mathlib.Core.Option.{some};
 ghost use lib.Dec.{eqb};
 ghost use lib.ListN.{length, getD, drop, replicate};
+ghost use Rattle.paper.specs.Limits.{bracketLimit};
 ghost use Rattle.paper.specs.Query.{Test, Query};
 ghost use Rattle.paper.specs.Document.{marked, tableOf};
 ghost use Rattle.paper.specs.Items.{pathAt, testNumber, goodTest, decode, takePreds, takeSteps, takeOperand, takeExpr, takeWithin};
@@ -18,7 +19,7 @@ ghost use Rattle.keep.specs.Evals.{Ready, Readable, Fits, Ends, Known, S
 
 // Where so many steps end.
 fn past_steps(items: &[u32], at: usize, count: usize, depth: usize) -> usize
-    requires { ⌜ (at ≤ length (now items)) × (depth ≤ 64) × (Readable (takeSteps (takeWithin depth) count (drop at (now items)))) ⌝ }
+    requires { ⌜ (at ≤ length (now items)) × (depth ≤ bracketLimit) × (Readable (takeSteps (takeWithin depth) count (drop at (now items)))) ⌝ }
     ensures { λ r. ⌜ Ends (now (items .entry)) at (takeSteps (takeWithin depth) count (drop at (now (items .entry)))) r ⌝ }
 {
     let walked = shape::steps(items, at, count, depth);
@@ -42,7 +43,7 @@ pub struct Places {
 
 // Where so many steps from a place on end, or the place known.
 fn reach(items: &[u32], from: usize, count: usize, depth: usize, anew: bool, known: usize) -> usize
-    requires { ⌜ (anew ≡ true → (from ≤ length (now items)) × (depth ≤ 64) × (Readable (takeSteps (takeWithin depth) count (drop from (now items))))) ⌝ }
+    requires { ⌜ (anew ≡ true → (from ≤ length (now items)) × (depth ≤ bracketLimit) × (Readable (takeSteps (takeWithin depth) count (drop from (now items))))) ⌝ }
     ensures { λ r. ⌜ (anew ≡ true → Ends (now (items .entry)) from (takeSteps (takeWithin depth) count (drop from (now (items .entry)))) r) × (anew ≡ false → r ≡ known) ⌝ }
 {
     if anew {
@@ -54,7 +55,7 @@ fn reach(items: &[u32], from: usize, count: usize, depth: usize, anew: bool, kno
 
 // Looks for the step after so many others: anew, or where the one after it was looked for last.
 fn look(items: &[u32], at: usize, anew: bool, known: Places, to: usize, depth: usize) -> Places
-    requires { ⌜ (at ≤ length (now items)) × (depth ≤ 64) × (anew ≡ false → Known (now items) at depth (suc to) known) ⌝ }
+    requires { ⌜ (at ≤ length (now items)) × (depth ≤ bracketLimit) × (anew ≡ false → Known (now items) at depth (suc to) known) ⌝ }
     requires { ⌜ Readable (takeSteps (takeWithin depth) to (drop at (now items))) ⌝ }
     ensures { λ r. ⌜ (Known (now (items .entry)) at depth to r) × (Ends (now (items .entry)) at (takeSteps (takeWithin depth) to (drop at (now (items .entry)))) (r .place)) ⌝ }
 {
@@ -80,7 +81,7 @@ fn look(items: &[u32], at: usize, anew: bool, known: Places, to: usize, depth: u
 
 // Looks for the end of so many steps.
 fn look_first(items: &[u32], at: usize, count: usize, depth: usize) -> Places
-    requires { ⌜ (at ≤ length (now items)) × (depth ≤ 64) ⌝ }
+    requires { ⌜ (at ≤ length (now items)) × (depth ≤ bracketLimit) ⌝ }
     requires { ⌜ Readable (takeSteps (takeWithin depth) count (drop at (now items))) ⌝ }
     ensures { λ r. ⌜ (Known (now (items .entry)) at depth count r) × (Ends (now (items .entry)) at (takeSteps (takeWithin depth) count (drop at (now (items .entry)))) (r .place)) ⌝ }
 {
@@ -100,8 +101,8 @@ fn step_at(items: &[u32], place: usize) -> Step
     let item = item::unpack(items[place]);
     let Item::Step(step) = item else {
         return Step {
-            axis: 0,
-            test: 0,
+            axis: item::SELF,
+            test: item::ANY_NODE,
             count: 0,
         };
     };
@@ -147,7 +148,7 @@ fn expression(
     given: &[u8],
     sets: &mut [u8],
 ) -> usize
-    requires { ⌜ depth ≤ 64 ⌝ }
+    requires { ⌜ depth ≤ bracketLimit ⌝ }
     requires { ⌜ Ready (now parent) (now kind) (now given) ⌝ }
     requires { ⌜ Fits (now items) at (length (now parent)) (length (now sets)) (takeExpr (takeWithin depth) (drop at (now items))) heightExpr ⌝ }
     ensures { λ r. ⌜ Evaluates (now (items .entry)) at (length (now (parent .entry))) (takeExpr (takeWithin depth) (drop at (now (items .entry)))) (holds (tableOf (now (parent .entry)) (now (kind .entry))) (now (given .entry))) r (now (sets .exit)) ⌝ }
@@ -197,7 +198,7 @@ fn operand(
     given: &[u8],
     sets: &mut [u8],
 ) -> usize
-    requires { ⌜ depth ≤ 64 ⌝ }
+    requires { ⌜ depth ≤ bracketLimit ⌝ }
     requires { ⌜ Ready (now parent) (now kind) (now given) ⌝ }
     requires { ⌜ Fits (now items) at (length (now parent)) (length (now sets)) (takeOperand (takeWithin depth) (drop at (now items))) heightExpr ⌝ }
     ensures { λ r. ⌜ Evaluates (now (items .entry)) at (length (now (parent .entry))) (takeOperand (takeWithin depth) (drop at (now (items .entry)))) (holds (tableOf (now (parent .entry)) (now (kind .entry))) (now (given .entry))) r (now (sets .exit)) ⌝ }
@@ -226,7 +227,7 @@ fn path(
     given: &[u8],
     sets: &mut [u8],
 ) -> usize
-    requires { ⌜ depth ≤ 64 ⌝ }
+    requires { ⌜ depth ≤ bracketLimit ⌝ }
     requires { ⌜ Ready (now parent) (now kind) (now given) ⌝ }
     requires { ⌜ Fits (now items) at (length (now parent)) (length (now sets)) (takeSteps (takeWithin depth) count (drop at (now items))) (λ s. 1 + heightSteps s) ⌝ }
     ensures { λ r. ⌜ Evaluates (now (items .entry)) at (length (now (parent .entry))) (takeSteps (takeWithin depth) count (drop at (now (items .entry)))) (finds (tableOf (now (parent .entry)) (now (kind .entry))) (now (given .entry))) r (now (sets .exit)) ⌝ }
@@ -268,7 +269,7 @@ fn predicates(
     given: &[u8],
     sets: &mut [u8],
 ) -> usize
-    requires { ⌜ depth ≤ 64 ⌝ }
+    requires { ⌜ depth ≤ bracketLimit ⌝ }
     requires { ⌜ Ready (now parent) (now kind) (now given) ⌝ }
     requires { ⌜ Fits (now items) at (length (now parent)) (length (now sets)) (takePreds (takeWithin depth) count (drop at (now items))) (λ ps. 1 + heightPreds ps) ⌝ }
     ensures { λ r. ⌜ Narrows (now (items .entry)) at (length (now (parent .entry))) (takePreds (takeWithin depth) count (drop at (now (items .entry)))) (allHold (tableOf (now (parent .entry)) (now (kind .entry))) (now (given .entry))) r (now (sets .entry)) (now (sets .exit)) ⌝ }
@@ -295,8 +296,8 @@ fn forward(
     sets: &mut [u8],
 ) -> usize
     requires { ⌜ Ready (now parent) (now kind) (now given) ⌝ }
-    requires { ⌜ Fits (now items) at (length (now parent)) (length (now sets)) (takeSteps (takeWithin 64) count (drop at (now items))) (λ s. 1 + heightSteps s) ⌝ }
-    ensures { λ r. ⌜ Moves (now (items .entry)) at (tableOf (now (parent .entry)) (now (kind .entry))) (now (given .entry)) (takeSteps (takeWithin 64) count (drop at (now (items .entry)))) r (now (sets .entry)) (now (sets .exit)) ⌝ }
+    requires { ⌜ Fits (now items) at (length (now parent)) (length (now sets)) (takeSteps (takeWithin bracketLimit) count (drop at (now items))) (λ s. 1 + heightSteps s) ⌝ }
+    ensures { λ r. ⌜ Moves (now (items .entry)) at (tableOf (now (parent .entry)) (now (kind .entry))) (now (given .entry)) (takeSteps (takeWithin bracketLimit) count (drop at (now (items .entry)))) r (now (sets .entry)) (now (sets .exit)) ⌝ }
 {
     let n = parent.len();
     let mut place = at;

@@ -1,8 +1,9 @@
 -- What is promised of the lines of an input and of those of a report.
-use Prim.Native.Nat.{ℕ, suc, _≤_}
+use Prim.Native.Nat.{ℕ, suc, _≤_, _+_}
 use mathlib.Core.Path.{_≡_}
 use mathlib.Core.List.{List}
 use lib.ListN.{length, take, drop}
+use Rattle.paper.specs.Limits.{textLimit}
 use Rattle.paper.specs.Answers.{value, refusal}
 use Rattle.paper.specs.Answers.{Answer as Told}
 use Rattle.pen.specs.Putting.{Puts}
@@ -28,9 +29,13 @@ abbrev pub placeTold : Told → ℕ
 placeTold (value n) = 0
 placeTold (refusal number place) = place
 
--- No report has more bytes: the room of a text, and 64 for the rest.
+-- No report has more bytes beside the text of a query.
+abbrev pub lineRoom : ℕ
+lineRoom = 64
+
+-- No report has more bytes.
 abbrev pub reportLimit : ℕ
-reportLimit = 32832
+reportLimit = textLimit + lineRoom
 
 -- The text is put from the start on, as far as the room goes, and has at most so many bytes.
 pub record Reports (text : List ℕ) (most : ℕ) (old new : List ℕ) (count : ℕ) : Type 0 where

@@ -9,7 +9,7 @@ ghost use Rattle.paper.specs.Limits.{textLimit};
 ghost use Rattle.paper.specs.Told.{told};
 ghost use Rattle.paper.specs.Program.{decimal, refusalLine, resultLines};
 ghost use Rattle.pen.specs.Putting.{Puts};
-ghost use Rattle.lines.specs.Lines.{Ends, Starts, numberTold, placeTold, reportLimit, Reports};
+ghost use Rattle.lines.specs.Lines.{Ends, Starts, numberTold, placeTold, reportLimit, Reports, lineRoom};
 
 // Where the first line of the bytes ends: at its LF, or where the bytes end.
 pub fn line_end(bytes: &[u8]) -> usize
@@ -96,7 +96,7 @@ fn place_of(answer: Answer) -> usize
 // Puts the line of a refusal: which part of the work refuses, the number and the place.
 pub fn put_refusal(out: &mut [u8], part: &[u8], answer: Answer) -> usize
     requires { ⌜ length (now part) ≤ 8 ⌝ }
-    ensures { λ r. ⌜ Reports (refusalLine (now (part .entry)) (numberTold (told answer)) (placeTold (told answer))) 64 (now (out .entry)) (now (out .exit)) r ⌝ }
+    ensures { λ r. ⌜ Reports (refusalLine (now (part .entry)) (numberTold (told answer)) (placeTold (told answer))) lineRoom (now (out .entry)) (now (out .exit)) r ⌝ }
 {
     let number = number_of(answer);
     let place = place_of(answer);

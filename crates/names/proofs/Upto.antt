@@ -18,7 +18,7 @@ use Rattle.paper.specs.Names.{linesFrom, firstBad, badLine, isName, namesFault,
 use Rattle.paper.proofs.Searches.{column-same}
 use Rattle.paper.proofs.Lines.{first-line, bad-name, bad-long, bad-open, bad-many}
 use Rattle.paper.proofs.Tests.{decide}
-use Rattle.names.specs.Listing.{Ends, Rising, Keyed, Indexed, Checked, keyOf, said, earlier, lineTo, opened}
+use Rattle.names.specs.Listing.{Ends, Rising, Keyed, Indexed, Checked, keyOf, said, earlier, lineTo, opened, startsCount}
 use Rattle.names.specs.declared.Listed.the-variants.{Good, Bad}
 use Rattle.names.proofs.Parts.{earlier-length}
 use Rattle.names.proofs.Keys.{name-length}
@@ -31,10 +31,10 @@ pub record Upto (list old starts : List ℕ) (count start : ℕ) : Type 0 where
   pub names : namesOf list ≡ column count (said list starts) ++ map (λ l. l .says) (linesFrom start (drop start list))
   pub kept : opened (length list) [] (linesFrom 0 list) ≡ take count starts ++ opened (length list) (earlier list starts count) (linesFrom start (drop start list))
   pub rest : drop (suc count) starts ≡ drop (suc count) old
-  pub size : length starts ≡ 257
+  pub size : length starts ≡ startsCount
 
 -- At first nothing is settled.
-pub at-first : (list starts : List ℕ) → getD starts 0 0 ≡ 0 → length starts ≡ 257 → Upto list starts starts 0 0
+pub at-first : (list starts : List ℕ) → getD starts 0 0 ≡ 0 → length starts ≡ startsCount → Upto list starts starts 0 0
 unfolding namesFault namesOf
 at-first list starts h size =
     record {
@@ -195,7 +195,7 @@ module _ (list old starts : List ℕ) (count start end : ℕ) (u : Upto list old
       }
 
   -- Its key is kept with those before it.
-  pub keyed-next : (keys : List ℕ) → length keys ≡ 257 → Keyed list starts keys count → Keyed list after (set keys count (keyOf word)) (suc count)
+  pub keyed-next : (keys : List ℕ) → length keys ≡ startsCount → Keyed list starts keys count → Keyed list after (set keys count (keyOf word)) (suc count)
   keyed-next keys long keyed =
       last-line {P = λ v. getD (set keys count (keyOf word)) v 0 ≡ keyOf (said list after v)}
       (getD-set-same keys count (keyOf word) 0 (omega (arith, room)) ∙ ap keyOf (sym said-new))

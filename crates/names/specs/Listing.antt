@@ -15,6 +15,10 @@ use Rattle.names.specs.declared.Found.{Found}
 use Rattle.names.specs.declared.Found.the-variants.{At, Nothing}
 use Rattle.names.specs.declared.Part.{Part}
 
+-- How many starts are kept: one a name, and the end of the list.
+abbrev pub startsCount : ℕ
+startsCount = namesLimit + 1
+
 -- Where line v stands: from its start up to its LF, right before the next line's start.
 abbrev pub partOf : List ℕ → ℕ → Part
 partOf starts v = record { start = getD starts v 0; len = getD starts (suc v) 0 - 1 - getD starts v 0 }
@@ -55,7 +59,7 @@ pub record FirstSame (list starts : List ℕ) (count : ℕ) (word : List ℕ) (v
   pub before : (u : ℕ) → u < v → same (said list starts u) word ≡ false
   pub here : v < count → same (said list starts v) word ≡ true
 
--- The key of a line: its length and its first and last byte in one number, below 65,536 for a line of at most 64 bytes.
+-- The key of a line: its length and its first and last byte in one number, below 65,536 for a line that is no longer than a name may be.
 abbrev pub keyOf : List ℕ → ℕ
 keyOf line = length line * 256 + getD line 0 0 + getD line (length line - 1) 0 * 191
 

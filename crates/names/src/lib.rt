@@ -9,7 +9,10 @@ ghost use lib.ListN.{length, getD, take, drop};
 ghost use Rattle.paper.specs.Tools.{same, someBelow, someOf};
 ghost use Rattle.paper.specs.Limits.{listLimit, nameLimit, namesLimit};
 ghost use Rattle.paper.specs.Names.{nameStart, namePart, isName, nameParts, numberOf, namesOf, badLine};
-ghost use Rattle.names.specs.Listing.{Ends, Rising, FirstSame, Keyed, Checked, Indexed, Spelled, keyOf, lineTo, earlier, partOf, foundAt};
+ghost use Rattle.names.specs.Listing.{startsCount, Ends, Rising, FirstSame, Keyed, Checked, Indexed, Spelled, keyOf, lineTo, earlier, partOf, foundAt};
+
+// How many starts are kept: one a name, and the end of the list.
+pub const STARTS: usize = NAMES_LIMIT + 1;
 
 // What checking the list finds: so many good names, or where the first bad line starts.
 pub enum Listed {
@@ -95,7 +98,7 @@ fn wide(x: u16) -> usize
 }
 
 // What line v says: it ends right before the LF that the next line follows.
-fn line_part(starts: &[u16; 257], v: usize) -> Part
+fn line_part(starts: &[u16; STARTS], v: usize) -> Part
     requires { ⌜ v < namesLimit ⌝ }
     requires { ⌜ getD (now starts) v 0 < getD (now starts) (suc v) 0 ⌝ }
     ensures { λ r. ⌜ r ≡ partOf (now (starts .entry)) v ⌝ }
@@ -109,7 +112,7 @@ fn line_part(starts: &[u16; 257], v: usize) -> Part
 }
 
 // The first of the lines that says this word, or their number where none does. Lengths are compared first, then bytes.
-fn first_same(list: &[u8], starts: &[u16; 257], count: usize, word: &[u8]) -> usize
+fn first_same(list: &[u8], starts: &[u16; STARTS], count: usize, word: &[u8]) -> usize
     requires { ⌜ Rising (now list) (now starts) count ⌝ }
     ensures { λ r. ⌜ FirstSame (now (list .entry)) (now (starts .entry)) count (now (word .entry)) r ⌝ }
 {
@@ -156,7 +159,7 @@ fn key(line: &[u8]) -> u16
 }
 
 // Is this one of the first keys? No branch ends the pass early, so that several keys are compared at once.
-fn key_kept(keys: &[u16; 257], count: usize, key: u16) -> bool
+fn key_kept(keys: &[u16; STARTS], count: usize, key: u16) -> bool
     requires { ⌜ count ≤ namesLimit ⌝ }
     ensures { λ r. ⌜ r ≡ someBelow count (λ v. eqb (getD (now (keys .entry)) v 0) key) ⌝ }
 {
@@ -170,7 +173,13 @@ fn key_kept(keys: &[u16; 257], count: usize, key: u16) -> bool
 }
 
 // Does one of the lines say this word? They are searched only where one has the word's key.
-fn repeats(list: &[u8], starts: &[u16; 257], keys: &[u16; 257], count: usize, word: &[u8]) -> bool
+fn repeats(
+    list: &[u8],
+    starts: &[u16; STARTS],
+    keys: &[u16; STARTS],
+    count: usize,
+    word: &[u8],
+) -> bool
     requires { ⌜ Rising (now list) (now starts) count ⌝ }
     requires { ⌜ Keyed (now list) (now starts) (now keys) count ⌝ }
     requires { ⌜ (0 < length (now word)) × (length (now word) ≤ nameLimit) ⌝ }
@@ -185,8 +194,8 @@ fn repeats(list: &[u8], starts: &[u16; 257], keys: &[u16; 257], count: usize, wo
 // Is the line from `start` to `end` bad, after these?
 fn bad_line(
     list: &[u8],
-    starts: &[u16; 257],
-    keys: &[u16; 257],
+    starts: &[u16; STARTS],
+    keys: &[u16; STARTS],
     count: usize,
     start: usize,
     end: usize,
@@ -213,14 +222,14 @@ fn bad_line(
 }
 
 // Checks the list, and keeps where each line starts; past the last line stands the length of the list.
-pub fn index(list: &[u8], starts: &mut [u16; 257]) -> Listed
+pub fn index(list: &[u8], starts: &mut [u16; STARTS]) -> Listed
     requires { ⌜ length (now list) ≤ listLimit ⌝ }
-    requires { ⌜ length (now starts) ≡ 257 ⌝ }
+    requires { ⌜ length (now starts) ≡ startsCount ⌝ }
     ensures { λ r. ⌜ Checked (now (list .entry)) (now (starts .entry)) (now (starts .exit)) r ⌝ }
 {
     let mut start: usize = 0;
     let mut count: usize = 0;
-    let mut keys = [0u16; 257];
+    let mut keys = [0u16; STARTS];
     starts[0] = 0;
     while start < list.len() {
         let end = line_end(list, start);
@@ -238,7 +247,7 @@ pub fn index(list: &[u8], starts: &mut [u16; 257]) -> Listed
 // The number of the word of `len` bytes that stands in a text.
 pub fn find(
     list: &[u8],
-    starts: &[u16; 257],
+    starts: &[u16; STARTS],
     count: usize,
     text: &[u8],
     start: usize,
@@ -257,7 +266,7 @@ pub fn find(
 }
 
 // Where name v stands in the list.
-pub fn spell(list: &[u8], starts: &[u16; 257], count: usize, v: usize) -> Part
+pub fn spell(list: &[u8], starts: &[u16; STARTS], count: usize, v: usize) -> Part
     requires { ⌜ Indexed (now list) (now starts) count ⌝ }
     requires { ⌜ v < count ⌝ }
     ensures { λ r. ⌜ Spelled (now (list .entry)) (now (starts .entry)) v r ⌝ }

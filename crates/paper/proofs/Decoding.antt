@@ -15,7 +15,7 @@ use borrow.Author.Tests.{ne-eqb, ltb-true, leb-true, le-leb}
 use Rattle.paper.specs.Tools.{found}
 use Rattle.paper.specs.Limits.{bracketLimit}
 use Rattle.paper.specs.Query.{Axis, Test, Expr, path, both, either, negated, Steps, stop, step, Preds, bare, pred, Query, paths}
-use Rattle.paper.specs.Items.{andItem, orItem, stepCount, predCount}
+use Rattle.paper.specs.Items.{countBound, andItem, orItem, stepCount, predCount}
 use Rattle.paper.specs.Items.{encodeExpr, encodeSteps, encodePreds, encodePaths, encode, goodTest, goodExpr, goodSteps, goodPreds, goodPaths, good}
 use Rattle.paper.specs.Items.{leading, Taken, takePreds, takeSteps, takeOperand, takeAnds, takeTerm, takeOrs, takeExpr, takeWithin, takePaths, decode}
 use Rattle.paper.specs.Measures.{isAnd, isOr, inBrackets, nestExpr, nestSteps, nestPreds, nestPaths, nesting}
@@ -150,7 +150,7 @@ item-path : (c n : ℕ) → 0 < n → n < 8 → eqb n (c * 8) ≡ false
 item-path c n p q = ne-eqb n (c * 8) (λ e. omega arith)
 
 -- A path in a predicate.
-read-path : (s : Steps) → 1 ≤ stepCount s → stepCount s < 8192 → ReadsSteps s → Reads (path s)
+read-path : (s : Steps) → 1 ≤ stepCount s → stepCount s < countBound → ReadsSteps s → Reads (path s)
 unfolding takeOperand
 read-path s some-step few r =
     plain (path s) refl refl (λ ws. rw (path-item c 3 (omega arith) (omega arith))) (λ ws. rw (path-item c 2 (omega arith) (omega arith)))
@@ -161,7 +161,7 @@ read-path s some-step few r =
     c = stepCount s
 
 -- One step more.
-read-step : (a : Axis) (t : Test) (ps : Preds) (rest : Steps) → goodTest t ≡ true → predCount ps < 8192 → ReadsPreds ps → ReadsSteps rest
+read-step : (a : Axis) (t : Test) (ps : Preds) (rest : Steps) → goodTest t ≡ true → predCount ps < countBound → ReadsPreds ps → ReadsSteps rest
     → ReadsSteps (step a t ps rest)
 read-step a t ps rest g few rp rs d ws h =
     rw (step-at a t (predCount ps) g few, append-assoc (encodePreds ps) (encodeSteps rest) ws, rp d (encodeSteps rest ++ ws) (omega arith), rs d ws (omega arith))
@@ -174,8 +174,8 @@ read-pred e ps re rp d ws h =
 mutual
   reads : (e : Expr) → goodExpr e ≡ true → Reads e
   reads (path s) g =
-      let h = and-true (leb 1 (stepCount s) && ltb (stepCount s) 8192) (goodSteps s) g in
-      let k = and-true (leb 1 (stepCount s)) (ltb (stepCount s) 8192) (h .0) in
+      let h = and-true (leb 1 (stepCount s) && ltb (stepCount s) countBound) (goodSteps s) g in
+      let k = and-true (leb 1 (stepCount s)) (ltb (stepCount s) countBound) (h .0) in
       read-path s (leb-true _ _ (k .0)) (ltb-true _ _ (k .1)) (reads-steps s (h .1))
   reads (both a b) g = let h = and-true (goodExpr a) (goodExpr b) g in read-both a b (reads a (h .0)) (reads b (h .1))
   reads (either a b) g = let h = and-true (goodExpr a) (goodExpr b) g in read-either a b (reads a (h .0)) (reads b (h .1))
@@ -184,9 +184,9 @@ mutual
   reads-steps : (s : Steps) → goodSteps s ≡ true → ReadsSteps s
   reads-steps stop g = λ d ws h. refl
   reads-steps (step a t ps rest) g =
-      let h = and-true (goodTest t && ltb (predCount ps) 8192 && goodPreds ps) (goodSteps rest) g in
-      let k = and-true (goodTest t && ltb (predCount ps) 8192) (goodPreds ps) (h .0) in
-      let l = and-true (goodTest t) (ltb (predCount ps) 8192) (k .0) in
+      let h = and-true (goodTest t && ltb (predCount ps) countBound && goodPreds ps) (goodSteps rest) g in
+      let k = and-true (goodTest t && ltb (predCount ps) countBound) (goodPreds ps) (h .0) in
+      let l = and-true (goodTest t) (ltb (predCount ps) countBound) (k .0) in
       read-step a t ps rest (l .0) (ltb-true _ _ (l .1)) (reads-preds ps (k .1)) (reads-steps rest (h .1))
 
   reads-preds : (ps : Preds) → goodPreds ps ≡ true → ReadsPreds ps
@@ -200,12 +200,12 @@ read-paths [] zero g h l = refl
 read-paths [] (suc n) g h l = refl
 read-paths (p ∷ ps) zero g h l = absurd (omega arith)
 read-paths (p ∷ ps) (suc n) g h l =
-    let i = and-true (ltb (stepCount p) 8192 && goodSteps p) (goodPaths ps) g in
-    let j = and-true (ltb (stepCount p) 8192) (goodSteps p) (i .0) in
+    let i = and-true (ltb (stepCount p) countBound && goodSteps p) (goodPaths ps) g in
+    let j = and-true (ltb (stepCount p) countBound) (goodSteps p) (i .0) in
     let few : length (encodePaths ps) ≤ n = omega (arith, simp length-append at l) in
     rw (path-at (stepCount p) (ltb-true _ _ (j .0)), or-right (leb 1 (stepCount p)) refl, reads-steps p (j .1) bracketLimit (encodePaths ps) (omega arith), read-paths ps n (i .1) (omega arith) (omega arith))
 
--- DECODE AFTER ENCODE: a query that can stand in memory, nested at most 64 deep, is read back from its items.
+-- DECODE AFTER ENCODE: a query that can stand in memory, nested at most to the limit, is read back from its items.
 pub decode-encode : (q : Query) → good q ≡ true → nesting q ≤ bracketLimit → decode (encode q) ≡ some q
 unfolding decode encode good nesting
 decode-encode q g h = rw (read-paths (paths q) (length (encodePaths (paths q))) g h (omega arith))

@@ -1,4 +1,4 @@
--- What decoding finds has these very items: it is a query that can stand in memory, nested at most 64 deep.
+-- What decoding finds has these very items: it is a query that can stand in memory, nested at most to the limit.
 -- By induction over the brackets that may still be opened, and over each count. Assumes nothing.
 use Prim.Native.Nat.{ℕ, zero, suc, _+_, _≤_, _<_}
 use native.Mathlib.Omega.{arith}
@@ -12,7 +12,7 @@ use borrow.Author.Tests.{eqb-true, lt-ltb}
 use Rattle.paper.specs.Tools.{found, begins}
 use Rattle.paper.specs.Limits.{bracketLimit}
 use Rattle.paper.specs.Query.{Expr, path, both, either, negated, Steps, Preds, Query}
-use Rattle.paper.specs.Items.{andItem, orItem, notItem, packPath, packStep, pathAt, stepAt, stepCount, predCount}
+use Rattle.paper.specs.Items.{countBound, andItem, orItem, notItem, packPath, packStep, pathAt, stepAt, stepCount, predCount}
 use Rattle.paper.specs.Items.{encodeExpr, encodeSteps, encodePreds, encodePaths, encode, goodExpr, goodSteps, goodPreds, goodPaths, good}
 use Rattle.paper.specs.Items.{leading, Taken, takePreds, takeSteps, takePath, takeOperand, takeAnds, takeTerm, takeOrs, takeExpr, takeWithin, takePaths, asQuery, decode}
 use Rattle.paper.specs.Measures.{isAnd, isOr, inBrackets, nestExpr, nestSteps, nestPreds, nestPaths, nesting}
@@ -152,19 +152,19 @@ module _ (d : ℕ) (within : List ℕ → Taken Expr)
             ap₂ _∷_ (i .0 ∙ ap (packStep (t .axis) (t .test)) (sym (f .count)))
             (f .items ∙ ap (λ l. encodePreds (a .0) ++ l) (g .items) ∙ sym (append-assoc (encodePreds (a .0)) (encodeSteps (b .0)) (b .1)));
         count = ap suc (g .count);
-        fine = true-and (true-and (true-and (i .1) (lt-ltb (predCount (a .0)) 8192 (omega (arith, i .2, f .count)))) (f .fine)) (g .fine);
+        fine = true-and (true-and (true-and (i .1) (lt-ltb (predCount (a .0)) countBound (omega (arith, i .2, f .count)))) (f .fine)) (g .fine);
         nested = omega (arith, f .nested, g .nested);
       }))))
 
   -- A path, with at least one step unless it may be bare.
   pub from-path : (bareToo : Bool) (ws : List ℕ) (r : Steps × List ℕ) → takePath within bareToo ws ≡ some r
-      → (ws ≡ packPath (stepCount (r .0)) ∷ encodeSteps (r .0) ++ r .1) × (stepCount (r .0) < 8192) × (goodSteps (r .0) ≡ true) × (nestSteps (r .0) ≤ d)
+      → (ws ≡ packPath (stepCount (r .0)) ∷ encodeSteps (r .0) ++ r .1) × (stepCount (r .0) < countBound) × (goodSteps (r .0) ≡ true) × (nestSteps (r .0) ≤ d)
       × ((leb 1 (stepCount (r .0)) || bareToo) ≡ true)
   from-path bareToo [] r h = none-some h
   from-path bareToo (w ∷ ws) r h = found-some (pathAt w) _ r h (λ n p q. go n p q (leb 1 n || bareToo) refl)
     where
       go : (n : ℕ) → pathAt w ≡ some n → cond (leb 1 n || bareToo) (takeSteps within n ws) none ≡ some r → (b : Bool) → (leb 1 n || bareToo) ≡ b
-          → (w ∷ ws ≡ packPath (stepCount (r .0)) ∷ encodeSteps (r .0) ++ r .1) × (stepCount (r .0) < 8192) × (goodSteps (r .0) ≡ true) × (nestSteps (r .0) ≤ d)
+          → (w ∷ ws ≡ packPath (stepCount (r .0)) ∷ encodeSteps (r .0) ++ r .1) × (stepCount (r .0) < countBound) × (goodSteps (r .0) ≡ true) × (nestSteps (r .0) ≤ d)
           × ((leb 1 (stepCount (r .0)) || bareToo) ≡ true)
       go n p q true e =
           let f = from-steps n ws r (rw e at q) in

@@ -14,7 +14,7 @@ use lib.ListN.{length, getD, set, drop, replicate, length-append, getD-replicate
 use lib.Seq.{set-at, getD-at, drop-cons, ext-getD}
 use borrow.Author.Tests.{eqb-true, eq-eqb, ne-eqb}
 use Rattle.paper.specs.Tools.{written}
-use Rattle.paper.specs.Document.{Table, nodes, parentOf, kindOf, over, goodNode, tableFault, marked, marksFault}
+use Rattle.paper.specs.Document.{Table, nodes, parentOf, kindOf, kindLimit, over, goodNode, tableFault, marked, marksFault}
 use Rattle.paper.specs.Extraction.{rank, pickFrom, extracted}
 use Rattle.paper.proofs.Tests.{and-true, true-and, decide}
 use Rattle.paper.proofs.Searches.{none-first}
@@ -115,14 +115,14 @@ InOrder t = (i : ℕ) → suc i < nodes t → over t i (parentOf t (suc i)) ≡ 
 
 -- What a good node says of its kind, of its parent and of its parent's kind.
 pub good-later : (t : Table) (i : ℕ) → goodNode t (suc i) ≡ true
-    → ((leb 1 (kindOf t (suc i)) && leb (kindOf t (suc i)) 257) ≡ true) × (over t i (parentOf t (suc i)) ≡ true) × (not (eqb (kindOf t (parentOf t (suc i))) 1) ≡ true)
+    → ((leb 1 (kindOf t (suc i)) && leb (kindOf t (suc i)) kindLimit) ≡ true) × (over t i (parentOf t (suc i)) ≡ true) × (not (eqb (kindOf t (parentOf t (suc i))) 1) ≡ true)
 unfolding goodNode
 good-later t i g =
     let k = kindOf t (suc i) in
     let o = over t i (parentOf t (suc i)) in
     let c = not (eqb (kindOf t (parentOf t (suc i))) 1) in
-    let a = and-true (leb 1 k && leb k 257 && o) c g in
-    let b = and-true (leb 1 k && leb k 257) o (a .0) in
+    let a = and-true (leb 1 k && leb k kindLimit && o) c g in
+    let b = and-true (leb 1 k && leb k kindLimit) o (a .0) in
     (b .0, b .1, a .1)
 
 pub in-order : (t : Table) → tableFault t ≡ none → InOrder t
@@ -215,7 +215,7 @@ module _ (t : Table) (marks : List ℕ) (ft : tableFault t ≡ none) (fm : marks
       ∙ eqb-true (kindOf t 0) 0 (and-true (eqb (parentOf t 0) 0) (eqb (kindOf t 0) 0) (good-nodes t ft .1 0 (w .rooted)) .1)))
 
   -- What the kinds of a node and of its parent must be.
-  kinds-good : (i : ℕ) → 0 < i → i < nodes t → ((leb 1 (kindOf t i) && leb (kindOf t i) 257) ≡ true) × (not (eqb (kindOf t (parentOf t i)) 1) ≡ true)
+  kinds-good : (i : ℕ) → 0 < i → i < nodes t → ((leb 1 (kindOf t i) && leb (kindOf t i) kindLimit) ≡ true) × (not (eqb (kindOf t (parentOf t i)) 1) ≡ true)
   kinds-good zero z l = absurd (omega arith)
   kinds-good (suc h) z l = let g = good-later t h (good-nodes t ft .1 (suc h) l) in (g .0, g .2)
 
@@ -232,7 +232,7 @@ module _ (t : Table) (marks : List ℕ) (ft : tableFault t ≡ none) (fm : marks
       let o : over t j p ≡ true = over-last t w (in-order t ft) marks c i j (omega arith) li mi lj mj (ei ∙ ap suc (sym ej)) in
       let o′ : over u q (parentOf u (suc q)) ≡ true =
       ap₂ (λ x y. over u x y) (sym ej) (sym parent-is) ∙ over-extracted t marks w c m₀ p j (omega arith) mj o in
-      true-and (true-and (subst (λ x. (leb 1 x && leb x 257) ≡ true) kind-is (k .0)) o′) (subst (λ x. not (eqb x 1) ≡ true) above-is (k .1))
+      true-and (true-and (subst (λ x. (leb 1 x && leb x kindLimit) ≡ true) kind-is (k .0)) o′) (subst (λ x. not (eqb x 1) ≡ true) above-is (k .1))
 
   new-good : (r : ℕ) → r < nodes u → goodNode u r ≡ true
   new-good zero l = root-good

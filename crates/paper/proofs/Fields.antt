@@ -9,24 +9,12 @@ use mathlib.Core.Bool.{Bool, true, false}
 use mathlib.Core.Option.{none, some}
 use lib.Dec.{eqb, ltb}
 use borrow.Author.Tests.{lt-ltb, ltb-true, eqb-true}
-use Rattle.paper.specs.Query.{Axis, self, child, parent, descendantOrSelf, ancestorOrSelf}
+use Rattle.paper.specs.Limits.{namesLimit}
+use Rattle.paper.specs.Query.{Axis}
 use Rattle.paper.specs.Query.{Test, anyNode, textNode, named, anyElement}
-use Rattle.paper.specs.Items.{axisNumber, axisOf, testNumber, testOf, packPath, pathAt, Head, packStep, stepAt, goodTest}
+use Rattle.paper.specs.Items.{axisNumber, axisOf, testNumber, testOf, testBound, countBound, packPath, pathAt, Head, packStep, stepAt, goodTest}
 use Rattle.paper.proofs.Tests.{none-some, some-inj, found-some}
-
-pub axis-number : (a : Axis) → axisOf (axisNumber a) ≡ some a
-axis-number self = refl
-axis-number child = refl
-axis-number parent = refl
-axis-number descendantOrSelf = refl
-axis-number ancestorOrSelf = refl
-
-pub axis-small : (a : Axis) → axisNumber a < 8
-axis-small self = omega arith
-axis-small child = omega arith
-axis-small parent = omega arith
-axis-small descendantOrSelf = omega arith
-axis-small ancestorOrSelf = omega arith
+use Rattle.paper.proofs.Axes.{axis-number, axis-small, axis-found}
 
 pub test-number : (t : Test) → goodTest t ≡ true → testOf (testNumber t) ≡ some t
 test-number anyNode h = refl
@@ -34,13 +22,13 @@ test-number textNode h = refl
 test-number (named v) h = rw (add-comm 2 v, add-two, h)
 test-number anyElement h = refl
 
-pub test-small : (t : Test) → goodTest t ≡ true → testNumber t < 512
+pub test-small : (t : Test) → goodTest t ≡ true → testNumber t < testBound
 test-small anyNode h = omega arith
 test-small textNode h = omega arith
-test-small (named v) h = omega (arith, ltb-true v 256 h)
+test-small (named v) h = omega (arith, ltb-true v namesLimit h)
 test-small anyElement h = omega arith
 
-pub path-at : (count : ℕ) → count < 8192 → pathAt (packPath count) ≡ some count
+pub path-at : (count : ℕ) → count < countBound → pathAt (packPath count) ≡ some count
 unfolding pathAt
 path-at count h =
     let e : count * 8 % 8 ≡ 0 = omega arith in
@@ -49,7 +37,7 @@ path-at count h =
     rw (e, q, lt-ltb _ _ l)
 
 -- A step item, from its three fields.
-pub step-at : (a : Axis) (t : Test) (count : ℕ) → goodTest t ≡ true → count < 8192
+pub step-at : (a : Axis) (t : Test) (count : ℕ) → goodTest t ≡ true → count < countBound
     → stepAt (packStep a t count) ≡ some (record { axis = a; test = t; count = count })
 unfolding stepAt
 step-at a t count h l =
@@ -68,11 +56,11 @@ step-at a t count h l =
     rw (e, lt-ltb _ _ s, ea, axis-number a, et, test-number t h, ec)
 
 -- What is found in a path item.
-pub path-found : (w count : ℕ) → pathAt w ≡ some count → (w ≡ packPath count) × (count < 8192)
+pub path-found : (w count : ℕ) → pathAt w ≡ some count → (w ≡ packPath count) × (count < countBound)
 unfolding pathAt
 path-found w count h = go (eqb (w % 8) 0) refl (ltb w 65536) refl
   where
-    go : (a : Bool) → eqb (w % 8) 0 ≡ a → (b : Bool) → ltb w 65536 ≡ b → (w ≡ packPath count) × (count < 8192)
+    go : (a : Bool) → eqb (w % 8) 0 ≡ a → (b : Bool) → ltb w 65536 ≡ b → (w ≡ packPath count) × (count < countBound)
     go true p true q =
         let z : w % 8 ≡ 0 = eqb-true _ _ p in
         let l : w < 65536 = ltb-true _ _ q in
@@ -82,22 +70,13 @@ path-found w count h = go (eqb (w % 8) 0) refl (ltb w 65536) refl
     go true p false q = none-some (rw (p, q) at h)
     go false p b q = none-some (rw p at h)
 
--- The axis of a number has that number.
-pub axis-found : (n : ℕ) (a : Axis) → axisOf n ≡ some a → n ≡ axisNumber a
-axis-found zero a h = ap axisNumber (let e : self ≡ a = cc in e)
-axis-found (suc zero) a h = ap axisNumber (let e : child ≡ a = cc in e)
-axis-found (suc (suc zero)) a h = ap axisNumber (let e : parent ≡ a = cc in e)
-axis-found (suc (suc (suc zero))) a h = ap axisNumber (let e : descendantOrSelf ≡ a = cc in e)
-axis-found (suc (suc (suc (suc zero)))) a h = ap axisNumber (let e : ancestorOrSelf ≡ a = cc in e)
-axis-found (suc (suc (suc (suc (suc n))))) a h = none-some h
-
 -- The test of a number has that number.
 pub test-found : (n : ℕ) (t : Test) → testOf n ≡ some t → (n ≡ testNumber t) × (goodTest t ≡ true)
 test-found zero t h = let e : anyNode ≡ t = cc in subst (λ (x : Test). (0 ≡ testNumber x) × (goodTest x ≡ true)) e (refl, refl)
 test-found (suc zero) t h = let e : textNode ≡ t = cc in subst (λ (x : Test). (1 ≡ testNumber x) × (goodTest x ≡ true)) e (refl, refl)
-test-found (suc (suc v)) t h = go (ltb v 256) refl (eqb v 256) refl
+test-found (suc (suc v)) t h = go (ltb v namesLimit) refl (eqb v namesLimit) refl
   where
-    go : (a : Bool) → ltb v 256 ≡ a → (b : Bool) → eqb v 256 ≡ b → (suc (suc v) ≡ testNumber t) × (goodTest t ≡ true)
+    go : (a : Bool) → ltb v namesLimit ≡ a → (b : Bool) → eqb v namesLimit ≡ b → (suc (suc v) ≡ testNumber t) × (goodTest t ≡ true)
     go true p b q =
         let c : some (named v) ≡ some t = rw p at h in
         let e : named v ≡ t = cc in
@@ -105,12 +84,12 @@ test-found (suc (suc v)) t h = go (ltb v 256) refl (eqb v 256) refl
     go false p true q =
         let c : some anyElement ≡ some t = rw (p, q) at h in
         let e : anyElement ≡ t = cc in
-        subst (λ (x : Test). (suc (suc v) ≡ testNumber x) × (goodTest x ≡ true)) e (omega (arith, eqb-true v 256 q), refl)
+        subst (λ (x : Test). (suc (suc v) ≡ testNumber x) × (goodTest x ≡ true)) e (omega (arith, eqb-true v namesLimit q), refl)
     go false p false q = let c : none ≡ some t = rw (p, q) at h in none-some c
 
 -- What a step item must be, to say this.
 abbrev pub Says : ℕ → Head → Type 0
-Says w h = (w ≡ packStep (h .axis) (h .test) (h .count)) × (goodTest (h .test) ≡ true) × (h .count < 8192)
+Says w h = (w ≡ packStep (h .axis) (h .test) (h .count)) × (goodTest (h .test) ≡ true) × (h .count < countBound)
 
 -- What is found in a step item.
 pub step-found : (w : ℕ) (h : Head) → stepAt w ≡ some h → Says w h

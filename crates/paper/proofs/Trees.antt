@@ -12,7 +12,7 @@ use lib.Dec.{eqb, leb}
 use lib.ListN.{getD}
 use borrow.Author.Tests.{eqb-true, eq-eqb, ne-eqb, not-false}
 use Rattle.paper.specs.Tools.{firstBelow}
-use Rattle.paper.specs.Document.{Table, nodes, parentOf, kindOf, climbs, over, goodNode, tableFault, marked, goodMark, marksFault}
+use Rattle.paper.specs.Document.{Table, nodes, parentOf, kindOf, kindLimit, climbs, over, goodNode, tableFault, marked, goodMark, marksFault}
 use Rattle.paper.proofs.Tests.{and-true, or-true, or-left, or-right, none-some}
 use Rattle.paper.proofs.Searches.{first-none}
 
@@ -147,7 +147,7 @@ tree t h = record { rooted = g .0; root = root-of; falls = λ i z l. falls-to (s
         let p = parentOf t (suc i) in
         let k = kindOf t (suc i) in
         let m = climbs t (nodes t) i p in
-        and-true (leb 1 k && leb k 257) m (and-true (leb 1 k && leb k 257 && m) (not (eqb (kindOf t p) 1)) (g .1 (suc i) l) .0) .1
+        and-true (leb 1 k && leb k kindLimit) m (and-true (leb 1 k && leb k kindLimit && m) (not (eqb (kindOf t p) 1)) (g .1 (suc i) l) .0) .1
 
     falls-to : (b i : ℕ) → i < b → 0 < i → i < nodes t → parentOf t i < i
     falls-to zero i h z l = absurd (omega arith)

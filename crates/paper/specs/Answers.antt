@@ -1,4 +1,4 @@
--- 01, "Numbers refused": for each entry point its answer and each lent slice at exit, for every input, as the first line that holds in the order of 01.
+-- docs/SCOPE.md, "Numbers refused": for each entry point its answer and each lent slice at exit, for every input, as the first line that holds in the order of 01.
 use Prim.Native.Nat.{ℕ, suc, _+_, _*_}
 use mathlib.Core.Bool.{Bool, false, not, _||_, cond}
 use mathlib.Core.List.{List, [], _∷_}

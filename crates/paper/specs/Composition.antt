@@ -1,4 +1,4 @@
--- 01, "Composition": one query for an outer query run inside what an inner query keeps.
+-- docs/SCOPE.md, "Composition": one query for an outer query run inside what an inner query keeps.
 use Prim.Native.Nat.{ℕ, _+_, _*_, _-_, max}
 use mathlib.Core.List.{List, [], _∷_, map}
 use lib.ListN.{length}

@@ -1,4 +1,4 @@
--- 01, "The document": the node table and the marks, with what is wrong with bad ones.
+-- docs/SCOPE.md, "The document": the node table and the marks, with what is wrong with bad ones.
 use Prim.Native.Nat.{ℕ, zero, suc}
 use mathlib.Core.Bool.{Bool, not, _&&_, _||_, cond}
 use mathlib.Core.List.{List}
@@ -28,6 +28,14 @@ parentOf t i = getD (t .parents) i 0
 abbrev pub kindOf : Table → ℕ → ℕ
 kindOf t i = getD (t .kinds) i 0
 
+-- The kind of an element of the first name.
+abbrev pub elementKind : ℕ
+elementKind = 2
+
+-- Kinds go up to that of an element of the 256th name.
+abbrev pub kindLimit : ℕ
+kindLimit = 257
+
 -- Is j met by going up from i at most `far` times?
 abbrev pub climbs : Table → ℕ → ℕ → ℕ → Bool
 climbs t zero i j = eqb i j
@@ -38,11 +46,11 @@ unfoldable pub over : Table → ℕ → ℕ → Bool
 over t i j = climbs t (nodes t) i j
 
 -- Is the node i as it must be, if those before it are?
--- Node 0 is the root, with parent 0. No other node has kind 0, kinds go up to 257, the parent is i - 1 or an ancestor of i - 1, and text has no children.
+-- Node 0 is the root, with parent 0. No other node has kind 0, kinds go up to their limit, the parent is i - 1 or an ancestor of i - 1, and text has no children.
 unfoldable pub goodNode : Table → ℕ → Bool
 goodNode t zero = eqb (parentOf t 0) 0 && eqb (kindOf t 0) 0
 goodNode t (suc i) =
-    leb 1 (kindOf t (suc i)) && leb (kindOf t (suc i)) 257 && over t i (parentOf t (suc i)) && not (eqb (kindOf t (parentOf t (suc i))) 1)
+    leb 1 (kindOf t (suc i)) && leb (kindOf t (suc i)) kindLimit && over t i (parentOf t (suc i)) && not (eqb (kindOf t (parentOf t (suc i))) 1)
 
 -- Refusal 7: the first bad node, or 0 where there is no node.
 unfoldable pub tableFault : Table → Option ℕ

@@ -1,4 +1,4 @@
--- 01, "Extract": the marked nodes in order, as a table of their own.
+-- docs/SCOPE.md, "Extract": the marked nodes in order, as a table of their own.
 use Prim.Native.Nat.{ℕ, zero, suc}
 use mathlib.Core.Bool.{cond}
 use mathlib.Core.List.{List, [], _∷_}

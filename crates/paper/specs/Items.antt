@@ -1,4 +1,4 @@
--- 01, "The query in memory": the items, one number each, in prefix order.
+-- docs/SCOPE.md, "The query in memory": the items, one number each, in prefix order.
 use Prim.Native.Nat.{ℕ, zero, suc, _+_, _*_, _/_, _%_}
 use mathlib.Core.Bool.{Bool, true, false, _&&_, _||_, cond}
 use mathlib.Core.List.{List, [], _∷_, _++_}
@@ -6,7 +6,7 @@ use mathlib.Core.Option.{Option, none, some}
 use lib.Dec.{eqb, leb, ltb}
 use lib.ListN.{length, drop}
 use Rattle.paper.specs.Tools.{begins, found}
-use Rattle.paper.specs.Limits.{bracketLimit}
+use Rattle.paper.specs.Limits.{bracketLimit, namesLimit}
 use Rattle.paper.specs.Query.{Axis, self, child, parent, descendantOrSelf, ancestorOrSelf}
 use Rattle.paper.specs.Query.{Test, anyNode, textNode, named, anyElement}
 use Rattle.paper.specs.Query.{Expr, path, both, either, negated, Steps, stop, step, Preds, bare, pred, Query, paths}
@@ -19,6 +19,10 @@ axisNumber parent = 2
 axisNumber descendantOrSelf = 3
 axisNumber ancestorOrSelf = 4
 
+-- How many axes there are: their numbers are those below.
+abbrev pub axes : ℕ
+axes = 5
+
 abbrev pub axisOf : ℕ → Option Axis
 axisOf zero = some self
 axisOf (suc zero) = some child
@@ -27,17 +31,34 @@ axisOf (suc (suc (suc zero))) = some descendantOrSelf
 axisOf (suc (suc (suc (suc zero)))) = some ancestorOrSelf
 axisOf (suc (suc (suc (suc (suc n))))) = none
 
+-- The test of the name 0; those of the other names follow.
+abbrev pub namedFrom : ℕ
+namedFrom = 2
+
 -- Test 0 is `node()`, 1 `text()`, 2 + v a name, 258 `*`.
 abbrev pub testNumber : Test → ℕ
 testNumber anyNode = 0
 testNumber textNode = 1
-testNumber (named v) = 2 + v
+testNumber (named v) = namedFrom + v
 testNumber anyElement = 258
 
 abbrev pub testOf : ℕ → Option Test
 testOf zero = some anyNode
 testOf (suc zero) = some textNode
-testOf (suc (suc v)) = cond (ltb v 256) (some (named v)) (cond (eqb v 256) (some anyElement) none)
+testOf (suc (suc v)) = cond (ltb v namesLimit) (some (named v)) (cond (eqb v namesLimit) (some anyElement) none)
+
+-- The fields of an item: an axis has 3 bits, a test 9, and a count 13, so each is below its bound, and a count is at most its limit.
+abbrev pub axisBound : ℕ
+axisBound = 8
+
+abbrev pub testBound : ℕ
+testBound = 512
+
+abbrev pub countLimit : ℕ
+countLimit = 8191
+
+abbrev pub countBound : ℕ
+countBound = countLimit + 1
 
 -- A path item: kind 0 in bits 0 to 2, the step count in bits 3 to 15.
 abbrev pub packPath : ℕ → ℕ
@@ -181,7 +202,7 @@ abbrev pub asQuery : List Steps → Option Query
 asQuery [] = none
 asQuery (p ∷ ps) = some (record { first = p; others = ps })
 
--- The query that the items are; nothing where they are malformed, empty, or nested over 64 (refusal 6).
+-- The query that the items are; nothing where they are malformed, empty, or nested over the limit (refusal 6).
 unfoldable pub decode : List ℕ → Option Query
 decode ws = found (takePaths (length ws) ws) asQuery
 
@@ -189,19 +210,19 @@ decode ws = found (takePaths (length ws) ws) asQuery
 abbrev pub goodTest : Test → Bool
 goodTest anyNode = true
 goodTest textNode = true
-goodTest (named v) = ltb v 256
+goodTest (named v) = ltb v namesLimit
 goodTest anyElement = true
 
 abbrev mutual
   pub goodExpr : Expr → Bool
-  goodExpr (path steps) = leb 1 (stepCount steps) && ltb (stepCount steps) 8192 && goodSteps steps
+  goodExpr (path steps) = leb 1 (stepCount steps) && ltb (stepCount steps) countBound && goodSteps steps
   goodExpr (both a b) = goodExpr a && goodExpr b
   goodExpr (either a b) = goodExpr a && goodExpr b
   goodExpr (negated a) = goodExpr a
 
   pub goodSteps : Steps → Bool
   goodSteps stop = true
-  goodSteps (step a t ps rest) = goodTest t && ltb (predCount ps) 8192 && goodPreds ps && goodSteps rest
+  goodSteps (step a t ps rest) = goodTest t && ltb (predCount ps) countBound && goodPreds ps && goodSteps rest
 
   pub goodPreds : Preds → Bool
   goodPreds bare = true
@@ -209,7 +230,7 @@ abbrev mutual
 
 abbrev pub goodPaths : List Steps → Bool
 goodPaths [] = true
-goodPaths (p ∷ ps) = ltb (stepCount p) 8192 && goodSteps p && goodPaths ps
+goodPaths (p ∷ ps) = ltb (stepCount p) countBound && goodSteps p && goodPaths ps
 
 unfoldable pub good : Query → Bool
 good q = goodPaths (paths q)

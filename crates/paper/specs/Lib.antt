@@ -1,3 +1,4 @@
+-- The definitions that a reader has to believe: docs/SCOPE.md, section by section, in its words. Each file names its section in its first line.
 pub mod Tools
 pub mod Limits
 pub mod Query

@@ -1,4 +1,4 @@
--- 01, "Numbers refused": the limits on what is lent.
+-- docs/SCOPE.md, "Numbers refused": the limits on what is lent.
 use Prim.Native.Nat.{ℕ}
 
 -- A text lent for reading has at most 32,768 bytes.

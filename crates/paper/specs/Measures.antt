@@ -1,4 +1,4 @@
--- 01, "The query in memory": size, nesting and height.
+-- docs/SCOPE.md, "The query in memory": size, nesting and height.
 use Prim.Native.Nat.{ℕ, _+_, max}
 use mathlib.Core.Bool.{Bool, true, false, _||_}
 use mathlib.Core.List.{List, [], _∷_}

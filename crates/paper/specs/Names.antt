@@ -1,4 +1,4 @@
--- 01, "The part of XPath": names, and the lent list that they come from.
+-- docs/SCOPE.md, "The part of XPath": names, and the lent list that they come from.
 use Prim.Native.Nat.{ℕ, suc}
 use mathlib.Core.Bool.{Bool, true, false, not, _&&_, _||_, cond}
 use mathlib.Core.List.{List, [], _∷_, map}
@@ -47,7 +47,7 @@ linesFrom at [] = []
 linesFrom at (b ∷ bs) =
     let later = linesFrom (suc at) bs in cond (eqb b 10) (record { start = at; says = []; ended = true } ∷ later) (grown at b later)
 
--- Is the line bad, after these: no name, over 64 bytes, no LF, the 257th, or a repeat?
+-- Is the line bad, after these: no name, too long, no LF, one too many, or a repeat?
 unfoldable pub badLine : List (List ℕ) → Line → Bool
 badLine earlier l =
     not (isName (l .says)) || ltb nameLimit (length (l .says)) || not (l .ended) || leb namesLimit (length earlier) || someOf (same (l .says)) earlier

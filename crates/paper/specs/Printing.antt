@@ -1,4 +1,4 @@
--- 01, "Printing": the text of a query, with the axes written out.
+-- docs/SCOPE.md, "Printing": the text of a query, with the axes written out.
 use Prim.Native.Nat.{ℕ, _+_, _-_, max}
 use mathlib.Core.Bool.{Bool, true, false}
 use mathlib.Core.List.{List, [], _∷_, _++_}
@@ -22,6 +22,10 @@ axisText child = ascii "child"
 axisText parent = ascii "parent"
 axisText descendantOrSelf = ascii "descendant-or-self"
 axisText ancestorOrSelf = ascii "ancestor-or-self"
+
+-- No word of an axis has more bytes.
+abbrev pub axisTextLimit : ℕ
+axisTextLimit = 18
 
 -- The text of a test; a name is spelled as its line of the list.
 abbrev pub testText : List (List ℕ) → Test → List ℕ

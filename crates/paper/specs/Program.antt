@@ -1,4 +1,4 @@
--- 01, "The printing program": for any input, the bytes that the program prints.
+-- docs/SCOPE.md, "The printing program": for any input, the bytes that the program prints.
 use Prim.Native.Nat.{ℕ, zero, suc, _+_, _/_, _%_}
 use Prim.Native.String.{String}
 use mathlib.Core.Bool.{cond}

@@ -1,4 +1,4 @@
--- 01, "The part of XPath": what a query is.
+-- docs/SCOPE.md, "The part of XPath": what a query is.
 use Prim.Native.Nat.{ℕ}
 use mathlib.Core.List.{List, _∷_}
 

@@ -1,4 +1,4 @@
--- 01, "The part of XPath": the query that a text is, or the place where it stops being one.
+-- docs/SCOPE.md, "The part of XPath": the query that a text is, or the place where it stops being one.
 use Prim.Native.Nat.{ℕ, zero, suc}
 use mathlib.Core.Bool.{Bool, _&&_, _||_, cond}
 use mathlib.Core.List.{List, [], _∷_}

@@ -1,4 +1,4 @@
--- 01, "Samples on both sides": P1 to P12 by one table and one statement, then 01's samples of reading and of printing by another, and of the printing program by a third.
+-- docs/SCOPE.md, "Samples on both sides": P1 to P12 by one table and one statement, then 01's samples of reading and of printing by another, and of the printing program by a third.
 -- The tables go by the definitions of the entry points and of the program, and by texts.
 use Prim.Native.Nat.{ℕ, zero, suc, _-_}
 use Prim.Native.String.{String}

@@ -1,4 +1,4 @@
--- 01, "Run": what a query selects inside marks, as XPath 1.0 says it, and what the subtree rule keeps.
+-- docs/SCOPE.md, "Run": what a query selects inside marks, as XPath 1.0 says it, and what the subtree rule keeps.
 use Prim.Native.Nat.{ℕ, _+_}
 use mathlib.Core.Bool.{Bool, true, not, _&&_, _||_, cond}
 use mathlib.Core.List.{List}
@@ -7,7 +7,7 @@ use Rattle.paper.specs.Tools.{someBelow, someOf, column}
 use Rattle.paper.specs.Query.{Axis, self, child, parent, descendantOrSelf, ancestorOrSelf}
 use Rattle.paper.specs.Query.{Test, anyNode, textNode, named, anyElement}
 use Rattle.paper.specs.Query.{Expr, path, both, either, negated, Steps, stop, step, Preds, bare, pred, Query, paths}
-use Rattle.paper.specs.Document.{Table, nodes, parentOf, kindOf, over, marked}
+use Rattle.paper.specs.Document.{Table, nodes, parentOf, kindOf, elementKind, over, marked}
 
 -- Is j a child of i? The root is nobody's child, whatever its parent column says.
 abbrev pub childOf : Table → ℕ → ℕ → Bool
@@ -21,12 +21,12 @@ leads t parent i j = childOf t j i
 leads t descendantOrSelf i j = over t j i
 leads t ancestorOrSelf i j = over t i j
 
--- Is the test met by a node of this kind? `*` is met by kinds from 2, `node()` by all.
+-- Is the test met by a node of this kind? `*` is met by the kinds of elements, `node()` by all.
 abbrev pub meets : Test → ℕ → Bool
 meets anyNode kind = true
 meets textNode kind = eqb kind 1
-meets (named v) kind = eqb kind (2 + v)
-meets anyElement kind = leb 2 kind
+meets (named v) kind = eqb kind (elementKind + v)
+meets anyElement kind = leb elementKind kind
 
 module _ (t : Table) (marks : List ℕ) where
   -- Does a step along this axis, with this test, lead from i to j? Unmarked nodes do not exist for any axis.

@@ -1,4 +1,4 @@
--- 01, "The part of XPath": a text read token by token, longest token first.
+-- docs/SCOPE.md, "The part of XPath": a text read token by token, longest token first.
 use Prim.Native.Nat.{ℕ, zero, suc, pred}
 use mathlib.Core.Bool.{Bool, _||_, cond}
 use mathlib.Core.List.{List, [], _∷_}

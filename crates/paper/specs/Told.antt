@@ -1,4 +1,4 @@
--- 01, "Numbers refused": the number and the place that each case of the enum `Answer` stands for.
+-- docs/SCOPE.md, "Numbers refused": the number and the place that each case of the enum `Answer` stands for.
 use Rattle.paper.specs.Answers.{value, refusal}
 use Rattle.paper.specs.Answers.{Answer as Told}
 use Rattle.paper.specs.declared.Answer.{Answer}

@@ -1,4 +1,4 @@
-// Document 01's limits, for code; the same numbers stand in specs/Limits.antt for the promises.
+// The limits of docs/SCOPE.md, for code; the same numbers stand in specs/Limits.antt, and those of kinds in specs/Document.antt, for the promises.
 
 // The most bytes of a text lent for reading.
 pub const TEXT_LIMIT: usize = 32768;
@@ -14,8 +14,12 @@ pub const BRACKET_LIMIT: usize = 64;
 pub const NAME_LIMIT: usize = 64;
 // The most names of a list.
 pub const NAMES_LIMIT: usize = 256;
+// The kind of an element of the first name, and the greatest kind.
+pub const ELEMENT_KIND: u16 = 2;
 
-// What an entry point answers: the value, or a refusal with its place. specs/Told.antt gives document 01's number of each.
+pub const KIND_LIMIT: u16 = 257;
+
+// What an entry point answers: the value, or a refusal with its place. specs/Told.antt gives its number.
 pub enum Answer {
     Value(usize),
     TooLong,

@@ -6,8 +6,10 @@ use mathlib.Core.List.{List, [], _∷_}
 use lib.Dec.{ltb}
 use lib.ListN.{length}
 use lib.Seq.{sets}
-use Rattle.paper.specs.Query.{Axis, Test}
-use Rattle.paper.specs.Printing.{Piece, colonsSign, axisWord, testWord}
+use Rattle.paper.specs.Limits.{listLimit}
+use Rattle.paper.specs.Query.{Axis, Test, anyElement}
+use Rattle.paper.specs.Items.{namedFrom, testNumber}
+use Rattle.paper.specs.Printing.{Piece, colonsSign, axisWord, testWord, axisTextLimit}
 
 -- The text is put from `pen` on; what does not fit is only counted. With no room this is a count, with room enough the text stands there.
 pub record Puts (text : List ℕ) (pen : ℕ) (old new : List ℕ) (next : ℕ) : Type 0 where
@@ -22,6 +24,10 @@ between sign left = cond (ltb 0 left) sign []
 abbrev pub headPieces : Axis → Test → List Piece
 headPieces a t = axisWord a ∷ colonsSign ∷ testWord t ∷ []
 
+-- No such step has more bytes: an axis, `::`, and a name, which is shorter than its list.
+abbrev pub headRoom : ℕ
+headRoom = axisTextLimit + 2 + listLimit
+
 -- A test by its number, of which the list has a name where it is one.
 abbrev pub Known : ℕ → ℕ → Type 0
-Known count test = (test ≤ 258) × (2 ≤ test → test < 258 → test < count + 2)
+Known count test = (test ≤ testNumber anyElement) × (namedFrom ≤ test → test < testNumber anyElement → test < count + namedFrom)

@@ -10,9 +10,9 @@ ghost use Rattle.paper.specs.Limits.{listLimit};
 ghost use Rattle.paper.specs.Query.{Axis, Test};
 ghost use Rattle.paper.specs.Names.{namesOf};
 ghost use Rattle.paper.specs.Items.{axisNumber, testNumber, goodTest};
-ghost use Rattle.paper.specs.Printing.{axisText, testText, textOf};
+ghost use Rattle.paper.specs.Printing.{axisText, axisTextLimit, testText, textOf};
 ghost use Rattle.names.specs.Listing.{Indexed};
-ghost use Rattle.pen.specs.Putting.{Puts, between, headPieces, Known};
+ghost use Rattle.pen.specs.Putting.{Puts, between, headPieces, headRoom, Known};
 
 // Puts one byte.
 pub fn put_byte(out: &mut [u8], pen: usize, b: u8) -> usize
@@ -95,25 +95,26 @@ pub fn put_not(out: &mut [u8], pen: usize) -> usize
     put(out, pen, b"not(")
 }
 
-// Puts the name of an axis.
+// Puts the name of an axis; what is no axis has none.
 fn put_axis(out: &mut [u8], pen: usize, axis: u32) -> usize
     requires { ⌜ pen < 2 ^ 39 ⌝ }
     ensures { λ r. ⌜ ((a : Axis) → axis ≡ axisNumber a → Puts (axisText a) pen (now (out .entry)) (now (out .exit)) r) ⌝ }
-    ensures { λ r. ⌜ r ≤ pen + 18 ⌝ }
+    ensures { λ r. ⌜ r ≤ pen + axisTextLimit ⌝ }
 {
     match axis {
-        0 => put(out, pen, b"self"),
-        1 => put(out, pen, b"child"),
-        2 => put(out, pen, b"parent"),
-        3 => put(out, pen, b"descendant-or-self"),
-        _ => put(out, pen, b"ancestor-or-self"),
+        item::SELF => put(out, pen, b"self"),
+        item::CHILD => put(out, pen, b"child"),
+        item::PARENT => put(out, pen, b"parent"),
+        item::DESCENDANT_OR_SELF => put(out, pen, b"descendant-or-self"),
+        item::ANCESTOR_OR_SELF => put(out, pen, b"ancestor-or-self"),
+        _ => pen,
     }
 }
 
 // Puts name v as its line of the list spells it.
 fn put_name(
     list: &[u8],
-    starts: &[u16; 257],
+    starts: &[u16; names::STARTS],
     count: usize,
     out: &mut [u8],
     pen: usize,
@@ -122,7 +123,7 @@ fn put_name(
     requires { ⌜ Indexed (now list) (now starts) count ⌝ }
     requires { ⌜ (v < count) × (length (now list) ≤ listLimit) × (pen < 2 ^ 39) ⌝ }
     ensures { λ r. ⌜ Puts (testText (namesOf (now (list .entry))) (Test.named v)) pen (now (out .entry)) (now (out .exit)) r ⌝ }
-    ensures { λ r. ⌜ r ≤ pen + 8192 ⌝ }
+    ensures { λ r. ⌜ r ≤ pen + listLimit ⌝ }
 {
     let part = names::spell(list, starts, count, v);
     let start = part.start;
@@ -133,7 +134,7 @@ fn put_name(
 // Puts a test: `node()`, `text()`, `*` or a name.
 fn put_test(
     list: &[u8],
-    starts: &[u16; 257],
+    starts: &[u16; names::STARTS],
     count: usize,
     out: &mut [u8],
     pen: usize,
@@ -142,20 +143,20 @@ fn put_test(
     requires { ⌜ Indexed (now list) (now starts) count ⌝ }
     requires { ⌜ Known count test × (length (now list) ≤ listLimit) × (pen < 2 ^ 39) ⌝ }
     ensures { λ r. ⌜ ((t : Test) → test ≡ testNumber t → goodTest t ≡ true → Puts (testText (namesOf (now (list .entry))) t) pen (now (out .entry)) (now (out .exit)) r) ⌝ }
-    ensures { λ r. ⌜ r ≤ pen + 8192 ⌝ }
+    ensures { λ r. ⌜ r ≤ pen + listLimit ⌝ }
 {
     match test {
-        0 => put(out, pen, b"node()"),
-        1 => put(out, pen, b"text()"),
-        258 => put(out, pen, b"*"),
-        _ => put_name(list, starts, count, out, pen, (test - 2) as usize),
+        item::ANY_NODE => put(out, pen, b"node()"),
+        item::TEXT_NODE => put(out, pen, b"text()"),
+        item::ANY_ELEMENT => put(out, pen, b"*"),
+        _ => put_name(list, starts, count, out, pen, (test - item::NAMED) as usize),
     }
 }
 
 // Puts axis, `::` and test of a step.
 pub fn put_head(
     list: &[u8],
-    starts: &[u16; 257],
+    starts: &[u16; names::STARTS],
     count: usize,
     out: &mut [u8],
     pen: usize,
@@ -165,7 +166,7 @@ pub fn put_head(
     requires { ⌜ Indexed (now list) (now starts) count ⌝ }
     requires { ⌜ Known count test × (length (now list) ≤ listLimit) × (pen < 2 ^ 38) ⌝ }
     ensures { λ r. ⌜ ((a : Axis) (t : Test) → axis ≡ axisNumber a → test ≡ testNumber t → goodTest t ≡ true → Puts (textOf (namesOf (now (list .entry))) (headPieces a t)) pen (now (out .entry)) (now (out .exit)) r) ⌝ }
-    ensures { λ r. ⌜ r ≤ pen + 8212 ⌝ }
+    ensures { λ r. ⌜ r ≤ pen + headRoom ⌝ }
 {
     let named = put_axis(out, pen, axis);
     let colon = put_byte(out, named, b':');

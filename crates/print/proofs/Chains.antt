@@ -18,7 +18,7 @@ use Rattle.shape.specs.Walks.{operators}
 use Rattle.pen.specs.Putting.{Puts}
 use Rattle.pen.proofs.Putting.{puts-both, puts-as, puts-long}
 use Rattle.print.specs.declared.Reached.{Reached}
-use Rattle.print.specs.Writing.{termPieces, operandPieces, Some, Prints}
+use Rattle.print.specs.Writing.{termPieces, operandPieces, Some, Prints, itemRoom, signRoom}
 
 -- The text of pieces and others after them.
 pub text-append : (names : List (List ℕ)) (ps qs : List Piece) → textOf names (ps ++ qs) ≡ textOf names ps ++ textOf names qs
@@ -44,7 +44,7 @@ record Joined (names : List (List ℕ)) (operator : ℕ) : Type 0 where
   text-join : (a b : Expr)
       → textOf names (runPieces operator a) ++ operatorText operator ++ textOf names (partPieces operator b) ≡ textOf names (runPieces operator (joinBy operator a b))
   text-alone : (e : Expr) → isJoined operator e ≡ false → textOf names (partPieces operator e) ≡ textOf names (runPieces operator e)
-  brief : length (operatorText operator) ≤ 64
+  brief : length (operatorText operator) ≤ signRoom
   ahead : (items : List ℕ) (place : ℕ) → place ≤ partBase operator items place
 
 -- The text of pieces with a sign between them.
@@ -82,15 +82,15 @@ module _ (names : List (List ℕ)) (operator depth : ℕ) (items : List ℕ) (at
     pub puts : Puts (textOf names (runPieces operator so-far)) pen old out byte
     pub onward : base ≤ place
     pub inside : place ≤ length items
-    pub low : byte + 16384 * base + 64 ≤ pen + 16384 * place
+    pub low : byte + itemRoom * base + signRoom ≤ pen + itemRoom * place
 
   -- A part is to be printed next: it is there, and what printing it makes of the run.
   pub record Awaits (out : List ℕ) (place byte owed : ℕ) : Type 0 where
     pub there : Some (takePart operator (takeWithin depth) (drop place items))
-    pub gives : (new : List ℕ) (r : Reached) → Prints names items (partBase operator items place) byte 64 (takePart operator (takeWithin depth) (drop place items)) (partPieces operator) out new r
+    pub gives : (new : List ℕ) (r : Reached) → Prints names items (partBase operator items place) byte signRoom (takePart operator (takeWithin depth) (drop place items)) (partPieces operator) out new r
         → Left new (r .item) (r .byte) owed
     pub inside : place ≤ length items
-    pub low : byte + 16384 * base ≤ pen + 16384 * partBase operator items place
+    pub low : byte + itemRoom * base ≤ pen + itemRoom * partBase operator items place
     pub long : length out ≡ length old
 
   module _ (l : Run depth operator) (j : Joined names operator) where
@@ -145,7 +145,7 @@ module _ (names : List (List ℕ)) (operator depth : ℕ) (items : List ℕ) (at
 
     -- No part is owed.
     left-done : (out : List ℕ) (r : Reached) (owed : ℕ) → owed ≤ 0 → Left out (r .item) (r .byte) owed
-        → Prints names items base pen 64 (takeRun operator (takeWithin depth) (drop at items)) (runPieces operator) old out r
+        → Prints names items base pen signRoom (takeRun operator (takeWithin depth) (drop at items)) (runPieces operator) old out r
     left-done out r zero z left =
         record {
           what = left .so-far;
@@ -188,14 +188,14 @@ module _ (names : List (List ℕ)) (depth : ℕ) (items : List ℕ) (at pen : �
       }
 
 module _ {names : List (List ℕ)} {depth : ℕ} {items : List ℕ} {at pen : ℕ} {old out : List ℕ} {place byte ands ors : ℕ} (t : Turn names depth items at pen old out place byte ands ors) where
-  pub turn-low : byte + 16384 * (at + operators (drop at items)) ≤ pen + 16384 * place
+  pub turn-low : byte + itemRoom * (at + operators (drop at items)) ≤ pen + itemRoom * place
   turn-low = omega (arith, t .outer .low, t .inner .low)
 
   pub turn-long : length out ≡ length old
   turn-long = t .inner .long ∙ t .outer .long
 
   -- The operand is printed.
-  module _ {new : List ℕ} {r : Reached} (w : Prints names items place byte 64 (takeOperand (takeWithin depth) (drop place items)) operandPieces out new r) where
+  module _ {new : List ℕ} {r : Reached} (w : Prints names items place byte signRoom (takeOperand (takeWithin depth) (drop place items)) operandPieces out new r) where
     pub turn-onward : place < r .item
     turn-onward = omega (arith, w .low, w .puts .moved)
 
@@ -234,5 +234,5 @@ module _ {names : List (List ℕ)} {depth : ℕ} {items : List ℕ} {at pen : �
             past = omega (arith, t .past, w .onward);
           }
 
-      pub turn-done : ors ≤ 0 → Prints names items (at + operators (drop at items)) pen 64 (takeExpr (takeWithin depth) (drop at items)) exprPieces old new r
+      pub turn-done : ors ≤ 0 → Prints names items (at + operators (drop at items)) pen signRoom (takeExpr (takeWithin depth) (drop at items)) exprPieces old new r
       turn-done y = left-done names orItem depth items at (at + operators (drop at items)) pen old (ors-laws depth) (ors-text names) new r ors y terms

@@ -23,7 +23,7 @@ use Rattle.shape.proofs.Operands.{at-place, operand-past, operand-path, operand
 use Rattle.pen.specs.Putting.{Puts}
 use Rattle.pen.proofs.Putting.{puts-both, puts-as}
 use Rattle.print.specs.declared.Reached.{Reached}
-use Rattle.print.specs.Writing.{operandPieces, Some, Prints}
+use Rattle.print.specs.Writing.{operandPieces, Some, Prints, signRoom}
 use Rattle.print.proofs.Chains.{text-append}
 use Rattle.print.proofs.Rows.{within}
 
@@ -57,7 +57,7 @@ module _ (depth : ℕ) (items : List ℕ) (at : ℕ) (l : at < length items) whe
 
   pub path-prints : (names : List (List ℕ)) (pen number : ℕ) (old new : List ℕ) (r : Reached) → pathAt (getD items at 0) ≡ some number → Some (takeOperand (takeWithin depth) (drop at items))
       → Prints names items (at + 1) pen 0 (takeSteps (takeWithin depth) number (drop (at + 1) items)) relativePieces old new r
-      → Prints names items at pen 64 (takeOperand (takeWithin depth) (drop at items)) operandPieces old new r
+      → Prints names items at pen signRoom (takeOperand (takeWithin depth) (drop at items)) operandPieces old new r
   path-prints names pen zero old new r e s w =
       none-some (sym (ap (takeOperand (takeWithin depth)) (at-place items at l) ∙ operand-bare (takeWithin depth) (getD items at 0) (drop (at + 1) items) e) ∙ s .taken-whole)
   path-prints names pen (suc n) old new r e s w =
@@ -132,14 +132,14 @@ module _ (items : List ℕ) (at depth : ℕ) (s : Some (takeOperand (takeWithin 
 
   module _ (names : List (List ℕ)) (pen opened : ℕ) (old mid new last : List ℕ) (inner r : Reached) where
     pub not-prints : getD items at 0 ≡ notItem → Puts (ascii "not(") pen old mid opened
-        → Prints names items (at + 1 + operators (drop (at + 1) items)) opened 64 (takeExpr (takeWithin (depth - 1)) (drop (at + 1) items)) exprPieces mid new inner
+        → Prints names items (at + 1 + operators (drop (at + 1) items)) opened signRoom (takeExpr (takeWithin (depth - 1)) (drop (at + 1) items)) exprPieces mid new inner
         → Puts (41 ∷ []) (inner .byte) new last (r .byte) → r .item ≡ inner .item
-        → Prints names items at pen 64 (takeOperand (takeWithin depth) (drop at items)) operandPieces old last r
+        → Prints names items at pen signRoom (takeOperand (takeWithin depth) (drop at items)) operandPieces old last r
     not-prints e p w q i =
         deeper
         (λ less d.
-        Prints names items (at + 1 + operators (drop (at + 1) items)) opened 64 (takeExpr (takeWithin less) (drop (at + 1) items)) exprPieces mid new inner
-        → Prints names items at pen 64 (takeOperand (takeWithin d) (drop at items)) operandPieces old last r)
+        Prints names items (at + 1 + operators (drop (at + 1) items)) opened signRoom (takeExpr (takeWithin less) (drop (at + 1) items)) exprPieces mid new inner
+        → Prints names items at pen signRoom (takeOperand (takeWithin d) (drop at items)) operandPieces old last r)
         (λ d v.
         record {
           what = negated (v .what);
@@ -152,14 +152,14 @@ module _ (items : List ℕ) (at depth : ℕ) (s : Some (takeOperand (takeWithin 
         depth (not-deep e) w
 
     pub joined-prints : Operator (getD items at 0) → Puts (40 ∷ []) pen old mid opened
-        → Prints names items (at + operators (drop at items)) opened 64 (takeExpr (takeWithin (depth - 1)) (drop at items)) exprPieces mid new inner
+        → Prints names items (at + operators (drop at items)) opened signRoom (takeExpr (takeWithin (depth - 1)) (drop at items)) exprPieces mid new inner
         → Puts (41 ∷ []) (inner .byte) new last (r .byte) → r .item ≡ inner .item
-        → Prints names items at pen 64 (takeOperand (takeWithin depth) (drop at items)) operandPieces old last r
+        → Prints names items at pen signRoom (takeOperand (takeWithin depth) (drop at items)) operandPieces old last r
     joined-prints o p w q i =
         deeper
         (λ less d.
-        Prints names items (at + operators (drop at items)) opened 64 (takeExpr (takeWithin less) (drop at items)) exprPieces mid new inner
-        → Prints names items at pen 64 (takeOperand (takeWithin d) (drop at items)) operandPieces old last r)
+        Prints names items (at + operators (drop at items)) opened signRoom (takeExpr (takeWithin less) (drop at items)) exprPieces mid new inner
+        → Prints names items at pen signRoom (takeOperand (takeWithin d) (drop at items)) operandPieces old last r)
         (λ d v.
         let read : takeOperand (takeWithin (suc d)) (drop at items) ≡ some (v .what, drop (r .item) items) =
         operand-same items at d there o ∙ v .reads ∙ ap (λ (k : ℕ). some (v .what, drop k items)) (sym i) in

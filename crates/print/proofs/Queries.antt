@@ -21,7 +21,7 @@ use Rattle.shape.proofs.Operands.{at-place}
 use Rattle.pen.specs.Putting.{Puts, between}
 use Rattle.pen.proofs.Putting.{puts-none, puts-both, puts-as}
 use Rattle.print.specs.declared.Reached.{Reached}
-use Rattle.print.specs.Writing.{Some, Prints, Query}
+use Rattle.print.specs.Writing.{Some, Prints, Query, itemRoom}
 use Rattle.print.proofs.Chains.{text-append}
 use Rattle.print.proofs.Rows.{within, between-brief}
 
@@ -39,7 +39,7 @@ pub record PathsRest (names : List (List ℕ)) (items old out : List ℕ) (place
   pub text : done ++ textOf names (joined rest) ≡ textGot names (decode items)
   pub puts : Puts done 0 old out byte
   pub inside : place ≤ length items
-  pub low : byte ≤ 16384 * place
+  pub low : byte ≤ itemRoom * place
 
 pub paths-start : (names : List (List ℕ)) (items old : List ℕ) → Query items → PathsRest names items old old 0 0
 unfolding decode printed pieces

@@ -17,11 +17,11 @@ use Rattle.paper.specs.Items.{Head, stepAt, Taken, takePreds, takeSteps, takeEx
 use Rattle.paper.specs.Printing.{Piece, exprPieces, relativePieces, laterPieces, predsPieces, textOf, closePred}
 use Rattle.paper.proofs.Tests.{found-some, some-inj, none-some, decide}
 use Rattle.paper.proofs.Encoding.{from-steps, from-within}
-use Rattle.pen.specs.Putting.{Puts, between, headPieces}
+use Rattle.pen.specs.Putting.{Puts, between, headPieces, headRoom}
 use Rattle.pen.proofs.Putting.{puts-none, puts-both, puts-as}
 use Rattle.print.specs.declared.Reached.{Reached}
 use Rattle.shape.specs.Walks.{operators}
-use Rattle.print.specs.Writing.{Some, Prints}
+use Rattle.print.specs.Writing.{Some, Prints, itemRoom, signRoom}
 use Rattle.print.proofs.Chains.{text-append}
 
 -- A row: `rows n` reads n of them.
@@ -38,7 +38,7 @@ module _ {A : Type 0} (rows : ℕ → List ℕ → Taken A) (piecesOf : A → Li
     pub puts : Puts done pen old out byte
     pub onward : at ≤ place
     pub inside : place ≤ length items
-    pub low : byte + 16384 * at ≤ pen + 16384 * place
+    pub low : byte + itemRoom * at ≤ pen + itemRoom * place
 
   -- Nothing printed yet.
   pub rest-start : (owed : ℕ) → at ≤ length items → rows owed (drop at items) ≡ taken → Some taken → Rest old at pen owed
@@ -60,7 +60,7 @@ module _ {A : Type 0} (rows : ℕ → List ℕ → Taken A) (piecesOf : A → Li
   -- One more.
   rest-more : (out new bytes : List ℕ) (place byte owed next byte′ owed′ : ℕ) (rest′ : A) (l : Rest out place byte owed) → rows owed′ (drop next items) ≡ some (rest′, l .left)
       → bytes ++ textOf names (piecesOf rest′) ≡ textOf names (piecesOf (l .rest)) → Puts bytes byte out new byte′ → place ≤ next → next ≤ length items
-      → byte′ + 16384 * place ≤ byte + 16384 * next → Rest new next byte′ owed′
+      → byte′ + itemRoom * place ≤ byte + itemRoom * next → Rest new next byte′ owed′
   rest-more out new bytes place byte owed next byte′ owed′ rest′ l t e p o i low′ =
       record {
         all = l .all;
@@ -202,7 +202,7 @@ pred-text names e ps =
 -- A predicate more, in its bracket.
 pub pred-turn : (names : List (List ℕ)) (depth : ℕ) (items old : List ℕ) (at pen : ℕ) (taken : Taken Preds) (out mid new last : List ℕ) (place byte owed opened byte′ : ℕ) (r : Reached)
     → 0 < owed → Rest (takePreds (takeWithin depth)) predsPieces names items at pen taken old out place byte owed → Puts (91 ∷ []) byte out mid opened
-    → Prints names items (place + operators (drop place items)) opened 64 (takeExpr (takeWithin (depth - 1)) (drop place items)) exprPieces mid new r → Puts (93 ∷ []) (r .byte) new last byte′
+    → Prints names items (place + operators (drop place items)) opened signRoom (takeExpr (takeWithin (depth - 1)) (drop place items)) exprPieces mid new r → Puts (93 ∷ []) (r .byte) new last byte′
     → Rest (takePreds (takeWithin depth)) predsPieces names items at pen taken old last (r .item) byte′ (owed - 1)
 pred-turn names depth items old at pen taken out mid new last place byte owed opened byte′ r z i p w q =
     let m = pred-more depth items place owed (i .rest, i .left) (w .what) (r .item) z (i .takes) (w .reads) in
@@ -213,7 +213,7 @@ pred-turn names depth items old at pen taken out mid new last place byte owed op
 -- A step more, and a `/` where another follows.
 pub step-turn : (names : List (List ℕ)) (depth : ℕ) (items old : List ℕ) (at pen : ℕ) (taken : Taken Steps) (out mid new last : List ℕ) (place byte owed headed byte′ : ℕ) (h : Head) (r : Reached)
     → 0 < owed → Rest (takeSteps (takeWithin depth)) relativePieces names items at pen taken old out place byte owed → stepAt (getD items place 0) ≡ some h
-    → Puts (textOf names (headPieces (h .axis) (h .test))) byte out mid headed → headed ≤ byte + 8212
+    → Puts (textOf names (headPieces (h .axis) (h .test))) byte out mid headed → headed ≤ byte + headRoom
     → Prints names items (place + 1) headed 0 (takePreds (takeWithin depth) (h .count) (drop (place + 1) items)) predsPieces mid new r
     → Puts (between (ascii "/") (owed - 1)) (r .byte) new last byte′
     → Rest (takeSteps (takeWithin depth)) relativePieces names items at pen taken old last (r .item) byte′ (owed - 1)

@@ -9,22 +9,23 @@ use lib.Dec.{leb, ltb}
 use lib.ListN.{length, getD, drop, drop-of-length-le}
 use lib.Seq.{drop-cons}
 use borrow.Author.Tests.{lt-ltb, le-leb, lt-leb, leb-true, leb-false, ltb-true}
+use Rattle.paper.specs.Limits.{namesLimit}
 use Rattle.paper.specs.Query.{Test, anyNode, textNode, named, anyElement}
-use Rattle.paper.specs.Items.{testNumber, stepAt, goodTest}
+use Rattle.paper.specs.Items.{testNumber, stepAt, goodTest, namedFrom}
 use Rattle.paper.specs.Answers.{unknownTest, unknownItem, unknownFrom}
 use Rattle.paper.proofs.Tests.{agree, none-some}
 use Rattle.pen.specs.Putting.{Known}
 
 -- A test by its number.
-pub unknown-test : (count : ℕ) (t : Test) → goodTest t ≡ true → (ltb (testNumber t) 258 && leb (count + 2) (testNumber t)) ≡ unknownTest count t
-unknown-test count anyNode g = rw (lt-leb (count + 2) 0 (omega arith))
-unknown-test count textNode g = rw (lt-leb (count + 2) 1 (omega arith))
+pub unknown-test : (count : ℕ) (t : Test) → goodTest t ≡ true → (ltb (testNumber t) (testNumber anyElement) && leb (count + namedFrom) (testNumber t)) ≡ unknownTest count t
+unknown-test count anyNode g = rw (lt-leb (count + namedFrom) 0 (omega arith))
+unknown-test count textNode g = rw (lt-leb (count + namedFrom) 1 (omega arith))
 unknown-test count (named v) g =
-    let few : v < 256 = ltb-true v 256 g in
-    rw (lt-ltb (2 + v) 258 (omega arith))
-    (agree (leb (count + 2) (2 + v)) (leb count v)
-    (λ h. let l : count + 2 ≤ 2 + v = leb-true (count + 2) (2 + v) h in le-leb count v (omega arith))
-    (λ h. let l : count ≤ v = leb-true count v h in le-leb (count + 2) (2 + v) (omega arith)))
+    let few : v < namesLimit = ltb-true v namesLimit g in
+    rw (lt-ltb (namedFrom + v) (testNumber anyElement) (omega arith))
+    (agree (leb (count + namedFrom) (namedFrom + v)) (leb count v)
+    (λ h. let l : count + namedFrom ≤ namedFrom + v = leb-true (count + namedFrom) (namedFrom + v) h in le-leb count v (omega arith))
+    (λ h. let l : count ≤ v = leb-true count v h in le-leb (count + namedFrom) (namedFrom + v) (omega arith)))
 unknown-test count anyElement g = refl
 
 -- A test that the list has a name for.
@@ -32,7 +33,7 @@ pub known-test : (count : ℕ) (t : Test) → goodTest t ≡ true → unknownTes
 known-test count anyNode g u = (omega arith, λ l m. absurd (omega arith))
 known-test count textNode g u = (omega arith, λ l m. absurd (omega arith))
 known-test count (named v) g u =
-    let few : v < 256 = ltb-true v 256 g in
+    let few : v < namesLimit = ltb-true v namesLimit g in
     let less : v < count = leb-false count v u in
     (omega arith, λ l m. omega arith)
 known-test count anyElement g u = (omega arith, λ l m. absurd (omega arith))

@@ -40,11 +40,19 @@ pub record Query (items : List ℕ) : Type 0 where
   pub decoded : decode items ≡ some query
   pub few-items : length items ≤ itemLimit
 
--- What is taken from the items at `at` is put, and both places move past it. Each item has 16,384 bytes at most, and `spare` are left over.
+-- No item has more bytes in the text.
+abbrev pub itemRoom : ℕ
+itemRoom = 16384
+
+-- An operand leaves so many of its bytes over, for the signs around it.
+abbrev pub signRoom : ℕ
+signRoom = 64
+
+-- What is taken from the items at `at` is put, and both places move past it. Of the bytes that the items may have, `spare` are left over.
 pub record Prints {A : Type 0} (names : List (List ℕ)) (items : List ℕ) (at pen spare : ℕ) (taken : Taken A) (piecesOf : A → List Piece) (old new : List ℕ) (r : Reached) : Type 0 where
   pub what : A
   pub reads : taken ≡ some (what, drop (r .item) items)
   pub puts : Puts (textOf names (piecesOf what)) pen old new (r .byte)
   pub onward : at ≤ r .item
   pub inside : r .item ≤ length items
-  pub low : r .byte + 16384 * at + spare ≤ pen + 16384 * r .item
+  pub low : r .byte + itemRoom * at + spare ≤ pen + itemRoom * r .item

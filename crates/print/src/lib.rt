@@ -1,5 +1,5 @@
 // The text of a query. The same functions count its bytes, with no room, and write them, with room enough: what does not fit is only counted.
-// Path, step and expression call each other; each round of calls opens a bracket, so there are at most 65.
+// Path, step and expression call each other; each round of calls opens a bracket, so there is at most one more than brackets may be open.
 use item::Item;
 use names::Listed;
 use paper::Answer;
@@ -17,7 +17,7 @@ ghost use Rattle.paper.specs.Answers.{unknownItem, unknownFrom, printAnswer, te
 ghost use Rattle.paper.specs.Told.{told};
 ghost use Rattle.shape.specs.Walks.{operators};
 ghost use Rattle.pen.specs.Putting.{Puts};
-ghost use Rattle.print.specs.Writing.{operandPieces, Names, Some, Prints, Query};
+ghost use Rattle.print.specs.Writing.{operandPieces, Names, Some, Prints, Query, itemRoom, signRoom};
 
 // How far printing has come: the next item, and the place of the next byte.
 struct Reached {
@@ -43,7 +43,7 @@ fn closed(out: &mut [u8], reached: Reached) -> Reached
 fn expression(
     items: &[u32],
     list: &[u8],
-    starts: &[u16; 257],
+    starts: &[u16; names::STARTS],
     count: usize,
     out: &mut [u8],
     at: usize,
@@ -51,9 +51,9 @@ fn expression(
     depth: usize,
 ) -> Reached
     requires { ⌜ Names (now list) (now starts) count (now items) ⌝ }
-    requires { ⌜ (at ≤ length (now items)) × (pen + 16384 * length (now items) ≤ 2 ^ 38 + 16384 * (at + operators (drop at (now items)))) ⌝ }
+    requires { ⌜ (at ≤ length (now items)) × (pen + itemRoom * length (now items) ≤ 2 ^ 38 + itemRoom * (at + operators (drop at (now items)))) ⌝ }
     requires { ⌜ Some (takeExpr (takeWithin depth) (drop at (now items))) ⌝ }
-    ensures { λ r. ⌜ Prints (namesOf (now (list .entry))) (now (items .entry)) (at + operators (drop at (now (items .entry)))) pen 64 (takeExpr (takeWithin depth) (drop at (now (items .entry)))) exprPieces (now (out .entry)) (now (out .exit)) r ⌝ }
+    ensures { λ r. ⌜ Prints (namesOf (now (list .entry))) (now (items .entry)) (at + operators (drop at (now (items .entry)))) pen signRoom (takeExpr (takeWithin depth) (drop at (now (items .entry)))) exprPieces (now (out .entry)) (now (out .exit)) r ⌝ }
 {
     let mut ors = shape::run_of(items, at, item::OR);
     let mut ands = shape::run_of(items, at + ors, item::AND);
@@ -81,7 +81,7 @@ fn expression(
 fn operand(
     items: &[u32],
     list: &[u8],
-    starts: &[u16; 257],
+    starts: &[u16; names::STARTS],
     count: usize,
     out: &mut [u8],
     at: usize,
@@ -89,9 +89,9 @@ fn operand(
     depth: usize,
 ) -> Reached
     requires { ⌜ Names (now list) (now starts) count (now items) ⌝ }
-    requires { ⌜ (at ≤ length (now items)) × (pen + 16384 * length (now items) ≤ 2 ^ 38 + 16384 * at) ⌝ }
+    requires { ⌜ (at ≤ length (now items)) × (pen + itemRoom * length (now items) ≤ 2 ^ 38 + itemRoom * at) ⌝ }
     requires { ⌜ Some (takeOperand (takeWithin depth) (drop at (now items))) ⌝ }
-    ensures { λ r. ⌜ Prints (namesOf (now (list .entry))) (now (items .entry)) at pen 64 (takeOperand (takeWithin depth) (drop at (now (items .entry)))) operandPieces (now (out .entry)) (now (out .exit)) r ⌝ }
+    ensures { λ r. ⌜ Prints (namesOf (now (list .entry))) (now (items .entry)) at pen signRoom (takeOperand (takeWithin depth) (drop at (now (items .entry)))) operandPieces (now (out .entry)) (now (out .exit)) r ⌝ }
 {
     let item = item::unpack(items[at]);
     if let Item::Path(number) = item {
@@ -111,7 +111,7 @@ fn operand(
 fn steps(
     items: &[u32],
     list: &[u8],
-    starts: &[u16; 257],
+    starts: &[u16; names::STARTS],
     count: usize,
     out: &mut [u8],
     at: usize,
@@ -120,7 +120,7 @@ fn steps(
     depth: usize,
 ) -> Reached
     requires { ⌜ Names (now list) (now starts) count (now items) ⌝ }
-    requires { ⌜ (at ≤ length (now items)) × (pen + 16384 * length (now items) ≤ 2 ^ 38 + 16384 * at) ⌝ }
+    requires { ⌜ (at ≤ length (now items)) × (pen + itemRoom * length (now items) ≤ 2 ^ 38 + itemRoom * at) ⌝ }
     requires { ⌜ Some (takeSteps (takeWithin depth) number (drop at (now items))) ⌝ }
     ensures { λ r. ⌜ Prints (namesOf (now (list .entry))) (now (items .entry)) at pen 0 (takeSteps (takeWithin depth) number (drop at (now (items .entry)))) relativePieces (now (out .entry)) (now (out .exit)) r ⌝ }
 {
@@ -155,7 +155,7 @@ fn steps(
 fn predicates(
     items: &[u32],
     list: &[u8],
-    starts: &[u16; 257],
+    starts: &[u16; names::STARTS],
     count: usize,
     out: &mut [u8],
     at: usize,
@@ -164,7 +164,7 @@ fn predicates(
     depth: usize,
 ) -> Reached
     requires { ⌜ Names (now list) (now starts) count (now items) ⌝ }
-    requires { ⌜ (at ≤ length (now items)) × (pen + 16384 * length (now items) + 64 ≤ 2 ^ 38 + 16384 * at) ⌝ }
+    requires { ⌜ (at ≤ length (now items)) × (pen + itemRoom * length (now items) + signRoom ≤ 2 ^ 38 + itemRoom * at) ⌝ }
     requires { ⌜ Some (takePreds (takeWithin depth) number (drop at (now items))) ⌝ }
     ensures { λ r. ⌜ Prints (namesOf (now (list .entry))) (now (items .entry)) at pen 0 (takePreds (takeWithin depth) number (drop at (now (items .entry)))) predsPieces (now (out .entry)) (now (out .exit)) r ⌝ }
 {
@@ -182,7 +182,13 @@ fn predicates(
 }
 
 // Prints a query, and tells how many bytes its text has.
-fn paths(items: &[u32], list: &[u8], starts: &[u16; 257], count: usize, out: &mut [u8]) -> usize
+fn paths(
+    items: &[u32],
+    list: &[u8],
+    starts: &[u16; names::STARTS],
+    count: usize,
+    out: &mut [u8],
+) -> usize
     requires { ⌜ Names (now list) (now starts) count (now items) ⌝ }
     requires { ⌜ Query (now items) ⌝ }
     ensures { λ r. ⌜ Puts (textGot (namesOf (now (list .entry))) (decode (now (items .entry)))) 0 (now (out .entry)) (now (out .exit)) r ⌝ }
@@ -222,7 +228,7 @@ fn unknown(w: u32, count: usize) -> bool
         return false;
     };
     let test = step.test as usize;
-    (test < 258) & (count + 2 <= test)
+    (test < item::ANY_ELEMENT as usize) & (count + item::NAMED as usize <= test)
 }
 
 // The index of the first such item, or the number of items.
@@ -251,7 +257,7 @@ pub fn print(query: &[u32], list: &[u8], out: &mut [u8]) -> Answer
     if paper::LIST_LIMIT < list.len() {
         return Answer::TooLong;
     }
-    let mut starts: [u16; 257] = [0; 257];
+    let mut starts: [u16; names::STARTS] = [0; names::STARTS];
     let listed = names::index(list, &mut starts);
     let count = match listed {
         Listed::Bad(start) => {

@@ -26,7 +26,7 @@ use Rattle.paper.proofs.Sizes.{size-items}
 use Rattle.paper.proofs.Encoding.{encode-decode}
 use Rattle.paper.proofs.Keeping.{length-kept}
 use Rattle.paper.proofs.Extracting.{length-pick}
-use Rattle.run.specs.Rooms.{roomAnswer}
+use Rattle.run.specs.Judging.{judgement}
 use Rattle.run.proofs.Answering as run
 use Rattle.extract.proofs.Lines as extract
 use Rattle.theorems.proofs.Forms.{read-back}
@@ -117,9 +117,9 @@ module _ (query : List ℕ) (t : Table) (given marks : List ℕ) (room a : ℕ) 
       rw (run.runs query t given (length marks) room needed w, w .decodes, all) (append-nil k)
 
   pub ran : Ran query t given marks room a
-  ran = go (roomAnswer query t given (length marks) room) refl
+  ran = go (judgement query t given (length marks) room) refl
     where
-      go : (r : Told) → roomAnswer query t given (length marks) room ≡ r → Ran query t given marks room a
+      go : (r : Told) → judgement query t given (length marks) room ≡ r → Ran query t given marks room a
       go (refusal number place) e = no-refusal (sym h ∙ run.refuses query t given (length marks) room number place e)
       go (value needed) e =
           let w = run.accepted query t given (length marks) room needed e in

@@ -1,6 +1,12 @@
+-- Answers that tell the same are the same.
 pub mod Telling
+-- Uniqueness of the entry points and of the C interface, as specs/UniqueEntries.antt states it.
 pub mod UniqueEntries
+-- The same of all other public functions.
 pub mod UniqueParts
+-- Accepted calls taken apart: `composition`, `ran`, `took`, `shown`.
 pub mod Accepting
+-- The demands over the entry points' definitions.
 pub mod Entries
+-- The demands over calls that met their contracts.
 pub mod Calls

@@ -1,4 +1,4 @@
--- The demands over calls. Each record `..Call` is a call of an entry point that met its contract, by what it was lent, what it answered and what it left.
+-- The demands of docs/SCOPE.md over calls. Each record `..Call` is a call of an entry point that met its contract, by what it was lent, what it answered and what it left.
 use Prim.Native.Nat.{ℕ, _≤_}
 use mathlib.Core.Path.{_≡_}
 use mathlib.Core.List.{List}

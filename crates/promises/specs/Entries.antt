@@ -1,4 +1,4 @@
--- The demands over the entry points: what lent items, marks and columns hold after calls that were accepted, as the contracts of the entry points say it.
+-- The demands of docs/SCOPE.md over the entry points: what lent items, marks and columns hold after calls that were accepted, as the contracts of the entry points say it.
 use Prim.Native.Nat.{ℕ, _≤_, _<_}
 use mathlib.Core.Path.{_≡_}
 use mathlib.Core.Bool.{true}

@@ -1,4 +1,4 @@
--- What it is for a contract to leave one answer: calls with the same arguments that meet it answer the same, and leave the same in the slices that are lent for writing.
+-- docs/SCOPE.md, "Strength of the promises": what it is for a contract to leave one answer: calls with the same arguments that meet it answer the same, and leave the same in the slices that are lent for writing.
 -- `given` is what is asked of the arguments, mostly the contract's `requires`; `left` lists the contents of those slices at exit.
 use Prim.Native.Nat.{ℕ}
 use mathlib.Core.Path.{_≡_}

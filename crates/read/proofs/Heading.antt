@@ -9,23 +9,24 @@ use mathlib.Core.Logic.{⊎-elim}
 use lib.ListN.{length, drop}
 use lib.Seq.{drop-drop}
 use borrow.Author.Tests.{eq-eqb, ne-eqb}
+use Rattle.paper.proofs.Axes.{axis-below}
+use Rattle.paper.specs.Limits.{namesLimit}
 use Rattle.paper.specs.Tools.{ascii, same}
 use Rattle.paper.specs.Tokens as paper
 use Rattle.paper.specs.Tokens.{Placed, sort, letters}
 use Rattle.paper.specs.Query.{Axis, self, child, parent, Test, anyNode, textNode, named, anyElement, Expr}
-use Rattle.paper.specs.Items.{axisNumber, testNumber}
+use Rattle.paper.specs.Items.{axisNumber, testNumber, namedFrom, axisBound}
 use Rattle.paper.specs.Reading.{Got, got, refused, then, next, at, sees, says, axisAhead, Step, readName, readTested, readStep, readTail}
 use Rattle.paper.proofs.Tests.{decide}
 use Rattle.ahead.specs.declared.Call.the-variants.{NoCall}
 use Rattle.ahead.specs.Looking.{tokensAt, Past, AxisWritten, callCode, Calls}
 use Rattle.ahead.proofs.Beginning.{and-false}
-use Rattle.ahead.proofs.Words.{axis-below}
 use Rattle.read.specs.declared.Head.{Head}
 use Rattle.read.specs.declared.Head.the-variants.{Plain, Tested, Wrong, Unknown}
 use Rattle.read.specs.Parts.{Closes, PlainStep, TestedStep, Heads}
 
 -- The number of an axis fits into an item.
-pub axis-small : (a : Axis) (n : ℕ) → n ≡ axisNumber a → n < 8
+pub axis-small : (a : Axis) (n : ℕ) → n ≡ axisNumber a → n < axisBound
 axis-small a n e = omega (arith, axis-below a)
 
 -- THE TEST.
@@ -34,7 +35,7 @@ Outcome = (ℕ → List Placed → Got Expr) → Got Step
 
 module _ (look : List ℕ → Option ℕ) (text : List ℕ) (from axis : ℕ) (a : Axis) (number : axis ≡ axisNumber a) where
   pub tested-star : (past : ℕ) → sees paper.star (tokensAt text from) ≡ true → Past text from past
-      → TestedStep look text from axis 258 past (λ within. readTested look within a (tokensAt text from))
+      → TestedStep look text from axis (testNumber anyElement) past (λ within. readTested look within a (tokensAt text from))
   unfolding readTested
   tested-star past s p =
       record {
@@ -50,10 +51,10 @@ module _ (look : List ℕ → Option ℕ) (text : List ℕ) (from axis : ℕ) (a
       }
 
   -- Neither `*` nor a word.
-  pub tested-wrong : (spot : ℕ) → sees paper.star (tokensAt text from) ≡ false → sees (paper.word []) (tokensAt text from) ≡ false → letters (next (tokensAt text from)) ≡ []
-      → spot ≡ at (tokensAt text from) → (within : ℕ → List Placed → Got Expr) → readTested look within a (tokensAt text from) ≡ refused 3 spot
+  pub tested-wrong : (place : ℕ) → sees paper.star (tokensAt text from) ≡ false → sees (paper.word []) (tokensAt text from) ≡ false → letters (next (tokensAt text from)) ≡ []
+      → place ≡ at (tokensAt text from) → (within : ℕ → List Placed → Got Expr) → readTested look within a (tokensAt text from) ≡ refused 3 place
   unfolding readTested
-  tested-wrong spot s w l e within =
+  tested-wrong place s w l e within =
       let call = sees paper.openRound (drop 1 (tokensAt text from)) in
       rw (s, l, and-false call, w, ← e)
 
@@ -108,8 +109,8 @@ module _ (look : List ℕ → Option ℕ) (text : List ℕ) (from axis : ℕ) (a
             inside = h .3 .inside;
             fewer = omega (arith, p .fewer, q .fewer, h .3 .fewer);
           }
-      tested-call (Wrong spot) h = λ within. which .reads within ∙ rw (h .0, ← h .1)
-      tested-call (Unknown spot) h = absurd h
+      tested-call (Wrong place) h = λ within. which .reads within ∙ rw (h .0, ← h .1)
+      tested-call (Unknown place) h = absurd h
 
     -- A name.
     module _ (none-called : Calls text w mid NoCall) where
@@ -128,7 +129,7 @@ module _ (look : List ℕ → Option ℕ) (text : List ℕ) (from axis : ℕ) (a
           (decide (same (ascii "node") w)))
           (λ (closed : sees paper.openRound (tokensAt text mid) ≡ false). rw (no-star, p .rest, closed, a-word, l)) none-called
 
-      pub tested-name : (v : ℕ) → look w ≡ some v → v < 256 → TestedStep look text from axis (v + 2) mid (λ within. readTested look within a (tokensAt text from))
+      pub tested-name : (v : ℕ) → look w ≡ some v → v < namesLimit → TestedStep look text from axis (v + namedFrom) mid (λ within. readTested look within a (tokensAt text from))
       tested-name v h small =
           record {
             way = a;
@@ -142,8 +143,8 @@ module _ (look : List ℕ → Option ℕ) (text : List ℕ) (from axis : ℕ) (a
             fewer = omega (arith, p .fewer);
           }
 
-      pub tested-unknown : (spot : ℕ) → look w ≡ none → spot ≡ at (tokensAt text from) → (within : ℕ → List Placed → Got Expr) → readTested look within a (tokensAt text from) ≡ refused 5 spot
-      tested-unknown spot h e within = named-next within ∙ rw (h, ← e)
+      pub tested-unknown : (place : ℕ) → look w ≡ none → place ≡ at (tokensAt text from) → (within : ℕ → List Placed → Got Expr) → readTested look within a (tokensAt text from) ≡ refused 5 place
+      tested-unknown place h e within = named-next within ∙ rw (h, ← e)
 
 -- THE HEAD. What is read from a later place on is what is read from here.
 heads-from : (look : List ℕ → Option ℕ) (text : List ℕ) (from mid : ℕ) (o p : Outcome) (r : Head) → ((within : ℕ → List Placed → Got Expr) → o within ≡ p within) → from ≤ mid
@@ -169,8 +170,8 @@ heads-from look text from mid o p (Tested axis test past) e l f h =
       inside = h .inside;
       fewer = omega (arith, h .fewer);
     }
-heads-from look text from mid o p (Wrong spot) e l f h = λ within. e within ∙ h within
-heads-from look text from mid o p (Unknown spot) e l f h = λ within. e within ∙ h within
+heads-from look text from mid o p (Wrong place) e l f h = λ within. e within ∙ h within
+heads-from look text from mid o p (Unknown place) e l f h = λ within. e within ∙ h within
 
 module _ (look : List ℕ → Option ℕ) (text : List ℕ) (from : ℕ) where
   pub head-dot : (past : ℕ) → sees paper.dot (tokensAt text from) ≡ true → Past text from past → PlainStep look text from 0 past (λ within. readStep look within (tokensAt text from))

@@ -1,4 +1,4 @@
--- The number of a name: it is below 256, and any name will do where none is looked up. Assumes nothing.
+-- The number of a name: it fits an item, and any name will do where none is looked up. Assumes nothing.
 use Prim.Native.Nat.{ℕ, zero, suc, _+_, _<_}
 use native.Mathlib.Omega.{arith}
 use mathlib.Core.Path.{_≡_, refl, sym, _∙_, ap}
@@ -27,15 +27,15 @@ length-column : {A : Type 0} (n k : ℕ) (f : ℕ → A) → length (columnFrom 
 length-column zero k f = refl
 length-column (suc n) k f = ap suc (length-column n (suc k) f)
 
-pub numbered : (known : Bool) (list starts : List ℕ) (count : ℕ) (word : List ℕ) (r : Found) → known ≡ true → Indexed list starts count
-    → foundAt r ≡ numberOf (namesOf list) word → Numbered (lookOf known list word) r
-numbered known list starts count word (At v) k i h = (
+pub numbered : (lookup : Bool) (list starts : List ℕ) (count : ℕ) (word : List ℕ) (r : Found) → lookup ≡ true → Indexed list starts count
+    → foundAt r ≡ numberOf (namesOf list) word → Numbered (lookOf lookup list word) r
+numbered lookup list starts count word (At v) k i h = (
   rw k (sym h),
   let b : v < 0 + length (namesOf list) = below 0 (namesOf list) word v (sym h) in
       let l : length (namesOf list) ≡ count = ap length (i .names) ∙ length-column count 0 (said list starts) in
       omega (arith, i .rising .few),
 )
-numbered known list starts count word Nothing k i h = rw k (sym h)
+numbered lookup list starts count word Nothing k i h = rw k (sym h)
 
-pub any-name : (known : Bool) (list word : List ℕ) → known ≡ false → Numbered (lookOf known list word) (At 0)
-any-name known list word k = (rw k, omega arith)
+pub any-name : (lookup : Bool) (list word : List ℕ) → lookup ≡ false → Numbered (lookOf lookup list word) (At 0)
+any-name lookup list word k = (rw k, omega arith)

@@ -10,7 +10,7 @@ use lib.ListN.{length, drop}
 use lib.Seq.{drop-drop}
 use Rattle.paper.specs.Tokens.{Placed, sort}
 use Rattle.paper.specs.Query.{Expr, path, negated, Steps}
-use Rattle.paper.specs.Items.{notItem, encodeExpr}
+use Rattle.paper.specs.Items.{notItem, encodeExpr, countBound}
 use Rattle.paper.specs.Reading.{Got, got, refused, then, next, at, readTail, readStep, readSteps, readOperand, readExpr, readWithin}
 use Rattle.read.specs.declared.Part.{Part}
 use Rattle.read.specs.declared.Part.the-variants.{Done, NoQuery, TooDeep, UnknownName}
@@ -22,10 +22,10 @@ use Rattle.read.specs.Parts.{Wrote, Gives, Reads, passSort, stepItems, p
 use Rattle.read.proofs.Writing.{wrote-head}
 
 -- What is read from a later place on is what is read from here.
-pub reads-from : {A : Type 0} (text old new : List ℕ) (from mid place low high low′ high′ : ℕ) (o o′ : Got A) (items : A → List ℕ) (r : Part) → o′ ≡ o → from ≤ mid
-    → length (tokensAt text mid) ≤ length (tokensAt text from) → low′ + high ≤ low + high′ → Reads text old new mid place low high o items r
-    → Reads text old new from place low′ high′ o′ items r
-reads-from text old new from mid place low high low′ high′ o o′ items (Done past end) e l f k g =
+pub reads-from : {A : Type 0} (text old new : List ℕ) (from mid slot low high low′ high′ : ℕ) (o o′ : Got A) (items : A → List ℕ) (r : Part) → o′ ≡ o → from ≤ mid
+    → length (tokensAt text mid) ≤ length (tokensAt text from) → low′ + high ≤ low + high′ → Reads text old new mid slot low high o items r
+    → Reads text old new from slot low′ high′ o′ items r
+reads-from text old new from mid slot low high low′ high′ o o′ items (Done past end) e l f k g =
     record {
       what = g .what;
       reads = e ∙ g .reads;
@@ -36,9 +36,9 @@ reads-from text old new from mid place low high low′ high′ o o′ items (Don
       fewer = omega (arith, g .fewer);
       grows = omega (arith, g .grows);
     }
-reads-from text old new from mid place low high low′ high′ o o′ items (NoQuery spot) e l f k g = e ∙ g
-reads-from text old new from mid place low high low′ high′ o o′ items (TooDeep spot) e l f k g = e ∙ g
-reads-from text old new from mid place low high low′ high′ o o′ items (UnknownName spot) e l f k g = e ∙ g
+reads-from text old new from mid slot low high low′ high′ o o′ items (NoQuery place) e l f k g = e ∙ g
+reads-from text old new from mid slot low high low′ high′ o o′ items (TooDeep place) e l f k g = e ∙ g
+reads-from text old new from mid slot low high low′ high′ o o′ items (UnknownName place) e l f k g = e ∙ g
 
 -- BRACKETS.
 module _ (look : List ℕ → Option ℕ) where
@@ -49,9 +49,9 @@ module _ (look : List ℕ → Option ℕ) where
   opened zero bracket ts z = absurd (z refl)
   opened (suc d) bracket ts z = ap (λ (k : ℕ). readExpr look (readWithin look k) ts) (let e : d ≡ suc d - 1 = omega arith in e)
 
-module _ (text old new : List ℕ) (from place closer : ℕ) (o o′ : Got Expr) (is : o ≡ o′) where
-  pub closed : (mid past end : ℕ) → Gives text old new from place (3 * from) place o′ encodeExpr mid end → eqb closer (sort (next (tokensAt text mid))) ≡ true → Past text mid past
-      → Gives text old new from place (3 * from) place (then o (passSort closer)) encodeExpr past end
+module _ (text old new : List ℕ) (from slot closer : ℕ) (o o′ : Got Expr) (is : o ≡ o′) where
+  pub closed : (mid past end : ℕ) → Gives text old new from slot (3 * from) slot o′ encodeExpr mid end → eqb closer (sort (next (tokensAt text mid))) ≡ true → Past text mid past
+      → Gives text old new from slot (3 * from) slot (then o (passSort closer)) encodeExpr past end
   closed mid past end g s p =
       record {
         what = g .what;
@@ -64,37 +64,37 @@ module _ (text old new : List ℕ) (from place closer : ℕ) (o o′ : Got Expr)
         grows = omega (arith, g .grows, p .onward);
       }
 
-  pub unclosed : (mid end spot : ℕ) → Gives text old new from place (3 * from) place o′ encodeExpr mid end → eqb closer (sort (next (tokensAt text mid))) ≡ false
-      → spot ≡ at (tokensAt text mid) → then o (passSort closer) ≡ refused 3 spot
-  unclosed mid end spot g s e = ap (λ x. then x (passSort closer)) (is ∙ g .reads) ∙ rw (s, ← e)
+  pub unclosed : (mid end place : ℕ) → Gives text old new from slot (3 * from) slot o′ encodeExpr mid end → eqb closer (sort (next (tokensAt text mid))) ≡ false
+      → place ≡ at (tokensAt text mid) → then o (passSort closer) ≡ refused 3 place
+  unclosed mid end place g s e = ap (λ x. then x (passSort closer)) (is ∙ g .reads) ∙ rw (s, ← e)
 
 -- OPERANDS.
 once : (o : Got Steps) → then o (λ s. got (path s)) ≡ then (then o (λ s. got s)) (λ s. got (path s))
 once (got s left) = refl
-once (refused n spot) = refl
+once (refused n place) = refl
 
-module _ (look : List ℕ → Option ℕ) (within : ℕ → List Placed → Got Expr) (text old : List ℕ) (from place : ℕ) where
+module _ (look : List ℕ → Option ℕ) (within : ℕ → List Placed → Got Expr) (text old : List ℕ) (from slot : ℕ) where
   abbrev inner : ℕ → ℕ → Got Expr
-  inner spot past = then (within spot (tokensAt text past)) (passSort 9)
+  inner place past = then (within place (tokensAt text past)) (passSort 9)
 
-  pub not-reads : (spot past : ℕ) → NotBegins text from spot past → readOperand look within (tokensAt text from) ≡ then (inner spot past) (λ e. got (negated e))
+  pub not-reads : (place past : ℕ) → NotBegins text from place past → readOperand look within (tokensAt text from) ≡ then (inner place past) (λ e. got (negated e))
   unfolding readOperand
-  not-reads spot past b =
+  not-reads place past b =
       let two : drop 2 (tokensAt text from) ≡ tokensAt text past =
       sym (drop-drop 1 1 (tokensAt text from)) ∙ ap (drop 1) (b .first .rest) ∙ b .second .rest in
       rw (b .says-not, b .first .rest, b .opens, two, ← b .place)
 
-  pub not-stuck : (spot past n end-spot : ℕ) → NotBegins text from spot past → inner spot past ≡ refused n end-spot → readOperand look within (tokensAt text from) ≡ refused n end-spot
-  not-stuck spot past n end-spot b h = not-reads spot past b ∙ ap (λ o. then o (λ e. got (negated e))) h
+  pub not-stuck : (place past n end-spot : ℕ) → NotBegins text from place past → inner place past ≡ refused n end-spot → readOperand look within (tokensAt text from) ≡ refused n end-spot
+  not-stuck place past n end-spot b h = not-reads place past b ∙ ap (λ o. then o (λ e. got (negated e))) h
 
-  pub not-done : (spot past : ℕ) (mid new : List ℕ) (last end : ℕ) → NotBegins text from spot past
-      → Gives text old mid past (place + 1) (3 * past) (place + 1) (inner spot past) encodeExpr last end → Wrote mid new place (notItem ∷ [])
-      → Gives text old new from place (3 * from) place (readOperand look within (tokensAt text from)) encodeExpr last end
-  not-done spot past mid new last end b g v =
+  pub not-done : (place past : ℕ) (mid new : List ℕ) (last end : ℕ) → NotBegins text from place past
+      → Gives text old mid past (slot + 1) (3 * past) (slot + 1) (inner place past) encodeExpr last end → Wrote mid new slot (notItem ∷ [])
+      → Gives text old new from slot (3 * from) slot (readOperand look within (tokensAt text from)) encodeExpr last end
+  not-done place past mid new last end b g v =
       record {
         what = negated (g .what);
-        reads = not-reads spot past b ∙ ap (λ o. then o (λ e. got (negated e))) (g .reads);
-        wrote = wrote-head old mid new place notItem notItem (encodeExpr (g .what)) (g .wrote) v (λ few. refl);
+        reads = not-reads place past b ∙ ap (λ o. then o (λ e. got (negated e))) (g .reads);
+        wrote = wrote-head old mid new slot notItem notItem (encodeExpr (g .what)) (g .wrote) v (λ few. refl);
         ends = omega (arith, g .ends);
         onward = omega (arith, g .onward, b .first .onward, b .second .onward);
         inside = g .inside;
@@ -102,12 +102,12 @@ module _ (look : List ℕ → Option ℕ) (within : ℕ → List Placed → Got 
         grows = omega (arith, g .grows, b .first .onward, b .second .onward);
       }
 
-  pub round-done : (new : List ℕ) (spot : ℕ) (past : Cursor) (r : Part) → Begins text from (Round spot past)
-      → Reads text old new (past .at) place (3 * past .at) place (inner spot (past .at)) encodeExpr r
-      → Reads text old new from place (3 * from) place (readOperand look within (tokensAt text from)) encodeExpr r
+  pub round-done : (new : List ℕ) (place : ℕ) (past : Cursor) (r : Part) → Begins text from (Round place past)
+      → Reads text old new (past .at) slot (3 * past .at) slot (inner place (past .at)) encodeExpr r
+      → Reads text old new from slot (3 * from) slot (readOperand look within (tokensAt text from)) encodeExpr r
   unfolding readOperand
-  round-done new spot past r b g =
-      reads-from text old new from (past .at) place (3 * past .at) place (3 * from) place (inner spot (past .at)) (readOperand look within (tokensAt text from)) encodeExpr r
+  round-done new place past r b g =
+      reads-from text old new from (past .at) slot (3 * past .at) slot (3 * from) slot (inner place (past .at)) (readOperand look within (tokensAt text from)) encodeExpr r
       (rw (b .0, b .1, ← b .2, b .3 .rest)) (omega (arith, b .3 .onward)) (omega (arith, b .3 .fewer)) (omega (arith, b .3 .onward)) g
 
   abbrev run : Got Steps
@@ -117,8 +117,8 @@ module _ (look : List ℕ → Option ℕ) (within : ℕ → List Placed → Got 
   unfolding readOperand
   as-path b = rw (b .0, b .1) (once (readSteps look within (length (tokensAt text from)) (tokensAt text from)))
 
-  pub path-done : (new : List ℕ) (r : Part) → Begins text from Path → Reads text old new from place (3 * from) place run pathItems r
-      → Reads text old new from place (3 * from) place (readOperand look within (tokensAt text from)) encodeExpr r
+  pub path-done : (new : List ℕ) (r : Part) → Begins text from Path → Reads text old new from slot (3 * from) slot run pathItems r
+      → Reads text old new from slot (3 * from) slot (readOperand look within (tokensAt text from)) encodeExpr r
   path-done new (Done past end) b g =
       record {
         what = path (g .what);
@@ -130,19 +130,19 @@ module _ (look : List ℕ → Option ℕ) (within : ℕ → List Placed → Got 
         fewer = g .fewer;
         grows = g .grows;
       }
-  path-done new (NoQuery spot) b g = as-path b ∙ ap (λ x. then x (λ s. got (path s))) g
-  path-done new (TooDeep spot) b g = as-path b ∙ ap (λ x. then x (λ s. got (path s))) g
-  path-done new (UnknownName spot) b g = as-path b ∙ ap (λ x. then x (λ s. got (path s))) g
+  path-done new (NoQuery place) b g = as-path b ∙ ap (λ x. then x (λ s. got (path s))) g
+  path-done new (TooDeep place) b g = as-path b ∙ ap (λ x. then x (λ s. got (path s))) g
+  path-done new (UnknownName place) b g = as-path b ∙ ap (λ x. then x (λ s. got (path s))) g
 
 -- STEPS BY THEIR HEADS.
-module _ (look : List ℕ → Option ℕ) (within : ℕ → List Placed → Got Expr) (text old new : List ℕ) (from place : ℕ) where
-  pub plain-done : (axis word past : ℕ) → PlainStep look text from axis past (λ w. readStep look w (tokensAt text from)) → (0 < 8192 → word ≡ packed (record { axis = axis; test = 0; count = 0 }))
-      → Wrote old new place (word ∷ []) → Gives text old new from place (3 * from + 2) place (readStep look within (tokensAt text from)) stepItems past (place + 1)
-  plain-done axis word past h right v =
+module _ (look : List ℕ → Option ℕ) (within : ℕ → List Placed → Got Expr) (text old new : List ℕ) (from slot : ℕ) where
+  pub plain-done : (axis made past : ℕ) → PlainStep look text from axis past (λ w. readStep look w (tokensAt text from)) → (0 < countBound → made ≡ packed (record { axis = axis; test = 0; count = 0 }))
+      → Wrote old new slot (made ∷ []) → Gives text old new from slot (3 * from + 2) slot (readStep look within (tokensAt text from)) stepItems past (slot + 1)
+  plain-done axis made past h right v =
       record {
         what = record { axis = h .way; test = _; preds = _ };
         reads = h .reads within;
-        wrote = subst (λ (w : ℕ). Wrote old new place (w ∷ [])) (right (omega arith) ∙ rw (h .number)) v;
+        wrote = subst (λ (w : ℕ). Wrote old new slot (w ∷ [])) (right (omega arith) ∙ rw (h .number)) v;
         ends = refl;
         onward = omega (arith, h .onward);
         inside = h .inside;
@@ -151,8 +151,8 @@ module _ (look : List ℕ → Option ℕ) (within : ℕ → List Placed → Got 
       }
 
   pub tested-done : (axis test : ℕ) (past : Cursor) (r : Part) (h : TestedStep look text from axis test (past .at) (λ w. readStep look w (tokensAt text from)))
-      → Reads text old new (past .at) place (3 * past .at) (place + 1) (readTail look within (h .way) (h .kind) (tokensAt text (past .at))) stepItems r
-      → Reads text old new from place (3 * from + 2) place (readStep look within (tokensAt text from)) stepItems r
+      → Reads text old new (past .at) slot (3 * past .at) (slot + 1) (readTail look within (h .way) (h .kind) (tokensAt text (past .at))) stepItems r
+      → Reads text old new from slot (3 * from + 2) slot (readStep look within (tokensAt text from)) stepItems r
   tested-done axis test past r h g =
-      reads-from text old new from (past .at) place (3 * past .at) (place + 1) (3 * from + 2) place (readTail look within (h .way) (h .kind) (tokensAt text (past .at))) (readStep look within (tokensAt text from))
+      reads-from text old new from (past .at) slot (3 * past .at) (slot + 1) (3 * from + 2) slot (readTail look within (h .way) (h .kind) (tokensAt text (past .at))) (readStep look within (tokensAt text from))
       stepItems r (h .reads within) (omega (arith, h .onward)) (h .fewer) (omega (arith, h .onward)) g

@@ -32,7 +32,7 @@ use Rattle.item.specs.Placed.{placed}
 use Rattle.item.proofs.Placing.{placed-first}
 use Rattle.read.specs.declared.Part.{Part}
 use Rattle.read.specs.declared.Part.the-variants.{Done, NoQuery, TooDeep, UnknownName}
-use Rattle.read.specs.Parts.{Wrote, Gives, Reads, deepIf, pathItems, Finishes, ReadsAll, Sized, Measures, Refusal, Whole, Kept}
+use Rattle.read.specs.Parts.{Wrote, Gives, Reads, deepIf, pathItems, Finishes, ReadsAll, Sized, Measures, AnswerOf, Whole, Kept}
 use types.Run.{miss}
 use Rattle.read.proofs.Writing.{wrote-nothing, wrote-more}
 use Rattle.read.proofs.Runs.{some-token, some-fuel, Refused}
@@ -40,15 +40,15 @@ use Rattle.read.proofs.Rows.{then-then, then-got}
 use Rattle.read.proofs.Operands.{reads-from}
 
 -- AN ABSOLUTE PATH.
-module _ (look : List ℕ → Option ℕ) (within : ℕ → List Placed → Got Expr) (text old new : List ℕ) (from place : ℕ) where
-  pub path-alone : (word : ℕ) (past : Cursor) → Leads text from (Alone past) → word ≡ packPath 0 → Wrote old new place (word ∷ [])
-      → Gives text old new from place (3 * from) place (readPath look within (tokensAt text from)) pathItems (past .at) (place + 1)
+module _ (look : List ℕ → Option ℕ) (within : ℕ → List Placed → Got Expr) (text old new : List ℕ) (from slot : ℕ) where
+  pub path-alone : (made : ℕ) (past : Cursor) → Leads text from (Alone past) → made ≡ packPath 0 → Wrote old new slot (made ∷ [])
+      → Gives text old new from slot (3 * from) slot (readPath look within (tokensAt text from)) pathItems (past .at) (slot + 1)
   unfolding readPath
-  path-alone word past l e v =
+  path-alone made past l e v =
       record {
         what = stop;
         reads = rw (l .0, l .1, l .2 .rest, l .3);
-        wrote = subst (λ (w : ℕ). Wrote old new place (w ∷ [])) e v;
+        wrote = subst (λ (w : ℕ). Wrote old new slot (w ∷ [])) e v;
         ends = refl;
         onward = omega (arith, l .2 .onward);
         inside = l .2 .inside;
@@ -57,21 +57,21 @@ module _ (look : List ℕ → Option ℕ) (within : ℕ → List Placed → Got 
       }
 
   pub path-before : (past : Cursor) (lead : Bool) (r : Part) → Leads text from (Before past lead)
-      → Reads text old new (past .at) place (3 * past .at) place
+      → Reads text old new (past .at) slot (3 * past .at) slot
       (then (readSteps look within (length (tokensAt text (past .at))) (tokensAt text (past .at))) (λ s. got (deepIf lead s))) pathItems r
-      → Reads text old new from place (3 * from) place (readPath look within (tokensAt text from)) pathItems r
+      → Reads text old new from slot (3 * from) slot (readPath look within (tokensAt text from)) pathItems r
   unfolding readPath
   path-before past true r l g =
-      reads-from text old new from (past .at) place (3 * past .at) place (3 * from) place _ _ pathItems r (rw (l .0, l .1 .rest)) (omega (arith, l .1 .onward)) (omega (arith, l .1 .fewer))
+      reads-from text old new from (past .at) slot (3 * past .at) slot (3 * from) slot _ _ pathItems r (rw (l .0, l .1 .rest)) (omega (arith, l .1 .onward)) (omega (arith, l .1 .fewer))
       (omega (arith, l .1 .onward)) g
   path-before past false r l g =
-      reads-from text old new from (past .at) place (3 * past .at) place (3 * from) place _ _ pathItems r
+      reads-from text old new from (past .at) slot (3 * past .at) slot (3 * from) slot _ _ pathItems r
       (rw (l .0, l .1, l .2 .rest, l .3) (then-got (readSteps look within (length (tokensAt text (past .at))) (tokensAt text (past .at))))) (omega (arith, l .2 .onward))
       (omega (arith, l .2 .fewer)) (omega (arith, l .2 .onward)) g
 
-  pub path-none : (spot : ℕ) → Leads text from (NoPath spot) → readPath look within (tokensAt text from) ≡ refused 3 spot
+  pub path-none : (place : ℕ) → Leads text from (NoPath place) → readPath look within (tokensAt text from) ≡ refused 3 place
   unfolding readPath
-  path-none spot l = rw (l .0, l .1, ← l .2)
+  path-none place l = rw (l .0, l .1, ← l .2)
 
 pub leads-past : (text : List ℕ) (from : ℕ) (past : Cursor) (lead : Bool) → Leads text from (Before past lead) → Past text from (past .at)
 leads-past text from past true l = l .1
@@ -115,8 +115,8 @@ unfolding encode
 only-code p = append-nil (pathItems p)
 
 module _ (look : List ℕ → Option ℕ) (within : ℕ → List Placed → Got Expr) (text old out : List ℕ) (all : Got Query) (here filled : ℕ) (l : PathRow look within text old out all here filled) where
-  pub paths-stuck : (n spot : ℕ) → readPath look within (tokensAt text here) ≡ refused n spot → all ≡ refused n spot
-  paths-stuck n spot h =
+  pub paths-stuck : (n place : ℕ) → readPath look within (tokensAt text here) ≡ refused n place → all ≡ refused n place
+  paths-stuck n place h =
       some-fuel (l .fuel) (omega (arith, l .enough, some-token text here))
       (λ f z. l .goes-on ∙ ap (λ k. then (readPaths look within k (tokensAt text here)) (λ q. got (l .build q))) z ∙ rw h)
 
@@ -168,18 +168,18 @@ module _ (look : List ℕ → Option ℕ) (within : ℕ → List Placed → Got 
           wrote = rw code all-wrote;
           ends = omega (arith, h .0, g .ends, l .ends, ap length code, length-append (l .raw) (pathItems (g .what)));
         })
-    paths-done (NoQuery spot) s h =
+    paths-done (NoQuery place) s h =
         some-fuel (l .fuel) (omega (arith, l .enough, some-token text here)) (λ f z. after f z ∙ rw (s, h .0, ← h .1))
-    paths-done (TooDeep spot) s h = absurd h
-    paths-done (UnknownName spot) s h = absurd h
+    paths-done (TooDeep place) s h = absurd h
+    paths-done (UnknownName place) s h = absurd h
 
 -- A refused path, passed upward.
-pub all-refused : {A : Type 0} (text old new old′ new′ : List ℕ) (from place low high : ℕ) (o : Got A) (items : A → List ℕ) (o′ : Got Query) (r : Part) → Refused r
-    → Reads text old new from place low high o items r → ((n spot : ℕ) → o ≡ refused n spot → o′ ≡ refused n spot) → ReadsAll old′ new′ o′ r
-all-refused text old new old′ new′ from place low high o items o′ (Done past end) n h k = absurd (miss (1 ∷ 2 ∷ 3 ∷ []) 0 tt n)
-all-refused text old new old′ new′ from place low high o items o′ (NoQuery spot) n h k = k 3 spot h
-all-refused text old new old′ new′ from place low high o items o′ (TooDeep spot) n h k = k 4 spot h
-all-refused text old new old′ new′ from place low high o items o′ (UnknownName spot) n h k = k 5 spot h
+pub all-refused : {A : Type 0} (text old new old′ new′ : List ℕ) (from slot low high : ℕ) (o : Got A) (items : A → List ℕ) (o′ : Got Query) (r : Part) → Refused r
+    → Reads text old new from slot low high o items r → ((n place : ℕ) → o ≡ refused n place → o′ ≡ refused n place) → ReadsAll old′ new′ o′ r
+all-refused text old new old′ new′ from slot low high o items o′ (Done past end) n h k = absurd (miss (1 ∷ 2 ∷ 3 ∷ []) 0 tt n)
+all-refused text old new old′ new′ from slot low high o items o′ (NoQuery place) n h k = k 3 place h
+all-refused text old new old′ new′ from slot low high o items o′ (TooDeep place) n h k = k 4 place h
+all-refused text old new old′ new′ from slot low high o items o′ (UnknownName place) n h k = k 5 place h
 
 -- MEASURING: size is the number of items.
 pub whole-sized : (old new : List ℕ) (o : Got Query) (end : ℕ) → Whole old new o end → Sized o end
@@ -187,16 +187,16 @@ whole-sized old new o end w = record { what = w .what; left = w .left; reads = w
 
 pub measured : (old new : List ℕ) (o : Got Query) (r : Part) → ReadsAll old new o r → Measures o r
 measured old new o (Done past end) w = whole-sized old new o end w
-measured old new o (NoQuery spot) w = w
-measured old new o (TooDeep spot) w = w
-measured old new o (UnknownName spot) w = w
+measured old new o (NoQuery place) w = w
+measured old new o (TooDeep place) w = w
+measured old new o (UnknownName place) w = w
 
 -- THE ANSWER.
-pub refused-told : (o : Got Query) (r : Part) (a : Answer) (later : Query → Told) → Refused r → Measures o r → Refusal r a → told a ≡ lineGot o later
+pub refused-told : (o : Got Query) (r : Part) (a : Answer) (later : Query → Told) → Refused r → Measures o r → AnswerOf r a → told a ≡ lineGot o later
 refused-told o (Done past end) a later n m h = absurd (miss (1 ∷ 2 ∷ 3 ∷ []) 0 tt n)
-refused-told o (NoQuery spot) a later n m h = h ∙ rw m
-refused-told o (TooDeep spot) a later n m h = h ∙ rw m
-refused-told o (UnknownName spot) a later n m h = h ∙ rw m
+refused-told o (NoQuery place) a later n m h = h ∙ rw m
+refused-told o (TooDeep place) a later n m h = h ∙ rw m
+refused-told o (UnknownName place) a later n m h = h ∙ rw m
 
 abbrev last-line : ℕ → Query → Told
 last-line room q = line 10 (shortOfItems room (size q)) (value (size q))
@@ -242,9 +242,9 @@ pub kept : (text list old : List ℕ) (a : Answer) → Refuses a → told a ≡ 
 unfolding readOut
 kept text list old a r h = sym (ap (λ x. atExit x (readItems text list) old) (sym h) ∙ refused-keeps a (readItems text list) old r)
 
-pub kept-refusal : (text list old : List ℕ) (number spot : ℕ) → refusal number spot ≡ readAnswer text list (length old) → old ≡ readOut text list old
+pub kept-refusal : (text list old : List ℕ) (number place : ℕ) → refusal number place ≡ readAnswer text list (length old) → old ≡ readOut text list old
 unfolding readOut
-kept-refusal text list old number spot h = ap (λ x. atExit x (readItems text list) old) h
+kept-refusal text list old number place h = ap (λ x. atExit x (readItems text list) old) h
 
 -- A query was read that fits.
 record Fits (o : Got Query) (room : ℕ) : Type 0 where
@@ -254,8 +254,8 @@ record Fits (o : Got Query) (room : ℕ) : Type 0 where
   pub room-enough : size what ≤ room
   pub few : size what ≤ itemLimit
 
-never-refused : (o : Got Query) (room : ℕ) (number spot : ℕ) → Fits o room → o ≡ refused number spot → ⊥
-never-refused o room number spot f h = let e : got (f .what) (f .left) ≡ refused number spot = sym (f .reads) ∙ h in let z : _≡_ {A = ℕ} 0 1 = cc in omega arith
+never-refused : (o : Got Query) (room : ℕ) (number place : ℕ) → Fits o room → o ≡ refused number place → ⊥
+never-refused o room number place f h = let e : got (f .what) (f .left) ≡ refused number place = sym (f .reads) ∙ h in let z : _≡_ {A = ℕ} 0 1 = cc in omega arith
 
 wrote-all : (o : Got Query) (old new : List ℕ) (r : Part) → Fits o (length old) → ReadsAll old new o r → (itemsOf : Got Query → List ℕ) → ((q : Query) (left : List Placed) → itemsOf (got q left) ≡ encode q)
     → new ≡ written (itemsOf o) old
@@ -267,9 +267,9 @@ wrote-all o old new (Done past end) f w itemsOf is =
     let room : length code ≤ length old = omega (arith, f .room-enough) in
     w .wrote .puts [] (take (length code) old) (drop (length code) old) (sym (take-append-drop (length code) old)) refl (length-take-le (length code) old room) (omega (arith, f .few)) ∙
     ap (λ x. written x old) (sym (ap itemsOf (w .reads) ∙ is (w .what) (w .left)))
-wrote-all o old new (NoQuery spot) f w itemsOf is = absurd (never-refused o (length old) 3 spot f w)
-wrote-all o old new (TooDeep spot) f w itemsOf is = absurd (never-refused o (length old) 4 spot f w)
-wrote-all o old new (UnknownName spot) f w itemsOf is = absurd (never-refused o (length old) 5 spot f w)
+wrote-all o old new (NoQuery place) f w itemsOf is = absurd (never-refused o (length old) 3 place f w)
+wrote-all o old new (TooDeep place) f w itemsOf is = absurd (never-refused o (length old) 4 place f w)
+wrote-all o old new (UnknownName place) f w itemsOf is = absurd (never-refused o (length old) 5 place f w)
 
 -- What was kept fits where there is room for so many items.
 kept-fits : (few : List ℕ) (o : Got Query) (end room : ℕ) → Kept few o end → end ≤ room → Fits o room
@@ -303,17 +303,17 @@ kept-few old few o end e w l =
     }
 
 -- A refusal is no value.
-refusal-value {ℓ} : {X : Type ℓ} (number spot n : ℕ) → refusal number spot ≡ value n → X
-refusal-value number spot n h = absurd (let z : _≡_ {A = ℕ} 0 1 = cc in omega arith)
+refusal-value {ℓ} : {X : Type ℓ} (number place n : ℕ) → refusal number place ≡ value n → X
+refusal-value number place n h = absurd (let z : _≡_ {A = ℕ} 0 1 = cc in omega arith)
 
 pub short-value {ℓ} : {X : Type ℓ} (m n : ℕ) → Short m ≡ Value n → X
 short-value m n e = refusal-value 10 m n (ap told e)
 
-pub refused-value {ℓ} : {X : Type ℓ} (r : Part) (a : Answer) → Refused r → Refusal r a → (n : ℕ) → a ≡ Value n → X
+pub refused-value {ℓ} : {X : Type ℓ} (r : Part) (a : Answer) → Refused r → AnswerOf r a → (n : ℕ) → a ≡ Value n → X
 refused-value (Done past end) a m h n e = absurd (miss (1 ∷ 2 ∷ 3 ∷ []) 0 tt m)
-refused-value (NoQuery spot) a m h n e = refusal-value 3 spot n (sym h ∙ ap told e)
-refused-value (TooDeep spot) a m h n e = refusal-value 4 spot n (sym h ∙ ap told e)
-refused-value (UnknownName spot) a m h n e = refusal-value 5 spot n (sym h ∙ ap told e)
+refused-value (NoQuery place) a m h n e = refusal-value 3 place n (sym h ∙ ap told e)
+refused-value (TooDeep place) a m h n e = refusal-value 4 place n (sym h ∙ ap told e)
+refused-value (UnknownName place) a m h n e = refusal-value 5 place n (sym h ∙ ap told e)
 
 pub value-same : (m n : ℕ) → Value m ≡ Value n → m ≡ n
 value-same m n e = cc

@@ -9,7 +9,7 @@ use lib.ListN.{length, drop, length-append}
 use Rattle.paper.specs.Tokens as paper
 use Rattle.paper.specs.Tokens.{Placed}
 use Rattle.paper.specs.Query.{Axis, Test, Expr, path, both, either, negated, Steps, stop, Preds, bare, pred}
-use Rattle.paper.specs.Items.{axisNumber, testNumber, packPath, packStep, stepCount, predCount, encodeExpr, encodeSteps, encodePreds}
+use Rattle.paper.specs.Items.{axisNumber, testNumber, packPath, packStep, stepCount, predCount, encodeExpr, encodeSteps, encodePreds, countBound}
 use Rattle.paper.specs.Reading.{Got, got, refused, then, at, sees, Step, before, deep, readPreds, readTail, readStep, readSteps}
 use Rattle.token.specs.declared.Cursor.{Cursor}
 use Rattle.item.specs.Unpacked.{packed}
@@ -22,11 +22,11 @@ use Rattle.read.proofs.Runs.{some-token, some-fuel}
 -- What is built of what is read may be built at once.
 pub then-then : {A B C : Type 0} (o : Got A) (f : A → B) (g : B → C) → then (then o (λ a. got (f a))) (λ b. got (g b)) ≡ then o (λ a. got (g (f a)))
 then-then (got a left) f g = refl
-then-then (refused n spot) f g = refl
+then-then (refused n place) f g = refl
 
 pub then-got : {A : Type 0} (o : Got A) → o ≡ then o (λ a. got a)
 then-got (got a left) = refl
-then-got (refused n spot) = refl
+then-got (refused n place) = refl
 
 -- PREDICATES.
 expr-some : (e : Expr) → 1 ≤ length (encodeExpr e)
@@ -35,7 +35,7 @@ expr-some (both a b) = omega arith
 expr-some (either a b) = omega arith
 expr-some (negated a) = omega arith
 
-pub record PredRow (look : List ℕ → Option ℕ) (within : ℕ → List Placed → Got Expr) (text old out : List ℕ) (from place here filled taken : ℕ) : Type 0 where
+pub record PredRow (look : List ℕ → Option ℕ) (within : ℕ → List Placed → Got Expr) (text old out : List ℕ) (from slot here filled taken : ℕ) : Type 0 where
   pub build : Preds → Preds
   pub fuel : ℕ
   pub raw : List ℕ
@@ -43,16 +43,16 @@ pub record PredRow (look : List ℕ → Option ℕ) (within : ℕ → List Place
   pub codes : (ps : Preds) → encodePreds (build ps) ≡ raw ++ encodePreds ps
   pub goes-on : readPreds look within (length (tokensAt text from)) (tokensAt text from) ≡ then (readPreds look within fuel (tokensAt text here)) (λ ps. got (build ps))
   pub enough : length (tokensAt text here) ≤ fuel
-  pub wrote : Wrote old out (place + 1) raw
-  pub ends : filled ≡ place + 1 + length raw
+  pub wrote : Wrote old out (slot + 1) raw
+  pub ends : filled ≡ slot + 1 + length raw
   pub few : taken ≤ length raw
   pub onward : from ≤ here
   pub inside : here ≤ length text
   pub fewer : length (tokensAt text here) ≤ length (tokensAt text from)
-  pub grows : filled + 3 * from ≤ place + 1 + 3 * here
+  pub grows : filled + 3 * from ≤ slot + 1 + 3 * here
 
-module _ (look : List ℕ → Option ℕ) (within : ℕ → List Placed → Got Expr) (text old : List ℕ) (from place : ℕ) where
-  pub preds-start : from ≤ length text → PredRow look within text old old from place from (place + 1) 0
+module _ (look : List ℕ → Option ℕ) (within : ℕ → List Placed → Got Expr) (text old : List ℕ) (from slot : ℕ) where
+  pub preds-start : from ≤ length text → PredRow look within text old old from slot from (slot + 1) 0
   preds-start inside =
       record {
         build = λ ps. ps;
@@ -62,7 +62,7 @@ module _ (look : List ℕ → Option ℕ) (within : ℕ → List Placed → Got 
         codes = λ ps. refl;
         goes-on = then-got (readPreds look within (length (tokensAt text from)) (tokensAt text from));
         enough = omega arith;
-        wrote = wrote-nothing old (place + 1);
+        wrote = wrote-nothing old (slot + 1);
         ends = omega arith;
         few = omega arith;
         onward = omega arith;
@@ -71,7 +71,7 @@ module _ (look : List ℕ → Option ℕ) (within : ℕ → List Placed → Got 
         grows = omega arith;
       }
 
-  module _ (out : List ℕ) (here filled taken : ℕ) (l : PredRow look within text old out from place here filled taken) where
+  module _ (out : List ℕ) (here filled taken : ℕ) (l : PredRow look within text old out from slot here filled taken) where
     -- A `[` comes next.
     module _ (mid bracket : ℕ) (s : sees paper.openSquare (tokensAt text here) ≡ true) (e : bracket ≡ at (tokensAt text here)) (p : Past text here mid) where
       abbrev inner : Got Expr
@@ -82,7 +82,7 @@ module _ (look : List ℕ → Option ℕ) (within : ℕ → List Placed → Got 
       there f z = ap (λ n. readPreds look within n (tokensAt text here)) z ∙ rw (s, ← e, p .rest)
 
       pub preds-more : (out′ : List ℕ) (past end : ℕ) → Gives text out out′ mid filled (3 * mid) filled inner encodeExpr past end
-          → PredRow look within text old out′ from place past end (taken + 1)
+          → PredRow look within text old out′ from slot past end (taken + 1)
       preds-more out′ past end g =
           some-fuel (l .fuel) (omega (arith, l .enough, p .fewer))
           (λ f z.
@@ -97,7 +97,7 @@ module _ (look : List ℕ → Option ℕ) (within : ℕ → List Placed → Got 
                 l .goes-on ∙ ap (λ o. then o (λ ps. got (l .build ps))) (there f z ∙ ap (λ o. then o (λ e left. then (readPreds look within f left) (λ ps. got (pred e ps)))) (g .reads)) ∙
                 then-then (readPreds look within f (tokensAt text past)) (pred (g .what)) (l .build);
             enough = omega (arith, l .enough, p .fewer, g .fewer);
-            wrote = wrote-more old out out′ (place + 1) filled (l .raw) code (l .wrote) (l .ends) (g .wrote);
+            wrote = wrote-more old out out′ (slot + 1) filled (l .raw) code (l .wrote) (l .ends) (g .wrote);
             ends = omega (arith, g .ends, l .ends, length-append (l .raw) code);
             few = omega (arith, l .few, length-append (l .raw) code, expr-some (g .what));
             onward = omega (arith, l .onward, p .onward, g .onward);
@@ -106,20 +106,20 @@ module _ (look : List ℕ → Option ℕ) (within : ℕ → List Placed → Got 
             grows = omega (arith, l .grows, g .grows, p .onward);
           })
 
-      pub preds-stuck : (a : Axis) (t : Test) (n spot : ℕ) → inner ≡ refused n spot → readTail look within a t (tokensAt text from) ≡ refused n spot
+      pub preds-stuck : (a : Axis) (t : Test) (n place : ℕ) → inner ≡ refused n place → readTail look within a t (tokensAt text from) ≡ refused n place
       unfolding readTail
-      preds-stuck a t n spot h =
+      preds-stuck a t n place h =
           some-fuel (l .fuel) (omega (arith, l .enough, p .fewer))
           (λ f z.
           ap (λ o. then o (λ ps. got (record { axis = a; test = t; preds = ps })))
           (l .goes-on ∙ ap (λ o. then o (λ ps. got (l .build ps))) (there f z ∙ ap (λ o. then o (λ e left. then (readPreds look within f left) (λ ps. got (pred e ps)))) h)))
 
     -- None comes: the step's item is put before its predicates.
-    pub preds-done : (new : List ℕ) (axis test word : ℕ) (a : Axis) (t : Test) → axis ≡ axisNumber a → test ≡ testNumber t → sees paper.openSquare (tokensAt text here) ≡ false
-        → (taken < 8192 → word ≡ packed (record { axis = axis; test = test; count = taken })) → Wrote out new place (word ∷ [])
-        → Gives text old new from place (3 * from) (place + 1) (readTail look within a t (tokensAt text from)) stepItems here filled
+    pub preds-done : (new : List ℕ) (axis test made : ℕ) (a : Axis) (t : Test) → axis ≡ axisNumber a → test ≡ testNumber t → sees paper.openSquare (tokensAt text here) ≡ false
+        → (taken < countBound → made ≡ packed (record { axis = axis; test = test; count = taken })) → Wrote out new slot (made ∷ [])
+        → Gives text old new from slot (3 * from) (slot + 1) (readTail look within a t (tokensAt text from)) stepItems here filled
     unfolding readTail
-    preds-done new axis test word a t ea et s right v =
+    preds-done new axis test made a t ea et s right v =
         let ps = l .build bare in
         let code : encodePreds ps ≡ l .raw = l .codes bare ∙ append-nil (l .raw) in
         let count : predCount ps ≡ taken = l .counts bare ∙ (omega arith) in
@@ -128,7 +128,7 @@ module _ (look : List ℕ → Option ℕ) (within : ℕ → List Placed → Got 
           reads = ap (λ o. then o (λ ps. got (record { axis = a; test = t; preds = ps }))) (l .goes-on ∙ ap (λ o. then o (λ ps. got (l .build ps))) (over (l .fuel)));
           wrote =
               rw (code, count)
-              (wrote-head old out new place word (packStep a t taken) (l .raw) (l .wrote) v (λ few. right (omega (arith, l .few)) ∙ rw (ea, et)));
+              (wrote-head old out new slot made (packStep a t taken) (l .raw) (l .wrote) v (λ few. right (omega (arith, l .few)) ∙ rw (ea, et)));
           ends = omega (arith, l .ends, ap length code);
           onward = l .onward;
           inside = l .inside;
@@ -154,7 +154,7 @@ deep-few true = omega arith
 deep-few false = omega arith
 
 -- At the head of a turn; `lead` tells whether `//` stands before the next step.
-pub record StepRow (look : List ℕ → Option ℕ) (within : ℕ → List Placed → Got Expr) (text old out : List ℕ) (from place : ℕ) (all : Got Steps) (here filled : ℕ) (lead : Bool) (taken : ℕ) : Type 0 where
+pub record StepRow (look : List ℕ → Option ℕ) (within : ℕ → List Placed → Got Expr) (text old out : List ℕ) (from slot : ℕ) (all : Got Steps) (here filled : ℕ) (lead : Bool) (taken : ℕ) : Type 0 where
   pub build : Steps → Steps
   pub fuel : ℕ
   pub raw : List ℕ
@@ -162,16 +162,16 @@ pub record StepRow (look : List ℕ → Option ℕ) (within : ℕ → List Place
   pub codes : (s : Steps) → encodeSteps (build s) ≡ raw ++ encodeSteps s
   pub goes-on : all ≡ then (readSteps look within fuel (tokensAt text here)) (λ s. got (build (deepIf lead s)))
   pub enough : length (tokensAt text here) ≤ fuel
-  pub wrote : Wrote old out (place + 1) raw
-  pub ends : filled ≡ place + 1 + length raw
+  pub wrote : Wrote old out (slot + 1) raw
+  pub ends : filled ≡ slot + 1 + length raw
   pub few : taken ≤ length raw
   pub onward : from ≤ here
   pub inside : here ≤ length text
   pub fewer : length (tokensAt text here) ≤ length (tokensAt text from)
-  pub grows : filled + 3 * from ≤ place + 1 + 3 * here
+  pub grows : filled + 3 * from ≤ slot + 1 + 3 * here
 
--- After a step was read, before what stands after it is known.
-pub record Stepped (look : List ℕ → Option ℕ) (within : ℕ → List Placed → Got Expr) (text old out : List ℕ) (from place : ℕ) (all : Got Steps) (past filled taken : ℕ) : Type 0 where
+-- After a step was read, before what stands after it is lookup.
+pub record Stepped (look : List ℕ → Option ℕ) (within : ℕ → List Placed → Got Expr) (text old out : List ℕ) (from slot : ℕ) (all : Got Steps) (past filled taken : ℕ) : Type 0 where
   pub build : Steps → Steps
   pub fuel : ℕ
   pub raw : List ℕ
@@ -181,13 +181,13 @@ pub record Stepped (look : List ℕ → Option ℕ) (within : ℕ → List Place
       ≡ cond (sees paper.slash (tokensAt text past)) (then (readSteps look within fuel (drop 1 (tokensAt text past))) (λ s. got (build s)))
       (cond (sees paper.slashes (tokensAt text past)) (then (readSteps look within fuel (drop 1 (tokensAt text past))) (λ s. got (build (deep s)))) (got (build stop) (tokensAt text past)))
   pub enough : length (tokensAt text past) ≤ suc fuel
-  pub wrote : Wrote old out (place + 1) raw
-  pub ends : filled ≡ place + 1 + length raw
+  pub wrote : Wrote old out (slot + 1) raw
+  pub ends : filled ≡ slot + 1 + length raw
   pub few : taken ≤ length raw
   pub onward : from ≤ past
   pub inside : past ≤ length text
   pub fewer : length (tokensAt text past) ≤ length (tokensAt text from)
-  pub grows : filled + 3 * from ≤ place + 3 * past
+  pub grows : filled + 3 * from ≤ slot + 3 * past
 
 spread : (b c : Bool) (o : Got Steps) (f g k : Steps → Steps) (x : Steps) (ts : List Placed)
     → then (cond b (then o (λ r. got (f r))) (cond c (then o (λ r. got (g r))) (got x ts))) (λ s. got (k s))
@@ -196,11 +196,11 @@ spread true c o f g k x ts = then-then o f k
 spread false true o f g k x ts = then-then o g k
 spread false false o f g k x ts = refl
 
-module _ (look : List ℕ → Option ℕ) (within : ℕ → List Placed → Got Expr) (text old : List ℕ) (from place : ℕ) (deep′ : Bool) where
+module _ (look : List ℕ → Option ℕ) (within : ℕ → List Placed → Got Expr) (text old : List ℕ) (from slot : ℕ) (deep′ : Bool) where
   abbrev all-steps : Got Steps
   all-steps = then (readSteps look within (length (tokensAt text from)) (tokensAt text from)) (λ s. got (deepIf deep′ s))
 
-  pub steps-start : from ≤ length text → StepRow look within text old old from place all-steps from (place + 1) deep′ 0
+  pub steps-start : from ≤ length text → StepRow look within text old old from slot all-steps from (slot + 1) deep′ 0
   steps-start inside =
       record {
         build = λ s. s;
@@ -210,7 +210,7 @@ module _ (look : List ℕ → Option ℕ) (within : ℕ → List Placed → Got 
         codes = λ s. refl;
         goes-on = refl;
         enough = omega arith;
-        wrote = wrote-nothing old (place + 1);
+        wrote = wrote-nothing old (slot + 1);
         ends = omega arith;
         few = omega arith;
         onward = omega arith;
@@ -219,12 +219,12 @@ module _ (look : List ℕ → Option ℕ) (within : ℕ → List Placed → Got 
         grows = omega arith;
       }
 
-module _ (look : List ℕ → Option ℕ) (within : ℕ → List Placed → Got Expr) (text old : List ℕ) (from place : ℕ) (all : Got Steps) where
-  module _ (out : List ℕ) (here filled : ℕ) (lead : Bool) (taken : ℕ) (l : StepRow look within text old out from place all here filled lead taken) where
+module _ (look : List ℕ → Option ℕ) (within : ℕ → List Placed → Got Expr) (text old : List ℕ) (from slot : ℕ) (all : Got Steps) where
+  module _ (out : List ℕ) (here filled : ℕ) (lead : Bool) (taken : ℕ) (l : StepRow look within text old out from slot all here filled lead taken) where
     -- One step is read, behind the step of `//` where that is written.
     pub step-more : (mid out′ : List ℕ) (start past end : ℕ) → Wrote out mid filled (deepItems lead) → start ≡ filled + length (deepItems lead)
         → Gives text mid out′ here start (3 * here + 2) start (readStep look within (tokensAt text here)) stepItems past end
-        → Stepped look within text old out′ from place all past end (taken + (start - filled + 1))
+        → Stepped look within text old out′ from slot all past end (taken + (start - filled + 1))
     step-more mid out′ start past end w e g =
         some-fuel (l .fuel) (omega (arith, l .enough, some-token text here))
         (λ f z.
@@ -244,7 +244,7 @@ module _ (look : List ℕ → Option ℕ) (within : ℕ → List Placed → Got 
               (λ rest. before s (deep rest)) (λ r. l .build (deepIf lead r)) (before s stop) (tokensAt text past));
           enough = omega (arith, l .enough, g .fewer);
           wrote =
-              wrote-more old out out′ (place + 1) filled (l .raw) code (l .wrote) (l .ends)
+              wrote-more old out out′ (slot + 1) filled (l .raw) code (l .wrote) (l .ends)
               (wrote-more out mid out′ filled start (deepItems lead) (stepItems s) w e (g .wrote));
           ends = omega (arith, l .ends, g .ends, length-append (l .raw) code);
           few = omega (arith, l .few, length-append (l .raw) code);
@@ -254,14 +254,14 @@ module _ (look : List ℕ → Option ℕ) (within : ℕ → List Placed → Got 
           grows = omega (arith, l .grows, g .grows, deep-few lead);
         })
 
-    pub step-stuck : (n spot : ℕ) → readStep look within (tokensAt text here) ≡ refused n spot → all ≡ refused n spot
-    step-stuck n spot h =
+    pub step-stuck : (n place : ℕ) → readStep look within (tokensAt text here) ≡ refused n place → all ≡ refused n place
+    step-stuck n place h =
         some-fuel (l .fuel) (omega (arith, l .enough, some-token text here))
         (λ f z. l .goes-on ∙ ap (λ n. then (readSteps look within n (tokensAt text here)) (λ r. got (l .build (deepIf lead r)))) z ∙ rw h)
 
-  module _ (out : List ℕ) (past filled taken : ℕ) (l : Stepped look within text old out from place all past filled taken) where
+  module _ (out : List ℕ) (past filled taken : ℕ) (l : Stepped look within text old out from slot all past filled taken) where
     -- `/` or `//` comes next.
-    pub steps-more : (here : Cursor) (lead : Bool) → Joins text past (Next here lead) → StepRow look within text old out from place all (here .at) filled lead taken
+    pub steps-more : (here : Cursor) (lead : Bool) → Joins text past (Next here lead) → StepRow look within text old out from slot all (here .at) filled lead taken
     steps-more here true j =
         record {
           build = l .build;
@@ -298,16 +298,16 @@ module _ (look : List ℕ → Option ℕ) (within : ℕ → List Placed → Got 
         }
 
     -- Neither comes: the path's item is put before its steps.
-    pub steps-done : (new : List ℕ) (word spot : ℕ) → Joins text past (Nothing spot) → (taken < 8192 → word ≡ packPath taken) → Wrote out new place (word ∷ [])
-        → Gives text old new from place (3 * from) place all pathItems past filled
-    steps-done new word spot j right v =
+    pub steps-done : (new : List ℕ) (made place : ℕ) → Joins text past (Nothing place) → (taken < countBound → made ≡ packPath taken) → Wrote out new slot (made ∷ [])
+        → Gives text old new from slot (3 * from) slot all pathItems past filled
+    steps-done new made place j right v =
         let s = l .build stop in
         let code : encodeSteps s ≡ l .raw = l .codes stop ∙ append-nil (l .raw) in
         let count : stepCount s ≡ taken = l .counts stop ∙ (omega arith) in
         record {
           what = s;
           reads = l .goes-on ∙ rw (j .0, j .1);
-          wrote = rw (code, count) (wrote-head old out new place word (packPath taken) (l .raw) (l .wrote) v (λ few. right (omega (arith, l .few))));
+          wrote = rw (code, count) (wrote-head old out new slot made (packPath taken) (l .raw) (l .wrote) v (λ few. right (omega (arith, l .few))));
           ends = omega (arith, l .ends, ap length code);
           onward = l .onward;
           inside = l .inside;

@@ -45,13 +45,13 @@ some-fuel (suc f) z k = k f refl
 abbrev pub Refused : Part → Type 0
 Refused r = OneOf (1 ∷ 2 ∷ 3 ∷ []) (tagOf the-type r)
 
-pub passed-on : {A B : Type 0} (text old new text′ old′ new′ : List ℕ) (from place low high from′ place′ low′ high′ : ℕ) (o : Got A) (items : A → List ℕ) (o′ : Got B) (items′ : B → List ℕ) (r : Part)
-    → Refused r → Reads text old new from place low high o items r → ((n spot : ℕ) → o ≡ refused n spot → o′ ≡ refused n spot)
-    → Reads text′ old′ new′ from′ place′ low′ high′ o′ items′ r
-passed-on text old new text′ old′ new′ from place low high from′ place′ low′ high′ o items o′ items′ (Done past end) n h k = absurd (miss (1 ∷ 2 ∷ 3 ∷ []) 0 tt n)
-passed-on text old new text′ old′ new′ from place low high from′ place′ low′ high′ o items o′ items′ (NoQuery spot) n h k = k 3 spot h
-passed-on text old new text′ old′ new′ from place low high from′ place′ low′ high′ o items o′ items′ (TooDeep spot) n h k = k 4 spot h
-passed-on text old new text′ old′ new′ from place low high from′ place′ low′ high′ o items o′ items′ (UnknownName spot) n h k = k 5 spot h
+pub passed-on : {A B : Type 0} (text old new text′ old′ new′ : List ℕ) (from slot low high from′ slot′ low′ high′ : ℕ) (o : Got A) (items : A → List ℕ) (o′ : Got B) (items′ : B → List ℕ) (r : Part)
+    → Refused r → Reads text old new from slot low high o items r → ((n place : ℕ) → o ≡ refused n place → o′ ≡ refused n place)
+    → Reads text′ old′ new′ from′ slot′ low′ high′ o′ items′ r
+passed-on text old new text′ old′ new′ from slot low high from′ slot′ low′ high′ o items o′ items′ (Done past end) n h k = absurd (miss (1 ∷ 2 ∷ 3 ∷ []) 0 tt n)
+passed-on text old new text′ old′ new′ from slot low high from′ slot′ low′ high′ o items o′ items′ (NoQuery place) n h k = k 3 place h
+passed-on text old new text′ old′ new′ from slot low high from′ slot′ low′ high′ o items o′ items′ (TooDeep place) n h k = k 4 place h
+passed-on text old new text′ old′ new′ from slot low high from′ slot′ low′ high′ o items o′ items′ (UnknownName place) n h k = k 5 place h
 
 -- AN OPERATOR: `one` reads an operand, `more n e` reads at most n more and joins each to e.
 pub record Operator : Type 0 where
@@ -103,24 +103,24 @@ unfolding readExpr
 expr-whole look within ts = refl
 
 -- What has been read of the run, and its operands written one behind the other.
-pub record Left (op : Operator) (text old out : List ℕ) (from place : ℕ) (all : Got Expr) (here filled run : ℕ) : Type 0 where
+pub record Left (op : Operator) (text old out : List ℕ) (from slot : ℕ) (all : Got Expr) (here filled run : ℕ) : Type 0 where
   pub so-far : Expr
   pub fuel : ℕ
   pub raw : List ℕ
   pub goes-on : all ≡ op .more fuel so-far (tokensAt text here)
   pub enough : length (tokensAt text here) ≤ fuel
   pub coded : encodeExpr so-far ≡ replicate run (op .item) ++ raw
-  pub wrote : Wrote old out place raw
-  pub ends : filled ≡ place + length raw
+  pub wrote : Wrote old out slot raw
+  pub ends : filled ≡ slot + length raw
   pub onward : from ≤ here
   pub inside : here ≤ length text
   pub fewer : length (tokensAt text here) ≤ length (tokensAt text from)
-  pub grows : filled + run + 3 * from ≤ place + 3 * here
+  pub grows : filled + run + 3 * from ≤ slot + 3 * here
 
-module _ (op : Operator) (text old : List ℕ) (from place : ℕ) (all : Got Expr) (is : all ≡ whole op (tokensAt text from)) where
+module _ (op : Operator) (text old : List ℕ) (from slot : ℕ) (all : Got Expr) (is : all ≡ whole op (tokensAt text from)) where
   -- The first operand.
-  pub left-start : (out : List ℕ) (here filled : ℕ) → Gives text old out from place (3 * from) place (op .one (tokensAt text from)) encodeExpr here filled
-      → Left op text old out from place all here filled 0
+  pub left-start : (out : List ℕ) (here filled : ℕ) → Gives text old out from slot (3 * from) slot (op .one (tokensAt text from)) encodeExpr here filled
+      → Left op text old out from slot all here filled 0
   left-start out here filled g =
       record {
         so-far = g .what;
@@ -137,11 +137,11 @@ module _ (op : Operator) (text old : List ℕ) (from place : ℕ) (all : Got Exp
         grows = omega (arith, g .grows);
       }
 
-  pub start-stuck : (n spot : ℕ) → op .one (tokensAt text from) ≡ refused n spot → all ≡ refused n spot
-  start-stuck n spot h = is ∙ ap (λ o. then o (λ a left. op .more (length left) a left)) h
+  pub start-stuck : (n place : ℕ) → op .one (tokensAt text from) ≡ refused n place → all ≡ refused n place
+  start-stuck n place h = is ∙ ap (λ o. then o (λ a left. op .more (length left) a left)) h
 
-module _ (op : Operator) (text old : List ℕ) (from place : ℕ) (all : Got Expr) where
-  module _ (out : List ℕ) (here filled run : ℕ) (l : Left op text old out from place all here filled run) where
+module _ (op : Operator) (text old : List ℕ) (from slot : ℕ) (all : Got Expr) where
+  module _ (out : List ℕ) (here filled run : ℕ) (l : Left op text old out from slot all here filled run) where
     -- The operator's word comes next.
     module _ (mid : ℕ) (s : says (op .word) (tokensAt text here) ≡ true) (p : Past text here mid) where
       there : (f : ℕ) → l .fuel ≡ suc f → all ≡ then (op .one (tokensAt text mid)) (λ b. op .more f (op .join (l .so-far) b))
@@ -149,7 +149,7 @@ module _ (op : Operator) (text old : List ℕ) (from place : ℕ) (all : Got Exp
           l .goes-on ∙ ap (λ n. op .more n (l .so-far) (tokensAt text here)) e ∙ op .goes f (l .so-far) (tokensAt text here) ∙ rw (s, p .rest)
 
       pub left-more : (out′ : List ℕ) (past end : ℕ) → Gives text out out′ mid filled (3 * mid) filled (op .one (tokensAt text mid)) encodeExpr past end
-          → Left op text old out′ from place all past end (run + 1)
+          → Left op text old out′ from slot all past end (run + 1)
       left-more out′ past end g =
           some-fuel (l .fuel) (omega (arith, l .enough, p .fewer))
           (λ f e.
@@ -163,7 +163,7 @@ module _ (op : Operator) (text old : List ℕ) (from place : ℕ) (all : Got Exp
             coded =
                 op .codes (l .so-far) (g .what) ∙ ap (λ x. op .item ∷ (x ++ code)) (l .coded) ∙ ap (λ x. op .item ∷ x) (append-assoc (replicate run (op .item)) (l .raw) code) ∙
                 ap (λ n. replicate n (op .item) ++ (l .raw ++ code)) (sym (add-one run));
-            wrote = wrote-more old out out′ place filled (l .raw) code (l .wrote) (l .ends) (g .wrote);
+            wrote = wrote-more old out out′ slot filled (l .raw) code (l .wrote) (l .ends) (g .wrote);
             ends = omega (arith, g .ends, l .ends, length-append (l .raw) code);
             onward = omega (arith, l .onward, p .onward, g .onward);
             inside = g .inside;
@@ -171,18 +171,18 @@ module _ (op : Operator) (text old : List ℕ) (from place : ℕ) (all : Got Exp
             grows = omega (arith, l .grows, g .grows, p .onward);
           })
 
-      pub left-stuck : (n spot : ℕ) → op .one (tokensAt text mid) ≡ refused n spot → all ≡ refused n spot
-      left-stuck n spot h =
+      pub left-stuck : (n place : ℕ) → op .one (tokensAt text mid) ≡ refused n place → all ≡ refused n place
+      left-stuck n place h =
           some-fuel (l .fuel) (omega (arith, l .enough, p .fewer)) (λ f e. there f e ∙ ap (λ o. then o (λ b. op .more f (op .join (l .so-far) b))) h)
 
     -- It does not: the operators are put before the operands.
-    pub left-done : (new : List ℕ) → says (op .word) (tokensAt text here) ≡ false → Grouped out new place filled run (op .item)
-        → Gives text old new from place (3 * from) place all encodeExpr here (filled + run)
+    pub left-done : (new : List ℕ) → says (op .word) (tokensAt text here) ≡ false → Grouped out new slot filled run (op .item)
+        → Gives text old new from slot (3 * from) slot all encodeExpr here (filled + run)
     left-done new s g =
         record {
           what = l .so-far;
           reads = l .goes-on ∙ over (l .fuel);
-          wrote = rw (l .coded) (wrote-grouped old out new place filled run (op .item) (l .raw) (l .wrote) (l .ends) g);
+          wrote = rw (l .coded) (wrote-grouped old out new slot filled run (op .item) (l .raw) (l .wrote) (l .ends) g);
           ends = omega (arith, l .ends, ap length (l .coded), length-append (replicate run (op .item)) (l .raw), length-replicate run (op .item));
           onward = l .onward;
           inside = l .inside;
@@ -195,57 +195,57 @@ module _ (op : Operator) (text old : List ℕ) (from place : ℕ) (all : Got Exp
         over (suc n) = op .goes n (l .so-far) (tokensAt text here) ∙ rw s
 
 -- An operand is to be read at `here`: what its answer makes of the whole.
-pub record Awaits (op : Operator) (text old out : List ℕ) (from place : ℕ) (all : Got Expr) (here filled run : ℕ) : Type 0 where
-  pub stuck : (n spot : ℕ) → op .one (tokensAt text here) ≡ refused n spot → all ≡ refused n spot
+pub record Awaits (op : Operator) (text old out : List ℕ) (from slot : ℕ) (all : Got Expr) (here filled run : ℕ) : Type 0 where
+  pub stuck : (n place : ℕ) → op .one (tokensAt text here) ≡ refused n place → all ≡ refused n place
   pub gives : (out′ : List ℕ) (past end : ℕ) → Gives text out out′ here filled (3 * here) filled (op .one (tokensAt text here)) encodeExpr past end
-      → Left op text old out′ from place all past end run
+      → Left op text old out′ from slot all past end run
   pub onward : from ≤ here
   pub inside : here ≤ length text
-  pub grows : filled + run + 3 * from ≤ place + 3 * here
+  pub grows : filled + run + 3 * from ≤ slot + 3 * here
 
-awaits-first : (op : Operator) (text old : List ℕ) (from place : ℕ) (all : Got Expr) → all ≡ whole op (tokensAt text from) → from ≤ length text
-    → Awaits op text old old from place all from place 0
-awaits-first op text old from place all is inside =
+awaits-first : (op : Operator) (text old : List ℕ) (from slot : ℕ) (all : Got Expr) → all ≡ whole op (tokensAt text from) → from ≤ length text
+    → Awaits op text old old from slot all from slot 0
+awaits-first op text old from slot all is inside =
     record {
-      stuck = start-stuck op text old from place all is;
-      gives = λ out′ past end g. left-start op text old from place all is out′ past end g;
+      stuck = start-stuck op text old from slot all is;
+      gives = λ out′ past end g. left-start op text old from slot all is out′ past end g;
       onward = omega arith;
       inside = inside;
       grows = omega arith;
     }
 
-awaits-next : (op : Operator) (text old : List ℕ) (from place : ℕ) (all : Got Expr) (out : List ℕ) (here filled run : ℕ) → Left op text old out from place all here filled run
+awaits-next : (op : Operator) (text old : List ℕ) (from slot : ℕ) (all : Got Expr) (out : List ℕ) (here filled run : ℕ) → Left op text old out from slot all here filled run
     → (mid : ℕ) → says (op .word) (tokensAt text here) ≡ true → Past text here mid
-    → Awaits op text old out from place all mid filled (run + 1)
-awaits-next op text old from place all out here filled run l mid s p =
+    → Awaits op text old out from slot all mid filled (run + 1)
+awaits-next op text old from slot all out here filled run l mid s p =
     record {
-      stuck = left-stuck op text old from place all out here filled run l mid s p;
-      gives = λ out′ past end g. left-more op text old from place all out here filled run l mid s p out′ past end g;
+      stuck = left-stuck op text old from slot all out here filled run l mid s p;
+      gives = λ out′ past end g. left-more op text old from slot all out here filled run l mid s p out′ past end g;
       onward = omega (arith, l .onward, p .onward);
       inside = p .inside;
       grows = omega (arith, l .grows, p .onward);
     }
 
 -- AN EXPRESSION: an operand of `and` is to be read, in a term that an `or` awaits; the term began at `since` in the text and at `begun` in the items.
-module _ (look : List ℕ → Option ℕ) (within : ℕ → List Placed → Got Expr) (text old : List ℕ) (from place : ℕ) where
+module _ (look : List ℕ → Option ℕ) (within : ℕ → List Placed → Got Expr) (text old : List ℕ) (from slot : ℕ) where
   pub record Turn (out : List ℕ) (here filled begun anded ored : ℕ) : Type 0 where
     pub since : ℕ
     pub mid : List ℕ
-    pub outer : Awaits (ors look within) text old mid from place (readExpr look within (tokensAt text from)) since begun ored
+    pub outer : Awaits (ors look within) text old mid from slot (readExpr look within (tokensAt text from)) since begun ored
     pub inner : Awaits (ands look within) text mid out since begun (readTerm look within (tokensAt text since)) here filled anded
 
-  pub turn-start : from ≤ length text → Turn old from place place 0 0
+  pub turn-start : from ≤ length text → Turn old from slot slot 0 0
   turn-start inside =
       record {
         since = from;
         mid = old;
-        outer = awaits-first (ors look within) text old from place _ (expr-whole look within (tokensAt text from)) inside;
-        inner = awaits-first (ands look within) text old from place _ (term-whole look within (tokensAt text from)) inside;
+        outer = awaits-first (ors look within) text old from slot _ (expr-whole look within (tokensAt text from)) inside;
+        inner = awaits-first (ands look within) text old from slot _ (term-whole look within (tokensAt text from)) inside;
       }
 
   module _ (out : List ℕ) (here filled begun anded ored : ℕ) (t : Turn out here filled begun anded ored) where
-    pub turn-stuck : (n spot : ℕ) → readOperand look within (tokensAt text here) ≡ refused n spot → readExpr look within (tokensAt text from) ≡ refused n spot
-    turn-stuck n spot h = t .outer .stuck n spot (t .inner .stuck n spot h)
+    pub turn-stuck : (n place : ℕ) → readOperand look within (tokensAt text here) ≡ refused n place → readExpr look within (tokensAt text from) ≡ refused n place
+    turn-stuck n place h = t .outer .stuck n place (t .inner .stuck n place h)
 
     -- The operand is read.
     module _ (out′ : List ℕ) (past end : ℕ) (g : Gives text out out′ here filled (3 * here) filled (readOperand look within (tokensAt text here)) encodeExpr past end) where
@@ -263,7 +263,7 @@ module _ (look : List ℕ → Option ℕ) (within : ℕ → List Placed → Got 
 
       -- The term is read.
       module _ (new : List ℕ) (s : says (ascii "and") (tokensAt text past) ≡ false) (m : Grouped out′ new begun end anded andItem) where
-        pub terms : Left (ors look within) text old new from place (readExpr look within (tokensAt text from)) past (end + anded) ored
+        pub terms : Left (ors look within) text old new from slot (readExpr look within (tokensAt text from)) past (end + anded) ored
         terms =
             t .outer .gives new past (end + anded) (left-done (ands look within) text (t .mid) (t .since) begun _ out′ past end anded operands new s m)
 
@@ -272,10 +272,10 @@ module _ (look : List ℕ → Option ℕ) (within : ℕ → List Placed → Got 
             record {
               since = next;
               mid = new;
-              outer = awaits-next (ors look within) text old from place _ new past (end + anded) ored terms next s′ p;
+              outer = awaits-next (ors look within) text old from slot _ new past (end + anded) ored terms next s′ p;
               inner = awaits-first (ands look within) text new next (end + anded) _ (term-whole look within (tokensAt text next)) (p .inside);
             }
 
-        pub turn-done : (last : List ℕ) → says (ascii "or") (tokensAt text past) ≡ false → Grouped new last place (end + anded) ored orItem
-            → Gives text old last from place (3 * from) place (readExpr look within (tokensAt text from)) encodeExpr past (end + anded + ored)
-        turn-done last s′ m′ = left-done (ors look within) text old from place _ new past (end + anded) ored terms last s′ m′
+        pub turn-done : (last : List ℕ) → says (ascii "or") (tokensAt text past) ≡ false → Grouped new last slot (end + anded) ored orItem
+            → Gives text old last from slot (3 * from) slot (readExpr look within (tokensAt text from)) encodeExpr past (end + anded + ored)
+        turn-done last s′ m′ = left-done (ors look within) text old from slot _ new past (end + anded) ored terms last s′ m′

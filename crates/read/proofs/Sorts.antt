@@ -14,11 +14,11 @@ use Rattle.token.specs.declared.Token.the-variants.{Star, Finish, Word}
 use Rattle.token.specs.declared.Taken.{Taken}
 use Rattle.token.specs.Taking.{Takes}
 use Rattle.token.proofs.Token.{the-type}
-use Rattle.ahead.specs.Looking.{tokensAt, sortOf}
+use Rattle.ahead.specs.Looking.{tokensAt, sortOf, markSorts}
 use Rattle.ahead.proofs.Lexed.{tag-sort, NoWord, no-word, taken-sort}
 
 -- What is not the end.
-pub not-finish : (t : Token) → OneOf (0 ∷ 1 ∷ 2 ∷ 3 ∷ 4 ∷ 5 ∷ 6 ∷ 7 ∷ 8 ∷ 9 ∷ 10 ∷ 12 ∷ 13 ∷ []) (tagOf the-type t) → sortOf t ≡ 11 → ⊥
+pub not-finish : (t : Token) → OneOf (0 ∷ 1 ∷ 2 ∷ 3 ∷ 4 ∷ 5 ∷ 6 ∷ 7 ∷ 8 ∷ 9 ∷ 10 ∷ 12 ∷ 13 ∷ []) (tagOf the-type t) → sortOf t ≡ markSorts → ⊥
 not-finish t h e =
     miss (0 ∷ 1 ∷ 2 ∷ 3 ∷ 4 ∷ 5 ∷ 6 ∷ 7 ∷ 8 ∷ 9 ∷ 10 ∷ 12 ∷ 13 ∷ []) 11 tt (subst (OneOf (0 ∷ 1 ∷ 2 ∷ 3 ∷ 4 ∷ 5 ∷ 6 ∷ 7 ∷ 8 ∷ 9 ∷ 10 ∷ 12 ∷ 13 ∷ [])) (tag-sort t ∙ e) h)
 
@@ -44,7 +44,7 @@ module _ (text : List ℕ) (from : ℕ) (r : Taken) (t : Takes text from r) wher
   not-star n = ne-eqb 10 _ (λ e. no-star (r .token) n (sym (taken-sort text from r t) ∙ sym e))
 
   pub ends-here : r .token ≡ Finish → sees paper.finish (tokensAt text from) ≡ true
-  ends-here is = eq-eqb 11 _ (sym (taken-sort text from r t ∙ ap sortOf is))
+  ends-here is = eq-eqb markSorts _ (sym (taken-sort text from r t ∙ ap sortOf is))
 
-  pub ends-not : (sortOf (r .token) ≡ 11 → ⊥) → sees paper.finish (tokensAt text from) ≡ false
-  ends-not n = ne-eqb 11 _ (λ e. n (sym (taken-sort text from r t) ∙ sym e))
+  pub ends-not : (sortOf (r .token) ≡ markSorts → ⊥) → sees paper.finish (tokensAt text from) ≡ false
+  ends-not n = ne-eqb markSorts _ (λ e. n (sym (taken-sort text from r t) ∙ sym e))

@@ -6,6 +6,7 @@ use mathlib.Core.Bool.{Bool, true, false}
 use mathlib.Core.List.{List, [], _∷_, _++_, append-assoc, append-nil}
 use lib.ListN.{length, getD, set, take, drop, replicate, length-append, length-drop, take-append-drop, length-replicate}
 use lib.Seq.{length-take-le, take-suc, take-all, set-at, getD-at}
+use Rattle.paper.specs.Items.{countBound}
 use Rattle.paper.specs.Limits.{itemLimit}
 use Rattle.item.specs.Placed.{placed}
 use Rattle.item.proofs.Placing.{placed-cut}
@@ -50,12 +51,12 @@ last-of l n e =
     }
 
 -- WRITING.
-pub wrote-nothing : (old : List ℕ) (place : ℕ) → Wrote old old place []
-wrote-nothing old place = record { puts = λ front gone back e lf lg small. e ∙ ap (λ g. front ++ (g ++ back)) (nil gone lg) }
+pub wrote-nothing : (old : List ℕ) (slot : ℕ) → Wrote old old slot []
+wrote-nothing old slot = record { puts = λ front gone back e lf lg small. e ∙ ap (λ g. front ++ (g ++ back)) (nil gone lg) }
 
 -- Items right behind those written.
-pub wrote-more : (old mid new : List ℕ) (place end : ℕ) (xs ys : List ℕ) → Wrote old mid place xs → end ≡ place + length xs → Wrote mid new end ys → Wrote old new place (xs ++ ys)
-wrote-more old mid new place end xs ys w e v =
+pub wrote-more : (old mid new : List ℕ) (slot end : ℕ) (xs ys : List ℕ) → Wrote old mid slot xs → end ≡ slot + length xs → Wrote mid new end ys → Wrote old new slot (xs ++ ys)
+wrote-more old mid new slot end xs ys w e v =
     record {
       puts =
           λ front gone back h lf lg small.
@@ -69,23 +70,23 @@ wrote-more old mid new place end xs ys w e v =
     }
 
 -- An item right before those written.
-pub wrote-head : (old mid new : List ℕ) (place word item : ℕ) (xs : List ℕ) → Wrote old mid (place + 1) xs → Wrote mid new place (word ∷ []) → (length xs < itemLimit → word ≡ item)
-    → Wrote old new place (item ∷ xs)
-wrote-head old mid new place word item xs w v right =
+pub wrote-head : (old mid new : List ℕ) (slot made item : ℕ) (xs : List ℕ) → Wrote old mid (slot + 1) xs → Wrote mid new slot (made ∷ []) → (length xs < itemLimit → made ≡ item)
+    → Wrote old new slot (item ∷ xs)
+wrote-head old mid new slot made item xs w v right =
     record { puts = λ front gone back h lf lg small. go front gone back h lf lg small }
   where
-    go : (front gone back : List ℕ) → old ≡ front ++ (gone ++ back) → length front ≡ place → length gone ≡ suc (length xs) → suc (length xs) ≤ itemLimit → new ≡ front ++ ((item ∷ xs) ++ back)
+    go : (front gone back : List ℕ) → old ≡ front ++ (gone ++ back) → length front ≡ slot → length gone ≡ suc (length xs) → suc (length xs) ≤ itemLimit → new ≡ front ++ ((item ∷ xs) ++ back)
     go front [] back h lf lg small = absurd (omega arith)
     go front (g ∷ gs) back h lf lg small =
         let one : mid ≡ (front ++ (g ∷ [])) ++ (xs ++ back) =
         w .puts (front ++ (g ∷ [])) gs back (h ∙ sym (append-assoc front (g ∷ []) (gs ++ back))) (length-append front (g ∷ []) ∙ (omega arith)) (omega arith) (omega arith) in
-        let two : new ≡ front ++ ((word ∷ []) ++ (xs ++ back)) = v .puts front (g ∷ []) (xs ++ back) (one ∙ append-assoc front (g ∷ []) (xs ++ back)) lf refl (omega arith) in
+        let two : new ≡ front ++ ((made ∷ []) ++ (xs ++ back)) = v .puts front (g ∷ []) (xs ++ back) (one ∙ append-assoc front (g ∷ []) (xs ++ back)) lf refl (omega arith) in
         two ∙ ap (λ (i : ℕ). front ++ ((i ∷ xs) ++ back)) (right (omega arith))
 
 -- Operators before a run.
-pub wrote-grouped : (old mid new : List ℕ) (place end count item : ℕ) (raw : List ℕ) → Wrote old mid place raw → end ≡ place + length raw → Grouped mid new place end count item
-    → Wrote old new place (replicate count item ++ raw)
-wrote-grouped old mid new place end count item raw w e v =
+pub wrote-grouped : (old mid new : List ℕ) (slot end count item : ℕ) (raw : List ℕ) → Wrote old mid slot raw → end ≡ slot + length raw → Grouped mid new slot end count item
+    → Wrote old new slot (replicate count item ++ raw)
+wrote-grouped old mid new slot end count item raw w e v =
     record {
       puts =
           λ front gone back h lf lg small.
@@ -96,50 +97,50 @@ wrote-grouped old mid new place end count item raw w e v =
           v .puts front raw (c .right) back one lf (sym e) (c .second) ∙ ap (λ g. front ++ g) (sym (append-assoc (replicate count item) raw back));
     }
 
--- One item put at its place, where there is one.
-pub put-there : (old new : List ℕ) (place item : ℕ) → new ≡ set old place item → Wrote old new place (item ∷ [])
-put-there old new place item is = record { puts = λ front gone back h lf lg small. go front gone back h lf lg }
+-- One item put at its slot, where there is one.
+pub put-there : (old new : List ℕ) (slot item : ℕ) → new ≡ set old slot item → Wrote old new slot (item ∷ [])
+put-there old new slot item is = record { puts = λ front gone back h lf lg small. go front gone back h lf lg }
   where
-    go : (front gone back : List ℕ) → old ≡ front ++ (gone ++ back) → length front ≡ place → length gone ≡ 1 → new ≡ front ++ ((item ∷ []) ++ back)
+    go : (front gone back : List ℕ) → old ≡ front ++ (gone ++ back) → length front ≡ slot → length gone ≡ 1 → new ≡ front ++ ((item ∷ []) ++ back)
     go front [] back h lf lg = absurd (omega arith)
     go front (g ∷ gs) back h lf lg =
-        is ∙ ap (λ l. set l place item) (h ∙ ap (λ t. front ++ ((g ∷ t) ++ back)) (nil gs (omega arith))) ∙ set-at front g back item place lf
+        is ∙ ap (λ l. set l slot item) (h ∙ ap (λ t. front ++ ((g ∷ t) ++ back)) (nil gs (omega arith))) ∙ set-at front g back item slot lf
 
 long-enough : (old front gone back : List ℕ) → old ≡ front ++ (gone ++ back) → length front + length gone ≤ length old
 long-enough old front gone back h = omega (arith, ap length h, length-append front (gone ++ back), length-append gone back)
 
-pub put-past : (old : List ℕ) (place item : ℕ) → length old ≤ place → Wrote old old place (item ∷ [])
-put-past old place item l = record { puts = λ front gone back h lf lg small. absurd (omega (arith, long-enough old front gone back h)) }
+pub put-past : (old : List ℕ) (slot item : ℕ) → length old ≤ slot → Wrote old old slot (item ∷ [])
+put-past old slot item l = record { puts = λ front gone back h lf lg small. absurd (omega (arith, long-enough old front gone back h)) }
 
 -- MOVING, from the end back: what is left to move, and what has moved past the gap.
-pub record Half (out front raw back : List ℕ) (place count i : ℕ) : Type 0 where
+pub record Half (out front raw back : List ℕ) (slot count i : ℕ) : Type 0 where
   pub still : List ℕ
   pub gap : List ℕ
   pub moved : List ℕ
   pub both : raw ≡ still ++ moved
   pub is : out ≡ front ++ (still ++ (gap ++ (moved ++ back)))
-  pub from : place + length still ≡ i
+  pub from : slot + length still ≡ i
   pub wide : length gap ≡ count
 
-pub record Moving (old out : List ℕ) (place end count i : ℕ) : Type 0 where
-  pub puts : (front raw gone back : List ℕ) → old ≡ front ++ (raw ++ (gone ++ back)) → length front ≡ place → place + length raw ≡ end → length gone ≡ count
-      → Half out front raw back place count i
+pub record Moving (old out : List ℕ) (slot end count i : ℕ) : Type 0 where
+  pub puts : (front raw gone back : List ℕ) → old ≡ front ++ (raw ++ (gone ++ back)) → length front ≡ slot → slot + length raw ≡ end → length gone ≡ count
+      → Half out front raw back slot count i
 
-pub moving-starts : (old : List ℕ) (place end count : ℕ) → Moving old old place end count end
-moving-starts old place end count =
+pub moving-starts : (old : List ℕ) (slot end count : ℕ) → Moving old old slot end count end
+moving-starts old slot end count =
     record {
       puts =
           λ front raw gone back h lf lr lg. record { still = raw; gap = gone; moved = []; both = sym (append-nil raw); is = h; from = lr; wide = lg };
     }
 
-pub moving-more : (old out new : List ℕ) (place end count i : ℕ) → place < i → 0 < count → Moving old out place end count i → new ≡ set out (i - 1 + count) (getD out (i - 1) 0)
-    → Moving old new place end count (i - 1)
-moving-more old out new place end count i l z m is =
+pub moving-more : (old out new : List ℕ) (slot end count i : ℕ) → slot < i → 0 < count → Moving old out slot end count i → new ≡ set out (i - 1 + count) (getD out (i - 1) 0)
+    → Moving old new slot end count (i - 1)
+moving-more old out new slot end count i l z m is =
     record {
       puts =
           λ front raw gone back h lf lr lg.
           let p = m .puts front raw gone back h lf lr lg in
-          let s = last-of (p .still) (i - 1 - place) (omega (arith, p .from)) in
+          let s = last-of (p .still) (i - 1 - slot) (omega (arith, p .from)) in
           let g = last-of (p .gap) (count - 1) (omega (arith, p .wide)) in
           let tail = p .moved ++ back in
           let cell : List ℕ = s .last ∷ [] in
@@ -165,8 +166,8 @@ moving-more old out new place end count i l z m is =
           };
     }
 
-pub moving-ends : (old out : List ℕ) (place end count i : ℕ) → i ≤ place → Moving old out place end count i → Moved old out place end count
-moving-ends old out place end count i l m =
+pub moving-ends : (old out : List ℕ) (slot end count i : ℕ) → i ≤ slot → Moving old out slot end count i → Moved old out slot end count
+moving-ends old out slot end count i l m =
     record {
       puts =
           λ front raw gone back h lf lr lg.
@@ -180,35 +181,35 @@ moving-ends old out place end count i l m =
     }
 
 -- GROUPING.
-pub grouped-none : (old : List ℕ) (place end count item : ℕ) → count ≡ 0 → Grouped old old place end count item
-grouped-none old place end count item z =
+pub grouped-none : (old : List ℕ) (slot end count item : ℕ) → count ≡ 0 → Grouped old old slot end count item
+grouped-none old slot end count item z =
     record {
       puts =
           λ front raw gone back h lf lr lg.
           h ∙ ap (λ t. front ++ (raw ++ (t ++ back))) (nil gone (lg ∙ z)) ∙ ap (λ n. front ++ (replicate n item ++ (raw ++ back))) (sym z);
     }
 
-pub grouped-short : (old : List ℕ) (place end count item : ℕ) → length old < end + count → Grouped old old place end count item
-grouped-short old place end count item l =
+pub grouped-short : (old : List ℕ) (slot end count item : ℕ) → length old < end + count → Grouped old old slot end count item
+grouped-short old slot end count item l =
     record {
       puts =
           λ front raw gone back h lf lr lg.
           absurd (omega (arith, ap length h, length-append front (raw ++ (gone ++ back)), length-append raw (gone ++ back), length-append gone back));
     }
 
-pub grouped-done : (old mid new : List ℕ) (place end count item : ℕ) → Moved old mid place end count → new ≡ placed (replicate count item) place mid → Grouped old new place end count item
-grouped-done old mid new place end count item m f =
+pub grouped-done : (old mid new : List ℕ) (slot end count item : ℕ) → Moved old mid slot end count → new ≡ placed (replicate count item) slot mid → Grouped old new slot end count item
+grouped-done old mid new slot end count item m f =
     record {
       puts =
           λ front raw gone back h lf lr lg.
           let p = m .puts front raw gone back h lf lr lg in
-          f ∙ placed-cut front (p .gap) (raw ++ back) (replicate count item) mid place (p .is) lf (p .wide ∙ sym (length-replicate count item));
+          f ∙ placed-cut front (p .gap) (raw ++ back) (replicate count item) mid slot (p .is) lf (p .wide ∙ sym (length-replicate count item));
     }
 
 -- THE STEP THAT `//` STANDS FOR, written or not.
-pub deep-there : (old new : List ℕ) (place word : ℕ) (deep : Bool) → deep ≡ true → (0 < 8192 → word ≡ deepItem) → Wrote old new place (word ∷ [])
-    → (Wrote old new place (deepItems deep)) × (place + 1 ≡ place + length (deepItems deep))
-deep-there old new place word deep d right w = rw d (subst (λ (i : ℕ). Wrote old new place (i ∷ [])) (right (omega arith)) w, refl)
+pub deep-there : (old new : List ℕ) (slot made : ℕ) (deep : Bool) → deep ≡ true → (0 < countBound → made ≡ deepItem) → Wrote old new slot (made ∷ [])
+    → (Wrote old new slot (deepItems deep)) × (slot + 1 ≡ slot + length (deepItems deep))
+deep-there old new slot made deep d right w = rw d (subst (λ (i : ℕ). Wrote old new slot (i ∷ [])) (right (omega arith)) w, refl)
 
-pub deep-not : (old : List ℕ) (place : ℕ) (deep : Bool) → deep ≡ false → (Wrote old old place (deepItems deep)) × (place ≡ place + length (deepItems deep))
-deep-not old place deep d = rw d (wrote-nothing old place, omega arith)
+pub deep-not : (old : List ℕ) (slot : ℕ) (deep : Bool) → deep ≡ false → (Wrote old old slot (deepItems deep)) × (slot ≡ slot + length (deepItems deep))
+deep-not old slot deep d = rw d (wrote-nothing old slot, omega arith)

@@ -6,7 +6,7 @@ use mathlib.Core.List.{List, [], _∷_, _++_}
 use mathlib.Core.Option.{Option, none, some}
 use lib.Dec.{eqb}
 use lib.ListN.{length, take, drop, replicate}
-use Rattle.paper.specs.Limits.{textLimit, itemLimit, bracketLimit}
+use Rattle.paper.specs.Limits.{textLimit, itemLimit, bracketLimit, namesLimit}
 use Rattle.paper.specs.Names.{namesOf, numberOf}
 use Rattle.paper.specs.Tokens as paper
 use Rattle.paper.specs.Tokens.{Placed, sort}
@@ -31,15 +31,19 @@ abbrev pub lookOf : Bool → List ℕ → List ℕ → Option ℕ
 lookOf true list = numberOf (namesOf list)
 lookOf false list = anyName
 
--- ITEMS. Where there is room for the items and they are no more than a query has, they stand from `place` on and all else is as it was.
-pub record Wrote (old new : List ℕ) (place : ℕ) (items : List ℕ) : Type 0 where
-  pub puts : (front gone back : List ℕ) → old ≡ front ++ (gone ++ back) → length front ≡ place → length gone ≡ length items → length items ≤ itemLimit
+-- ITEMS. Where there is room for the items and they are no more than a query has, they stand from `slot` on and all else is as it was.
+pub record Wrote (old new : List ℕ) (slot : ℕ) (items : List ℕ) : Type 0 where
+  pub puts : (front gone back : List ℕ) → old ≡ front ++ (gone ++ back) → length front ≡ slot → length gone ≡ length items → length items ≤ itemLimit
       → new ≡ front ++ (items ++ back)
 
--- So many of an operator's items are put before what stands from `place` to `end`, where there is room for them.
-pub record Grouped (old new : List ℕ) (place end count item : ℕ) : Type 0 where
-  pub puts : (front raw gone back : List ℕ) → old ≡ front ++ (raw ++ (gone ++ back)) → length front ≡ place → place + length raw ≡ end → length gone ≡ count
+-- So many of an operator's items are put before what stands from `slot` to `end`, where there is room for them.
+pub record Grouped (old new : List ℕ) (slot end count item : ℕ) : Type 0 where
+  pub puts : (front raw gone back : List ℕ) → old ≡ front ++ (raw ++ (gone ++ back)) → length front ≡ slot → slot + length raw ≡ end → length gone ≡ count
       → new ≡ front ++ (replicate count item ++ (raw ++ back))
+
+-- Items are put at places below this: a text of the most bytes gives at most three a byte.
+abbrev pub slotBound : ℕ
+slotBound = 200000
 
 -- The item of the step that `//` stands for, where it is written.
 abbrev pub deepItem : ℕ
@@ -58,22 +62,22 @@ deepIf false rest = rest
 abbrev pub stepItems : Step → List ℕ
 stepItems s = packStep (s .axis) (s .test) (predCount (s .preds)) ∷ encodePreds (s .preds)
 
--- READING. What was read from `from` on, with its items written from `place` to `end`; each token gives at most three items.
-pub record Gives {A : Type 0} (text old new : List ℕ) (from place low high : ℕ) (outcome : Got A) (items : A → List ℕ) (past end : ℕ) : Type 0 where
+-- READING. What was read from `from` on, with its items written from `slot` to `end`; each token gives at most three items.
+pub record Gives {A : Type 0} (text old new : List ℕ) (from slot low high : ℕ) (outcome : Got A) (items : A → List ℕ) (past end : ℕ) : Type 0 where
   pub what : A
   pub reads : outcome ≡ got what (tokensAt text past)
-  pub wrote : Wrote old new place (items what)
-  pub ends : end ≡ place + length (items what)
+  pub wrote : Wrote old new slot (items what)
+  pub ends : end ≡ slot + length (items what)
   pub onward : from ≤ past
   pub inside : past ≤ length text
   pub fewer : length (tokensAt text past) ≤ length (tokensAt text from)
   pub grows : end + low ≤ high + 3 * past
 
 abbrev pub Reads : {A : Type 0} → List ℕ → List ℕ → List ℕ → ℕ → ℕ → ℕ → ℕ → Got A → (A → List ℕ) → Part → Type 0
-Reads text old new from place low high outcome items (Done past end) = Gives text old new from place low high outcome items (past .at) end
-Reads text old new from place low high outcome items (NoQuery spot) = outcome ≡ refused 3 spot
-Reads text old new from place low high outcome items (TooDeep spot) = outcome ≡ refused 4 spot
-Reads text old new from place low high outcome items (UnknownName spot) = outcome ≡ refused 5 spot
+Reads text old new from slot low high outcome items (Done past end) = Gives text old new from slot low high outcome items (past .at) end
+Reads text old new from slot low high outcome items (NoQuery place) = outcome ≡ refused 3 place
+Reads text old new from slot low high outcome items (TooDeep place) = outcome ≡ refused 4 place
+Reads text old new from slot low high outcome items (UnknownName place) = outcome ≡ refused 5 place
 
 -- The next token must be of this sort, and is passed over.
 abbrev pub passSort : {A : Type 0} → ℕ → A → List Placed → Got A
@@ -102,29 +106,29 @@ pub record TestedStep (look : List ℕ → Option ℕ) (text : List ℕ) (from a
 abbrev pub Heads : (List ℕ → Option ℕ) → List ℕ → ℕ → ((ℕ → List Placed → Got Expr) → Got Step) → Head → Type 0
 Heads look text from outcome (Plain axis past) = PlainStep look text from axis (past .at) outcome
 Heads look text from outcome (Tested axis test past) = TestedStep look text from axis test (past .at) outcome
-Heads look text from outcome (Wrong spot) = (within : ℕ → List Placed → Got Expr) → outcome within ≡ refused 3 spot
-Heads look text from outcome (Unknown spot) = (within : ℕ → List Placed → Got Expr) → outcome within ≡ refused 5 spot
+Heads look text from outcome (Wrong place) = (within : ℕ → List Placed → Got Expr) → outcome within ≡ refused 3 place
+Heads look text from outcome (Unknown place) = (within : ℕ → List Placed → Got Expr) → outcome within ≡ refused 5 place
 
 -- The `)` of a test that is called.
 abbrev pub Closes : List ℕ → ℕ → ℕ → ℕ → Head → Type 0
 Closes text from axis test (Plain axis′ past) = ⊥
 Closes text from axis test (Tested axis′ test′ past) = (axis′ ≡ axis) × (test′ ≡ test) × (sees paper.closeRound (tokensAt text from) ≡ true) × Past text from (past .at)
-Closes text from axis test (Wrong spot) = (sees paper.closeRound (tokensAt text from) ≡ false) × (spot ≡ at (tokensAt text from))
-Closes text from axis test (Unknown spot) = ⊥
+Closes text from axis test (Wrong place) = (sees paper.closeRound (tokensAt text from) ≡ false) × (place ≡ at (tokensAt text from))
+Closes text from axis test (Unknown place) = ⊥
 
--- The number of a name, of which an item can say 256.
+-- The number of a name, of which an item can say so many.
 abbrev pub Numbered : Option ℕ → Found → Type 0
-Numbered look (At v) = (look ≡ some v) × (v < 256)
+Numbered look (At v) = (look ≡ some v) × (v < namesLimit)
 Numbered look Nothing = look ≡ none
 
--- MOVING. What stands from `place` to `end` stands `count` further on.
+-- MOVING. What stands from `slot` to `end` stands `count` further on.
 pub record MovedTo (new front raw back : List ℕ) (count : ℕ) : Type 0 where
   pub gap : List ℕ
   pub is : new ≡ front ++ (gap ++ (raw ++ back))
   pub wide : length gap ≡ count
 
-pub record Moved (old new : List ℕ) (place end count : ℕ) : Type 0 where
-  pub puts : (front raw gone back : List ℕ) → old ≡ front ++ (raw ++ (gone ++ back)) → length front ≡ place → place + length raw ≡ end → length gone ≡ count
+pub record Moved (old new : List ℕ) (slot end count : ℕ) : Type 0 where
+  pub puts : (front raw gone back : List ℕ) → old ≡ front ++ (raw ++ (gone ++ back)) → length front ≡ slot → slot + length raw ≡ end → length gone ≡ count
       → MovedTo new front raw back count
 
 -- What every reading function asks: a text that is not too long, a list with its starts, a place in the text.
@@ -141,9 +145,9 @@ pathItems s = encodeExpr (path s)
 -- THE QUERY. The end of the text must come next.
 abbrev pub Finishes : List ℕ → ℕ → ℕ → Part → Type 0
 Finishes text from end (Done past end′) = (end′ ≡ end) × (sees paper.finish (tokensAt text from) ≡ true)
-Finishes text from end (NoQuery spot) = (sees paper.finish (tokensAt text from) ≡ false) × (spot ≡ at (tokensAt text from))
-Finishes text from end (TooDeep spot) = ⊥
-Finishes text from end (UnknownName spot) = ⊥
+Finishes text from end (NoQuery place) = (sees paper.finish (tokensAt text from) ≡ false) × (place ≡ at (tokensAt text from))
+Finishes text from end (TooDeep place) = ⊥
+Finishes text from end (UnknownName place) = ⊥
 
 -- What was read of a whole text, with its items written from 0 on.
 pub record Whole (old new : List ℕ) (outcome : Got Query) (end : ℕ) : Type 0 where
@@ -155,9 +159,9 @@ pub record Whole (old new : List ℕ) (outcome : Got Query) (end : ℕ) : Type 0
 
 abbrev pub ReadsAll : List ℕ → List ℕ → Got Query → Part → Type 0
 ReadsAll old new outcome (Done past end) = Whole old new outcome end
-ReadsAll old new outcome (NoQuery spot) = outcome ≡ refused 3 spot
-ReadsAll old new outcome (TooDeep spot) = outcome ≡ refused 4 spot
-ReadsAll old new outcome (UnknownName spot) = outcome ≡ refused 5 spot
+ReadsAll old new outcome (NoQuery place) = outcome ≡ refused 3 place
+ReadsAll old new outcome (TooDeep place) = outcome ≡ refused 4 place
+ReadsAll old new outcome (UnknownName place) = outcome ≡ refused 5 place
 
 -- What was read of a whole text, with its items at the start of what was kept, if there was room for them.
 pub record Kept (few : List ℕ) (outcome : Got Query) (end : ℕ) : Type 0 where
@@ -177,13 +181,13 @@ pub record Sized (outcome : Got Query) (end : ℕ) : Type 0 where
 
 abbrev pub Measures : Got Query → Part → Type 0
 Measures outcome (Done past end) = Sized outcome end
-Measures outcome (NoQuery spot) = outcome ≡ refused 3 spot
-Measures outcome (TooDeep spot) = outcome ≡ refused 4 spot
-Measures outcome (UnknownName spot) = outcome ≡ refused 5 spot
+Measures outcome (NoQuery place) = outcome ≡ refused 3 place
+Measures outcome (TooDeep place) = outcome ≡ refused 4 place
+Measures outcome (UnknownName place) = outcome ≡ refused 5 place
 
 -- The answer that a refusal stands for.
-abbrev pub Refusal : Part → Answer → Type 0
-Refusal (Done past end) a = told a ≡ value end
-Refusal (NoQuery spot) a = told a ≡ refusal 3 spot
-Refusal (TooDeep spot) a = told a ≡ refusal 4 spot
-Refusal (UnknownName spot) a = told a ≡ refusal 5 spot
+abbrev pub AnswerOf : Part → Answer → Type 0
+AnswerOf (Done past end) a = told a ≡ value end
+AnswerOf (NoQuery place) a = told a ≡ refusal 3 place
+AnswerOf (TooDeep place) a = told a ≡ refusal 4 place
+AnswerOf (UnknownName place) a = told a ≡ refusal 5 place

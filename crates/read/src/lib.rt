@@ -1,5 +1,7 @@
-// The reader: from text to query. A measuring pass writes into no room; then the same functions write.
-// Recursion opens a bracket each time, so at most 65 deep.
+// The reader: from text to query. One pass measures the text and keeps its items if they are few; those are then copied, or the same functions write into the output.
+// A `place` is a byte of the text, a `slot` an item of the output.
+// Recursion opens a bracket each time, so it goes one deeper than the limit on brackets.
+// The list, its starts and their count are arguments of their own, since every function over a struct that holds a reference is proved by hand; `lookup` says whether names are looked up in the list.
 use ahead::Ahead;
 use ahead::AxisAhead;
 use ahead::Call;
@@ -26,17 +28,17 @@ ghost use lib.ListN.{length, take, drop};
 ghost use Rattle.paper.specs.Tools.{written};
 ghost use Rattle.paper.specs.Limits.{bracketLimit};
 ghost use Rattle.paper.specs.Query.{Axis, Test};
-ghost use Rattle.paper.specs.Items.{axisNumber, testNumber, packPath, encodeExpr};
+ghost use Rattle.paper.specs.Items.{axisNumber, testNumber, packPath, encodeExpr, axisBound, testBound, countBound};
 ghost use Rattle.paper.specs.Reading.{then, got, readTail, readTested, readStep, readSteps, readOperand, readExpr, readPath, readWithin, readText};
 ghost use Rattle.paper.specs.Answers.{readAnswer, readOut, readLast, lineGot, itemsGot};
 ghost use Rattle.paper.specs.Told.{told};
 ghost use Rattle.paper.specs.declared.Answer.the-variants.{Value};
 ghost use Rattle.item.specs.Unpacked.{packed};
 ghost use Rattle.names.specs.Listing.{Indexed};
-ghost use Rattle.ahead.specs.Looking.{tokensAt};
-ghost use Rattle.read.specs.Parts.{lookOf, Wrote, Grouped, deepItems, deepIf, stepItems, Reads, passSort, Heads, Closes, Numbered, Moved, Ready, pathItems, Finishes, ReadsAll, Kept, Measures, Refusal};
+ghost use Rattle.ahead.specs.Looking.{tokensAt, markSorts};
+ghost use Rattle.read.specs.Parts.{lookOf, Wrote, Grouped, deepItems, deepIf, stepItems, Reads, passSort, Heads, Closes, Numbered, Moved, Ready, pathItems, Finishes, ReadsAll, Kept, Measures, AnswerOf, slotBound};
 
-// What reading a part of a query comes to: the cursor past it and the place past its items, or a refusal with its place.
+// What reading a part of a query comes to: the cursor past it and the slot past its items, or a refusal with its place in the text.
 pub enum Part {
     Done { next: Cursor, end: usize },
     NoQuery(usize),
@@ -73,17 +75,17 @@ fn called(text: &[u8], cursor: Cursor, axis: u32, test: u32) -> Head
 fn number(
     text: &[u8],
     list: &[u8],
-    starts: &[u16; 257],
+    starts: &[u16; names::STARTS],
     count: usize,
-    known: bool,
+    lookup: bool,
     start: usize,
     len: usize,
 ) -> Found
     requires { ⌜ Indexed (now list) (now starts) count ⌝ }
     requires { ⌜ start + len ≤ length (now text) ⌝ }
-    ensures { λ r. ⌜ Numbered (lookOf known (now (list .entry)) (take len (drop start (now (text .entry))))) r ⌝ }
+    ensures { λ r. ⌜ Numbered (lookOf lookup (now (list .entry)) (take len (drop start (now (text .entry))))) r ⌝ }
 {
-    if known {
+    if lookup {
         names::find(list, starts, count, text, start, len)
     } else {
         Found::At(0)
@@ -94,15 +96,15 @@ fn number(
 fn tested(
     text: &[u8],
     list: &[u8],
-    starts: &[u16; 257],
+    starts: &[u16; names::STARTS],
     count: usize,
-    known: bool,
+    lookup: bool,
     cursor: Cursor,
     axis: u32,
 ) -> Head
     requires { ⌜ Indexed (now list) (now starts) count ⌝ }
     requires { ⌜ cursor .at ≤ length (now text) ⌝ }
-    ensures { λ r. ⌜ ((a : Axis) → axis ≡ axisNumber a → Heads (lookOf known (now (list .entry))) (now (text .entry)) (cursor .at) (λ within. readTested (lookOf known (now (list .entry))) within a (tokensAt (now (text .entry)) (cursor .at))) r) ⌝ }
+    ensures { λ r. ⌜ ((a : Axis) → axis ≡ axisNumber a → Heads (lookOf lookup (now (list .entry))) (now (text .entry)) (cursor .at) (λ within. readTested (lookOf lookup (now (list .entry))) within a (tokensAt (now (text .entry)) (cursor .at))) r) ⌝ }
 {
     let taken = cursor.take(text);
     let place = taken.place;
@@ -122,7 +124,7 @@ fn tested(
     if let Call::Inside { test, next } = call {
         return called(text, next, axis, test);
     }
-    let found = number(text, list, starts, count, known, place, len);
+    let found = number(text, list, starts, count, lookup, place, len);
     match found {
         Found::At(v) => Head::Tested {
             axis,
@@ -137,14 +139,14 @@ fn tested(
 fn step_head(
     text: &[u8],
     list: &[u8],
-    starts: &[u16; 257],
+    starts: &[u16; names::STARTS],
     count: usize,
-    known: bool,
+    lookup: bool,
     cursor: Cursor,
 ) -> Head
     requires { ⌜ Indexed (now list) (now starts) count ⌝ }
     requires { ⌜ cursor .at ≤ length (now text) ⌝ }
-    ensures { λ r. ⌜ Heads (lookOf known (now (list .entry))) (now (text .entry)) (cursor .at) (λ within. readStep (lookOf known (now (list .entry))) within (tokensAt (now (text .entry)) (cursor .at))) r ⌝ }
+    ensures { λ r. ⌜ Heads (lookOf lookup (now (list .entry))) (now (text .entry)) (cursor .at) (λ within. readStep (lookOf lookup (now (list .entry))) within (tokensAt (now (text .entry)) (cursor .at))) r ⌝ }
 {
     let dot = mark(text, cursor, ahead::DOT);
     if let Ahead::There { place: _, next } = dot {
@@ -160,45 +162,45 @@ fn step_head(
             next,
         };
     }
-    let ahead = axis_ahead(text, cursor);
-    match ahead {
-        AxisAhead::Named { axis, next } => tested(text, list, starts, count, known, next, axis),
-        AxisAhead::Unnamed => tested(text, list, starts, count, known, cursor, item::CHILD),
+    let leading = axis_ahead(text, cursor);
+    match leading {
+        AxisAhead::Named { axis, next } => tested(text, list, starts, count, lookup, next, axis),
+        AxisAhead::Unnamed => tested(text, list, starts, count, lookup, cursor, item::CHILD),
     }
 }
 
 // ITEMS.
 
-// Puts an item at a place, where there is room.
-fn put(out: &mut [u32], place: usize, item: u32)
-    ensures { λ _. ⌜ Wrote (now (out .entry)) (now (out .exit)) place (item ∷ []) ⌝ }
+// Puts an item into a slot of the output, if there is one.
+fn put(out: &mut [u32], slot: usize, item: u32)
+    ensures { λ _. ⌜ Wrote (now (out .entry)) (now (out .exit)) slot (item ∷ []) ⌝ }
 {
-    if place < out.len() {
-        out[place] = item;
+    if slot < out.len() {
+        out[slot] = item;
     }
 }
 
-// Puts the step that `//` stands for, where it is written; the place past it.
-fn put_deep(out: &mut [u32], place: usize, deep: bool) -> usize
-    requires { ⌜ place < 200000 ⌝ }
-    ensures { λ r. ⌜ (Wrote (now (out .entry)) (now (out .exit)) place (deepItems deep)) × (r ≡ place + length (deepItems deep)) ⌝ }
+// Puts the step that `//` stands for, where it is written; the slot past it.
+fn put_deep(out: &mut [u32], slot: usize, deep: bool) -> usize
+    requires { ⌜ slot < slotBound ⌝ }
+    ensures { λ r. ⌜ (Wrote (now (out .entry)) (now (out .exit)) slot (deepItems deep)) × (r ≡ slot + length (deepItems deep)) ⌝ }
 {
     if deep {
         put(
             out,
-            place,
-            step_word(item::DESCENDANT_OR_SELF, item::ANY_NODE, 0),
+            slot,
+            item_of_step(item::DESCENDANT_OR_SELF, item::ANY_NODE, 0),
         );
-        return place + 1;
+        return slot + 1;
     }
-    place
+    slot
 }
 
 // The item of a path; 0 for more steps than an item can say.
-fn path_word(count: usize) -> u32
-    ensures { λ r. ⌜ (count < 8192 → r ≡ packPath count) ⌝ }
+fn item_of_path(count: usize) -> u32
+    ensures { λ r. ⌜ (count < countBound → r ≡ packPath count) ⌝ }
 {
-    if count < 8192 {
+    if count < item::COUNT_BOUND {
         item::pack_path(count)
     } else {
         0
@@ -206,33 +208,33 @@ fn path_word(count: usize) -> u32
 }
 
 // The item of a step; 0 for more predicates than an item can say.
-fn step_word(axis: u32, test: u32, count: usize) -> u32
-    requires { ⌜ (axis < 8) × (test < 512) ⌝ }
-    ensures { λ r. ⌜ (count < 8192 → r ≡ packed (record { axis = axis; test = test; count = count })) ⌝ }
+fn item_of_step(axis: u32, test: u32, count: usize) -> u32
+    requires { ⌜ (axis < axisBound) × (test < testBound) ⌝ }
+    ensures { λ r. ⌜ (count < countBound → r ≡ packed (record { axis = axis; test = test; count = count })) ⌝ }
 {
-    if count < 8192 {
+    if count < item::COUNT_BOUND {
         item::pack_step(item::Step { axis, test, count })
     } else {
         0
     }
 }
 
-// Moves what stands from `place` to `end` up by `count`, its end first.
-fn move_up(out: &mut [u32], place: usize, end: usize, count: usize)
-    requires { ⌜ (place ≤ end) × (end + count ≤ length (now out)) × (0 < count) ⌝ }
-    ensures { λ _. ⌜ Moved (now (out .entry)) (now (out .exit)) place end count ⌝ }
+// Moves what stands from `slot` to `end` up by `count`, its end first.
+fn move_up(out: &mut [u32], slot: usize, end: usize, count: usize)
+    requires { ⌜ (slot ≤ end) × (end + count ≤ length (now out)) × (0 < count) ⌝ }
+    ensures { λ _. ⌜ Moved (now (out .entry)) (now (out .exit)) slot end count ⌝ }
 {
     let mut i = end;
-    while place < i {
+    while slot < i {
         i -= 1;
         out[i + count] = out[i];
     }
 }
 
-// Puts so many of an operator's items before what stands from `place` to `end`, where there is room for them.
-fn group(out: &mut [u32], place: usize, end: usize, count: usize, item: u32)
-    requires { ⌜ (place ≤ end) × (end < 200000) × (count < 200000) ⌝ }
-    ensures { λ _. ⌜ Grouped (now (out .entry)) (now (out .exit)) place end count item ⌝ }
+// Puts so many of an operator's items before what stands from `slot` to `end`, where there is room for them.
+fn group(out: &mut [u32], slot: usize, end: usize, count: usize, item: u32)
+    requires { ⌜ (slot ≤ end) × (end < slotBound) × (count < slotBound) ⌝ }
+    ensures { λ _. ⌜ Grouped (now (out .entry)) (now (out .exit)) slot end count item ⌝ }
 {
     if count == 0 {
         return;
@@ -240,8 +242,8 @@ fn group(out: &mut [u32], place: usize, end: usize, count: usize, item: u32)
     if out.len() < end + count {
         return;
     }
-    move_up(out, place, end, count);
-    item::put_same(out, place, count, item);
+    move_up(out, slot, end, count);
+    item::put_same(out, slot, count, item);
 }
 
 // PATH, STEP AND EXPRESSION.
@@ -250,25 +252,25 @@ fn group(out: &mut [u32], place: usize, end: usize, count: usize, item: u32)
 fn expression(
     text: &[u8],
     list: &[u8],
-    starts: &[u16; 257],
+    starts: &[u16; names::STARTS],
     count: usize,
-    known: bool,
+    lookup: bool,
     cursor: Cursor,
     depth: usize,
     out: &mut [u32],
-    place: usize,
+    slot: usize,
 ) -> Part
     requires { ⌜ Ready (now text) (now list) (now starts) count (cursor .at) depth ⌝ }
-    requires { ⌜ place ≤ 3 * cursor .at ⌝ }
-    ensures { λ r. ⌜ Reads (now (text .entry)) (now (out .entry)) (now (out .exit)) (cursor .at) place (3 * cursor .at) place (readExpr (lookOf known (now (list .entry))) (readWithin (lookOf known (now (list .entry))) depth) (tokensAt (now (text .entry)) (cursor .at))) encodeExpr r ⌝ }
+    requires { ⌜ slot ≤ 3 * cursor .at ⌝ }
+    ensures { λ r. ⌜ Reads (now (text .entry)) (now (out .entry)) (now (out .exit)) (cursor .at) slot (3 * cursor .at) slot (readExpr (lookOf lookup (now (list .entry))) (readWithin (lookOf lookup (now (list .entry))) depth) (tokensAt (now (text .entry)) (cursor .at))) encodeExpr r ⌝ }
 {
     let mut here = cursor;
-    let mut filled = place;
-    let mut begun = place;
+    let mut filled = slot;
+    let mut begun = slot;
     let mut ands: usize = 0;
     let mut ors: usize = 0;
     loop {
-        let one = operand(text, list, starts, count, known, here, depth, out, filled);
+        let one = operand(text, list, starts, count, lookup, here, depth, out, filled);
         let Part::Done { next, end } = one else {
             return one;
         };
@@ -291,7 +293,7 @@ fn expression(
                     next: past,
                 } = or
                 else {
-                    group(out, place, closed, ors, item::OR);
+                    group(out, slot, closed, ors, item::OR);
                     return Part::Done {
                         next,
                         end: closed + ors,
@@ -311,17 +313,17 @@ fn expression(
 fn operand(
     text: &[u8],
     list: &[u8],
-    starts: &[u16; 257],
+    starts: &[u16; names::STARTS],
     count: usize,
-    known: bool,
+    lookup: bool,
     cursor: Cursor,
     depth: usize,
     out: &mut [u32],
-    place: usize,
+    slot: usize,
 ) -> Part
     requires { ⌜ Ready (now text) (now list) (now starts) count (cursor .at) depth ⌝ }
-    requires { ⌜ place ≤ 3 * cursor .at ⌝ }
-    ensures { λ r. ⌜ Reads (now (text .entry)) (now (out .entry)) (now (out .exit)) (cursor .at) place (3 * cursor .at) place (readOperand (lookOf known (now (list .entry))) (readWithin (lookOf known (now (list .entry))) depth) (tokensAt (now (text .entry)) (cursor .at))) encodeExpr r ⌝ }
+    requires { ⌜ slot ≤ 3 * cursor .at ⌝ }
+    ensures { λ r. ⌜ Reads (now (text .entry)) (now (out .entry)) (now (out .exit)) (cursor .at) slot (3 * cursor .at) slot (readOperand (lookOf lookup (now (list .entry))) (readWithin (lookOf lookup (now (list .entry))) depth) (tokensAt (now (text .entry)) (cursor .at))) encodeExpr r ⌝ }
 {
     let opens = opening(text, cursor);
     match opens {
@@ -334,18 +336,18 @@ fn operand(
                 list,
                 starts,
                 count,
-                known,
+                lookup,
                 next,
                 depth,
                 out,
-                place + 1,
+                slot + 1,
                 bracket,
                 ahead::CLOSE_ROUND,
             );
             let Part::Done { next, end } = inner else {
                 return inner;
             };
-            put(out, place, item::NOT);
+            put(out, slot, item::NOT);
             Part::Done { next, end }
         }
         Opens::Round {
@@ -357,11 +359,11 @@ fn operand(
                 list,
                 starts,
                 count,
-                known,
+                lookup,
                 next,
                 depth,
                 out,
-                place,
+                slot,
                 bracket,
                 ahead::CLOSE_ROUND,
             )
@@ -371,11 +373,11 @@ fn operand(
             list,
             starts,
             count,
-            known,
+            lookup,
             cursor,
             depth,
             out,
-            place,
+            slot,
             false,
         ),
     }
@@ -385,19 +387,19 @@ fn operand(
 fn bracketed(
     text: &[u8],
     list: &[u8],
-    starts: &[u16; 257],
+    starts: &[u16; names::STARTS],
     count: usize,
-    known: bool,
+    lookup: bool,
     cursor: Cursor,
     depth: usize,
     out: &mut [u32],
-    place: usize,
+    slot: usize,
     bracket: usize,
     closer: usize,
 ) -> Part
     requires { ⌜ Ready (now text) (now list) (now starts) count (cursor .at) depth ⌝ }
-    requires { ⌜ (place ≤ 3 * cursor .at) × (closer < 11) ⌝ }
-    ensures { λ r. ⌜ Reads (now (text .entry)) (now (out .entry)) (now (out .exit)) (cursor .at) place (3 * cursor .at) place (then (readWithin (lookOf known (now (list .entry))) depth bracket (tokensAt (now (text .entry)) (cursor .at))) (passSort closer)) encodeExpr r ⌝ }
+    requires { ⌜ (slot ≤ 3 * cursor .at) × (closer < markSorts) ⌝ }
+    ensures { λ r. ⌜ Reads (now (text .entry)) (now (out .entry)) (now (out .exit)) (cursor .at) slot (3 * cursor .at) slot (then (readWithin (lookOf lookup (now (list .entry))) depth bracket (tokensAt (now (text .entry)) (cursor .at))) (passSort closer)) encodeExpr r ⌝ }
 {
     if depth == 0 {
         return Part::TooDeep(bracket);
@@ -407,11 +409,11 @@ fn bracketed(
         list,
         starts,
         count,
-        known,
+        lookup,
         cursor,
         depth - 1,
         out,
-        place,
+        slot,
     );
     let Part::Done { next, end } = inner else {
         return inner;
@@ -427,26 +429,26 @@ fn bracketed(
 fn steps(
     text: &[u8],
     list: &[u8],
-    starts: &[u16; 257],
+    starts: &[u16; names::STARTS],
     count: usize,
-    known: bool,
+    lookup: bool,
     cursor: Cursor,
     depth: usize,
     out: &mut [u32],
-    place: usize,
+    slot: usize,
     deep: bool,
 ) -> Part
     requires { ⌜ Ready (now text) (now list) (now starts) count (cursor .at) depth ⌝ }
-    requires { ⌜ place ≤ 3 * cursor .at ⌝ }
-    ensures { λ r. ⌜ Reads (now (text .entry)) (now (out .entry)) (now (out .exit)) (cursor .at) place (3 * cursor .at) place (then (readSteps (lookOf known (now (list .entry))) (readWithin (lookOf known (now (list .entry))) depth) (length (tokensAt (now (text .entry)) (cursor .at))) (tokensAt (now (text .entry)) (cursor .at))) (λ s. got (deepIf deep s))) pathItems r ⌝ }
+    requires { ⌜ slot ≤ 3 * cursor .at ⌝ }
+    ensures { λ r. ⌜ Reads (now (text .entry)) (now (out .entry)) (now (out .exit)) (cursor .at) slot (3 * cursor .at) slot (then (readSteps (lookOf lookup (now (list .entry))) (readWithin (lookOf lookup (now (list .entry))) depth) (length (tokensAt (now (text .entry)) (cursor .at))) (tokensAt (now (text .entry)) (cursor .at))) (λ s. got (deepIf deep s))) pathItems r ⌝ }
 {
     let mut here = cursor;
-    let mut filled = place + 1;
+    let mut filled = slot + 1;
     let mut lead = deep;
     let mut taken: usize = 0;
     loop {
         let from = put_deep(out, filled, lead);
-        let one = step(text, list, starts, count, known, here, depth, out, from);
+        let one = step(text, list, starts, count, lookup, here, depth, out, from);
         let Part::Done { next, end } = one else {
             return one;
         };
@@ -459,7 +461,7 @@ fn steps(
                 lead = deep;
             }
             Joint::Nothing(_) => {
-                put(out, place, path_word(taken));
+                put(out, slot, item_of_path(taken));
                 return Part::Done { next, end: filled };
             }
         }
@@ -470,25 +472,25 @@ fn steps(
 fn step(
     text: &[u8],
     list: &[u8],
-    starts: &[u16; 257],
+    starts: &[u16; names::STARTS],
     count: usize,
-    known: bool,
+    lookup: bool,
     cursor: Cursor,
     depth: usize,
     out: &mut [u32],
-    place: usize,
+    slot: usize,
 ) -> Part
     requires { ⌜ Ready (now text) (now list) (now starts) count (cursor .at) depth ⌝ }
-    requires { ⌜ place ≤ 3 * cursor .at + 2 ⌝ }
-    ensures { λ r. ⌜ Reads (now (text .entry)) (now (out .entry)) (now (out .exit)) (cursor .at) place (3 * cursor .at + 2) place (readStep (lookOf known (now (list .entry))) (readWithin (lookOf known (now (list .entry))) depth) (tokensAt (now (text .entry)) (cursor .at))) stepItems r ⌝ }
+    requires { ⌜ slot ≤ 3 * cursor .at + 2 ⌝ }
+    ensures { λ r. ⌜ Reads (now (text .entry)) (now (out .entry)) (now (out .exit)) (cursor .at) slot (3 * cursor .at + 2) slot (readStep (lookOf lookup (now (list .entry))) (readWithin (lookOf lookup (now (list .entry))) depth) (tokensAt (now (text .entry)) (cursor .at))) stepItems r ⌝ }
 {
-    let head = step_head(text, list, starts, count, known, cursor);
+    let head = step_head(text, list, starts, count, lookup, cursor);
     match head {
         Head::Plain { axis, next } => {
-            put(out, place, step_word(axis, item::ANY_NODE, 0));
+            put(out, slot, item_of_step(axis, item::ANY_NODE, 0));
             Part::Done {
                 next,
-                end: place + 1,
+                end: slot + 1,
             }
         }
         Head::Tested { axis, test, next } => {
@@ -497,17 +499,17 @@ fn step(
                 list,
                 starts,
                 count,
-                known,
+                lookup,
                 next,
                 depth,
                 out,
-                place,
+                slot,
                 axis,
                 test,
             )
         }
-        Head::Wrong(spot) => Part::NoQuery(spot),
-        Head::Unknown(spot) => Part::UnknownName(spot),
+        Head::Wrong(place) => Part::NoQuery(place),
+        Head::Unknown(place) => Part::UnknownName(place),
     }
 }
 
@@ -515,29 +517,29 @@ fn step(
 fn predicates(
     text: &[u8],
     list: &[u8],
-    starts: &[u16; 257],
+    starts: &[u16; names::STARTS],
     count: usize,
-    known: bool,
+    lookup: bool,
     cursor: Cursor,
     depth: usize,
     out: &mut [u32],
-    place: usize,
+    slot: usize,
     axis: u32,
     test: u32,
 ) -> Part
     requires { ⌜ Ready (now text) (now list) (now starts) count (cursor .at) depth ⌝ }
-    requires { ⌜ (place < 3 * cursor .at) × (axis < 8) × (test < 512) ⌝ }
-    ensures { λ r. ⌜ ((a : Axis) (t : Test) → axis ≡ axisNumber a → test ≡ testNumber t → Reads (now (text .entry)) (now (out .entry)) (now (out .exit)) (cursor .at) place (3 * cursor .at) (place + 1) (readTail (lookOf known (now (list .entry))) (readWithin (lookOf known (now (list .entry))) depth) a t (tokensAt (now (text .entry)) (cursor .at))) stepItems r) ⌝ }
+    requires { ⌜ (slot < 3 * cursor .at) × (axis < axisBound) × (test < testBound) ⌝ }
+    ensures { λ r. ⌜ ((a : Axis) (t : Test) → axis ≡ axisNumber a → test ≡ testNumber t → Reads (now (text .entry)) (now (out .entry)) (now (out .exit)) (cursor .at) slot (3 * cursor .at) (slot + 1) (readTail (lookOf lookup (now (list .entry))) (readWithin (lookOf lookup (now (list .entry))) depth) a t (tokensAt (now (text .entry)) (cursor .at))) stepItems r) ⌝ }
 {
     let mut here = cursor;
-    let mut filled = place + 1;
+    let mut filled = slot + 1;
     let mut taken: usize = 0;
     loop {
-        let ahead = mark(text, here, ahead::OPEN_SQUARE);
+        let square = mark(text, here, ahead::OPEN_SQUARE);
         let Ahead::There {
             place: bracket,
             next,
-        } = ahead
+        } = square
         else {
             break;
         };
@@ -546,7 +548,7 @@ fn predicates(
             list,
             starts,
             count,
-            known,
+            lookup,
             next,
             depth,
             out,
@@ -561,7 +563,7 @@ fn predicates(
         filled = end;
         taken += 1;
     }
-    put(out, place, step_word(axis, test, taken));
+    put(out, slot, item_of_step(axis, test, taken));
     Part::Done {
         next: here,
         end: filled,
@@ -574,24 +576,24 @@ fn predicates(
 fn path(
     text: &[u8],
     list: &[u8],
-    starts: &[u16; 257],
+    starts: &[u16; names::STARTS],
     count: usize,
-    known: bool,
+    lookup: bool,
     cursor: Cursor,
     out: &mut [u32],
-    place: usize,
+    slot: usize,
 ) -> Part
     requires { ⌜ Ready (now text) (now list) (now starts) count (cursor .at) bracketLimit ⌝ }
-    requires { ⌜ place ≤ 3 * cursor .at ⌝ }
-    ensures { λ r. ⌜ Reads (now (text .entry)) (now (out .entry)) (now (out .exit)) (cursor .at) place (3 * cursor .at) place (readPath (lookOf known (now (list .entry))) (readWithin (lookOf known (now (list .entry))) bracketLimit) (tokensAt (now (text .entry)) (cursor .at))) pathItems r ⌝ }
+    requires { ⌜ slot ≤ 3 * cursor .at ⌝ }
+    ensures { λ r. ⌜ Reads (now (text .entry)) (now (out .entry)) (now (out .exit)) (cursor .at) slot (3 * cursor .at) slot (readPath (lookOf lookup (now (list .entry))) (readWithin (lookOf lookup (now (list .entry))) bracketLimit) (tokensAt (now (text .entry)) (cursor .at))) pathItems r ⌝ }
 {
     let lead = path_lead(text, cursor);
     match lead {
         Lead::Alone(next) => {
-            put(out, place, item::pack_path(0));
+            put(out, slot, item::pack_path(0));
             Part::Done {
                 next,
-                end: place + 1,
+                end: slot + 1,
             }
         }
         Lead::Before { next, deep } => {
@@ -600,15 +602,15 @@ fn path(
                 list,
                 starts,
                 count,
-                known,
+                lookup,
                 next,
                 paper::BRACKET_LIMIT,
                 out,
-                place,
+                slot,
                 deep,
             )
         }
-        Lead::NoPath(spot) => Part::NoQuery(spot),
+        Lead::NoPath(place) => Part::NoQuery(place),
     }
 }
 
@@ -632,18 +634,18 @@ fn finished(text: &[u8], cursor: Cursor, end: usize) -> Part
 fn paths(
     text: &[u8],
     list: &[u8],
-    starts: &[u16; 257],
+    starts: &[u16; names::STARTS],
     count: usize,
-    known: bool,
+    lookup: bool,
     out: &mut [u32],
 ) -> Part
     requires { ⌜ Ready (now text) (now list) (now starts) count 0 bracketLimit ⌝ }
-    ensures { λ r. ⌜ ReadsAll (now (out .entry)) (now (out .exit)) (readText (lookOf known (now (list .entry))) (now (text .entry))) r ⌝ }
+    ensures { λ r. ⌜ ReadsAll (now (out .entry)) (now (out .exit)) (readText (lookOf lookup (now (list .entry))) (now (text .entry))) r ⌝ }
 {
     let mut here = Cursor { at: 0 };
     let mut filled: usize = 0;
     loop {
-        let one = path(text, list, starts, count, known, here, out, filled);
+        let one = path(text, list, starts, count, lookup, here, out, filled);
         let Part::Done { next, end } = one else {
             return one;
         };
@@ -659,17 +661,23 @@ fn paths(
 }
 
 // What the text is, measured: nothing is kept of what is written.
-fn measure(text: &[u8], list: &[u8], starts: &[u16; 257], count: usize, known: bool) -> Part
+fn measure(
+    text: &[u8],
+    list: &[u8],
+    starts: &[u16; names::STARTS],
+    count: usize,
+    lookup: bool,
+) -> Part
     requires { ⌜ Ready (now text) (now list) (now starts) count 0 bracketLimit ⌝ }
-    ensures { λ r. ⌜ Measures (readText (lookOf known (now (list .entry))) (now (text .entry))) r ⌝ }
+    ensures { λ r. ⌜ Measures (readText (lookOf lookup (now (list .entry))) (now (text .entry))) r ⌝ }
 {
     let mut scratch = [0u32; 1];
-    paths(text, list, starts, count, known, &mut scratch)
+    paths(text, list, starts, count, lookup, &mut scratch)
 }
 
-// The refusal of a part, as an answer.
-fn refusal(part: Part) -> Answer
-    ensures { λ r. ⌜ Refusal part r ⌝ }
+// What a part comes to, as an answer: its end as a value, or its refusal.
+fn answer_of(part: Part) -> Answer
+    ensures { λ r. ⌜ AnswerOf part r ⌝ }
 {
     match part {
         Part::Done { next: _, end } => Answer::Value(end),
@@ -684,7 +692,7 @@ fn refusal(part: Part) -> Answer
 fn answer(
     text: &[u8],
     list: &[u8],
-    starts: &[u16; 257],
+    starts: &[u16; names::STARTS],
     count: usize,
     few: &mut [u32],
     room: usize,
@@ -697,9 +705,9 @@ fn answer(
     let Part::Done { next: _, end } = whole else {
         let syntax = measure(text, list, starts, count, false);
         let Part::Done { next: _, end: _ } = syntax else {
-            return refusal(syntax);
+            return answer_of(syntax);
         };
-        return refusal(whole);
+        return answer_of(whole);
     };
     if room < end {
         return Answer::Short(end);
@@ -714,7 +722,7 @@ fn answer(
 fn write(
     text: &[u8],
     list: &[u8],
-    starts: &[u16; 257],
+    starts: &[u16; names::STARTS],
     count: usize,
     few: &[u32],
     end: usize,
@@ -742,7 +750,7 @@ pub fn read(text: &[u8], list: &[u8], out: &mut [u32]) -> Answer
     if paper::LIST_LIMIT < list.len() {
         return Answer::TooLong;
     }
-    let mut starts = [0u16; 257];
+    let mut starts = [0u16; names::STARTS];
     let listed = names::index(list, &mut starts);
     match listed {
         Listed::Bad(start) => Answer::BadName(start),

@@ -17,11 +17,11 @@ use Rattle.paper.proofs.Refusing.{Refuses, refusal-told}
 use Rattle.shape.specs.Walks.{shapeOf}
 use Rattle.shape.specs.declared.Shape.the-variants.{Query as IsQuery, Malformed}
 use Rattle.paper.specs.Program.{inputLimit, refusalLine, unlessRefused, nestingGot, inputAnswer}
-use Rattle.lines.specs.Lines.{numberTold, placeTold, reportLimit, Reports}
+use Rattle.lines.specs.Lines.{numberTold, placeTold, reportLimit, Reports, lineRoom}
 
 module _ (part : String) (said : Told) (later old new : List ℕ) (count : ℕ) where
   -- A part that refuses is reported by its own line.
-  pub refused-part : (a : Answer) → Refuses a → told a ≡ said → Reports (refusalLine (ascii part) (numberTold (told a)) (placeTold (told a))) 64 old new count
+  pub refused-part : (a : Answer) → Refuses a → told a ≡ said → Reports (refusalLine (ascii part) (numberTold (told a)) (placeTold (told a))) lineRoom old new count
       → Reports (unlessRefused part said later) reportLimit old new count
   refused-part a f e r =
       let (number, place, t) = refusal-told a f in

@@ -9,8 +9,10 @@ ghost use Rattle.lines.specs.Lines.{reportLimit, Reports};
 
 // The most bytes of an input.
 pub const INPUT_LIMIT: usize = 49152;
-// No report has more bytes: the room of a text, and 64 for the rest.
-pub const REPORT_LIMIT: usize = 32832;
+// No report has more bytes beside the text of a query.
+const LINE_ROOM: usize = 64;
+// No report has more bytes.
+pub const REPORT_LIMIT: usize = paper::TEXT_LIMIT + LINE_ROOM;
 
 // The nesting of a query.
 fn nesting_of(query: &[u32]) -> usize

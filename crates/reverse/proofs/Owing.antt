@@ -9,7 +9,7 @@ use lib.Dec.{ltb, leb}
 use lib.ListN.{length, length-append}
 use borrow.Author.Tests.{ltb-true}
 use Rattle.paper.specs.Query.{Axis, Test, Expr, path, both, either, negated, Steps, stop, step, Preds, bare, pred}
-use Rattle.paper.specs.Items.{packPath, packStep, pathAt, stepAt, andItem, orItem, notItem, stepCount, predCount, encodeExpr, encodeSteps, encodePreds, goodTest, goodExpr, goodSteps, goodPreds}
+use Rattle.paper.specs.Items.{packPath, packStep, pathAt, stepAt, andItem, orItem, notItem, stepCount, predCount, encodeExpr, encodeSteps, encodePreds, goodTest, goodExpr, goodSteps, goodPreds, countBound}
 use Rattle.paper.proofs.Tests.{and-true}
 use Rattle.item.specs.Unpacked.{unpacked}
 use Rattle.item.proofs.Saying.{unpack-path, unpack-step}
@@ -18,29 +18,29 @@ use Rattle.reverse.specs.Reverses.{owedBy, owing, eaten}
 -- What is needed of a step: its test is one, its count fits, and so on below.
 pub record GoodStep (t : Test) (ps : Preds) (rest : Steps) : Type 0 where
   pub test : goodTest t ≡ true
-  pub few : predCount ps < 8192
+  pub few : predCount ps < countBound
   pub preds : goodPreds ps ≡ true
   pub later : goodSteps rest ≡ true
 
 pub good-step : (a : Axis) (t : Test) (ps : Preds) (rest : Steps) → goodSteps (step a t ps rest) ≡ true → GoodStep t ps rest
 good-step a t ps rest g =
-    let x = and-true (goodTest t && ltb (predCount ps) 8192 && goodPreds ps) (goodSteps rest) g in
-    let y = and-true (goodTest t && ltb (predCount ps) 8192) (goodPreds ps) (x .0) in
-    let z = and-true (goodTest t) (ltb (predCount ps) 8192) (y .0) in
+    let x = and-true (goodTest t && ltb (predCount ps) countBound && goodPreds ps) (goodSteps rest) g in
+    let y = and-true (goodTest t && ltb (predCount ps) countBound) (goodPreds ps) (x .0) in
+    let z = and-true (goodTest t) (ltb (predCount ps) countBound) (y .0) in
     record { test = z .0; few = ltb-true _ _ (z .1); preds = y .1; later = x .1 }
 
-pub good-path : (s : Steps) → goodExpr (path s) ≡ true → (stepCount s < 8192) × (goodSteps s ≡ true)
+pub good-path : (s : Steps) → goodExpr (path s) ≡ true → (stepCount s < countBound) × (goodSteps s ≡ true)
 good-path s g =
-    let x = and-true (leb 1 (stepCount s) && ltb (stepCount s) 8192) (goodSteps s) g in
-    let y = and-true (leb 1 (stepCount s)) (ltb (stepCount s) 8192) (x .0) in
+    let x = and-true (leb 1 (stepCount s) && ltb (stepCount s) countBound) (goodSteps s) g in
+    let y = and-true (leb 1 (stepCount s)) (ltb (stepCount s) countBound) (x .0) in
     (ltb-true _ _ (y .1), x .1)
 
 -- What an item owes.
-pub owing-path : (n : ℕ) → n < 8192 → owing (packPath n) ≡ n
+pub owing-path : (n : ℕ) → n < countBound → owing (packPath n) ≡ n
 unfolding owing
 owing-path n l = ap owedBy (unpack-path n l)
 
-pub owing-step : (a : Axis) (t : Test) (n : ℕ) → goodTest t ≡ true → n < 8192 → owing (packStep a t n) ≡ n
+pub owing-step : (a : Axis) (t : Test) (n : ℕ) → goodTest t ≡ true → n < countBound → owing (packStep a t n) ≡ n
 unfolding owing
 owing-step a t n g l = ap owedBy (unpack-step a t n g l)
 

@@ -11,7 +11,7 @@ use lib.ListN.{length, getD, take, drop, length-append, length-drop}
 use lib.Seq.{take-append-seam, drop-append-seam, drop-drop}
 use borrow.Author.Tests.{ltb-true}
 use Rattle.paper.specs.Query.{Steps, Query, paths}
-use Rattle.paper.specs.Items.{packPath, stepCount, encodeSteps, encodePaths, encode, decode, goodSteps, goodPaths, good}
+use Rattle.paper.specs.Items.{packPath, stepCount, encodeSteps, encodePaths, encode, decode, goodSteps, goodPaths, good, countBound}
 use Rattle.paper.proofs.Tests.{and-true}
 use Rattle.paper.proofs.Encoding.{encode-decode}
 use Rattle.item.specs.Placed.{placed}
@@ -42,8 +42,8 @@ pub record Top (items : List ℕ) (place next count : ℕ) (p : Steps) (ps : Lis
 top-of : (items : List ℕ) (place next count : ℕ) (p : Steps) (ps : List Steps) → place < length items → Rest items place (p ∷ ps) → count ≡ owing (getD items place 0)
     → next ≡ place + 1 + eaten (drop (place + 1) items) count → Top items place next count p ps
 top-of items place next count p ps l r ec en =
-    let g = and-true (ltb (stepCount p) 8192 && goodSteps p) (goodPaths ps) (r .fine) in
-    let h = and-true (ltb (stepCount p) 8192) (goodSteps p) (g .0) in
+    let g = and-true (ltb (stepCount p) countBound && goodSteps p) (goodPaths ps) (r .fine) in
+    let h = and-true (ltb (stepCount p) countBound) (goodSteps p) (g .0) in
     let here : getD items place 0 ∷ drop (place + 1) items ≡ packPath (stepCount p) ∷ (encodeSteps p ++ encodePaths ps) = sym (at-place items place l) ∙ r .left in
     let head : getD items place 0 ≡ packPath (stepCount p) = cc in
     let tail : drop (place + 1) items ≡ encodeSteps p ++ encodePaths ps = cc in

@@ -7,7 +7,7 @@ use mathlib.Core.List.{List, [], _∷_}
 use lib.ListN.{length, getD, drop, drop-of-length-le}
 use lib.Seq.{drop-cons}
 use Rattle.paper.specs.Query.{self, anyNode}
-use Rattle.paper.specs.Items.{Head}
+use Rattle.paper.specs.Items.{Head, countLimit}
 use Rattle.paper.proofs.Tests.{some-inj, none-some}
 use Rattle.paper.proofs.Fields.{step-found}
 use Rattle.item.specs.Unpacked.{unpacked}
@@ -22,7 +22,7 @@ use Rattle.reverse.specs.Reverses.{owedBy, owing, eaten, StepSaid}
 use Rattle.reverse.proofs.Owing.{none-eaten}
 
 -- What an unpacked item owes is little.
-few : (w : ℕ) (i : Item) → Said w i → owedBy i ≤ 8191
+few : (w : ℕ) (i : Item) → Said w i → owedBy i ≤ countLimit
 few w (Path count) s = omega (arith, pack-path w count s .1)
 few w (StepItem st) s = omega (arith, pack-step w st s .1)
 few w And s = omega arith
@@ -30,7 +30,7 @@ few w Or s = omega arith
 few w Not s = omega arith
 few w Bad s = omega arith
 
-pub owes-as : (w : ℕ) (i j : Item) → i ≡ unpacked w → i ≡ j → (owedBy j ≡ owing w) × (owedBy j ≤ 8191)
+pub owes-as : (w : ℕ) (i j : Item) → i ≡ unpacked w → i ≡ j → (owedBy j ≡ owing w) × (owedBy j ≤ countLimit)
 unfolding owing
 owes-as w i j e f = (ap owedBy (sym f ∙ e), few w j (said w j (sym f ∙ e)))
 

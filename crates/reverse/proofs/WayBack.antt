@@ -8,7 +8,7 @@ use mathlib.Core.List.{List, [], _∷_, _++_, append-assoc}
 use lib.ListN.{length, getD, take, drop, set, length-append, length-drop, length-set}
 use lib.Seq.{length-take-le, take-append-seam, drop-append-seam, drop-drop, take-take, take-append-le}
 use Rattle.paper.specs.Query.{Axis, self, Test, anyNode, Steps, stop, step, Preds, bare, pred}
-use Rattle.paper.specs.Items.{axisNumber, testNumber, packPath, packStep, stepAt, stepCount, predCount, encodeExpr, encodeSteps, encodePreds, goodSteps}
+use Rattle.paper.specs.Items.{axisNumber, testNumber, packPath, packStep, stepAt, stepCount, predCount, encodeExpr, encodeSteps, encodePreds, goodSteps, countBound}
 use Rattle.paper.specs.Composition.{turned, atRoot, wayBack, reversed}
 use Rattle.paper.proofs.Fields.{test-small, step-at}
 use Rattle.item.specs.Unpacked.{packed}
@@ -64,7 +64,7 @@ pub record TurnedTo (steps old out : List ℕ) (at back place test count : ℕ) 
   pub fits : at + length steps + 4 ≤ length old
   pub size : length out ≡ length old
   pub test-small : test < 512
-  pub count-small : count < 8192
+  pub count-small : count < countBound
   pub turns : (s : Steps) → steps ≡ encodeSteps s → goodSteps s ≡ true → Turned s steps old out (at + length steps + 4) back place test count
 
 -- What is placed, seen from the list that it makes.

@@ -6,7 +6,7 @@ use mathlib.Core.List.{List, [], _∷_, _++_}
 use mathlib.Core.Option.{Option, none, some}
 use lib.ListN.{length}
 use Rattle.paper.specs.Query.{Axis, Test, Steps, Query, paths}
-use Rattle.paper.specs.Items.{axisNumber, testNumber, Head, stepAt, encodeExpr, decode, goodTest}
+use Rattle.paper.specs.Items.{axisNumber, testNumber, Head, stepAt, encodeExpr, decode, goodTest, countBound}
 use Rattle.paper.specs.Composition.{reversed, selectedBy}
 use Rattle.item.specs.Unpacked.{unpacked}
 use Rattle.item.specs.declared.Step.{Step}
@@ -48,7 +48,7 @@ pub record StepSaid (w : ℕ) (s : Step) : Type 0 where
   pub axis-is : s .axis ≡ axisNumber axis
   pub test-is : s .test ≡ testNumber test
   pub fine : goodTest test ≡ true
-  pub small : s .count < 8192
+  pub small : s .count < countBound
   pub told : (h : Head) → stepAt w ≡ some h → (axis ≡ h .axis) × (test ≡ h .test) × (s .count ≡ h .count)
 
 -- The reverse of a path.

@@ -3,18 +3,19 @@
 use item::Item;
 use item::Step;
 ghost use mathlib.Core.Path.{_≡_};
-ghost use Prim.Native.Nat.{_+_, _≤_, _<_};
+ghost use Prim.Native.Nat.{_+_, _*_, _≤_, _<_};
 ghost use mathlib.Core.Bool.{true};
 ghost use lib.ListN.{length, drop};
+ghost use Rattle.paper.specs.Limits.{itemLimit};
 ghost use Rattle.paper.specs.Query.{Steps, anyNode, stop, bare, pred};
-ghost use Rattle.paper.specs.Items.{stepCount, encodeExpr, encodeSteps, goodSteps, decode};
+ghost use Rattle.paper.specs.Items.{stepCount, encodeExpr, encodeSteps, goodSteps, decode, countLimit};
 ghost use Rattle.paper.specs.Composition.{atRoot, wayBack, reversed};
 ghost use Rattle.item.specs.Placed.{placed};
 ghost use Rattle.reverse.specs.Reverses.{owing, eaten, IsQuery, pathsGot, StepSaid, reversedItems, eachGot, selectedGot};
 
 // How many steps, predicates or operands belong to an item.
 pub fn owes(w: u32) -> usize
-    ensures { λ r. ⌜ (r ≡ owing w) × (r ≤ 8191) ⌝ }
+    ensures { λ r. ⌜ (r ≡ owing w) × (r ≤ countLimit) ⌝ }
 {
     let item = item::unpack(w);
     match item {
@@ -29,7 +30,7 @@ pub fn owes(w: u32) -> usize
 
 // Where so many steps, predicates or operands end that begin at `at`.
 pub fn skip(items: &[u32], at: usize, count: usize) -> usize
-    requires { ⌜ (length (now items) ≤ 4096) × (at ≤ length (now items)) × (count ≤ 8191) ⌝ }
+    requires { ⌜ (length (now items) ≤ itemLimit) × (at ≤ length (now items)) × (count ≤ countLimit) ⌝ }
     ensures { λ r. ⌜ (r ≡ at + eaten (drop at (now (items .entry))) count) × (r ≤ length (now (items .entry))) ⌝ }
 {
     let mut place = at;
@@ -46,7 +47,7 @@ pub fn skip(items: &[u32], at: usize, count: usize) -> usize
 
 // How many top-level paths a query has.
 pub fn count_paths(items: &[u32]) -> usize
-    requires { ⌜ (IsQuery (now items)) × (length (now items) ≤ 4096) ⌝ }
+    requires { ⌜ (IsQuery (now items)) × (length (now items) ≤ itemLimit) ⌝ }
     ensures { λ r. ⌜ r ≡ pathsGot (decode (now (items .entry))) ⌝ }
 {
     let mut place = 0;
@@ -89,7 +90,7 @@ fn put_at_root(out: &mut [u32], at: usize)
 
 // The way back over the steps of a path, written from its end to its start: each step's test and predicates follow the turned axis of the step after it.
 fn put_way_back(steps: &[u32], out: &mut [u32], at: usize)
-    requires { ⌜ (length (now steps) ≤ 4096) × (at + length (now steps) + 4 ≤ length (now out)) ⌝ }
+    requires { ⌜ (length (now steps) ≤ itemLimit) × (at + length (now steps) + 4 ≤ length (now out)) ⌝ }
     ensures { λ _. ⌜ (length (now (out .exit)) ≡ length (now (out .entry)))
         × ((s : Steps) → now (steps .entry) ≡ encodeSteps s → goodSteps s ≡ true
         → now (out .exit) ≡ placed (encodeSteps (wayBack anyNode (pred atRoot bare) stop s)) at (now (out .entry))) ⌝ }
@@ -122,7 +123,7 @@ fn put_way_back(steps: &[u32], out: &mut [u32], at: usize)
 
 // The reverse of a path, from its items and the number of its steps.
 fn put_reverse(steps: &[u32], count: usize, out: &mut [u32], at: usize)
-    requires { ⌜ (length (now steps) ≤ 4096) × (count < 8191) × (at + length (now steps) + 5 ≤ length (now out)) ⌝ }
+    requires { ⌜ (length (now steps) ≤ itemLimit) × (count < countLimit) × (at + length (now steps) + 5 ≤ length (now out)) ⌝ }
     ensures { λ _. ⌜ (length (now (out .exit)) ≡ length (now (out .entry)))
         × ((s : Steps) → now (steps .entry) ≡ encodeSteps s → goodSteps s ≡ true → count ≡ stepCount s
         → now (out .exit) ≡ placed (encodeExpr (reversed s)) at (now (out .entry))) ⌝ }
@@ -133,7 +134,7 @@ fn put_reverse(steps: &[u32], count: usize, out: &mut [u32], at: usize)
 
 // The reverses of the inner paths, one after the other.
 fn put_reverses(inner: &[u32], out: &mut [u32], start: usize)
-    requires { ⌜ (IsQuery (now inner)) × (length (now inner) ≤ 4096) × (start + length (eachGot reversedItems (decode (now inner))) ≤ length (now out)) ⌝ }
+    requires { ⌜ (IsQuery (now inner)) × (length (now inner) ≤ itemLimit) × (start + length (eachGot reversedItems (decode (now inner))) ≤ length (now out)) ⌝ }
     ensures { λ _. ⌜ now (out .exit) ≡ placed (eachGot reversedItems (decode (now (inner .entry)))) start (now (out .entry)) ⌝ }
 {
     let mut place = 0;
@@ -149,7 +150,7 @@ fn put_reverses(inner: &[u32], out: &mut [u32], start: usize)
 
 // S: the reverses of the inner paths joined by `or`.
 pub fn put_selected(inner: &[u32], paths: usize, out: &mut [u32], at: usize)
-    requires { ⌜ (IsQuery (now inner)) × (length (now inner) ≤ 4096) × (paths ≡ pathsGot (decode (now inner))) × (at + length (selectedGot (decode (now inner))) ≤ length (now out)) ⌝ }
+    requires { ⌜ (IsQuery (now inner)) × (length (now inner) ≤ itemLimit) × (paths ≡ pathsGot (decode (now inner))) × (at + length (selectedGot (decode (now inner))) ≤ length (now out)) ⌝ }
     ensures { λ _. ⌜ now (out .exit) ≡ placed (selectedGot (decode (now (inner .entry)))) at (now (out .entry)) ⌝ }
 {
     item::put_same(out, at, paths - 1, item::OR);
@@ -158,8 +159,8 @@ pub fn put_selected(inner: &[u32], paths: usize, out: &mut [u32], at: usize)
 
 // The size of S: 01's w(inner) + 5k - 1.
 pub fn selected_size(inner: &[u32], paths: usize) -> usize
-    requires { ⌜ (IsQuery (now inner)) × (length (now inner) ≤ 4096) × (paths ≡ pathsGot (decode (now inner))) ⌝ }
-    ensures { λ r. ⌜ (r ≡ length (selectedGot (decode (now (inner .entry))))) × (r ≤ 24576) ⌝ }
+    requires { ⌜ (IsQuery (now inner)) × (length (now inner) ≤ itemLimit) × (paths ≡ pathsGot (decode (now inner))) ⌝ }
+    ensures { λ r. ⌜ (r ≡ length (selectedGot (decode (now (inner .entry))))) × (r ≤ 6 * itemLimit) ⌝ }
 {
     inner.len() + 5 * paths - 1
 }

@@ -32,7 +32,7 @@ use Rattle.sets.specs.Sets.{bits}
 use Rattle.shape.specs.Walks.{shapeOf}
 use Rattle.shape.specs.declared.Shape.the-variants.{Query as IsQuery, Malformed as NoQuery}
 use Rattle.keep.specs.Evals.{Ready, Runs}
-use Rattle.run.specs.Rooms.{roomAnswer}
+use Rattle.run.specs.Judging.{judgement}
 
 -- What the shape of items says of the query that they are.
 pub shaped-none : (o : Option Query) → NoQuery ≡ shapeOf o → o ≡ none
@@ -56,35 +56,35 @@ module _ (query : List ℕ) (t : Table) (given : List ℕ) (marksRoom scratchRoo
     pub given-all : length given ≡ nodes t
     pub marks-all : marksRoom ≡ nodes t
 
-  pub room-long : Long ≡ true → refusal 1 0 ≡ roomAnswer query t given marksRoom scratchRoom
-  unfolding roomAnswer
-  room-long h = rw h
+  pub judged-long : Long ≡ true → refusal 1 0 ≡ judgement query t given marksRoom scratchRoom
+  unfolding judgement
+  judged-long h = rw h
 
-  pub room-agrees : Agree → roomAnswer query t given marksRoom scratchRoom
+  pub judged-agrees : Agree → judgement query t given marksRoom scratchRoom
       ≡ lineQuery 6 0 (decode query) (λ q. line 7 (tableFault t) (line 8 (marksFault t given) (line 10 (short scratchRoom (scratchOf t q)) (value (scratchOf t q)))))
-  unfolding roomAnswer
-  room-agrees a =
+  unfolding judgement
+  judged-agrees a =
       rw (le-ltb itemLimit (length query) (a .items-few), le-ltb nodeLimit (nodes t) (a .nodes-few), eq-eqb (length (t .kinds)) (nodes t) (a .kinds-all), eq-eqb (length given) (nodes t) (a .given-all), eq-eqb marksRoom (nodes t) (a .marks-all))
 
   -- Each later line, where those before it do not hold.
-  pub room-six : Agree → decode query ≡ none → refusal 6 0 ≡ roomAnswer query t given marksRoom scratchRoom
-  room-six a d = sym (room-agrees a ∙ rw d)
+  pub judged-six : Agree → decode query ≡ none → refusal 6 0 ≡ judgement query t given marksRoom scratchRoom
+  judged-six a d = sym (judged-agrees a ∙ rw d)
 
-  pub room-seven : (q : Query) (i : ℕ) → Agree → decode query ≡ some q → tableFault t ≡ some i → refusal 7 i ≡ roomAnswer query t given marksRoom scratchRoom
-  room-seven q i a d e = sym (room-agrees a ∙ rw (d, e))
+  pub judged-seven : (q : Query) (i : ℕ) → Agree → decode query ≡ some q → tableFault t ≡ some i → refusal 7 i ≡ judgement query t given marksRoom scratchRoom
+  judged-seven q i a d e = sym (judged-agrees a ∙ rw (d, e))
 
-  pub room-eight : (q : Query) (i : ℕ) → Agree → decode query ≡ some q → tableFault t ≡ none → marksFault t given ≡ some i → refusal 8 i ≡ roomAnswer query t given marksRoom scratchRoom
-  room-eight q i a d e f = sym (room-agrees a ∙ rw (d, e, f))
+  pub judged-eight : (q : Query) (i : ℕ) → Agree → decode query ≡ some q → tableFault t ≡ none → marksFault t given ≡ some i → refusal 8 i ≡ judgement query t given marksRoom scratchRoom
+  judged-eight q i a d e f = sym (judged-agrees a ∙ rw (d, e, f))
 
-  pub room-ten : (q : Query) → Agree → decode query ≡ some q → tableFault t ≡ none → marksFault t given ≡ none → scratchRoom < scratchOf t q
-      → refusal 10 (scratchOf t q) ≡ roomAnswer query t given marksRoom scratchRoom
-  room-ten q a d e f l = sym (room-agrees a ∙ rw (d, e, f, lt-ltb scratchRoom (scratchOf t q) l))
+  pub judged-ten : (q : Query) → Agree → decode query ≡ some q → tableFault t ≡ none → marksFault t given ≡ none → scratchRoom < scratchOf t q
+      → refusal 10 (scratchOf t q) ≡ judgement query t given marksRoom scratchRoom
+  judged-ten q a d e f l = sym (judged-agrees a ∙ rw (d, e, f, lt-ltb scratchRoom (scratchOf t q) l))
 
-  pub room-value : (q : Query) → Agree → decode query ≡ some q → tableFault t ≡ none → marksFault t given ≡ none → scratchOf t q ≤ scratchRoom
-      → value (scratchOf t q) ≡ roomAnswer query t given marksRoom scratchRoom
-  room-value q a d e f l = sym (room-agrees a ∙ rw (d, e, f, le-ltb scratchRoom (scratchOf t q) l))
+  pub judged-value : (q : Query) → Agree → decode query ≡ some q → tableFault t ≡ none → marksFault t given ≡ none → scratchOf t q ≤ scratchRoom
+      → value (scratchOf t q) ≡ judgement query t given marksRoom scratchRoom
+  judged-value q a d e f l = sym (judged-agrees a ∙ rw (d, e, f, le-ltb scratchRoom (scratchOf t q) l))
 
-  -- Where the room is answered, nothing refuses.
+  -- Where a value is answered, nothing refuses.
   pub record Accepted (needed : ℕ) : Type 0 where
     pub agree : Agree
     pub query-is : Query
@@ -108,8 +108,8 @@ module _ (query : List ℕ) (t : Table) (given : List ℕ) (marksRoom scratchRoo
         marks-all = eqb-true _ _ (not-false _ (a .1));
       }
 
-  pub accepted : (needed : ℕ) → roomAnswer query t given marksRoom scratchRoom ≡ value needed → Accepted needed
-  unfolding roomAnswer
+  pub accepted : (needed : ℕ) → judgement query t given marksRoom scratchRoom ≡ value needed → Accepted needed
+  unfolding judgement
   accepted needed h =
       let first = line-value 1 needed (when Long 0) _ h in
       go (decode query) refl (first .1) (agrees (when-none Long 0 (first .0)))
@@ -139,8 +139,8 @@ module _ (query : List ℕ) (t : Table) (given : List ℕ) (marksRoom scratchRoo
       rw (le-ltb itemLimit (length query) (a .agree .items-few), le-ltb nodeLimit (nodes t) (a .agree .nodes-few), eq-eqb (length (t .kinds)) (nodes t) (a .agree .kinds-all), eq-eqb (length given) (nodes t) (a .agree .given-all), eq-eqb marksRoom (nodes t) (a .agree .marks-all), a .decodes, a .table-good, a .marks-good, le-ltb scratchRoom (scratchOf t (a .query-is)) (omega (arith, a .room-enough, a .room-is)))
 
   -- and one that something refuses answers that.
-  pub refuses : (number place : ℕ) → roomAnswer query t given marksRoom scratchRoom ≡ refusal number place → runAnswer query t given marksRoom scratchRoom ≡ refusal number place
-  unfolding roomAnswer runAnswer
+  pub refuses : (number place : ℕ) → judgement query t given marksRoom scratchRoom ≡ refusal number place → runAnswer query t given marksRoom scratchRoom ≡ refusal number place
+  unfolding judgement runAnswer
   refuses number place h = go (when Long 0) refl (decode query) refl (tableFault t) refl (marksFault t given) refl
     where
       same-line : (q : Query) → (o : Option ℕ) → line 10 o (value (scratchOf t q)) ≡ refusal number place → line 10 o (value (markedCount t (kept t given q))) ≡ refusal number place
@@ -159,13 +159,13 @@ module _ (query : List ℕ) (t : Table) (given : List ℕ) (marksRoom scratchRoo
 pub scratch-small : (query : List ℕ) (t : Table) (q : Query) → length query ≤ itemLimit → nodes t ≤ nodeLimit → decode query ≡ some q → nodes t * 2 * (height q + 1) ≤ 33562624
 scratch-small query t q li ln d =
     let h : height q + 1 ≤ 4097 = omega (arith, height-size q, size-decoded query q d) in
-    let n : nodes t * 2 ≤ 8192 = omega arith in
+    let n : nodes t * 2 ≤ nodeLimit * 2 = omega arith in
     le-trans (mul-le-mul n h) (omega arith)
 
 -- A run answers what refused it, and writes nothing,
 module _ (query : List ℕ) (t : Table) (given marks scratch : List ℕ) where
   abbrev Said : Told → Type 0
-  Said r = r ≡ roomAnswer query t given (length marks) (length scratch)
+  Said r = r ≡ judgement query t given (length marks) (length scratch)
 
   pub refused-answer : (a : Answer) → Refuses a → Said (told a) → told a ≡ runAnswer query t given (length marks) (length scratch)
   refused-answer a r h =

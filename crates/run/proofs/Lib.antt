@@ -1,1 +1,2 @@
+-- The lines of a run: `accepted`, `searchable`, `runnable`.
 pub mod Answering

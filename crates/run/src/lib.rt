@@ -7,10 +7,10 @@ ghost use lib.ListN.{length};
 ghost use Rattle.paper.specs.Answers.{runAnswer, runMarks, runScratch};
 ghost use Rattle.paper.specs.Told.{told};
 ghost use Rattle.paper.specs.Document.{tableOf};
-ghost use Rattle.run.specs.Rooms.{roomAnswer};
+ghost use Rattle.run.specs.Judging.{judgement};
 
-// What refuses a run, or the bytes of scratch that it needs.
-fn room(
+// Decides every refusal of a run; the value is the bytes of scratch that a run needs.
+fn judge(
     query: &[u32],
     parent: &[u16],
     kind: &[u16],
@@ -18,7 +18,7 @@ fn room(
     marks_room: usize,
     scratch_room: usize,
 ) -> Answer
-    ensures { λ r. ⌜ told r ≡ roomAnswer (now (query .entry)) (tableOf (now (parent .entry)) (now (kind .entry))) (now (given .entry)) «marks_room» «scratch_room» ⌝ }
+    ensures { λ r. ⌜ told r ≡ judgement (now (query .entry)) (tableOf (now (parent .entry)) (now (kind .entry))) (now (given .entry)) «marks_room» «scratch_room» ⌝ }
 {
     if paper::ITEM_LIMIT < query.len() {
         return Answer::TooLong;
@@ -66,7 +66,7 @@ pub fn run(
     ensures { λ _. ⌜ now (marks .exit) ≡ runMarks (now (query .entry)) (tableOf (now (parent .entry)) (now (kind .entry))) (now (given .entry)) (now (marks .entry)) (length (now (scratch .entry))) ⌝ }
     ensures { λ _. ⌜ now (scratch .exit) ≡ runScratch (now (query .entry)) (tableOf (now (parent .entry)) (now (kind .entry))) (now (given .entry)) (length (now (marks .entry))) (now (scratch .entry)) ⌝ }
 {
-    let said = room(query, parent, kind, given, marks.len(), scratch.len());
+    let said = judge(query, parent, kind, given, marks.len(), scratch.len());
     let Answer::Value(needed) = said else {
         return said;
     };

@@ -1,4 +1,4 @@
--- What the passes along the axes share: axes by their numbers, searches that find one node or none, children, and the invariant of a pass. Assumes nothing.
+-- What the passes along the axes share: images along axes of one number, searches that find one node or none, children, and the invariant of a pass. Assumes nothing.
 use Prim.Native.Nat.{ℕ, _≤_, _<_}
 use native.Mathlib.Omega.{arith}
 use native.Mathlib.Decide.{ℕ-discrete}
@@ -10,12 +10,12 @@ use lib.Dec.{eqb}
 use lib.ListN.{length}
 use borrow.Author.Tests.{eqb-true, eq-eqb, ne-eqb}
 use Rattle.paper.specs.Tools.{someBelow}
-use Rattle.paper.specs.Query.{Axis, self, child, parent, descendantOrSelf, ancestorOrSelf}
+use Rattle.paper.specs.Query.{Axis, self}
 use Rattle.paper.specs.Document.{Table, nodes, parentOf, tableOf}
-use Rattle.paper.specs.Items.{axisNumber, axisOf}
+use Rattle.paper.specs.Items.{axisNumber}
 use Rattle.paper.specs.Selection.{childOf}
-use Rattle.paper.proofs.Tests.{and-true, true-and, agree, some-inj}
-use Rattle.paper.proofs.Fields.{axis-number}
+use Rattle.paper.proofs.Tests.{and-true, true-and, agree}
+use Rattle.paper.proofs.Axes.{of-number}
 use Rattle.paper.proofs.Searches.{some-intro, some-elim}
 use Rattle.sets.specs.Sets.{bits, image}
 use Rattle.sets.proofs.Bits.{and-none}
@@ -31,22 +31,10 @@ some-one n p f test l h only =
     (λ s. some-elim n (λ j. f j && test j) s (λ j _ q. let r = and-true (f j) (test j) q in subst (λ k. f k ≡ true) (sym (only j (r .1))) (r .0)))
     (λ s. some-intro n (λ j. f j && test j) p l (true-and s h))
 
--- An axis is known by its number.
-same-axis : (a b : Axis) → axisNumber a ≡ axisNumber b → a ≡ b
-same-axis a b e = some-inj (sym (axis-number a) ∙ ap axisOf e ∙ axis-number b)
-
 -- Bytes that are the image along one axis are so along any axis of its number.
 pub same-image : {list : List ℕ} (t : Table) (f : ℕ → Bool) (m n : ℕ) (b a : Axis) → n ≡ axisNumber b → n ≡ axisNumber a → list ≡ bits m (image t b f)
     → list ≡ bits m (image t a f)
-same-image {list} t f m n b a p q = subst (λ x. list ≡ bits m (image t x f)) (same-axis b a (sym p ∙ q))
-
--- What has the number of no other axis is self.
-pub other-axis : (a : Axis) (n : ℕ) → n ≡ axisNumber a → (n ≡ 1 → ⊥) → (n ≡ 2 → ⊥) → (n ≡ 3 → ⊥) → (n ≡ 4 → ⊥) → self ≡ a
-other-axis self n e p q r s = refl
-other-axis child n e p q r s = absurd (p e)
-other-axis parent n e p q r s = absurd (q e)
-other-axis descendantOrSelf n e p q r s = absurd (r e)
-other-axis ancestorOrSelf n e p q r s = absurd (s e)
+same-image {list} t f m n b a p q = of-number (λ x. list ≡ bits m (image t x f)) b a p q
 
 -- The invariant of a pass over the nodes at i: the bytes are in the state that the pass has at i, whatever set they were where it began.
 pub record Moving (state : Table → (ℕ → Bool) → ℕ → ℕ → Bool) (parents old list : List ℕ) (i : ℕ) : Type 0 where

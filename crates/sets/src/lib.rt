@@ -124,8 +124,8 @@ pub fn keep_met(kind: &[u16], test: u32, set: &mut [u8])
     ensures { λ _. ⌜ ((t : Test) (f : ℕ → Bool) → goodTest t ≡ true → test ≡ testNumber t → now (set .entry) ≡ bits (length (now (set .entry))) f → now (set .exit) ≡ bits (length (now (set .entry))) (λ i. f i && meets t (getD (now (kind .entry)) i 0))) ⌝ }
 {
     match test {
-        0 => {}
-        258 => keep_at_least(kind, 2, set),
+        item::ANY_NODE => {}
+        item::ANY_ELEMENT => keep_at_least(kind, paper::ELEMENT_KIND, set),
         _ => keep_equal(kind, (test % 65536) as u16, set),
     }
 }
@@ -184,16 +184,17 @@ fn above(parent: &[u16], set: &mut [u8])
     }
 }
 
-// Moves the set along an axis: what is in it then are the nodes to which the axis leads.
+// Moves the set along an axis: what is in it then are the nodes to which the axis leads. What is no axis leads nowhere.
 pub fn along(parent: &[u16], axis: u32, set: &mut [u8])
     requires { ⌜ (length (now parent) ≡ length (now set)) × ((kinds : List ℕ) → Tree (tableOf (now parent) kinds)) ⌝ }
     ensures { λ _. ⌜ ((kinds : List ℕ) (a : Axis) (f : ℕ → Bool) → axis ≡ axisNumber a → now (set .entry) ≡ bits (length (now (set .entry))) f → now (set .exit) ≡ bits (length (now (set .entry))) (image (tableOf (now (parent .entry)) kinds) a f)) ⌝ }
 {
     match axis {
-        1 => children(parent, set),
-        2 => parents(parent, set),
-        3 => below(parent, set),
-        4 => above(parent, set),
-        _ => {}
+        item::SELF => {}
+        item::CHILD => children(parent, set),
+        item::PARENT => parents(parent, set),
+        item::DESCENDANT_OR_SELF => below(parent, set),
+        item::ANCESTOR_OR_SELF => above(parent, set),
+        _ => fill(set, 0),
     }
 }

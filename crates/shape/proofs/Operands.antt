@@ -10,6 +10,7 @@ use lib.Dec.{eqb}
 use lib.ListN.{length, getD, drop, drop-of-length-le}
 use lib.Seq.{drop-cons}
 use borrow.Author.Tests.{eq-eqb, ne-eqb, le-leb}
+use Rattle.paper.specs.Limits.{bracketLimit}
 use Rattle.paper.specs.Tools.{found, begins}
 use Rattle.paper.specs.Query.{Expr, path, negated}
 use Rattle.paper.specs.Items.{andItem, orItem, notItem, pathAt, Head, stepAt, Taken, takeSteps, takeOperand, takeExpr, takeWithin}
@@ -179,8 +180,8 @@ pub operand-past : (within : List ℕ → Taken Expr) (items : List ℕ) (at : �
 unfolding takeOperand
 operand-past within items at l = rw (drop-of-length-le items l)
 
--- What can be raised: walks are no deeper than 64 and no higher than the items.
-pub small : {A : Type 0} (items : List ℕ) (at depth : ℕ) (taken : Taken A) (nestOf heightOf : A → ℕ) (r : Walked) → depth ≤ 64 → length items * 4 < 2 ^ 63
+-- What can be raised: walks are no deeper than brackets may be, and no higher than the items.
+pub small : {A : Type 0} (items : List ℕ) (at depth : ℕ) (taken : Taken A) (nestOf heightOf : A → ℕ) (r : Walked) → depth ≤ bracketLimit → length items * 4 < 2 ^ 63
     → Walks items at depth taken nestOf heightOf r → Small r
 small items at depth taken nestOf heightOf (Done next nest high) d l w = (omega (arith, w .shallow), omega (arith, w .low, w .inside))
 small items at depth taken nestOf heightOf Malformed d l w = tt

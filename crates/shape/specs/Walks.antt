@@ -5,6 +5,7 @@ use mathlib.Core.Bool.{_||_}
 use mathlib.Core.List.{List}
 use mathlib.Core.Option.{Option, none, some}
 use lib.ListN.{length, drop}
+use Rattle.paper.specs.Limits.{bracketLimit}
 use Rattle.paper.specs.Query.{Expr, Query}
 use Rattle.paper.specs.Items.{andItem, orItem, leading, Taken}
 use Rattle.paper.specs.Measures.{isOr, isAnd, inBrackets, nestExpr}
@@ -58,5 +59,5 @@ raisedBy Malformed nesting height = Malformed
 
 -- Measures that can be raised.
 abbrev pub Small : Walked → Type 0
-Small (Done next nest high) = (nest ≤ 64) × (high < 2 ^ 63)
+Small (Done next nest high) = (nest ≤ bracketLimit) × (high < 2 ^ 63)
 Small Malformed = Unit {0}

@@ -1,8 +1,9 @@
-// A query in memory: is it one, and then its nesting and height. Recursion opens a bracket each time, so at most 65 deep.
+// A query in memory: is it one, and then its nesting and height. Recursion opens a bracket each time, so it is at most one deeper than brackets may be.
 use item::Item;
 ghost use mathlib.Core.Path.{_≡_};
 ghost use Prim.Native.Nat.{_+_, _^_, _≤_, _<_, max};
 ghost use lib.ListN.{length, drop};
+ghost use Rattle.paper.specs.Limits.{bracketLimit};
 ghost use Rattle.paper.specs.Items.{leading, takePreds, takeSteps, takeOperand, takeExpr, takeWithin, decode};
 ghost use Rattle.paper.specs.Measures.{nestExpr, nestSteps, nestPreds, heightExpr, heightSteps, heightPreds};
 ghost use Rattle.shape.specs.Walks.{Small, raisedBy, joinedHeight, Walks, nestOperand, shapeOf};
@@ -78,7 +79,7 @@ fn joined(high: usize, height: usize) -> usize
 
 // An expression: terms of `or`, each of them operands of `and`.
 fn expression(items: &[u32], at: usize, depth: usize) -> Walked
-    requires { ⌜ (at ≤ length (now items)) × (depth ≤ 64) ⌝ }
+    requires { ⌜ (at ≤ length (now items)) × (depth ≤ bracketLimit) ⌝ }
     ensures { λ r. ⌜ Walks (now (items .entry)) at depth (takeExpr (takeWithin depth) (drop at (now (items .entry)))) nestExpr heightExpr r ⌝ }
 {
     let mut ors = run_of(items, at, item::OR);
@@ -121,7 +122,7 @@ fn expression(items: &[u32], at: usize, depth: usize) -> Walked
 
 // An operand of `and`: a path, or what stands in a bracket of `not`, `and` or `or`.
 fn operand(items: &[u32], at: usize, depth: usize) -> Walked
-    requires { ⌜ (at ≤ length (now items)) × (depth ≤ 64) ⌝ }
+    requires { ⌜ (at ≤ length (now items)) × (depth ≤ bracketLimit) ⌝ }
     ensures { λ r. ⌜ Walks (now (items .entry)) at depth (takeOperand (takeWithin depth) (drop at (now (items .entry)))) nestOperand heightExpr r ⌝ }
 {
     if items.len() <= at {
@@ -146,7 +147,7 @@ fn operand(items: &[u32], at: usize, depth: usize) -> Walked
 
 // So many steps of a path, each with its predicates.
 pub fn steps(items: &[u32], at: usize, count: usize, depth: usize) -> Walked
-    requires { ⌜ (at ≤ length (now items)) × (depth ≤ 64) ⌝ }
+    requires { ⌜ (at ≤ length (now items)) × (depth ≤ bracketLimit) ⌝ }
     ensures { λ r. ⌜ Walks (now (items .entry)) at depth (takeSteps (takeWithin depth) count (drop at (now (items .entry)))) nestSteps heightSteps r ⌝ }
 {
     let mut place = at;
@@ -184,7 +185,7 @@ pub fn steps(items: &[u32], at: usize, count: usize, depth: usize) -> Walked
 
 // So many predicates, each an expression in its bracket.
 fn predicates(items: &[u32], at: usize, count: usize, depth: usize) -> Walked
-    requires { ⌜ (at ≤ length (now items)) × (depth ≤ 64) ⌝ }
+    requires { ⌜ (at ≤ length (now items)) × (depth ≤ bracketLimit) ⌝ }
     ensures { λ r. ⌜ Walks (now (items .entry)) at depth (takePreds (takeWithin depth) count (drop at (now (items .entry)))) nestPreds heightPreds r ⌝ }
 {
     let mut place = at;

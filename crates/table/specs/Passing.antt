@@ -5,11 +5,11 @@ use mathlib.Core.Bool.{Bool, true, not, _&&_}
 use mathlib.Core.List.{List}
 use lib.Dec.{eqb, leb}
 use lib.ListN.{length, getD}
-use Rattle.paper.specs.Document.{Table, nodes, parentOf, kindOf, over, goodNode, marked}
+use Rattle.paper.specs.Document.{Table, nodes, parentOf, kindOf, over, goodNode, marked, kindLimit}
 
 -- Is this the kind of text or of an element?
 abbrev pub fitsKind : ℕ → Bool
-fitsKind kind = leb 1 kind && leb kind 257
+fitsKind kind = leb 1 kind && leb kind kindLimit
 
 -- Is the parent of a node after the root as it must be?
 abbrev pub goodParent : Table → ℕ → Bool

@@ -43,7 +43,7 @@ fn is_over(parent: &[u16], from: usize, wanted: usize) -> bool
 fn fits(kind: u16) -> bool
     ensures { λ r. ⌜ r ≡ fitsKind kind ⌝ }
 {
-    (1 <= kind) & (kind <= 257)
+    (1 <= kind) & (kind <= paper::KIND_LIMIT)
 }
 
 // Is node 0 as it must be?

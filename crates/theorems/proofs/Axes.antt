@@ -1,29 +1,23 @@
--- The laws of an axis: all that the theorems use of it. A new axis needs these laws and nothing else. Assumes nothing.
+-- The laws of an axis that the theorems use, beside those of `paper`: it stays inside closed marks if it rises, and renumbering keeps it. Assumes nothing.
 use Prim.Native.Nat.{ℕ, _<_}
-use mathlib.Core.Path.{_≡_, refl, sym, subst}
+use mathlib.Core.Path.{_≡_, subst}
 use mathlib.Core.Bool.{true, not, false≢true}
 use mathlib.Core.List.{List}
 use lib.Dec.{eqb}
-use borrow.Author.Tests.{eqb-true, eq-eqb}
+use borrow.Author.Tests.{eqb-true}
 use Rattle.paper.specs.Query.{Axis, self, child, parent, descendantOrSelf, ancestorOrSelf}
 use Rattle.paper.specs.Document.{Table, nodes, parentOf, marked}
 use Rattle.paper.specs.Selection.{leads}
 use Rattle.paper.specs.Extraction.{rank, extracted}
-use Rattle.paper.proofs.Tests.{agree, and-true}
+use Rattle.paper.proofs.Tests.{and-true}
+use Rattle.paper.proofs.Axes as axes
 use Rattle.paper.proofs.Trees.{Tree, Closed, over-marked, tree, closed}
 use Rattle.theorems.specs.Demands.{Converse, rises, StaysInside, Renumbered}
 use Rattle.theorems.proofs.Renumber.{rank-same, over-renumbered, child-renumbered, marks-root}
 
-pub same-turned : (i j : ℕ) → eqb i j ≡ eqb j i
-same-turned i j = agree (eqb i j) (eqb j i) (λ h. eq-eqb j i (sym (eqb-true i j h))) (λ h. eq-eqb i j (sym (eqb-true j i h)))
-
 -- THE TURNED AXIS IS THE CONVERSE.
 pub converse : Converse
-converse t self i j = same-turned i j
-converse t child i j = refl
-converse t parent i j = refl
-converse t descendantOrSelf i j = refl
-converse t ancestorOrSelf i j = refl
+converse = axes.converse
 
 -- AN AXIS THAT RISES STAYS INSIDE CLOSED MARKS.
 pub leads-inside : (t : Table) → Tree t → (m : List ℕ) → Closed t m → (a : Axis) → rises a ≡ true → (i j : ℕ) → i < nodes t → marked m i ≡ true

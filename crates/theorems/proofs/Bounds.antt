@@ -109,7 +109,7 @@ run-small query t given marksRoom scratchRoom =
     small-query 6 0 (decode query) _ (omega arith)
     (λ q d.
     let tall : height q + 1 ≤ 4097 = omega (arith, height-size q, size-decoded query q d) in
-    let twice : nodes t * 2 ≤ 8192 = omega arith in
+    let twice : nodes t * 2 ≤ nodeLimit * 2 = omega arith in
     let needed : scratchOf t q ≤ 33562624 = mul-le-mul twice tall in
     small-line 7 (tableFault t) _ (λ p e. omega (arith, table-within t p e))
     (small-line 8 (marksFault t given) _ (λ p e. omega (arith, marks-within t given p e))

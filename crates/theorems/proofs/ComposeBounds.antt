@@ -4,6 +4,7 @@ use native.Mathlib.Omega.{arith}
 use native.Mathlib.Nat.{mul-le-mul}
 use mathlib.Core.List.{List, [], _∷_}
 use lib.ListN.{length}
+use Rattle.paper.specs.Limits.{itemLimit}
 use Rattle.paper.specs.Query.{Expr, path, both, either, negated, Steps, stop, step, Preds, bare, pred, Query, paths}
 use Rattle.paper.specs.Measures.{sizeExpr, sizeSteps, sizePreds, sizePaths, size}
 use Rattle.paper.specs.Measures.{roundLeftOfAnd, roundRightOfAnd, roundRightOfOr, nestExpr, nestSteps, nestPreds, nestPaths, nesting}
@@ -57,12 +58,12 @@ unfolding nesting size
 nesting-size q = paths-nest (paths q)
 
 -- TWO QUERIES OF AT MOST 4,096 ITEMS COMPOSE TO FEWER THAN 2^32.
-pub composed-small : (outer inner : Query) → size outer ≤ 4096 → size inner ≤ 4096 → size (composed outer inner) < 4294967296
+pub composed-small : (outer inner : Query) → size outer ≤ itemLimit → size inner ≤ itemLimit → size (composed outer inner) < 4294967296
 unfolding size composedSize selectedSize
 composed-small outer inner o i =
-    let s : selectedSize inner ≤ 24576 = omega (arith, paths-steps (paths inner)) in
-    let t : stepsInPaths (paths outer) ≤ 4096 = omega (arith, paths-steps (paths outer)) in
-    let m : length (paths outer) ≤ 4096 = omega (arith, paths-steps (paths outer)) in
+    let s : selectedSize inner ≤ 6 * itemLimit = omega (arith, paths-steps (paths inner)) in
+    let t : stepsInPaths (paths outer) ≤ itemLimit = omega (arith, paths-steps (paths outer)) in
+    let m : length (paths outer) ≤ itemLimit = omega (arith, paths-steps (paths outer)) in
     let v : 5 + 2 * selectedSize inner ≤ 49157 = omega arith in
     let l : 3 + selectedSize inner ≤ 24579 = omega arith in
     let guards : stepsInPaths (paths outer) * (5 + 2 * selectedSize inner) ≤ 201347072 = mul-le-mul t v in

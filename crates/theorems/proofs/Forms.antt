@@ -9,7 +9,7 @@ use lib.Dec.{leb, ltb}
 use borrow.Author.Tests.{leb-true, le-leb, lt-ltb}
 use Rattle.paper.specs.Query.{ancestorOrSelf}
 use Rattle.paper.specs.Limits.{itemLimit}
-use Rattle.paper.specs.Items.{stepCount, predCount, goodTest, goodExpr, goodSteps, goodPreds, goodPaths, good}
+use Rattle.paper.specs.Items.{stepCount, predCount, goodTest, goodExpr, goodSteps, goodPreds, goodPaths, good, countBound}
 use Rattle.paper.specs.Measures.{sizeExpr, sizeSteps, sizePreds, sizePaths, size}
 use Rattle.paper.specs.Composition.{turned, atRoot, wayBack, reversed, joined, selectedBy, someNode, visible, guardExpr, guardSteps, guardPreds, append, lastStep, composedPath, composed}
 use Rattle.paper.proofs.Tests.{and-true, true-and}
@@ -99,35 +99,35 @@ preds-count (pred e ps) = omega (arith, expr-some e, preds-count ps)
 
 -- So what is proper and within the limit can stand in memory.
 mutual
-  expr-good : (e : Expr) → ProperExpr e → sizeExpr e < 8192 → goodExpr e ≡ true
+  expr-good : (e : Expr) → ProperExpr e → sizeExpr e < countBound → goodExpr e ≡ true
   expr-good (path s) h l =
-      true-and (true-and (le-leb 1 (stepCount s) (h .0)) (lt-ltb (stepCount s) 8192 (omega (arith, steps-count s)))) (steps-good s (h .1) (omega arith))
+      true-and (true-and (le-leb 1 (stepCount s) (h .0)) (lt-ltb (stepCount s) countBound (omega (arith, steps-count s)))) (steps-good s (h .1) (omega arith))
   expr-good (both a b) h l = true-and (expr-good a (h .0) (omega arith)) (expr-good b (h .1) (omega arith))
   expr-good (either a b) h l = true-and (expr-good a (h .0) (omega arith)) (expr-good b (h .1) (omega arith))
   expr-good (negated a) h l = expr-good a h (omega arith)
 
-  steps-good : (s : Steps) → ProperSteps s → sizeSteps s < 8192 → goodSteps s ≡ true
+  steps-good : (s : Steps) → ProperSteps s → sizeSteps s < countBound → goodSteps s ≡ true
   steps-good stop h l = refl
   steps-good (step a x ps rest) h l =
       true-and
-      (true-and (true-and (h .0) (lt-ltb (predCount ps) 8192 (omega (arith, preds-count ps)))) (preds-good ps (h .1 .0) (omega arith)))
+      (true-and (true-and (h .0) (lt-ltb (predCount ps) countBound (omega (arith, preds-count ps)))) (preds-good ps (h .1 .0) (omega arith)))
       (steps-good rest (h .1 .1) (omega arith))
 
-  preds-good : (ps : Preds) → ProperPreds ps → sizePreds ps < 8192 → goodPreds ps ≡ true
+  preds-good : (ps : Preds) → ProperPreds ps → sizePreds ps < countBound → goodPreds ps ≡ true
   preds-good bare h l = refl
   preds-good (pred e ps) h l = true-and (expr-good e (h .0) (omega arith)) (preds-good ps (h .1) (omega arith))
 
-paths-good : (ps : List Steps) → ProperPaths ps → sizePaths ps < 8192 → goodPaths ps ≡ true
+paths-good : (ps : List Steps) → ProperPaths ps → sizePaths ps < countBound → goodPaths ps ≡ true
 paths-good [] h l = refl
 paths-good (p ∷ ps) h l =
-    true-and (true-and (lt-ltb (stepCount p) 8192 (omega (arith, steps-count p))) (steps-good p (h .0) (omega arith))) (paths-good ps (h .1) (omega arith))
+    true-and (true-and (lt-ltb (stepCount p) countBound (omega (arith, steps-count p))) (steps-good p (h .0) (omega arith))) (paths-good ps (h .1) (omega arith))
 
 -- What can stand in memory is proper.
 mutual
   good-expr : (e : Expr) → goodExpr e ≡ true → ProperExpr e
   good-expr (path s) h =
-      let b = and-true (leb 1 (stepCount s) && ltb (stepCount s) 8192) (goodSteps s) h in
-      (leb-true 1 (stepCount s) (and-true (leb 1 (stepCount s)) (ltb (stepCount s) 8192) (b .0) .0), good-steps s (b .1))
+      let b = and-true (leb 1 (stepCount s) && ltb (stepCount s) countBound) (goodSteps s) h in
+      (leb-true 1 (stepCount s) (and-true (leb 1 (stepCount s)) (ltb (stepCount s) countBound) (b .0) .0), good-steps s (b .1))
   good-expr (both a b) h = let c = and-true (goodExpr a) (goodExpr b) h in (good-expr a (c .0), good-expr b (c .1))
   good-expr (either a b) h = let c = and-true (goodExpr a) (goodExpr b) h in (good-expr a (c .0), good-expr b (c .1))
   good-expr (negated a) h = good-expr a h
@@ -135,9 +135,9 @@ mutual
   good-steps : (s : Steps) → goodSteps s ≡ true → ProperSteps s
   good-steps stop h = tt
   good-steps (step a x ps rest) h =
-      let b = and-true (goodTest x && ltb (predCount ps) 8192 && goodPreds ps) (goodSteps rest) h in
-      let c = and-true (goodTest x && ltb (predCount ps) 8192) (goodPreds ps) (b .0) in
-      (and-true (goodTest x) (ltb (predCount ps) 8192) (c .0) .0, (good-preds ps (c .1), good-steps rest (b .1)))
+      let b = and-true (goodTest x && ltb (predCount ps) countBound && goodPreds ps) (goodSteps rest) h in
+      let c = and-true (goodTest x && ltb (predCount ps) countBound) (goodPreds ps) (b .0) in
+      (and-true (goodTest x) (ltb (predCount ps) countBound) (c .0) .0, (good-preds ps (c .1), good-steps rest (b .1)))
 
   good-preds : (ps : Preds) → goodPreds ps ≡ true → ProperPreds ps
   good-preds bare h = tt
@@ -146,8 +146,8 @@ mutual
 good-paths : (ps : List Steps) → goodPaths ps ≡ true → ProperPaths ps
 good-paths [] h = tt
 good-paths (p ∷ ps) h =
-    let b = and-true (ltb (stepCount p) 8192 && goodSteps p) (goodPaths ps) h in
-    (good-steps p (and-true (ltb (stepCount p) 8192) (goodSteps p) (b .0) .1), good-paths ps (b .1))
+    let b = and-true (ltb (stepCount p) countBound && goodSteps p) (goodPaths ps) h in
+    (good-steps p (and-true (ltb (stepCount p) countBound) (goodSteps p) (b .0) .1), good-paths ps (b .1))
 
 pub good-proper : (q : Query) → good q ≡ true → Proper q
 unfolding good

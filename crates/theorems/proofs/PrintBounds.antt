@@ -6,7 +6,7 @@ use mathlib.Core.Bool.{Bool, true, false}
 use mathlib.Core.List.{List, [], _∷_}
 use mathlib.Core.Option.{some}
 use lib.ListN.{length, getD, length-append}
-use Rattle.paper.specs.Query.{Axis, self, child, parent, descendantOrSelf, ancestorOrSelf}
+use Rattle.paper.specs.Limits.{listLimit}
 use Rattle.paper.specs.Query.{Test, anyNode, textNode, named, anyElement}
 use Rattle.paper.specs.Query.{Expr, path, both, either, negated, Steps, stop, step, Preds, bare, pred, Query}
 use Rattle.paper.specs.Items.{stepAt}
@@ -16,6 +16,7 @@ use Rattle.paper.specs.Printing.{Piece, slashSign, colonsSign, barSign, openPre
 use Rattle.paper.specs.Printing.{axisText, testText, pieceText, grouped, exprPieces, relativePieces, laterPieces, predsPieces, pathPieces, pathsPieces, pieces, textOf, printed}
 use Rattle.paper.specs.Answers.{unknownItem, unknownFrom}
 use Rattle.paper.proofs.Tests.{none-some, some-inj}
+use Rattle.paper.proofs.Axes.{axis-short}
 use Rattle.theorems.proofs.Seeing.{chosen}
 
 -- Brackets are two pieces.
@@ -64,22 +65,15 @@ unfolding pieces size
 pieces-few q =
     omega (arith, relative-few (q .first), paths-few (q .others), length-append (pathPieces (q .first)) (pathsPieces (q .others)))
 
-axis-short : (a : Axis) → length (axisText a) ≤ 18
-axis-short self = omega arith
-axis-short child = omega arith
-axis-short parent = omega arith
-axis-short descendantOrSelf = omega arith
-axis-short ancestorOrSelf = omega arith
-
 -- The names have at most 8,192 bytes, which is what a list has.
-module _ (names : List (List ℕ)) (short : (v : ℕ) → length (getD names v []) ≤ 8192) where
-  test-short : (t : Test) → length (testText names t) ≤ 8192
+module _ (names : List (List ℕ)) (short : (v : ℕ) → length (getD names v []) ≤ listLimit) where
+  test-short : (t : Test) → length (testText names t) ≤ listLimit
   test-short anyNode = omega arith
   test-short textNode = omega arith
   test-short (named v) = short v
   test-short anyElement = omega arith
 
-  piece-short : (p : Piece) → length (pieceText names p) ≤ 8192
+  piece-short : (p : Piece) → length (pieceText names p) ≤ listLimit
   piece-short slashSign = omega arith
   piece-short colonsSign = omega arith
   piece-short barSign = omega arith
@@ -93,7 +87,7 @@ module _ (names : List (List ℕ)) (short : (v : ℕ) → length (getD names v [
   piece-short (axisWord a) = omega (arith, axis-short a)
   piece-short (testWord t) = test-short t
 
-  text-short : (ps : List Piece) → length (textOf names ps) ≤ 8192 * length ps
+  text-short : (ps : List Piece) → length (textOf names ps) ≤ listLimit * length ps
   text-short [] = omega arith
   text-short (p ∷ ps) = omega (arith, piece-short p, text-short ps, length-append (pieceText names p) (textOf names ps))
 

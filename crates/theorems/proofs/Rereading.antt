@@ -12,7 +12,7 @@ use Rattle.paper.specs.Tools.{ascii, same}
 use Rattle.paper.specs.Tokens.{Token, slash, slashes, openSquare, closeSquare, openRound, closeRound, finish, word, Placed}
 use Rattle.paper.specs.Reading.{Got, got, then, next, at, sees, says, axisNamed, startsStep}
 use Rattle.paper.specs.Reading.{readPreds, readTail, readTested, readStep, readSteps, readOperand, readTerm, readExpr, readPath, readPaths, readWithin}
-use Rattle.paper.specs.Query.{Axis, self, child, parent, descendantOrSelf, ancestorOrSelf, Test, anyNode, textNode, named, anyElement}
+use Rattle.paper.specs.Query.{Axis, Test, anyNode, textNode, named, anyElement}
 use Rattle.paper.specs.Query.{Expr, path, both, either, negated, Steps, stop, step, Preds, bare, pred}
 use Rattle.paper.specs.Items.{stepCount, predCount}
 use Rattle.paper.specs.Measures.{isAnd, isOr, inBrackets, nestExpr, nestSteps, nestPreds, nestPaths}
@@ -20,6 +20,7 @@ use Rattle.paper.specs.Printing.{Piece, closePred, openGroup, andWord, orWord, 
 use Rattle.paper.specs.Printing.{closeRound as closeSign}
 use Rattle.paper.specs.Printing.{axisText, grouped, exprPieces, relativePieces, laterPieces, predsPieces, pathPieces, pathsPieces}
 use Rattle.paper.proofs.Same.{same-refl}
+use Rattle.paper.proofs.Axes.{axis-named}
 use Rattle.theorems.specs.Grammar.{tok}
 use Rattle.theorems.proofs.Runs.{Run, spelling, andRun, orRun}
 use Rattle.theorems.proofs.Complete.{and-false}
@@ -115,13 +116,6 @@ termPieces e = grouped (isOr e) (exprPieces e)
 
 abbrev operandPieces : Expr → List Piece
 operandPieces e = grouped (isOr e || isAnd e) (exprPieces e)
-
-named-axis : (a : Axis) → axisNamed (axisText a) ≡ some a
-named-axis self = refl
-named-axis child = refl
-named-axis parent = refl
-named-axis descendantOrSelf = refl
-named-axis ancestorOrSelf = refl
 
 -- A left-grouped run of n operators: its first operand is read, and the others are joined to it.
 record RunRead (run : Run) (n : ℕ) (e : Expr) (ts rest : List Placed) : Type 0 where
@@ -380,7 +374,7 @@ module _ (P : ℕ → Type 0) (names : List (List ℕ)) (look : List ℕ → Opt
     unfolding readStep readTail
     step-read d k rp h c =
         rw (
-          named-axis a,
+          axis-named a,
           split,
           test-read a t (readWithin look d) (drop 1 (drop 1 places)) predicates k
               (preds-round (after (drop 1 (drop 1 places)) (testTokens names t)) ps follows (later-round (after (after (drop 1 (drop 1 places)) (testTokens names t)) (tokensOf names (predsPieces ps))) s rest c)),

@@ -17,7 +17,7 @@ use Rattle.paper.specs.Tokens.{Placed, finish, tokens}
 use Rattle.paper.specs.Reading.{got, readPaths, readWithin, readText}
 use Rattle.paper.specs.Query.{Test, anyNode, textNode, named, anyElement}
 use Rattle.paper.specs.Query.{Expr, path, both, either, negated, Steps, stop, step, Preds, bare, pred, Query, paths}
-use Rattle.paper.specs.Items.{stepAt, stepCount, predCount, encodeExpr, encodeSteps, encodePreds, encodePaths, encode, decode, goodTest, goodExpr, goodSteps, goodPreds, goodPaths, good}
+use Rattle.paper.specs.Items.{stepAt, stepCount, predCount, encodeExpr, encodeSteps, encodePreds, encodePaths, encode, decode, goodTest, goodExpr, goodSteps, goodPreds, goodPaths, good, countBound}
 use Rattle.paper.specs.Measures.{isAnd, isOr, nestPaths, nesting}
 use Rattle.paper.specs.Printing.{Piece, closePred, andWord, orWord}
 use Rattle.paper.specs.Printing.{closeRound as closeSign}
@@ -64,8 +64,8 @@ module _ (count : ℕ) where
   mutual
     expr-of : (e : Expr) → goodExpr e ≡ true → Known (encodeExpr e) → OfList Below e
     expr-of (path s) g k =
-        let h = and-true (leb 1 (stepCount s) && ltb (stepCount s) 8192) (goodSteps s) g in
-        (leb-true 1 (stepCount s) (and-true (leb 1 (stepCount s)) (ltb (stepCount s) 8192) (h .0) .0), steps-of s (h .1) (k .1))
+        let h = and-true (leb 1 (stepCount s) && ltb (stepCount s) countBound) (goodSteps s) g in
+        (leb-true 1 (stepCount s) (and-true (leb 1 (stepCount s)) (ltb (stepCount s) countBound) (h .0) .0), steps-of s (h .1) (k .1))
     expr-of (both a b) g k =
         let h = and-true (goodExpr a) (goodExpr b) g in
         let l = known-both (encodeExpr a) (encodeExpr b) (k .1) in
@@ -79,11 +79,11 @@ module _ (count : ℕ) where
     steps-of : (s : Steps) → goodSteps s ≡ true → Known (encodeSteps s) → StepsOf Below s
     steps-of stop g k = tt
     steps-of (step a t ps rest) g k =
-        let h = and-true (goodTest t && ltb (predCount ps) 8192 && goodPreds ps) (goodSteps rest) g in
-        let i = and-true (goodTest t && ltb (predCount ps) 8192) (goodPreds ps) (h .0) in
-        let j = and-true (goodTest t) (ltb (predCount ps) 8192) (i .0) in
+        let h = and-true (goodTest t && ltb (predCount ps) countBound && goodPreds ps) (goodSteps rest) g in
+        let i = and-true (goodTest t && ltb (predCount ps) countBound) (goodPreds ps) (h .0) in
+        let j = and-true (goodTest t) (ltb (predCount ps) countBound) (i .0) in
         let l = known-both (encodePreds ps) (encodeSteps rest) (k .1) in (
-          test-of t (sym (ap (unknownItem count) (step-at a t (predCount ps) (j .0) (ltb-true (predCount ps) 8192 (j .1)))) ∙ k .0),
+          test-of t (sym (ap (unknownItem count) (step-at a t (predCount ps) (j .0) (ltb-true (predCount ps) countBound (j .1)))) ∙ k .0),
           preds-of ps (i .1) (l .0),
           steps-of rest (h .1) (l .1),
         )
@@ -166,9 +166,9 @@ module _ (P : ℕ → Type 0) where
 paths-of : (count : ℕ) (ps : List Steps) → goodPaths ps ≡ true → Known count (encodePaths ps) → AllOf (Below count) ps
 paths-of count [] g k = tt
 paths-of count (p ∷ ps) g k =
-    let h = and-true (ltb (stepCount p) 8192 && goodSteps p) (goodPaths ps) g in
+    let h = and-true (ltb (stepCount p) countBound && goodSteps p) (goodPaths ps) g in
     let l = known-both count (encodeExpr (path p)) (encodePaths ps) k in
-    (steps-of count p (and-true (ltb (stepCount p) 8192) (goodSteps p) (h .0) .1) (l .0 .1), paths-of count ps (h .1) (l .1))
+    (steps-of count p (and-true (ltb (stepCount p) countBound) (goodSteps p) (h .0) .1) (l .0 .1), paths-of count ps (h .1) (l .1))
 
 -- NAMES: in a list with no fault each line is a name, and no line repeats an earlier one.
 -- A line that is not bad.

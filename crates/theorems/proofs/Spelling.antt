@@ -14,12 +14,13 @@ use Rattle.paper.specs.Tools.{ascii, begins}
 use Rattle.paper.specs.Names.{letter, nameStart, namePart, nameParts, isName}
 use Rattle.paper.specs.Tokens.{Token, slash, colons, bar, openSquare, closeSquare, openRound, closeRound, star, finish, word}
 use Rattle.paper.specs.Tokens.{white, run, tokenAt, Placed, tokensFrom}
-use Rattle.paper.specs.Query.{Axis, self, child, parent, descendantOrSelf, ancestorOrSelf, Test, anyNode, textNode, named, anyElement}
+use Rattle.paper.specs.Query.{Test, anyNode, textNode, named, anyElement}
 use Rattle.paper.specs.Printing.{Piece, slashSign, colonsSign, barSign, openPred, closePred, openGroup, openNot, andWord, orWord, axisWord, testWord}
 use Rattle.paper.specs.Printing.{closeRound as closeSign}
 use Rattle.paper.specs.Printing.{axisText, testText, textOf}
 use Rattle.paper.proofs.Tests.{and-true, or-true}
 use Rattle.paper.proofs.Lexing.{passed}
+use Rattle.paper.proofs.Axes.{axis-name}
 
 -- The tokens of a test and of a piece.
 abbrev pub testTokens : List (List ℕ) → Test → List Token
@@ -155,14 +156,6 @@ name-token (b ∷ bs) tail at h s =
     passed (length bs) (suc at) (bs ++ tail) long ∙ ap (λ (x : List ℕ). tokensFrom 0 (suc at + length bs) x) (drop-append-seam bs tail) ∙ ap (λ (k : ℕ). tokensFrom 0 k tail) e in
     rw (not-white b p, p, run-name bs tail q s, take-append-seam bs tail) (ap (λ (x : List Placed). record { place = at; token = word (b ∷ bs) } ∷ x) later)
 
--- The names of axes are names.
-axis-name : (a : Axis) → isName (axisText a) ≡ true
-axis-name self = refl
-axis-name child = refl
-axis-name parent = refl
-axis-name descendantOrSelf = refl
-axis-name ancestorOrSelf = refl
-
 -- After a word comes a byte that no name goes on with; after a `/` comes no `/`.
 soft-halts : (names : List (List ℕ)) (ps : List Piece) → Soft ps → Halts (textOf names ps)
 soft-halts names [] s = tt
@@ -178,13 +171,6 @@ soft-halts names (andWord ∷ ps) s = refl
 soft-halts names (orWord ∷ ps) s = refl
 soft-halts names (axisWord a ∷ ps) s = absurd (false≢true (sym s))
 soft-halts names (testWord t ∷ ps) s = absurd (false≢true (sym s))
-
-axis-apart : (a : Axis) (tail : List ℕ) → begins 47 (axisText a ++ tail) ≡ false
-axis-apart self tail = refl
-axis-apart child tail = refl
-axis-apart parent tail = refl
-axis-apart descendantOrSelf tail = refl
-axis-apart ancestorOrSelf tail = refl
 
 -- The first byte of a name is no `/`.
 name-apart : (w tail : List ℕ) → isName w ≡ true → begins 47 (w ++ tail) ≡ false
@@ -222,7 +208,7 @@ module _ (P : ℕ → Type 0) (names : List (List ℕ)) (spells : (v : ℕ) → 
   no-slash (closeSign ∷ ps) f s = refl
   no-slash (andWord ∷ ps) f s = refl
   no-slash (orWord ∷ ps) f s = refl
-  no-slash (axisWord a ∷ ps) f s = axis-apart a (textOf names ps)
+  no-slash (axisWord a ∷ ps) f s = name-apart (axisText a) (textOf names ps) (axis-name a)
   no-slash (testWord t ∷ ps) f s = test-apart t (textOf names ps) (f .0 .1)
 
   -- THE TOKENS OF A PRINTED TEXT are those of its pieces.

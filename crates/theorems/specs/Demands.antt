@@ -1,4 +1,4 @@
--- What composition owes, in full, for every document and every pair of queries. The proofs are in proofs/, one file a concept.
+-- docs/SCOPE.md, demand 3: what composition owes, in full, for every document and every pair of queries. The proofs are in proofs/, one file a concept.
 use Prim.Native.Nat.{ℕ, _+_, _≤_, _<_, max}
 use mathlib.Core.Path.{_≡_}
 use mathlib.Core.Bool.{Bool, true, false, _&&_}

@@ -1,4 +1,4 @@
--- The grammar of queries over tokens, as 01 and XPath 1.0 have it, and what reading owes to it; the proofs are in proofs/. A token stands with its place, which plays no part (`PlacesApart`).
+-- docs/SCOPE.md, "The part of XPath" and demand 2: the grammar of queries over tokens, as 01 and XPath 1.0 have it, and what reading owes to it; the proofs are in proofs/. A token stands with its place, which plays no part (`PlacesApart`).
 -- Each relation `XIn ts x rest` says: the tokens ts are those of x, then rest. No relation looks ahead.
 use Prim.Native.Nat.{ℕ, zero, suc, _+_, _<_}
 use mathlib.Core.Path.{_≡_}
@@ -123,7 +123,7 @@ reading look d ts = readPaths look (readWithin look d) (length ts) ts
 abbrev pub Accepted : Type 0
 Accepted = (look : List ℕ → Option ℕ) (d : ℕ) (ts : List Placed) (q : Query) → ended ts ≡ true → (reading look d ts ≡ got q []) ↔ Derives look d ts q
 
--- a text is read as a query exactly if it is derived from the text's tokens, with at most 64 brackets open at once;
+-- a text is read as a query exactly if it is derived from the text's tokens, with at most as many brackets open at once as the limit allows;
 abbrev pub AcceptedText : Type 0
 AcceptedText = (look : List ℕ → Option ℕ) (text : List ℕ) (q : Query) → (readText look text ≡ got q []) ↔ Derives look bracketLimit (tokens text) q
 

@@ -1,4 +1,4 @@
--- Reading what was printed gives the very same items.
+-- docs/SCOPE.md, demand 2: reading what was printed gives the very same items.
 use Prim.Native.Nat.{ℕ, _≤_}
 use mathlib.Core.Path.{_≡_}
 use mathlib.Core.List.{List}

@@ -1,1 +1,2 @@
+-- One answer of `take`: `take-unique`.
 pub mod Unique

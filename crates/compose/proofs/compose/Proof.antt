@@ -1,30 +1,90 @@
 -- `compose::compose` meets its contract: each return is the first line of the table that holds. Assumes nothing.
-use Prim.Native.Nat.{_+_}
+use Prim.Native.Nat.{ℕ, _+_, _≤_}
 use native.Mathlib.Omega.{arith}
 use mathlib.Core.Path.{refl}
+use mathlib.Core.List.{List}
 use denote.Ref.{now}
 use lib.ListN.{length}
-use Rattle.compose.proofs.Answering.{shape-none, shape-some, is-query, refused, accepted}
-use Rattle.compose.proofs.Answering.{line-1-outer, line-1-inner, line-6-outer, line-6-inner, line-9, line-10-room, line-10-size, line-value, number-is}
+use Rattle.paper.specs.Limits.{itemLimit}
+use Rattle.compose.proofs.Answering.{shape-none, Shaped, shape-some, is-query, refused, accepted}
+use Rattle.compose.proofs.Answering.{line-1-outer, line-1-inner, line-6-outer, line-6-inner, line-9, Ending, ending}
 use borrow.Author.Needs.{needs}
 use Rattle.compose.proofs.compose.Statement.{statement}
 use Rattle.compose.proofs.compose.Tie as tie
 
+-- What is lent.
+abbrev outer : tie.Start → List ℕ
+outer start = now (start .args .outer)
+
+abbrev inner : tie.Start → List ℕ
+inner start = now (start .args .inner)
+
+abbrev old : tie.Start → List ℕ
+old start = now (start .args .out)
+
+-- Past line 1 both queries are short enough.
+abbrev begun : tie.Else2 → tie.Start
+begun c = c .before .before .before .before .before
+
+outer-few : (c : tie.Else2) → length (outer (begun c)) ≤ itemLimit
+outer-few c = omega (arith, c .before .if1 .left)
+
+inner-few : (c : tie.Else2) → length (inner (begun c)) ≤ itemLimit
+inner-few c = omega (arith, c .if2 .left)
+
+-- Halfway through line 6 the outer items are a query.
+abbrev outer-read : tie.After-outer-shape → tie.Else2
+outer-read c = c .before .before .before
+
+abbrev outer-nesting : tie.After-outer-shape → ℕ
+outer-nesting c = c .outer-shape .given .0 .0
+
+outer-shaped : (c : tie.After-outer-shape) → Shaped (outer (begun (outer-read c))) (outer-nesting c)
+outer-shaped c = shape-some _ (c .before .before .measure .result) (outer-nesting c) _ (c .before .before .measure .ensures) (c .outer-shape .given .1)
+
+-- Past line 6 the inner items are one too.
+abbrev inner-read : tie.After-inner-shape → tie.After-outer-shape
+inner-read c = c .before .before .before .before
+
+abbrev past-1 : tie.After-inner-shape → tie.Else2
+past-1 c = outer-read (inner-read c)
+
+abbrev inner-nesting : tie.After-inner-shape → ℕ
+inner-nesting c = c .inner-shape .given .0 .0
+
+inner-shaped : (c : tie.After-inner-shape) → Shaped (inner (begun (past-1 c))) (inner-nesting c)
+inner-shaped c = shape-some _ (c .before .before .measure2 .result) (inner-nesting c) _ (c .before .before .measure2 .ensures) (c .inner-shape .given .1)
+
+-- With the brackets counted line 9 is judged.
+abbrev past-6 : tie.After-larger → tie.After-inner-shape
+past-6 c = c .before .before
+
+abbrev deep : tie.After-larger → ℕ
+deep c = outer-nesting (inner-read (past-6 c)) + 2 + c .larger .result
+
+-- With the items counted only line 10 is left.
+abbrev past-9 : tie.After-composed-size → tie.Else3
+past-9 c = c .before .before .before
+
+abbrev start-of : tie.After-composed-size → tie.Start
+start-of c = begun (past-1 (past-6 (past-9 c .before)))
+
+left : (c : tie.After-composed-size) → Ending (outer (start-of c)) (inner (start-of c)) (length (old (start-of c))) (c .composed-size .result)
+left c =
+    let nested = past-9 c .before in
+    let both = past-6 nested in
+    ending _ _ _ (outer-few (past-1 both)) (inner-few (past-1 both)) _ _ (outer-shaped (inner-read both)) (inner-shaped both) (nested .larger .result) (deep nested) (nested .larger .ensures) refl
+    (omega (arith, past-9 c .if3 .left)) (c .before .selected-size .result) (c .composed-size .result) (c .before .selected-size .ensures .0) (c .composed-size .ensures)
+
 returns : tie.Need-returns
 returns c =
-    let outer = now (c .before .before .before .before .args .outer) in
-    let inner = now (c .before .before .before .before .args .inner) in
-    let old = now (c .before .before .before .before .args .out) in
-    let room = length old in
-    refused outer inner old 1 0 (line-1-outer outer inner room (c .if1 .taken))
+    let start = c .before .before .before .before in
+    refused (outer start) (inner start) (old start) 1 0 (line-1-outer _ _ _ (c .if1 .taken))
 
 returns-2 : tie.Need-returns-2
 returns-2 c =
-    let outer = now (c .before .before .before .before .before .args .outer) in
-    let inner = now (c .before .before .before .before .before .args .inner) in
-    let old = now (c .before .before .before .before .before .args .out) in
-    let room = length old in
-    refused outer inner old 1 0 (line-1-inner outer inner room (c .before .if1 .left) (c .if2 .taken))
+    let start = c .before .before .before .before .before in
+    refused (outer start) (inner start) (old start) 1 0 (line-1-inner _ _ _ (c .before .if1 .left) (c .if2 .taken))
 
 measure-requires : tie.Need-measure-requires
 measure-requires c κs = search needs
@@ -37,13 +97,10 @@ enum-told c = search needs
 
 returns-3 : tie.Need-returns-3
 returns-3 c =
-    let outer = now (c .before .before .before .before .before .before .before .before .args .outer) in
-    let inner = now (c .before .before .before .before .before .before .before .before .args .inner) in
-    let old = now (c .before .before .before .before .before .before .before .before .args .out) in
-    let room = length old in
-    let a = c .before .before .before .before .if1 .left in
-    let b = c .before .before .before .if2 .left in
-    refused outer inner old 6 0 (line-6-outer outer inner room a b (shape-none outer (c .before .before .measure .result) (c .before .before .measure .ensures) (c .enum-told .given .1)))
+    let measured = c .before .before in
+    let one = measured .before in
+    let start = begun one in
+    refused (outer start) (inner start) (old start) 6 0 (line-6-outer _ _ _ (outer-few one) (inner-few one) (shape-none _ (measured .measure .result) (measured .measure .ensures) (c .enum-told .given .1)))
 
 measure-requires-2 : tie.Need-measure-requires-2
 measure-requires-2 c κs = search needs
@@ -56,135 +113,80 @@ enum-told-2 c = search needs
 
 returns-4 : tie.Need-returns-4
 returns-4 c =
-    let outer = now (c .before .before .before .before .before .before .before .before .before .before .before .before .args .outer) in
-    let inner = now (c .before .before .before .before .before .before .before .before .before .before .before .before .args .inner) in
-    let old = now (c .before .before .before .before .before .before .before .before .before .before .before .before .args .out) in
-    let room = length old in
-    let a = c .before .before .before .before .before .before .before .before .if1 .left in
-    let b = c .before .before .before .before .before .before .before .if2 .left in
-    let o = shape-some outer (c .before .before .before .before .before .before .measure .result) (c .before .before .before .before .outer-shape .given .0 .0) (c .before .before .before .before .outer-shape .given .0 .1 .0) (c .before .before .before .before .before .before .measure .ensures) (c .before .before .before .before .outer-shape .given .1) in
-    refused outer inner old 6 1 (line-6-inner outer inner room a b (c .before .before .before .before .outer-shape .given .0 .0) o (shape-none inner (c .before .before .measure2 .result) (c .before .before .measure2 .ensures) (c .enum-told2 .given .1)))
+    let measured = c .before .before in
+    let half = measured .before .before in
+    let one = outer-read half in
+    let start = begun one in
+    refused (outer start) (inner start) (old start) 6 1
+    (line-6-inner _ _ _ (outer-few one) (inner-few one) _ (outer-shaped half) (shape-none _ (measured .measure2 .result) (measured .measure2 .ensures) (c .enum-told2 .given .1)))
 
 add-nesting : tie.Need-add-nesting
-add-nesting c =
-    let outer = now (c .before .before .before .before .before .before .before .before .before .before .before .before .before .args .outer) in
-    let inner = now (c .before .before .before .before .before .before .before .before .before .before .before .before .before .args .inner) in
-    let old = now (c .before .before .before .before .before .before .before .before .before .before .before .before .before .args .out) in
-    let room = length old in
-    let o = shape-some outer (c .before .before .before .before .before .before .before .measure .result) (c .before .before .before .before .before .outer-shape .given .0 .0) (c .before .before .before .before .before .outer-shape .given .0 .1 .0) (c .before .before .before .before .before .before .before .measure .ensures) (c .before .before .before .before .before .outer-shape .given .1) in
-    omega (arith, o .shallow)
+add-nesting c = omega (arith, outer-shaped (inner-read (c .before)) .shallow)
 
 larger-requires : tie.Need-larger-requires
 larger-requires c κs = search needs
 
 add-nesting-2 : tie.Need-add-nesting-2
-add-nesting-2 c =
-    let outer = now (c .before .before .before .before .before .before .before .before .before .before .before .before .before .before .args .outer) in
-    let inner = now (c .before .before .before .before .before .before .before .before .before .before .before .before .before .before .args .inner) in
-    let old = now (c .before .before .before .before .before .before .before .before .before .before .before .before .before .before .args .out) in
-    let room = length old in
-    let o = shape-some outer (c .before .before .before .before .before .before .before .before .measure .result) (c .before .before .before .before .before .before .outer-shape .given .0 .0) (c .before .before .before .before .before .before .outer-shape .given .0 .1 .0) (c .before .before .before .before .before .before .before .before .measure .ensures) (c .before .before .before .before .before .before .outer-shape .given .1) in
-    let i = shape-some inner (c .before .before .before .before .measure2 .result) (c .before .before .inner-shape .given .0 .0) (c .before .before .inner-shape .given .0 .1 .0) (c .before .before .before .before .measure2 .ensures) (c .before .before .inner-shape .given .1) in
-    omega (arith, o .shallow, i .shallow, c .larger .ensures)
+add-nesting-2 c = omega (arith, outer-shaped (inner-read (past-6 c)) .shallow, inner-shaped (past-6 c) .shallow, c .larger .ensures)
 
 returns-5 : tie.Need-returns-5
 returns-5 c =
-    let outer = now (c .before .before .before .before .before .before .before .before .before .before .before .before .before .before .before .args .outer) in
-    let inner = now (c .before .before .before .before .before .before .before .before .before .before .before .before .before .before .before .args .inner) in
-    let old = now (c .before .before .before .before .before .before .before .before .before .before .before .before .before .before .before .args .out) in
-    let room = length old in
-    let a = c .before .before .before .before .before .before .before .before .before .before .before .if1 .left in
-    let b = c .before .before .before .before .before .before .before .before .before .before .if2 .left in
-    let o = shape-some outer (c .before .before .before .before .before .before .before .before .before .measure .result) (c .before .before .before .before .before .before .before .outer-shape .given .0 .0) (c .before .before .before .before .before .before .before .outer-shape .given .0 .1 .0) (c .before .before .before .before .before .before .before .before .before .measure .ensures) (c .before .before .before .before .before .before .before .outer-shape .given .1) in
-    let i = shape-some inner (c .before .before .before .before .before .measure2 .result) (c .before .before .before .inner-shape .given .0 .0) (c .before .before .before .inner-shape .given .0 .1 .0) (c .before .before .before .before .before .measure2 .ensures) (c .before .before .before .inner-shape .given .1) in
-    refused outer inner old 9 _ (line-9 outer inner room a b (c .before .before .before .before .before .before .before .outer-shape .given .0 .0) (c .before .before .before .inner-shape .given .0 .0) o i (c .before .larger .result) (c .before .before .before .before .before .before .before .outer-shape .given .0 .0 + 2 + c .before .larger .result) (c .before .larger .ensures) refl (c .if3 .taken))
+    let nested = c .before in
+    let both = past-6 nested in
+    let one = past-1 both in
+    let start = begun one in
+    refused (outer start) (inner start) (old start) 9 _
+    (line-9 _ _ _ (outer-few one) (inner-few one) _ _ (outer-shaped (inner-read both)) (inner-shaped both) (nested .larger .result) (deep nested) (nested .larger .ensures) refl (c .if3 .taken))
 
 count-paths-requires : tie.Need-count-paths-requires
 count-paths-requires c κs =
-    let outer = now (c .before .before .before .before .before .before .before .before .before .before .before .before .before .before .before .args .outer) in
-    let inner = now (c .before .before .before .before .before .before .before .before .before .before .before .before .before .before .before .args .inner) in
-    let old = now (c .before .before .before .before .before .before .before .before .before .before .before .before .before .before .before .args .out) in
-    let room = length old in
-    let a = c .before .before .before .before .before .before .before .before .before .before .before .if1 .left in
-    let b = c .before .before .before .before .before .before .before .before .before .before .if2 .left in
-    let o = shape-some outer (c .before .before .before .before .before .before .before .before .before .measure .result) (c .before .before .before .before .before .before .before .outer-shape .given .0 .0) (c .before .before .before .before .before .before .before .outer-shape .given .0 .1 .0) (c .before .before .before .before .before .before .before .before .before .measure .ensures) (c .before .before .before .before .before .before .before .outer-shape .given .1) in
-    let i = shape-some inner (c .before .before .before .before .before .measure2 .result) (c .before .before .before .inner-shape .given .0 .0) (c .before .before .before .inner-shape .given .0 .1 .0) (c .before .before .before .before .before .measure2 .ensures) (c .before .before .before .inner-shape .given .1) in
-    (is-query inner _ i, b)
+    let both = past-6 (c .before) in
+    (is-query _ _ (inner-shaped both), inner-few (past-1 both))
 
 selected-size-requires : tie.Need-selected-size-requires
 selected-size-requires c κs =
-    let outer = now (c .before .before .before .before .before .before .before .before .before .before .before .before .before .before .before .before .args .outer) in
-    let inner = now (c .before .before .before .before .before .before .before .before .before .before .before .before .before .before .before .before .args .inner) in
-    let old = now (c .before .before .before .before .before .before .before .before .before .before .before .before .before .before .before .before .args .out) in
-    let room = length old in
-    let a = c .before .before .before .before .before .before .before .before .before .before .before .before .if1 .left in
-    let b = c .before .before .before .before .before .before .before .before .before .before .before .if2 .left in
-    let o = shape-some outer (c .before .before .before .before .before .before .before .before .before .before .measure .result) (c .before .before .before .before .before .before .before .before .outer-shape .given .0 .0) (c .before .before .before .before .before .before .before .before .outer-shape .given .0 .1 .0) (c .before .before .before .before .before .before .before .before .before .before .measure .ensures) (c .before .before .before .before .before .before .before .before .outer-shape .given .1) in
-    let i = shape-some inner (c .before .before .before .before .before .before .measure2 .result) (c .before .before .before .before .inner-shape .given .0 .0) (c .before .before .before .before .inner-shape .given .0 .1 .0) (c .before .before .before .before .before .before .measure2 .ensures) (c .before .before .before .before .inner-shape .given .1) in
-    (is-query inner _ i, b, c .count-paths .ensures)
+    let both = past-6 (c .before .before) in
+    (is-query _ _ (inner-shaped both), inner-few (past-1 both), c .count-paths .ensures)
 
 composed-size-requires : tie.Need-composed-size-requires
 composed-size-requires c κs =
-    let outer = now (c .before .before .before .before .before .before .before .before .before .before .before .before .before .before .before .before .before .args .outer) in
-    let inner = now (c .before .before .before .before .before .before .before .before .before .before .before .before .before .before .before .before .before .args .inner) in
-    let old = now (c .before .before .before .before .before .before .before .before .before .before .before .before .before .before .before .before .before .args .out) in
-    let room = length old in
-    let a = c .before .before .before .before .before .before .before .before .before .before .before .before .before .if1 .left in
-    let b = c .before .before .before .before .before .before .before .before .before .before .before .before .if2 .left in
-    let o = shape-some outer (c .before .before .before .before .before .before .before .before .before .before .before .measure .result) (c .before .before .before .before .before .before .before .before .before .outer-shape .given .0 .0) (c .before .before .before .before .before .before .before .before .before .outer-shape .given .0 .1 .0) (c .before .before .before .before .before .before .before .before .before .before .before .measure .ensures) (c .before .before .before .before .before .before .before .before .before .outer-shape .given .1) in
-    let i = shape-some inner (c .before .before .before .before .before .before .before .measure2 .result) (c .before .before .before .before .before .inner-shape .given .0 .0) (c .before .before .before .before .before .inner-shape .given .0 .1 .0) (c .before .before .before .before .before .before .before .measure2 .ensures) (c .before .before .before .before .before .inner-shape .given .1) in
-    (is-query outer _ o, a, c .selected-size .ensures .1)
+    let both = past-6 (c .before .before .before) in
+    (is-query _ _ (outer-shaped (inner-read both)), outer-few (past-1 both), c .selected-size .ensures .1)
 
 returns-6 : tie.Need-returns-6
 returns-6 c =
-    let outer = now (c .before .before .before .before .before .before .before .before .before .before .before .before .before .before .before .before .before .before .before .args .outer) in
-    let inner = now (c .before .before .before .before .before .before .before .before .before .before .before .before .before .before .before .before .before .before .before .args .inner) in
-    let old = now (c .before .before .before .before .before .before .before .before .before .before .before .before .before .before .before .before .before .before .before .args .out) in
-    let room = length old in
-    let a = c .before .before .before .before .before .before .before .before .before .before .before .before .before .before .before .if1 .left in
-    let b = c .before .before .before .before .before .before .before .before .before .before .before .before .before .before .if2 .left in
-    let o = shape-some outer (c .before .before .before .before .before .before .before .before .before .before .before .before .before .measure .result) (c .before .before .before .before .before .before .before .before .before .before .before .outer-shape .given .0 .0) (c .before .before .before .before .before .before .before .before .before .before .before .outer-shape .given .0 .1 .0) (c .before .before .before .before .before .before .before .before .before .before .before .before .before .measure .ensures) (c .before .before .before .before .before .before .before .before .before .before .before .outer-shape .given .1) in
-    let i = shape-some inner (c .before .before .before .before .before .before .before .before .before .measure2 .result) (c .before .before .before .before .before .before .before .inner-shape .given .0 .0) (c .before .before .before .before .before .before .before .inner-shape .given .0 .1 .0) (c .before .before .before .before .before .before .before .before .before .measure2 .ensures) (c .before .before .before .before .before .before .before .inner-shape .given .1) in
-    refused outer inner old 10 _ (line-10-room outer inner room a b (c .before .before .before .before .before .before .before .before .before .before .before .outer-shape .given .0 .0) (c .before .before .before .before .before .before .before .inner-shape .given .0 .0) o i (c .before .before .before .before .before .larger .result) (c .before .before .before .before .before .before .before .before .before .before .before .outer-shape .given .0 .0 + 2 + c .before .before .before .before .before .larger .result) (c .before .before .before .before .before .larger .ensures) refl (c .before .before .before .before .if3 .left) (c .before .before .selected-size .result) (c .before .composed-size .result) (c .before .before .selected-size .ensures .0) (c .before .composed-size .ensures) (c .if4 .taken))
+    let start = start-of (c .before) in
+    refused (outer start) (inner start) (old start) 10 _ (left (c .before) .lacks-room (c .if4 .taken))
 
 returns-7 : tie.Need-returns-7
 returns-7 c =
-    let outer = now (c .before .before .before .before .before .before .before .before .before .before .before .before .before .before .before .before .before .before .before .before .args .outer) in
-    let inner = now (c .before .before .before .before .before .before .before .before .before .before .before .before .before .before .before .before .before .before .before .before .args .inner) in
-    let old = now (c .before .before .before .before .before .before .before .before .before .before .before .before .before .before .before .before .before .before .before .before .args .out) in
-    let room = length old in
-    let a = c .before .before .before .before .before .before .before .before .before .before .before .before .before .before .before .before .if1 .left in
-    let b = c .before .before .before .before .before .before .before .before .before .before .before .before .before .before .before .if2 .left in
-    let o = shape-some outer (c .before .before .before .before .before .before .before .before .before .before .before .before .before .before .measure .result) (c .before .before .before .before .before .before .before .before .before .before .before .before .outer-shape .given .0 .0) (c .before .before .before .before .before .before .before .before .before .before .before .before .outer-shape .given .0 .1 .0) (c .before .before .before .before .before .before .before .before .before .before .before .before .before .before .measure .ensures) (c .before .before .before .before .before .before .before .before .before .before .before .before .outer-shape .given .1) in
-    let i = shape-some inner (c .before .before .before .before .before .before .before .before .before .before .measure2 .result) (c .before .before .before .before .before .before .before .before .inner-shape .given .0 .0) (c .before .before .before .before .before .before .before .before .inner-shape .given .0 .1 .0) (c .before .before .before .before .before .before .before .before .before .before .measure2 .ensures) (c .before .before .before .before .before .before .before .before .inner-shape .given .1) in
-    refused outer inner old 10 _ (line-10-size outer inner room a b (c .before .before .before .before .before .before .before .before .before .before .before .before .outer-shape .given .0 .0) (c .before .before .before .before .before .before .before .before .inner-shape .given .0 .0) o i (c .before .before .before .before .before .before .larger .result) (c .before .before .before .before .before .before .before .before .before .before .before .before .outer-shape .given .0 .0 + 2 + c .before .before .before .before .before .before .larger .result) (c .before .before .before .before .before .before .larger .ensures) refl (c .before .before .before .before .before .if3 .left) (c .before .before .before .selected-size .result) (c .before .before .composed-size .result) (c .before .before .before .selected-size .ensures .0) (c .before .before .composed-size .ensures) (c .before .if4 .left) (c .if5 .taken))
+    let start = start-of (c .before .before) in
+    refused (outer start) (inner start) (old start) 10 _ (left (c .before .before) .over-long (c .before .if4 .left) (c .if5 .taken))
 
 put-composed-requires : tie.Need-put-composed-requires
 put-composed-requires c κs =
-    let outer = now (c .before .before .before .before .before .before .before .before .before .before .before .before .before .before .before .before .before .before .before .before .before .args .outer) in
-    let inner = now (c .before .before .before .before .before .before .before .before .before .before .before .before .before .before .before .before .before .before .before .before .before .args .inner) in
-    let old = now (c .before .before .before .before .before .before .before .before .before .before .before .before .before .before .before .before .before .before .before .before .before .args .out) in
-    let room = length old in
-    let a = c .before .before .before .before .before .before .before .before .before .before .before .before .before .before .before .before .before .if1 .left in
-    let b = c .before .before .before .before .before .before .before .before .before .before .before .before .before .before .before .before .if2 .left in
-    let o = shape-some outer (c .before .before .before .before .before .before .before .before .before .before .before .before .before .before .before .measure .result) (c .before .before .before .before .before .before .before .before .before .before .before .before .before .outer-shape .given .0 .0) (c .before .before .before .before .before .before .before .before .before .before .before .before .before .outer-shape .given .0 .1 .0) (c .before .before .before .before .before .before .before .before .before .before .before .before .before .before .before .measure .ensures) (c .before .before .before .before .before .before .before .before .before .before .before .before .before .outer-shape .given .1) in
-    let i = shape-some inner (c .before .before .before .before .before .before .before .before .before .before .before .measure2 .result) (c .before .before .before .before .before .before .before .before .before .inner-shape .given .0 .0) (c .before .before .before .before .before .before .before .before .before .inner-shape .given .0 .1 .0) (c .before .before .before .before .before .before .before .before .before .before .before .measure2 .ensures) (c .before .before .before .before .before .before .before .before .before .inner-shape .given .1) in
-    (is-query outer _ o, a, is-query inner _ i, b, c .before .before .before .before .before .count-paths .ensures, c .before .before .before .before .selected-size .ensures .0, number-is outer inner room a b (c .before .before .before .before .before .before .before .before .before .before .before .before .before .outer-shape .given .0 .0) (c .before .before .before .before .before .before .before .before .before .inner-shape .given .0 .0) o i (c .before .before .before .before .before .before .before .larger .result) (c .before .before .before .before .before .before .before .before .before .before .before .before .before .outer-shape .given .0 .0 + 2 + c .before .before .before .before .before .before .before .larger .result) (c .before .before .before .before .before .before .before .larger .ensures) refl (c .before .before .before .before .before .before .if3 .left) (c .before .before .before .before .selected-size .result) (c .before .before .before .composed-size .result) (c .before .before .before .before .selected-size .ensures .0) (c .before .before .before .composed-size .ensures), c .before .before .if4 .left)
+    let sized = c .before .before .before in
+    let both = past-6 (past-9 sized .before) in (
+      is-query _ _ (outer-shaped (inner-read both)),
+      outer-few (past-1 both),
+      is-query _ _ (inner-shaped both),
+      inner-few (past-1 both),
+      sized .before .before .count-paths .ensures,
+      sized .before .selected-size .ensures .0,
+      left sized .counts,
+      c .before .before .if4 .left,
+    )
 
 same-length : tie.Need-same-length
 same-length c = search needs
 
 returns-8 : tie.Need-returns-8
 returns-8 c =
-    let outer = now (c .before .before .before .before .before .before .before .before .before .before .before .before .before .before .before .before .before .before .before .before .before .before .before .before .args .outer) in
-    let inner = now (c .before .before .before .before .before .before .before .before .before .before .before .before .before .before .before .before .before .before .before .before .before .before .before .before .args .inner) in
-    let old = now (c .before .before .before .before .before .before .before .before .before .before .before .before .before .before .before .before .before .before .before .before .before .before .before .before .args .out) in
-    let room = length old in
-    let a = c .before .before .before .before .before .before .before .before .before .before .before .before .before .before .before .before .before .before .before .before .if1 .left in
-    let b = c .before .before .before .before .before .before .before .before .before .before .before .before .before .before .before .before .before .before .before .if2 .left in
-    let o = shape-some outer (c .before .before .before .before .before .before .before .before .before .before .before .before .before .before .before .before .before .before .measure .result) (c .before .before .before .before .before .before .before .before .before .before .before .before .before .before .before .before .outer-shape .given .0 .0) (c .before .before .before .before .before .before .before .before .before .before .before .before .before .before .before .before .outer-shape .given .0 .1 .0) (c .before .before .before .before .before .before .before .before .before .before .before .before .before .before .before .before .before .before .measure .ensures) (c .before .before .before .before .before .before .before .before .before .before .before .before .before .before .before .before .outer-shape .given .1) in
-    let i = shape-some inner (c .before .before .before .before .before .before .before .before .before .before .before .before .before .before .measure2 .result) (c .before .before .before .before .before .before .before .before .before .before .before .before .inner-shape .given .0 .0) (c .before .before .before .before .before .before .before .before .before .before .before .before .inner-shape .given .0 .1 .0) (c .before .before .before .before .before .before .before .before .before .before .before .before .before .before .measure2 .ensures) (c .before .before .before .before .before .before .before .before .before .before .before .before .inner-shape .given .1) in
-    accepted outer inner old (c .before .before .put-composed .last .1 .1 .1 .0) (c .before .before .before .before .before .before .composed-size .result) (line-value outer inner room a b (c .before .before .before .before .before .before .before .before .before .before .before .before .before .before .before .before .outer-shape .given .0 .0) (c .before .before .before .before .before .before .before .before .before .before .before .before .inner-shape .given .0 .0) o i (c .before .before .before .before .before .before .before .before .before .before .larger .result) (c .before .before .before .before .before .before .before .before .before .before .before .before .before .before .before .before .outer-shape .given .0 .0 + 2 + c .before .before .before .before .before .before .before .before .before .before .larger .result) (c .before .before .before .before .before .before .before .before .before .before .larger .ensures) refl (c .before .before .before .before .before .before .before .before .before .if3 .left) (c .before .before .before .before .before .before .before .selected-size .result) (c .before .before .before .before .before .before .composed-size .result) (c .before .before .before .before .before .before .before .selected-size .ensures .0) (c .before .before .before .before .before .before .composed-size .ensures) (c .before .before .before .before .before .if4 .left) (c .before .before .before .before .if5 .left)) (c .before .before .put-composed .ensures)
+    let put = c .before .before in
+    let fits = put .before .before in
+    let sized = fits .before .before in
+    let start = start-of sized in
+    accepted (outer start) (inner start) (old start) (put .put-composed .last .1 .1 .1 .0) _ (left sized .fits (fits .before .if4 .left) (fits .if5 .left)) (put .put-composed .ensures)
 
 pub compose-spec : {M : Type 1} → statement M
 compose-spec =

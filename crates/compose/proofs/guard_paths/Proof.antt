@@ -1,12 +1,14 @@
 -- `compose::guard_paths` meets its contract. The invariant: what was written and what is made of the paths left are what is made of all. The measure is what is left of the items. Assumes nothing.
 use borrow.Author.Needs.{needs}
-use Prim.Native.Nat.{_-_}
+use Prim.Native.Nat.{ℕ, _+_, _-_, _≤_}
 use native.Mathlib.Omega.{arith}
+use mathlib.Core.List.{List}
 use denote.Ref.{now}
 use lib.ListN.{length, take, drop}
-use Rattle.reverse.proofs.Paths.{Writing, writing-start, writing-more, writing-done, top}
+use Rattle.paper.specs.Query.{Steps}
+use Rattle.reverse.proofs.Paths.{Writing, writing-start, writing-done, top}
 use Rattle.compose.specs.Pieces.{guardedPath}
-use Rattle.compose.proofs.Outer.{raised-few, path-room, steps-ask, last-asks, path-wrote, path-reached}
+use Rattle.compose.proofs.Outer.{Guards, raised-few, path-room, steps-ask, last-asks, path-done}
 use Rattle.compose.proofs.guard_paths.Statement.{statement}
 use Rattle.compose.proofs.guard_paths.Tie as tie
 
@@ -16,8 +18,58 @@ Inv-loop outer out₀ from count place₀ at₀ out place at = Writing (guardedP
 abbrev μ-loop : tie.MeasureT-loop
 μ-loop outer out₀ from count place₀ at₀ out place at = length outer - place
 
+-- What is lent, and what is made of a path.
+abbrev Start : Type 0
+Start = tie.Start Inv-loop μ-loop
+
+abbrev outer : Start → List ℕ
+outer start = now (start .args .outer)
+
+abbrev old : Start → List ℕ
+old start = now (start .args .out)
+
+abbrev made : Start → Steps → List ℕ
+made start = guardedPath (take (start .args .count) (drop (start .args .from) (old start)))
+
+-- At the head of a turn.
+abbrev Turn : Type 0
+Turn = tie.At-loop Inv-loop μ-loop
+
+abbrev begun : Turn → Start
+begun c = c .before .before .before
+
+-- The end of a path is found.
+abbrev Found : Type 0
+Found = tie.After-skip Inv-loop μ-loop
+
+abbrev turn : Found → Turn
+turn c = c .before .before .before .before
+
+guards : (c : Found)
+    → Guards (outer (begun (turn c))) (old (begun (turn c))) (turn c .loop .out) (begun (turn c) .args .from) (begun (turn c) .args .count) (turn c .loop .place) (turn c .loop .at) (c .skip .result) (c .before .owes .result)
+guards c =
+    let l = turn c .loop in
+    let start = begun (turn c) in
+    top (outer start) (l .place) (c .skip .result) (c .before .owes .result) (l .inv .rest) (c .before .before .before .loop-test .taken) (l .inv .walks) (c .before .owes .ensures .0) (c .skip .ensures .0)
+    (λ p ps e t. record { writes = l .inv; path = p; later = ps; here = e; top = t; few = start .pre .1; room = start .pre .2; fits = start .pre .3 })
+
+room : (c : Found) → turn c .loop .at + 4 ≤ length (turn c .loop .out)
+room c = omega (arith, path-room (guards c), turn c .loop .inv .size, begun (turn c) .pre .3)
+
+-- The path's item is packed, its steps are written.
+abbrev Packed : Type 0
+Packed = tie.After-pack-path Inv-loop μ-loop
+
+abbrev Guarded : Type 0
+Guarded = tie.After-guard-steps Inv-loop μ-loop
+
+abbrev packed : Guarded → Packed
+packed c = c .before .before .before
+
 loop-holds : tie.Need-loop-holds Inv-loop μ-loop
-loop-holds c = writing-start (guardedPath (take (c .before .before .args .count) (drop (c .before .before .args .from) (now (c .before .before .args .out))))) (now (c .before .before .args .outer)) (now (c .before .before .args .out)) 0 (c .before .before .pre .0)
+loop-holds c =
+    let start = c .before .before in
+    writing-start (made start) (outer start) (old start) 0 (start .pre .0)
 
 mul-owes : tie.Need-mul-owes Inv-loop μ-loop
 mul-owes c = omega arith
@@ -32,40 +84,21 @@ add-skip : tie.Need-add-skip Inv-loop μ-loop
 add-skip c = omega arith
 
 skip-requires : tie.Need-skip-requires Inv-loop μ-loop
-skip-requires c κs = (c .before .before .before .before .before .before .pre .1, omega (arith, c .before .before .loop-test .taken), c .owes .ensures .1)
+skip-requires c κs =
+    let inside = c .before .before in
+    (begun (inside .before) .pre .1, omega (arith, inside .loop-test .taken), c .owes .ensures .1)
 
 add-pack-path : tie.Need-add-pack-path Inv-loop μ-loop
 add-pack-path c = omega (arith, c .before .owes .ensures .1)
 
 pack-path-requires : tie.Need-pack-path-requires Inv-loop μ-loop
-pack-path-requires c κs =
-    let a = c .before .before .before .before .before .before .before .args in
-    let l = c .before .before .before .before .loop in
-    let outer = now (a .outer) in
-    let old = now (a .out) in
-    top outer (l .place) (c .skip .result) (c .before .owes .result) (l .inv .rest) (c .before .before .before .loop-test .taken) (l .inv .walks) (c .before .owes .ensures .0) (c .skip .ensures .0)
-    (λ p ps e t.
-    raised-few outer old (l .out) (a .from) (a .count) (l .place) (l .at) (c .skip .result) (c .before .owes .result) p ps (l .inv) e t (c .before .before .before .before .before .before .before .pre .1) (c .before .before .before .before .before .before .before .pre .2) (c .before .before .before .before .before .before .before .pre .3))
+pack-path-requires c κs = raised-few (guards c)
 
 mul-out : tie.Need-mul-out Inv-loop μ-loop
-mul-out c =
-    let a = c .before .before .before .before .before .before .before .before .args in
-    let l = c .before .before .before .before .before .loop in
-    let outer = now (a .outer) in
-    let old = now (a .out) in
-    top outer (l .place) (c .before .skip .result) (c .before .before .owes .result) (l .inv .rest) (c .before .before .before .before .loop-test .taken) (l .inv .walks) (c .before .before .owes .ensures .0) (c .before .skip .ensures .0)
-    (λ p ps e t.
-    omega (arith, path-room outer old (l .out) (a .from) (a .count) (l .place) (l .at) (c .before .skip .result) (c .before .before .owes .result) p ps (l .inv) e t (c .before .before .before .before .before .before .before .before .pre .1) (c .before .before .before .before .before .before .before .before .pre .2) (c .before .before .before .before .before .before .before .before .pre .3), l .inv .size, c .before .before .before .before .before .before .before .before .pre .3))
+mul-out c = omega (arith, room (c .before))
 
 slice-write-out : tie.Need-slice-write-out Inv-loop μ-loop
-slice-write-out c =
-    let a = c .before .before .before .before .before .before .before .before .args in
-    let l = c .before .before .before .before .before .loop in
-    let outer = now (a .outer) in
-    let old = now (a .out) in
-    top outer (l .place) (c .before .skip .result) (c .before .before .owes .result) (l .inv .rest) (c .before .before .before .before .loop-test .taken) (l .inv .walks) (c .before .before .owes .ensures .0) (c .before .skip .ensures .0)
-    (λ p ps e t.
-    omega (arith, path-room outer old (l .out) (a .from) (a .count) (l .place) (l .at) (c .before .skip .result) (c .before .before .owes .result) p ps (l .inv) e t (c .before .before .before .before .before .before .before .before .pre .1) (c .before .before .before .before .before .before .before .before .pre .2) (c .before .before .before .before .before .before .before .before .pre .3), l .inv .size, c .before .before .before .before .before .before .before .before .pre .3))
+slice-write-out c = omega (arith, room (c .before))
 
 add-guard-steps : tie.Need-add-guard-steps Inv-loop μ-loop
 add-guard-steps c = omega arith
@@ -83,56 +116,43 @@ part-guard-steps-end : tie.Need-part-guard-steps-end Inv-loop μ-loop
 part-guard-steps-end c = omega (arith, c .before .skip .ensures .1)
 
 add-guard-steps-2 : tie.Need-add-guard-steps-2 Inv-loop μ-loop
-add-guard-steps-2 c =
-    let a = c .before .before .before .before .before .before .before .before .before .before .args in
-    let l = c .before .before .before .before .before .before .before .loop in
-    let outer = now (a .outer) in
-    let old = now (a .out) in
-    top outer (l .place) (c .before .before .before .skip .result) (c .before .before .before .before .owes .result) (l .inv .rest) (c .before .before .before .before .before .before .loop-test .taken) (l .inv .walks) (c .before .before .before .before .owes .ensures .0) (c .before .before .before .skip .ensures .0)
-    (λ p ps e t.
-    omega (arith, path-room outer old (l .out) (a .from) (a .count) (l .place) (l .at) (c .before .before .before .skip .result) (c .before .before .before .before .owes .result) p ps (l .inv) e t (c .before .before .before .before .before .before .before .before .before .before .pre .1) (c .before .before .before .before .before .before .before .before .before .before .pre .2) (c .before .before .before .before .before .before .before .before .before .before .pre .3), l .inv .size, c .before .before .before .before .before .before .before .before .before .before .pre .3))
+add-guard-steps-2 c = omega (arith, room (c .before .before .before))
 
 guard-steps-requires : tie.Need-guard-steps-requires Inv-loop μ-loop
 guard-steps-requires c κs =
-    let a = c .before .before .before .before .before .before .before .before .before .before .args in
-    let l = c .before .before .before .before .before .before .before .loop in
-    let outer = now (a .outer) in
-    let old = now (a .out) in
-    top outer (l .place) (c .before .before .before .skip .result) (c .before .before .before .before .owes .result) (l .inv .rest) (c .before .before .before .before .before .before .loop-test .taken) (l .inv .walks) (c .before .before .before .before .owes .ensures .0) (c .before .before .before .skip .ensures .0)
-    (λ p ps e t.
-    steps-ask outer old (l .out) (a .from) (a .count) (l .place) (l .at) (c .before .before .before .skip .result) (c .before .before .before .before .owes .result) p ps (l .inv) e t (c .before .before .before .before .before .before .before .before .before .before .pre .1) (c .before .before .before .before .before .before .before .before .before .before .pre .2) (c .before .before .before .before .before .before .before .before .before .before .pre .3) (c .before .before .pack-path .result) (c .before .before .pack-path .ensures) _ (t .part))
+    let one = c .before .before in
+    let path = guards (one .before) in
+    steps-ask path (one .pack-path .result) (one .pack-path .ensures) _ (path .top .part)
 
 put-last-requires : tie.Need-put-last-requires Inv-loop μ-loop
 put-last-requires c κs =
-    let a = c .before .before .before .before .before .before .before .before .before .before .before .before .before .before .args in
-    let l = c .before .before .before .before .before .before .before .before .before .before .before .loop in
-    let outer = now (a .outer) in
-    let old = now (a .out) in
-    top outer (l .place) (c .before .before .before .before .before .before .before .skip .result) (c .before .before .before .before .before .before .before .before .owes .result) (l .inv .rest) (c .before .before .before .before .before .before .before .before .before .before .loop-test .taken) (l .inv .walks) (c .before .before .before .before .before .before .before .before .owes .ensures .0) (c .before .before .before .before .before .before .before .skip .ensures .0)
-    (λ p ps e t.
-    last-asks outer old (l .out) (a .from) (a .count) (l .place) (l .at) (c .before .before .before .before .before .before .before .skip .result) (c .before .before .before .before .before .before .before .before .owes .result) p ps (l .inv) e t (c .before .before .before .before .before .before .before .before .before .before .before .before .before .before .pre .1) (c .before .before .before .before .before .before .before .before .before .before .before .before .before .before .pre .2) (c .before .before .before .before .before .before .before .before .before .before .before .before .before .before .pre .3) (c .before .before .before .before .before .before .pack-path .result) (c .before .before .before .before .before .before .pack-path .ensures) _ (t .part) (c .before .before .before .guard-steps .last .1 .0) (c .before .before .before .guard-steps .result) (c .before .before .before .guard-steps .ensures .0) (c .before .before .before .guard-steps .ensures .1))
+    let two = c .before .before .before in
+    let one = packed two in
+    let path = guards (one .before) in
+    last-asks path (one .pack-path .result) (one .pack-path .ensures) _ (path .top .part) (two .guard-steps .last .1 .0) (two .guard-steps .result) (two .guard-steps .ensures .0) (two .guard-steps .ensures .1)
 
 loop-less : tie.Need-loop-less Inv-loop μ-loop
-loop-less c = omega (arith, c .before .before .before .before .before .before .before .before .before .before .skip .ensures .0, c .before .before .before .before .before .before .before .before .before .before .skip .ensures .1, c .before .before .before .before .before .before .before .before .before .before .before .before .before .loop-test .taken)
+loop-less c =
+    let found = packed (c .before .before .before .before .before .before) .before in
+    omega (arith, found .skip .ensures .0, found .skip .ensures .1, found .before .before .before .loop-test .taken)
 
 loop-again : tie.Need-loop-again Inv-loop μ-loop
 loop-again c =
-    let a = c .before .before .before .before .before .before .before .before .before .before .before .before .before .before .before .before .before .args in
-    let l = c .before .before .before .before .before .before .before .before .before .before .before .before .before .before .loop in
-    let outer = now (a .outer) in
-    let old = now (a .out) in
-    top outer (l .place) (c .before .before .before .before .before .before .before .before .before .before .skip .result) (c .before .before .before .before .before .before .before .before .before .before .before .owes .result) (l .inv .rest) (c .before .before .before .before .before .before .before .before .before .before .before .before .before .loop-test .taken) (l .inv .walks) (c .before .before .before .before .before .before .before .before .before .before .before .owes .ensures .0) (c .before .before .before .before .before .before .before .before .before .before .skip .ensures .0)
-    (λ p ps e t.
-    writing-more (guardedPath (take (a .count) (drop (a .from) old))) outer old (l .out) (c .before .before .put-last .last .0) 0 (l .place) (l .at) (c .before .before .before .before .before .before .before .before .before .before .skip .result) (c .before .before .put-last .result) (c .before .before .before .before .before .before .before .before .before .before .before .owes .result) p ps (l .inv) e t
-    (omega (arith, c .before .before .before .before .before .before .before .before .before .before .before .before .before .before .before .before .before .pre .2, c .before .before .before .before .before .before .before .before .before .before .before .before .before .before .before .before .before .pre .3))
-    (path-wrote outer old (l .out) (a .from) (a .count) (l .place) (l .at) (c .before .before .before .before .before .before .before .before .before .before .skip .result) (c .before .before .before .before .before .before .before .before .before .before .before .owes .result) p ps (l .inv) e t (c .before .before .before .before .before .before .before .before .before .before .before .before .before .before .before .before .before .pre .1) (c .before .before .before .before .before .before .before .before .before .before .before .before .before .before .before .before .before .pre .2) (c .before .before .before .before .before .before .before .before .before .before .before .before .before .before .before .before .before .pre .3) (c .before .before .before .before .before .before .before .before .before .pack-path .result) (c .before .before .before .before .before .before .before .before .before .pack-path .ensures) _ (t .part) (c .before .before .before .before .before .before .guard-steps .last .1 .0) (c .before .before .before .before .before .before .guard-steps .result) (c .before .before .before .before .before .before .guard-steps .ensures .0) (c .before .before .before .before .before .before .guard-steps .ensures .1) (c .before .before .put-last .last .0) (c .before .before .put-last .result) (c .before .before .put-last .ensures .0) (c .before .before .put-last .ensures .1))
-    (path-reached outer old (l .out) (a .from) (a .count) (l .place) (l .at) (c .before .before .before .before .before .before .before .before .before .before .skip .result) (c .before .before .before .before .before .before .before .before .before .before .before .owes .result) p ps (l .inv) e t (c .before .before .before .before .before .before .before .before .before .before .before .before .before .before .before .before .before .pre .1) (c .before .before .before .before .before .before .before .before .before .before .before .before .before .before .before .before .before .pre .2) (c .before .before .before .before .before .before .before .before .before .before .before .before .before .before .before .before .before .pre .3) (c .before .before .before .before .before .before .before .before .before .pack-path .result) (c .before .before .before .before .before .before .before .before .before .pack-path .ensures) _ (t .part) (c .before .before .before .before .before .before .guard-steps .last .1 .0) (c .before .before .before .before .before .before .guard-steps .result) (c .before .before .before .before .before .before .guard-steps .ensures .0) (c .before .before .before .before .before .before .guard-steps .ensures .1) (c .before .before .put-last .last .0) (c .before .before .put-last .result) (c .before .before .put-last .ensures .0) (c .before .before .put-last .ensures .1)))
+    let three = c .before .before in
+    let two = three .before .before .before .before in
+    let one = packed two in
+    let path = guards (one .before) in
+    path-done path (one .pack-path .result) (one .pack-path .ensures) _ (path .top .part) (two .guard-steps .last .1 .0) (two .guard-steps .result) (two .guard-steps .ensures .0) (two .guard-steps .ensures .1)
+    (three .put-last .last .0) (three .put-last .result) (three .put-last .ensures .0) (three .put-last .ensures .1)
 
 same-length : tie.Need-same-length Inv-loop μ-loop
 same-length c = c .before .loop .inv .size
 
 returns : tie.Need-returns Inv-loop μ-loop
-returns c = writing-done (guardedPath (take (c .before .before .before .before .args .count) (drop (c .before .before .before .before .args .from) (now (c .before .before .before .before .args .out))))) (now (c .before .before .before .before .args .outer)) (now (c .before .before .before .before .args .out)) (c .before .loop .out) 0 (c .before .loop .place) (c .before .loop .at) (c .loop-test .left) (c .before .loop .inv)
+returns c =
+    let l = c .before .loop in
+    let start = begun (c .before) in
+    writing-done (made start) (outer start) (old start) (l .out) 0 (l .place) (l .at) (c .loop-test .left) (l .inv)
 
 pub guard-paths-spec : {M : Type 1} → statement M
 guard-paths-spec =

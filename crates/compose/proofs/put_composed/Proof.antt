@@ -1,10 +1,10 @@
 -- `compose::put_composed` meets its contract: S at the end, then all that stands before it, which copies S. Assumes nothing.
-use Prim.Native.Nat.{ℕ, _-_}
+use Prim.Native.Nat.{ℕ, _+_, _-_, _≤_}
 use native.Mathlib.Omega.{arith}
-use mathlib.Core.Path.{sym, _∙_, ap}
+use mathlib.Core.Path.{_≡_, sym, _∙_, ap}
 use mathlib.Core.List.{List}
 use denote.Ref.{now}
-use lib.ListN.{length}
+use lib.ListN.{length, take, drop}
 use Rattle.paper.specs.Items.{decode}
 use Rattle.paper.specs.Answers.{composedGot}
 use Rattle.item.specs.Placed.{placed}
@@ -16,50 +16,62 @@ use borrow.Author.Needs.{needs}
 use Rattle.compose.proofs.put_composed.Statement.{statement}
 use Rattle.compose.proofs.put_composed.Tie as tie
 
+-- What is lent; S, and where it goes.
+abbrev outer : tie.Start → List ℕ
+outer start = now (start .args .outer)
+
+abbrev inner : tie.Start → List ℕ
+inner start = now (start .args .inner)
+
+abbrev old : tie.Start → List ℕ
+old start = now (start .args .out)
+
+abbrev chosen : tie.Start → List ℕ
+chosen start = selectedGot (decode (inner start))
+
+abbrev from : tie.Start → ℕ
+from start = start .args .size - start .args .count
+
+least : (start : tie.Start) → start .args .count ≤ start .args .size
+least start = omega (arith, count-least (outer start) (inner start) (start .pre .0) (start .pre .2), start .pre .5, start .pre .6)
+
+fits : (start : tie.Start) → from start + length (chosen start) ≤ length (old start)
+fits start = omega (arith, least start, start .pre .5, start .pre .7)
+
+-- S is written.
+abbrev begun : tie.After-put-selected → tie.Start
+begun c = c .before .before .before .before .before
+
+abbrev mid : tie.After-put-selected → List ℕ
+mid c = c .put-selected .last .1 .1 .0
+
+same : (c : tie.After-put-selected) → length (mid c) ≡ length (old (begun c))
+same c =
+    let start = begun c in
+    same-size (chosen start) (old start) (mid c) (from start) (c .put-selected .ensures) (fits start)
+
+there : (c : tie.After-put-selected) → take (begun c .args .count) (drop (from (begun c)) (mid c)) ≡ chosen (begun c)
+there c =
+    let start = begun c in
+    chosen-is (chosen start) (old start) (mid c) (from start) (start .args .count) (c .put-selected .ensures) (omega (arith, start .pre .7)) (start .pre .5)
+
 sub-from : tie.Need-sub-from
-sub-from c =
-    let a = c .before .before .before .args in
-    let outer = now (a .outer) in
-    let inner = now (a .inner) in
-    let old = now (a .out) in
-    let chosen = selectedGot (decode inner) in
-    let parts = composed-parts outer inner (c .before .before .before .pre .0) (c .before .before .before .pre .2) in
-    let least = count-least outer inner (c .before .before .before .pre .0) (c .before .before .before .pre .2) in
-    omega (arith, c .before .before .before .pre .5, c .before .before .before .pre .6)
+sub-from c = least (c .before .before .before)
 
 put-selected-requires : tie.Need-put-selected-requires
 put-selected-requires c κs =
-    let a = c .before .before .before .before .args in
-    let outer = now (a .outer) in
-    let inner = now (a .inner) in
-    let old = now (a .out) in
-    let chosen = selectedGot (decode inner) in
-    let parts = composed-parts outer inner (c .before .before .before .before .pre .0) (c .before .before .before .before .pre .2) in
-    let least = count-least outer inner (c .before .before .before .before .pre .0) (c .before .before .before .before .pre .2) in
-    (c .before .before .before .before .pre .2, c .before .before .before .before .pre .3, c .before .before .before .before .pre .4, omega (arith, c .before .before .before .before .pre .5, c .before .before .before .before .pre .6, c .before .before .before .before .pre .7))
+    let start = c .before .before .before .before in
+    (start .pre .2, start .pre .3, start .pre .4, fits start)
 
 guard-paths-requires : tie.Need-guard-paths-requires
 guard-paths-requires c κs =
-    let a = c .before .before .before .before .before .before .before .before .args in
-    let outer = now (a .outer) in
-    let inner = now (a .inner) in
-    let old = now (a .out) in
-    let chosen = selectedGot (decode inner) in
-    let parts = composed-parts outer inner (c .before .before .before .before .before .before .before .before .pre .0) (c .before .before .before .before .before .before .before .before .pre .2) in
-    let least = count-least outer inner (c .before .before .before .before .before .before .before .before .pre .0) (c .before .before .before .before .before .before .before .before .pre .2) in
-    let mid = c .before .before .before .put-selected .last .1 .1 .0 in
-    let same = same-size chosen old mid (a .size - a .count) (c .before .before .before .put-selected .ensures) (omega (arith, c .before .before .before .before .before .before .before .before .pre .5, c .before .before .before .before .before .before .before .before .pre .6, c .before .before .before .before .before .before .before .before .pre .7)) in
-    let there = chosen-is chosen old mid (a .size - a .count) (a .count) (c .before .before .before .put-selected .ensures) (omega (arith, c .before .before .before .before .before .before .before .before .pre .7)) (c .before .before .before .before .before .before .before .before .pre .5) in (
-      c .before .before .before .before .before .before .before .before .pre .0,
-      c .before .before .before .before .before .before .before .before .pre .1,
-      omega (
-        arith,
-        ap (λ (x : List ℕ). length (eachGot (guardedPath x) (decode outer))) there,
-        ap length parts,
-        c .before .before .before .before .before .before .before .before .pre .5,
-        c .before .before .before .before .before .before .before .before .pre .6,
-      ),
-      omega (arith, same, c .before .before .before .before .before .before .before .before .pre .5, c .before .before .before .before .before .before .before .before .pre .6, c .before .before .before .before .before .before .before .before .pre .7),
+    let put = c .before .before .before in
+    let start = begun put in
+    let parts = composed-parts (outer start) (inner start) (start .pre .0) (start .pre .2) in (
+      start .pre .0,
+      start .pre .1,
+      omega (arith, ap (λ (x : List ℕ). length (eachGot (guardedPath x) (decode (outer start)))) (there put), ap length parts, least start, start .pre .6),
+      omega (arith, same put, least start, start .pre .7),
     )
 
 same-length : tie.Need-same-length
@@ -67,19 +79,13 @@ same-length c = search needs
 
 returns : tie.Need-returns
 returns c =
-    let a = c .before .before .before .before .before .before .before .before .before .before .before .args in
-    let outer = now (a .outer) in
-    let inner = now (a .inner) in
-    let old = now (a .out) in
-    let chosen = selectedGot (decode inner) in
-    let parts = composed-parts outer inner (c .before .before .before .before .before .before .before .before .before .before .before .pre .0) (c .before .before .before .before .before .before .before .before .before .before .before .pre .2) in
-    let least = count-least outer inner (c .before .before .before .before .before .before .before .before .before .before .before .pre .0) (c .before .before .before .before .before .before .before .before .before .before .before .pre .2) in
-    let mid = c .before .before .before .before .before .before .put-selected .last .1 .1 .0 in
-    let same = same-size chosen old mid (a .size - a .count) (c .before .before .before .before .before .before .put-selected .ensures) (omega (arith, c .before .before .before .before .before .before .before .before .before .before .before .pre .5, c .before .before .before .before .before .before .before .before .before .before .before .pre .6, c .before .before .before .before .before .before .before .before .before .before .before .pre .7)) in
-    let there = chosen-is chosen old mid (a .size - a .count) (a .count) (c .before .before .before .before .before .before .put-selected .ensures) (omega (arith, c .before .before .before .before .before .before .before .before .before .before .before .pre .7)) (c .before .before .before .before .before .before .before .before .before .before .before .pre .5) in
-    whole-written chosen (composedGot (decode outer) (decode inner)) old mid (c .before .before .guard-paths .last .1 .0) (a .size - a .count) (c .before .before .before .before .before .before .put-selected .ensures) (omega (arith, c .before .before .before .before .before .before .before .before .before .before .before .pre .7))
-    (omega (arith, c .before .before .before .before .before .before .before .before .before .before .before .pre .5, c .before .before .before .before .before .before .before .before .before .before .before .pre .6))
-    (c .before .before .guard-paths .ensures ∙ ap (λ (x : List ℕ). placed (eachGot (guardedPath x) (decode outer)) 0 mid) there ∙ ap (λ (x : List ℕ). placed x 0 mid) (sym parts))
+    let guarded = c .before .before in
+    let put = guarded .before .before .before .before in
+    let start = begun put in
+    let parts = composed-parts (outer start) (inner start) (start .pre .0) (start .pre .2) in
+    whole-written (chosen start) (composedGot (decode (outer start)) (decode (inner start))) (old start) (mid put) (guarded .guard-paths .last .1 .0) (from start) (put .put-selected .ensures) (omega (arith, start .pre .7))
+    (omega (arith, least start, start .pre .5, start .pre .6))
+    (guarded .guard-paths .ensures ∙ ap (λ (x : List ℕ). placed (eachGot (guardedPath x) (decode (outer start))) 0 (mid put)) (there put) ∙ ap (λ (x : List ℕ). placed x 0 (mid put)) (sym parts))
 
 pub put-composed-spec : {M : Type 1} → statement M
 put-composed-spec =

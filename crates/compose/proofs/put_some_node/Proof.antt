@@ -1,8 +1,8 @@
 -- `compose::put_some_node` meets its contract: two items, then S. Assumes nothing.
-use Prim.Native.Nat.{_+_}
+use Prim.Native.Nat.{ℕ, _+_}
 use native.Mathlib.Omega.{arith}
 use mathlib.Core.Path.{_≡_, refl}
-use mathlib.Core.List.{[], _∷_}
+use mathlib.Core.List.{List, [], _∷_}
 use denote.Ref.{now}
 use lib.ListN.{take, drop, length-set}
 use Rattle.paper.specs.Items.{packPath}
@@ -14,6 +14,27 @@ use Rattle.compose.proofs.Copying.{then-chosen, part-length}
 use borrow.Author.Needs.{needs}
 use Rattle.compose.proofs.put_some_node.Statement.{statement}
 use Rattle.compose.proofs.put_some_node.Tie as tie
+
+-- What is lent: the items as they were, and S among them.
+abbrev old : tie.Start → List ℕ
+old start = now (start .args .out)
+
+abbrev chosen : tie.Start → List ℕ
+chosen start = take (start .args .count) (drop (start .args .from) (old start))
+
+-- After all is written.
+abbrev begun : tie.After-copy → tie.Start
+begun c = c .before .before .before .before .before
+
+wrote : (c : tie.After-copy) → c .copy .last .0 ≡ placed (someNodeItems (begun c .args .axis) (chosen (begun c))) (begun c .args .at) (old (begun c))
+wrote c =
+    let start = begun c in
+    let at = start .args .at in
+    let step = packed (record { axis = start .args .axis; test = 0; count = 1 }) in
+    let path = c .before .before .before .pack-path in
+    let stepped = c .before .before .pack-step in
+    then-chosen (λ x. x) (packPath 1 ∷ step ∷ []) (old start) _ (c .copy .last .0) at (at + 2) (start .args .from) (start .args .count)
+    (two-put (old start) at (path .result) (stepped .result) (packPath 1) step (path .ensures) (stepped .ensures) (omega arith)) (c .copy .ensures) refl (omega arith) (omega arith)
 
 pack-path-requires : tie.Need-pack-path-requires
 pack-path-requires c κs = search needs
@@ -50,25 +71,11 @@ add-result-2 c = search needs
 
 same-length : tie.Need-same-length
 same-length c =
-    let old = now (c .before .before .before .before .before .before .before .args .out) in
-    let at = c .before .before .before .before .before .before .before .args .at in
-    let chosen = take (c .before .before .before .before .before .before .before .args .count) (drop (c .before .before .before .before .before .before .before .args .from) old) in
-    let wrote : c .before .before .copy .last .0 ≡ placed (someNodeItems (c .before .before .before .before .before .before .before .args .axis) chosen) at old =
-    then-chosen (λ x. x) (packPath 1 ∷ packed (record { axis = c .before .before .before .before .before .before .before .args .axis; test = 0; count = 1 }) ∷ []) old _ (c .before .before .copy .last .0) at (at + 2) (c .before .before .before .before .before .before .before .args .from) (c .before .before .before .before .before .before .before .args .count)
-    (two-put old at (c .before .before .before .before .before .pack-path .result) (c .before .before .before .before .pack-step .result) (packPath 1) (packed (record { axis = c .before .before .before .before .before .before .before .args .axis; test = 0; count = 1 })) (c .before .before .before .before .before .pack-path .ensures) (c .before .before .before .before .pack-step .ensures) (omega arith))
-    (c .before .before .copy .ensures) refl (omega arith) (omega arith) in
-    same-size (someNodeItems (c .before .before .before .before .before .before .before .args .axis) chosen) old _ at wrote (omega (arith, part-length old (c .before .before .before .before .before .before .before .args .from) (c .before .before .before .before .before .before .before .args .count) (omega arith)))
+    let start = begun (c .before .before) in
+    same-size (someNodeItems (start .args .axis) (chosen start)) (old start) _ (start .args .at) (wrote (c .before .before)) (omega (arith, part-length (old start) (start .args .from) (start .args .count) (omega arith)))
 
 returns : tie.Need-returns
-returns c =
-    let old = now (c .before .before .before .before .before .before .before .args .out) in
-    let at = c .before .before .before .before .before .before .before .args .at in
-    let chosen = take (c .before .before .before .before .before .before .before .args .count) (drop (c .before .before .before .before .before .before .before .args .from) old) in
-    let wrote : c .before .before .copy .last .0 ≡ placed (someNodeItems (c .before .before .before .before .before .before .before .args .axis) chosen) at old =
-    then-chosen (λ x. x) (packPath 1 ∷ packed (record { axis = c .before .before .before .before .before .before .before .args .axis; test = 0; count = 1 }) ∷ []) old _ (c .before .before .copy .last .0) at (at + 2) (c .before .before .before .before .before .before .before .args .from) (c .before .before .before .before .before .before .before .args .count)
-    (two-put old at (c .before .before .before .before .before .pack-path .result) (c .before .before .before .before .pack-step .result) (packPath 1) (packed (record { axis = c .before .before .before .before .before .before .before .args .axis; test = 0; count = 1 })) (c .before .before .before .before .before .pack-path .ensures) (c .before .before .before .before .pack-step .ensures) (omega arith))
-    (c .before .before .copy .ensures) refl (omega arith) (omega arith) in
-    (wrote, refl)
+returns c = (wrote (c .before .before), refl)
 
 pub put-some-node-spec : {M : Type 1} → statement M
 put-some-node-spec =

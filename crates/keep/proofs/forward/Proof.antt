@@ -9,6 +9,7 @@ use mathlib.Core.List.{_++_}
 use lib.ListN.{length, getD, take, drop}
 use lib.Seq.{length-take-le}
 use denote.Ref.{now}
+use Rattle.paper.specs.Limits.{bracketLimit}
 use Rattle.paper.specs.Items.{Head, takePreds, takeWithin}
 use Rattle.paper.specs.Measures.{heightPreds}
 use Rattle.paper.specs.Document.{marked, tableOf}
@@ -123,7 +124,7 @@ predicates-requires c κs =
       omega arith,
       (
         start .pre .0,
-        subst₂ (λ (k r : ℕ). Fits (now (a .items)) (l .place + 1) n r (takePreds (takeWithin 64) k (drop (l .place + 1) (now (a .items)))) (λ ps. 1 + heightPreds ps))
+        subst₂ (λ (k r : ℕ). Fits (now (a .items)) (l .place + 1) n r (takePreds (takeWithin bracketLimit) k (drop (l .place + 1) (now (a .items)))) (λ ps. 1 + heightPreds ps))
             (sym count) (sym len2) (next .preds),
       ),
     ))
@@ -166,7 +167,7 @@ loop-again c =
           (λ x q.
           restricted .ensures (h .test) x (step-found _ h p .1) (ap (λ (y : Step). y .test) step-is) (front-back n x (moved .last .1 .1 .0) (drop n (l .sets)) q ∙ ap (λ (k : ℕ). bits k x) (sym front1)) ∙
           ap (λ (k : ℕ). bits k (λ i. (x i && marked (now (a .given)) i) && meets (h .test) (getD kinds i 0))) front1)
-          (subst (λ (k : ℕ). Narrows (now (a .items)) (l .place + 1) n (takePreds (takeWithin 64) k (drop (l .place + 1) (now (a .items)))) (allHold (tableOf (now (a .parent)) (now (a .kind))) (now (a .given))) (narrowed .result) sets2 (narrowed .last .1 .1 .1 .1 .1 .1 .1 .0))
+          (subst (λ (k : ℕ). Narrows (now (a .items)) (l .place + 1) n (takePreds (takeWithin bracketLimit) k (drop (l .place + 1) (now (a .items)))) (allHold (tableOf (now (a .parent)) (now (a .kind))) (now (a .given))) (narrowed .result) sets2 (narrowed .last .1 .1 .1 .1 .1 .1 .1 .0))
           count (narrowed .ensures)),
     ))
 

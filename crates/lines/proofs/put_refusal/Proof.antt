@@ -1,10 +1,11 @@
 -- `lines::put_refusal` meets its contract: the words and numbers of the line one after the other. Assumes nothing.
-use Prim.Native.Nat.{_≤_}
+use Prim.Native.Nat.{_<_}
 use native.Mathlib.Omega.{arith}
 use mathlib.Core.Path.{ap}
 use Rattle.pen.proofs.Putting.{puts-as, puts-both}
 use Rattle.paper.specs.Program.{decimal}
 use borrow.Author.Needs.{needs}
+use Rattle.lines.specs.Lines.{lineRoom}
 use Rattle.lines.proofs.put_refusal.Statement.{statement}
 use Rattle.lines.proofs.put_refusal.Tie as tie
 
@@ -44,8 +45,8 @@ put-decimal-requires-2 c κs = search needs
 slice-aggregate-put-4 : tie.Need-slice-aggregate-put-4
 slice-aggregate-put-4 c = search needs
 
--- Where the place is put, 63 bytes at most have been put.
-short : (c : tie.After-put-decimal2) → c .put-decimal2 .result ≤ 63
+-- Where the place is put, there is room for the end of the line.
+short : (c : tie.After-put-decimal2) → c .put-decimal2 .result < lineRoom
 short c =
     let apart = c .before .before .before .before in
     let numbered = apart .before .before .before .before .before in

@@ -8,13 +8,13 @@ use mathlib.Core.Path.{_≡_, sym, _∙_}
 use lib.ListN.{length, set, length-set}
 use lib.Seq.{getD-set-same}
 use Rattle.paper.specs.Limits.{namesLimit}
-use Rattle.names.specs.Listing.{Keyed}
+use Rattle.names.specs.Listing.{Keyed, startsCount}
 use Rattle.names.proofs.Upto.{Upto, at-first, since-entry, at-last, at-fault, at-next, room, has-key, keyed-next}
 use Rattle.names.proofs.index.Statement.{statement}
 use Rattle.names.proofs.index.Tie as tie
 
 abbrev Inv-loop : tie.InvT-loop
-Inv-loop list starts₀ start₀ count₀ keys₀ starts start count keys = Upto list starts₀ starts count start × Keyed list starts keys count × (length keys ≡ 257)
+Inv-loop list starts₀ start₀ count₀ keys₀ starts start count keys = Upto list starts₀ starts count start × Keyed list starts keys count × (length keys ≡ startsCount)
 
 abbrev μ-loop : tie.MeasureT-loop
 μ-loop list starts₀ start₀ count₀ keys₀ starts start count keys = length list - start

@@ -4,9 +4,11 @@ use native.Mathlib.Omega.{arith}
 use mathlib.Core.Path.{sym, _∙_}
 use borrow.Author.Needs.{needs}
 use denote.Ref.{now}
+use Rattle.paper.specs.Query.{anyElement}
 use Rattle.paper.specs.Names.{namesOf}
+use Rattle.paper.specs.Items.{namedFrom, testNumber}
 use Rattle.pen.proofs.Putting.{puts-as}
-use Rattle.pen.proofs.Words.{above, below, test-0, test-1, test-258, test-named}
+use Rattle.pen.proofs.Words.{above, below, test-node, test-text, test-star, test-named}
 use Rattle.pen.proofs.put_test.Statement.{statement}
 use Rattle.pen.proofs.put_test.Tie as tie
 
@@ -41,9 +43,9 @@ put-name-requires c κs =
       c .before .before .before .before .pre .0,
       (
           let l = c .before .before .before .before .pre .1 .0 .1 in
-          let few : a .test ≤ 258 = c .before .before .before .before .pre .1 .0 .0 in
-          let some : 2 ≤ a .test = above (a .test) (n .0 .0 .1) (n .0 .1) in
-          let less : a .test < 258 = below (a .test) 258 few (n .1) in
+          let few : a .test ≤ testNumber anyElement = c .before .before .before .before .pre .1 .0 .0 in
+          let some : namedFrom ≤ a .test = above (a .test) (n .0 .0 .1) (n .0 .1) in
+          let less : a .test < testNumber anyElement = below (a .test) (testNumber anyElement) few (n .1) in
           (omega (arith, l some less), c .before .before .before .before .pre .1 .1, c .before .before .before .before .pre .1 .2)
           ),
     )
@@ -52,19 +54,19 @@ same-length : tie.Need-same-length
 same-length c = search needs
 
 returns : tie.Need-returns
-returns c = (λ t e g. puts-as (test-0 _ t (sym e ∙ c .before .before .before .before .before .match .keys1)) (c .before .before .put .ensures), omega (arith, c .before .before .put .ensures .moved))
+returns c = (λ t e g. puts-as (test-node _ t (sym e ∙ c .before .before .before .before .before .match .keys1)) (c .before .before .put .ensures), omega (arith, c .before .before .put .ensures .moved))
 
 same-length-2 : tie.Need-same-length-2
 same-length-2 c = search needs
 
 returns-2 : tie.Need-returns-2
-returns-2 c = (λ t e g. puts-as (test-1 _ t (sym e ∙ c .before .before .before .before .before .match .keys2)) (c .before .before .put2 .ensures), omega (arith, c .before .before .put2 .ensures .moved))
+returns-2 c = (λ t e g. puts-as (test-text _ t (sym e ∙ c .before .before .before .before .before .match .keys2)) (c .before .before .put2 .ensures), omega (arith, c .before .before .put2 .ensures .moved))
 
 same-length-3 : tie.Need-same-length-3
 same-length-3 c = search needs
 
 returns-3 : tie.Need-returns-3
-returns-3 c = (λ t e g. puts-as (test-258 _ t g (sym e ∙ c .before .before .before .before .before .match .keys3)) (c .before .before .put3 .ensures), omega (arith, c .before .before .put3 .ensures .moved))
+returns-3 c = (λ t e g. puts-as (test-star _ t g (sym e ∙ c .before .before .before .before .before .match .keys3)) (c .before .before .put3 .ensures), omega (arith, c .before .before .put3 .ensures .moved))
 
 same-length-4 : tie.Need-same-length-4
 same-length-4 c = search needs

@@ -25,6 +25,12 @@ returns c =
 cast-test : tie.Need-cast-test
 cast-test c = search needs
 
+cast-result : tie.Need-cast-result
+cast-result c = search needs
+
+cast-result-2 : tie.Need-cast-result-2
+cast-result-2 c = search needs
+
 add-result : tie.Need-add-result
 add-result c = search needs
 
@@ -39,4 +45,5 @@ returns-2 c =
 
 pub unknown-spec : {M : Type 1} → statement M
 unknown-spec =
-    tie.close (tie.spec unpack-requires enum-known-item returns cast-test add-result returns-2)
+    tie.close
+    (tie.spec unpack-requires enum-known-item returns cast-test cast-result cast-result-2 add-result returns-2)

@@ -40,11 +40,11 @@ use Rattle.read.proofs.group.Reads as group-reads
 use Rattle.ahead.proofs.joined.Reads as joined-reads
 use Rattle.ahead.proofs.mark.Reads as mark-reads
 use Rattle.ahead.proofs.opening.Reads as opening-reads
-use Rattle.read.proofs.path_word.Reads as path-word-reads
+use Rattle.read.proofs.item_of_path.Reads as item-of-path-reads
 use Rattle.read.proofs.put.Reads as put-reads
 use Rattle.read.proofs.put_deep.Reads as put-deep-reads
 use Rattle.read.proofs.step_head.Reads as step-head-reads
-use Rattle.read.proofs.step_word.Reads as step-word-reads
+use Rattle.read.proofs.item_of_step.Reads as item-of-step-reads
 use Rattle.ahead.proofs.word_ahead.Reads as word-ahead-reads
 use Rattle.read.proofs.+bracketed+expression+operand+predicates+step+steps.{statement}
 use Rattle.read.proofs.+bracketed+expression+operand+predicates+step+steps.Tie.{close}
@@ -119,7 +119,7 @@ bracketed-claims t = (
 
 bracketed-returns : (t : ℕ) → bracketed-lts.Need-returns (bracketed-claims t) (bracketed-at t) bracketed.Post
 bracketed-returns t c =
-    too-deep (lookOf (c .before .before .before .before .args .known) (now (c .before .before .before .before .args .list))) (c .before .before .before .before .args .depth) (c .before .before .before .before .args .bracket) (c .before .before .before .before .args .closer) (tokensAt (now (c .before .before .before .before .args .text)) (c .before .before .before .before .args .cursor .at)) (c .if1 .taken)
+    too-deep (lookOf (c .before .before .before .before .args .lookup) (now (c .before .before .before .before .args .list))) (c .before .before .before .before .args .depth) (c .before .before .before .before .args .bracket) (c .before .before .before .before .args .closer) (tokensAt (now (c .before .before .before .before .args .text)) (c .before .before .before .before .args .cursor .at)) (c .if1 .taken)
 
 bracketed-sub-expression : (t : ℕ) → bracketed-lts.Need-sub-expression (bracketed-claims t) (bracketed-at t) bracketed.Post
 bracketed-sub-expression t c = search needs
@@ -138,9 +138,9 @@ bracketed-same-length t c = search needs
 bracketed-returns-2 : (t : ℕ) → bracketed-lts.Need-returns-2 (bracketed-claims t) (bracketed-at t) bracketed.Post
 bracketed-returns-2 t c =
     let s = c .before .before .before .before .before .before .before .before .before in
-    let look = lookOf (s .args .known) (now (s .args .list)) in
+    let look = lookOf (s .args .lookup) (now (s .args .list)) in
     passed-on _ _ _ _ _ _ _ _ _ _ _ _ _ _ _ _ _ _ (c .before .before .before .expression .result) (c .match .keys2) (c .before .before .before .expression .ensures)
-    (λ n spot h. ap (λ x. then x (passSort (s .args .closer))) (opened look (s .args .depth) (s .args .bracket) (tokensAt (now (s .args .text)) (s .args .cursor .at)) (c .before .before .before .before .before .if1 .left) ∙ h))
+    (λ n place h. ap (λ x. then x (passSort (s .args .closer))) (opened look (s .args .depth) (s .args .bracket) (tokensAt (now (s .args .text)) (s .args .cursor .at)) (c .before .before .before .before .before .if1 .left) ∙ h))
 
 bracketed-mark-requires : (t : ℕ) → bracketed-lts.Need-mark-requires (bracketed-claims t) (bracketed-at t) bracketed.Post
 bracketed-mark-requires t c κs =
@@ -158,7 +158,7 @@ bracketed-same-length-2 t c = search needs
 bracketed-returns-3 : (t : ℕ) → bracketed-lts.Need-returns-3 (bracketed-claims t) (bracketed-at t) bracketed.Post
 bracketed-returns-3 t c =
     let s = c .before .before .before .before .before .before .before .before .before .before .before .before .before .before .before in
-    let look = lookOf (s .args .known) (now (s .args .list)) in
+    let look = lookOf (s .args .lookup) (now (s .args .list)) in
     let g = rw (c .before .before .before .before .before .inner .given .1) at (c .before .before .before .before .before .before .before .before .before .expression .ensures) in
     let m = rw (c .before .close .given .1) at (c .before .before .before .mark .ensures) in
     closed _ _ _ _ _ (s .args .closer) _ _ (opened look (s .args .depth) (s .args .bracket) (tokensAt (now (s .args .text)) (s .args .cursor .at)) (c .before .before .before .before .before .before .before .before .before .before .before .if1 .left)) _ _ _ g (m .0) (m .2)
@@ -169,7 +169,7 @@ bracketed-same-length-3 t c = search needs
 bracketed-returns-4 : (t : ℕ) → bracketed-lts.Need-returns-4 (bracketed-claims t) (bracketed-at t) bracketed.Post
 bracketed-returns-4 t c =
     let s = c .before .before .before .before .before .before .before .before .before .before .before .before .before .before .before in
-    let look = lookOf (s .args .known) (now (s .args .list)) in
+    let look = lookOf (s .args .lookup) (now (s .args .list)) in
     let g = rw (c .before .before .before .before .before .inner .given .1) at (c .before .before .before .before .before .before .before .before .before .expression .ensures) in
     let m = rw (c .before .close2 .given .1) at (c .before .before .before .mark .ensures) in
     unclosed _ _ _ _ _ (s .args .closer) _ _ (opened look (s .args .depth) (s .args .bracket) (tokensAt (now (s .args .text)) (s .args .cursor .at)) (c .before .before .before .before .before .before .before .before .before .before .before .if1 .left)) _ _ _ g (m .0) (m .1)
@@ -186,17 +186,17 @@ expression-claims t = (
 )
 
 abbrev expression-Inv-loop : expression-lts.InvT-loop
-expression-Inv-loop text list starts count known depth out₀ place here₀ filled₀ begun₀ ands₀ ors₀ t23 t24 out here filled begun ands ors =
-    (length out ≡ length out₀) × Turn (lookOf known list) (readWithin (lookOf known list) depth) text out₀ (here₀ .at) place out (here .at) filled begun ands ors
+expression-Inv-loop text list starts count lookup depth out₀ slot here₀ filled₀ begun₀ ands₀ ors₀ t23 t24 out here filled begun ands ors =
+    (length out ≡ length out₀) × Turn (lookOf lookup list) (readWithin (lookOf lookup list) depth) text out₀ (here₀ .at) slot out (here .at) filled begun ands ors
 
 abbrev expression-μ-loop : expression-lts.MeasureT-loop
-expression-μ-loop text list starts count known depth out₀ place here₀ filled₀ begun₀ ands₀ ors₀ t23 t24 out here filled begun ands ors =
+expression-μ-loop text list starts count lookup depth out₀ slot here₀ filled₀ begun₀ ands₀ ors₀ t23 t24 out here filled begun ands ors =
     length text - here .at
 
 expression-loop-holds : (t : ℕ) → expression-lts.Need-loop-holds (expression-claims t) (expression-at t) expression.Post expression-Inv-loop expression-μ-loop
 expression-loop-holds t c =
     let s = c .before .before .before in
-    (search needs, turn-start (lookOf (s .args .known) (now (s .args .list))) (readWithin (lookOf (s .args .known) (now (s .args .list))) (s .args .depth)) (now (s .args .text)) (now (s .args .out)) (s .args .cursor .at) (s .args .place) (s .pre .1 .0 .inside))
+    (search needs, turn-start (lookOf (s .args .lookup) (now (s .args .list))) (readWithin (lookOf (s .args .lookup) (now (s .args .list))) (s .args .depth)) (now (s .args .text)) (now (s .args .out)) (s .args .cursor .at) (s .args .slot) (s .pre .1 .0 .inside))
 
 expression-operand-requires : (t : ℕ) → expression-lts.Need-operand-requires (expression-claims t) (expression-at t) expression.Post expression-Inv-loop expression-μ-loop
 expression-operand-requires t c κs =
@@ -213,7 +213,7 @@ expression-same-length t c = search needs
 expression-returns : (t : ℕ) → expression-lts.Need-returns (expression-claims t) (expression-at t) expression.Post expression-Inv-loop expression-μ-loop
 expression-returns t c =
     let s = c .before .before .before .before .before .before .before .before .before in
-    let look = lookOf (s .args .known) (now (s .args .list)) in
+    let look = lookOf (s .args .lookup) (now (s .args .list)) in
     let within = readWithin look (s .args .depth) in
     let turn = c .before .before .before .before .before .loop .inv .1 in
     passed-on _ _ _ _ _ _ _ _ _ _ _ _ _ _ _ _ _ _ (c .before .before .before .operand .result) (c .match .keys2) (c .before .before .before .operand .ensures) (turn-stuck look within _ _ _ _ _ _ _ _ _ _ turn)
@@ -233,7 +233,7 @@ expression-enum-known-and t c = search needs
 expression-add-ands : (t : ℕ) → expression-lts.Need-add-ands (expression-claims t) (expression-at t) expression.Post expression-Inv-loop expression-μ-loop
 expression-add-ands t c =
     let s = c .before .before .before .before .before .before .before .before .before .before .before .before .before .before .before .before in
-    let look = lookOf (s .args .known) (now (s .args .list)) in
+    let look = lookOf (s .args .lookup) (now (s .args .list)) in
     let within = readWithin look (s .args .depth) in
     let turn = c .before .before .before .before .before .before .before .before .before .before .before .before .loop .inv .1 in
     let g = rw (c .before .before .before .before .before .before .one .given .1) at (c .before .before .before .before .before .before .before .before .before .before .operand .ensures) in
@@ -249,7 +249,7 @@ expression-loop-less t c =
 expression-loop-again : (t : ℕ) → expression-lts.Need-loop-again (expression-claims t) (expression-at t) expression.Post expression-Inv-loop expression-μ-loop
 expression-loop-again t c =
     let s = c .before .before .before .before .before .before .before .before .before .before .before .before .before .before .before .before in
-    let look = lookOf (s .args .known) (now (s .args .list)) in
+    let look = lookOf (s .args .lookup) (now (s .args .list)) in
     let within = readWithin look (s .args .depth) in
     let turn = c .before .before .before .before .before .before .before .before .before .before .before .before .loop .inv .1 in
     let g = rw (c .before .before .before .before .before .before .one .given .1) at (c .before .before .before .before .before .before .before .before .before .before .operand .ensures) in
@@ -262,7 +262,7 @@ expression-enum-told t c = search needs
 expression-group-requires : (t : ℕ) → expression-lts.Need-group-requires (expression-claims t) (expression-at t) expression.Post expression-Inv-loop expression-μ-loop
 expression-group-requires t c κs =
     let s = c .before .before .before .before .before .before .before .before .before .before .before .before .before .before .before .before in
-    let look = lookOf (s .args .known) (now (s .args .list)) in
+    let look = lookOf (s .args .lookup) (now (s .args .list)) in
     let within = readWithin look (s .args .depth) in
     let turn = c .before .before .before .before .before .before .before .before .before .before .before .before .loop .inv .1 in
     let g = rw (c .before .before .before .before .before .before .one .given .1) at (c .before .before .before .before .before .before .before .before .before .before .operand .ensures) in
@@ -272,7 +272,7 @@ expression-group-requires t c κs =
 expression-add-closed : (t : ℕ) → expression-lts.Need-add-closed (expression-claims t) (expression-at t) expression.Post expression-Inv-loop expression-μ-loop
 expression-add-closed t c =
     let s = c .before .before .before .before .before .before .before .before .before .before .before .before .before .before .before .before .before .before .before in
-    let look = lookOf (s .args .known) (now (s .args .list)) in
+    let look = lookOf (s .args .lookup) (now (s .args .list)) in
     let within = readWithin look (s .args .depth) in
     let turn = c .before .before .before .before .before .before .before .before .before .before .before .before .before .before .before .loop .inv .1 in
     let g = rw (c .before .before .before .before .before .before .before .before .before .one .given .1) at (c .before .before .before .before .before .before .before .before .before .before .before .before .before .operand .ensures) in
@@ -304,7 +304,7 @@ expression-enum-told-2 t c = search needs
 expression-group-requires-2 : (t : ℕ) → expression-lts.Need-group-requires-2 (expression-claims t) (expression-at t) expression.Post expression-Inv-loop expression-μ-loop
 expression-group-requires-2 t c κs =
     let s = c .before .before .before .before .before .before .before .before .before .before .before .before .before .before .before .before .before .before .before .before .before .before .before .before in
-    let look = lookOf (s .args .known) (now (s .args .list)) in
+    let look = lookOf (s .args .lookup) (now (s .args .list)) in
     let within = readWithin look (s .args .depth) in
     let turn = c .before .before .before .before .before .before .before .before .before .before .before .before .before .before .before .before .before .before .before .before .loop .inv .1 in
     let g = rw (c .before .before .before .before .before .before .before .before .before .before .before .before .before .before .one .given .1) at (c .before .before .before .before .before .before .before .before .before .before .before .before .before .before .before .before .before .before .operand .ensures) in
@@ -315,7 +315,7 @@ expression-group-requires-2 t c κs =
 expression-add-t37 : (t : ℕ) → expression-lts.Need-add-t37 (expression-claims t) (expression-at t) expression.Post expression-Inv-loop expression-μ-loop
 expression-add-t37 t c =
     let s = c .before .before .before .before .before .before .before .before .before .before .before .before .before .before .before .before .before .before .before .before .before .before .before .before .before .before .before in
-    let look = lookOf (s .args .known) (now (s .args .list)) in
+    let look = lookOf (s .args .lookup) (now (s .args .list)) in
     let within = readWithin look (s .args .depth) in
     let turn = c .before .before .before .before .before .before .before .before .before .before .before .before .before .before .before .before .before .before .before .before .before .before .before .loop .inv .1 in
     let g = rw (c .before .before .before .before .before .before .before .before .before .before .before .before .before .before .before .before .before .one .given .1) at (c .before .before .before .before .before .before .before .before .before .before .before .before .before .before .before .before .before .before .before .before .before .operand .ensures) in
@@ -329,7 +329,7 @@ expression-same-length-2 t c = search needs
 expression-returns-2 : (t : ℕ) → expression-lts.Need-returns-2 (expression-claims t) (expression-at t) expression.Post expression-Inv-loop expression-μ-loop
 expression-returns-2 t c =
     let s = c .before .before .before .before .before .before .before .before .before .before .before .before .before .before .before .before .before .before .before .before .before .before .before .before .before .before .before in
-    let look = lookOf (s .args .known) (now (s .args .list)) in
+    let look = lookOf (s .args .lookup) (now (s .args .list)) in
     let within = readWithin look (s .args .depth) in
     let turn = c .before .before .before .before .before .before .before .before .before .before .before .before .before .before .before .before .before .before .before .before .before .before .before .loop .inv .1 in
     let g = rw (c .before .before .before .before .before .before .before .before .before .before .before .before .before .before .before .before .before .one .given .1) at (c .before .before .before .before .before .before .before .before .before .before .before .before .before .before .before .before .before .before .before .before .before .operand .ensures) in
@@ -340,7 +340,7 @@ expression-returns-2 t c =
 expression-add-ors : (t : ℕ) → expression-lts.Need-add-ors (expression-claims t) (expression-at t) expression.Post expression-Inv-loop expression-μ-loop
 expression-add-ors t c =
     let s = c .before .before .before .before .before .before .before .before .before .before .before .before .before .before .before .before .before .before .before .before .before .before .before .before in
-    let look = lookOf (s .args .known) (now (s .args .list)) in
+    let look = lookOf (s .args .lookup) (now (s .args .list)) in
     let within = readWithin look (s .args .depth) in
     let turn = c .before .before .before .before .before .before .before .before .before .before .before .before .before .before .before .before .before .before .before .before .loop .inv .1 in
     let g = rw (c .before .before .before .before .before .before .before .before .before .before .before .before .before .before .one .given .1) at (c .before .before .before .before .before .before .before .before .before .before .before .before .before .before .before .before .before .before .operand .ensures) in
@@ -358,7 +358,7 @@ expression-loop-again-2 : (t : ℕ) → expression-lts.Need-loop-again-2 (expres
 expression-loop-again-2 t c = (
   search needs,
   let s = c .before .before .before .before .before .before .before .before .before .before .before .before .before .before .before .before .before .before .before .before .before .before .before .before in
-      let look = lookOf (s .args .known) (now (s .args .list)) in
+      let look = lookOf (s .args .lookup) (now (s .args .list)) in
       let within = readWithin look (s .args .depth) in
       let turn = c .before .before .before .before .before .before .before .before .before .before .before .before .before .before .before .before .before .before .before .before .loop .inv .1 in
       let g = rw (c .before .before .before .before .before .before .before .before .before .before .before .before .before .before .one .given .1) at (c .before .before .before .before .before .before .before .before .before .before .before .before .before .before .before .before .before .before .operand .ensures) in
@@ -404,10 +404,10 @@ operand-same-length t c = search needs
 operand-returns : (t : ℕ) → operand-lts.Need-returns (operand-claims t) (operand-at t) operand.Post
 operand-returns t c =
     let s = c .before .before .before .before .before .before .before .before .before .before .before .before in
-    let look = lookOf (s .args .known) (now (s .args .list)) in
+    let look = lookOf (s .args .lookup) (now (s .args .list)) in
     let within = readWithin look (s .args .depth) in
     let n = rw (c .before .before .before .before .before .before .opens .given .1) at (c .before .before .before .before .before .before .before .before .opening .ensures) in
-    passed-on _ _ _ _ _ _ _ _ _ _ _ _ _ _ _ _ _ _ (c .before .before .before .bracketed .result) (c .match2 .keys2) (c .before .before .before .bracketed .ensures) (λ k spot h. not-stuck look within _ (s .args .out .now) _ (s .args .place) _ _ k spot n h)
+    passed-on _ _ _ _ _ _ _ _ _ _ _ _ _ _ _ _ _ _ (c .before .before .before .bracketed .result) (c .match2 .keys2) (c .before .before .before .bracketed .ensures) (λ k place h. not-stuck look within _ (s .args .out .now) _ (s .args .slot) _ _ k place n h)
 
 operand-put-requires : (t : ℕ) → operand-lts.Need-put-requires (operand-claims t) (operand-at t) operand.Post
 operand-put-requires t c κs = search needs
@@ -433,7 +433,7 @@ operand-same-length-2 t c = search needs
 operand-returns-2 : (t : ℕ) → operand-lts.Need-returns-2 (operand-claims t) (operand-at t) operand.Post
 operand-returns-2 t c =
     let s = c .before .before .before .before .before .before .before .before .before .before .before .before .before .before .before .before .before .before in
-    let look = lookOf (s .args .known) (now (s .args .list)) in
+    let look = lookOf (s .args .lookup) (now (s .args .list)) in
     let within = readWithin look (s .args .depth) in
     let n = rw (c .before .before .before .before .before .before .before .before .before .before .before .before .opens .given .1) at (c .before .before .before .before .before .before .before .before .before .before .before .before .before .before .opening .ensures) in
     let g = rw (c .before .before .before .before .before .inner .given .1) at (c .before .before .before .before .before .before .before .before .before .bracketed .ensures) in
@@ -445,7 +445,7 @@ operand-same-length-3 t c = search needs
 operand-returns-3 : (t : ℕ) → operand-lts.Need-returns-3 (operand-claims t) (operand-at t) operand.Post
 operand-returns-3 t c =
     let s = c .before .before .before .before .before .before .before .before .before .before .before in
-    let look = lookOf (s .args .known) (now (s .args .list)) in
+    let look = lookOf (s .args .lookup) (now (s .args .list)) in
     let within = readWithin look (s .args .depth) in
     let o = rw (c .before .before .before .before .before .opens2 .given .1) at (c .before .before .before .before .before .before .before .opening .ensures) in
     round-done look within _ _ _ _ _ _ _ (c .before .before .bracketed2 .result) o (c .before .before .bracketed2 .ensures)
@@ -456,7 +456,7 @@ operand-same-length-4 t c = search needs
 operand-returns-4 : (t : ℕ) → operand-lts.Need-returns-4 (operand-claims t) (operand-at t) operand.Post
 operand-returns-4 t c =
     let s = c .before .before .before .before .before .before .before .before .before .before in
-    let look = lookOf (s .args .known) (now (s .args .list)) in
+    let look = lookOf (s .args .lookup) (now (s .args .list)) in
     let within = readWithin look (s .args .depth) in
     let o = rw (c .before .before .before .before .enum-told .given .1) at (c .before .before .before .before .before .before .opening .ensures) in
     path-done look within _ _ _ _ _ (c .before .before .steps .result) o (c .before .before .steps .ensures)
@@ -468,18 +468,18 @@ predicates-claims t = (
   mark-reads.Learnt,
   bracketed-below t,
   bracketed.Post,
-  step-word-reads.Asked,
-  step-word-reads.Learnt,
+  item-of-step-reads.Asked,
+  item-of-step-reads.Learnt,
   put-reads.Asked,
   put-reads.Learnt,
 )
 
 abbrev predicates-Inv-loop : predicates-lts.InvT-loop
-predicates-Inv-loop text list starts count known depth out₀ place axis test here₀ filled₀ taken₀ out here filled taken =
-    (length out ≡ length out₀) × (PredRow (lookOf known list) (readWithin (lookOf known list) depth) text out₀ out (here₀ .at) place (here .at) filled taken)
+predicates-Inv-loop text list starts count lookup depth out₀ slot axis test here₀ filled₀ taken₀ out here filled taken =
+    (length out ≡ length out₀) × (PredRow (lookOf lookup list) (readWithin (lookOf lookup list) depth) text out₀ out (here₀ .at) slot (here .at) filled taken)
 
 abbrev predicates-μ-loop : predicates-lts.MeasureT-loop
-predicates-μ-loop text list starts count known depth out₀ place axis test here₀ filled₀ taken₀ out here filled taken =
+predicates-μ-loop text list starts count lookup depth out₀ slot axis test here₀ filled₀ taken₀ out here filled taken =
     length text - here .at
 
 predicates-add-filled : (t : ℕ) → predicates-lts.Need-add-filled (predicates-claims t) (predicates-at t) predicates.Post predicates-Inv-loop predicates-μ-loop
@@ -492,8 +492,8 @@ predicates-loop-holds t c =
 predicates-mark-requires : (t : ℕ) → predicates-lts.Need-mark-requires (predicates-claims t) (predicates-at t) predicates.Post predicates-Inv-loop predicates-μ-loop
 predicates-mark-requires t c κs = search needs
 
-predicates-enum-known-ahead : (t : ℕ) → predicates-lts.Need-enum-known-ahead (predicates-claims t) (predicates-at t) predicates.Post predicates-Inv-loop predicates-μ-loop
-predicates-enum-known-ahead t c = search needs
+predicates-enum-known-square : (t : ℕ) → predicates-lts.Need-enum-known-square (predicates-claims t) (predicates-at t) predicates.Post predicates-Inv-loop predicates-μ-loop
+predicates-enum-known-square t c = search needs
 
 predicates-enum-told : (t : ℕ) → predicates-lts.Need-enum-told (predicates-claims t) (predicates-at t) predicates.Post predicates-Inv-loop predicates-μ-loop
 predicates-enum-told t c = search needs
@@ -502,7 +502,7 @@ predicates-bracketed-requires : (t : ℕ) → predicates-lts.Need-bracketed-requ
 predicates-bracketed-requires t c κs =
     let s = c .before .before .before .before .before .before .before .before .before in
     let l = c .before .before .before .before .before .loop .inv .1 in
-    let m = rw (c .before .before .ahead .given .1) at (c .before .before .before .before .mark .ensures) in
+    let m = rw (c .before .before .square .given .1) at (c .before .before .before .before .mark .ensures) in
     (omega (arith, l .onward, m .2 .onward, m .2 .inside, s .pre .0), (record { short = s .pre .1 .0 .short; names = s .pre .1 .0 .names; inside = m .2 .inside; shallow = s .pre .1 .0 .shallow }, (omega (arith, l .grows, m .2 .onward, s .pre .1 .1 .0), search needs)))
 
 predicates-enum-known-one : (t : ℕ) → predicates-lts.Need-enum-known-one (predicates-claims t) (predicates-at t) predicates.Post predicates-Inv-loop predicates-μ-loop
@@ -514,10 +514,10 @@ predicates-same-length t c = search needs
 predicates-returns : (t : ℕ) → predicates-lts.Need-returns (predicates-claims t) (predicates-at t) predicates.Post predicates-Inv-loop predicates-μ-loop
 predicates-returns t c =
     let s = c .before .before .before .before .before .before .before .before .before .before .before .before .before in
-    let look = lookOf (s .args .known) (now (s .args .list)) in
+    let look = lookOf (s .args .lookup) (now (s .args .list)) in
     let within = readWithin look (s .args .depth) in
     let l = c .before .before .before .before .before .before .before .before .before .loop .inv .1 in
-    let m = rw (c .before .before .before .before .before .before .ahead .given .1) at (c .before .before .before .before .before .before .before .before .mark .ensures) in
+    let m = rw (c .before .before .before .before .before .before .square .given .1) at (c .before .before .before .before .before .before .before .before .mark .ensures) in
     λ a t′ ea et. passed-on _ _ _ _ _ _ _ _ _ _ _ _ _ _ _ _ _ _ (c .before .before .before .bracketed .result) (c .match2 .keys2) (c .before .before .before .bracketed .ensures)
     (preds-stuck look within _ _ _ _ _ _ _ _ l _ _ (m .0) (m .1) (m .2) a t′)
 
@@ -527,23 +527,23 @@ predicates-add-taken t c = search needs
 predicates-loop-less : (t : ℕ) → predicates-lts.Need-loop-less (predicates-claims t) (predicates-at t) predicates.Post predicates-Inv-loop predicates-μ-loop
 predicates-loop-less t c =
     let g = rw (c .before .one .given .1) at (c .before .before .before .before .before .bracketed .ensures) in
-    let m = rw (c .before .before .before .before .before .before .before .before .ahead .given .1) at (c .before .before .before .before .before .before .before .before .before .before .mark .ensures) in
+    let m = rw (c .before .before .before .before .before .before .before .before .square .given .1) at (c .before .before .before .before .before .before .before .before .before .before .mark .ensures) in
     omega (arith, m .2 .onward, g .onward, g .inside)
 
 predicates-loop-again : (t : ℕ) → predicates-lts.Need-loop-again (predicates-claims t) (predicates-at t) predicates.Post predicates-Inv-loop predicates-μ-loop
 predicates-loop-again t c = (
   search needs,
   let s = c .before .before .before .before .before .before .before .before .before .before .before .before .before .before .before in
-      let look = lookOf (s .args .known) (now (s .args .list)) in
+      let look = lookOf (s .args .lookup) (now (s .args .list)) in
       let within = readWithin look (s .args .depth) in
       let l = c .before .before .before .before .before .before .before .before .before .before .before .loop .inv .1 in
       let g = rw (c .before .one .given .1) at (c .before .before .before .before .before .bracketed .ensures) in
-      let m = rw (c .before .before .before .before .before .before .before .before .ahead .given .1) at (c .before .before .before .before .before .before .before .before .before .before .mark .ensures) in
+      let m = rw (c .before .before .before .before .before .before .before .before .square .given .1) at (c .before .before .before .before .before .before .before .before .before .before .mark .ensures) in
       preds-more look within _ _ _ _ _ _ _ _ l _ _ (m .0) (m .1) (m .2) _ _ _ g,
 )
 
-predicates-step-word-requires : (t : ℕ) → predicates-lts.Need-step-word-requires (predicates-claims t) (predicates-at t) predicates.Post predicates-Inv-loop predicates-μ-loop
-predicates-step-word-requires t c κs = search needs
+predicates-item-of-step-requires : (t : ℕ) → predicates-lts.Need-item-of-step-requires (predicates-claims t) (predicates-at t) predicates.Post predicates-Inv-loop predicates-μ-loop
+predicates-item-of-step-requires t c κs = search needs
 
 predicates-put-requires : (t : ℕ) → predicates-lts.Need-put-requires (predicates-claims t) (predicates-at t) predicates.Post predicates-Inv-loop predicates-μ-loop
 predicates-put-requires t c κs = search needs
@@ -554,19 +554,19 @@ predicates-same-length-2 t c = search needs
 predicates-returns-2 : (t : ℕ) → predicates-lts.Need-returns-2 (predicates-claims t) (predicates-at t) predicates.Post predicates-Inv-loop predicates-μ-loop
 predicates-returns-2 t c =
     let s = c .before .before .before .before .before .before .before .before .before .before .before .before in
-    let look = lookOf (s .args .known) (now (s .args .list)) in
+    let look = lookOf (s .args .lookup) (now (s .args .list)) in
     let within = readWithin look (s .args .depth) in
     let l = c .before .before .before .before .before .before .before .before .loop .inv .1 in
     let m = rw (c .before .before .before .before .before .enum-told .given .1) at (c .before .before .before .before .before .before .before .mark .ensures) in
-    λ a t′ ea et. preds-done look within _ _ _ _ _ _ _ _ l _ _ _ _ a t′ ea et (m .0) (c .before .before .before .step-word .ensures) (c .before .before .put .ensures)
+    λ a t′ ea et. preds-done look within _ _ _ _ _ _ _ _ l _ _ _ _ a t′ ea et (m .0) (c .before .before .before .item-of-step .ensures) (c .before .before .put .ensures)
 
 -- What `step` knows of the functions it calls.
 abbrev step-claims : ℕ → step-lts.Claims
 step-claims t = (
   step-head-reads.Asked,
   step-head-reads.Learnt,
-  step-word-reads.Asked,
-  step-word-reads.Learnt,
+  item-of-step-reads.Asked,
+  item-of-step-reads.Learnt,
   put-reads.Asked,
   put-reads.Learnt,
   predicates-below t,
@@ -579,8 +579,8 @@ step-step-head-requires t c κs = search needs
 step-enum-known-head : (t : ℕ) → step-lts.Need-enum-known-head (step-claims t) (step-at t) step.Post
 step-enum-known-head t c = search needs
 
-step-step-word-requires : (t : ℕ) → step-lts.Need-step-word-requires (step-claims t) (step-at t) step.Post
-step-step-word-requires t c κs =
+step-item-of-step-requires : (t : ℕ) → step-lts.Need-item-of-step-requires (step-claims t) (step-at t) step.Post
+step-item-of-step-requires t c κs =
     let h = rw (c .before .before .head .given .1) at (c .before .before .before .before .step-head .ensures) in
     (axis-small (h .way) _ (h .number), search needs)
 
@@ -611,10 +611,10 @@ step-same-length t c = search needs
 step-returns : (t : ℕ) → step-lts.Need-returns (step-claims t) (step-at t) step.Post
 step-returns t c =
     let s = c .before .before .before .before .before .before .before .before .before .before .before .before in
-    let look = lookOf (s .args .known) (now (s .args .list)) in
+    let look = lookOf (s .args .lookup) (now (s .args .list)) in
     let within = readWithin look (s .args .depth) in
     let h = rw (c .before .before .before .before .before .before .head .given .1) at (c .before .before .before .before .before .before .before .before .step-head .ensures) in
-    plain-done look within _ _ _ _ _ _ _ _ h (c .before .before .before .step-word .ensures) (c .before .before .put .ensures)
+    plain-done look within _ _ _ _ _ _ _ _ h (c .before .before .before .item-of-step .ensures) (c .before .before .put .ensures)
 
 step-same-length-2 : (t : ℕ) → step-lts.Need-same-length-2 (step-claims t) (step-at t) step.Post
 step-same-length-2 t c = search needs
@@ -622,7 +622,7 @@ step-same-length-2 t c = search needs
 step-returns-2 : (t : ℕ) → step-lts.Need-returns-2 (step-claims t) (step-at t) step.Post
 step-returns-2 t c =
     let s = c .before .before .before .before .before .before .before .before .before .before .before in
-    let look = lookOf (s .args .known) (now (s .args .list)) in
+    let look = lookOf (s .args .lookup) (now (s .args .list)) in
     let within = readWithin look (s .args .depth) in
     let h = rw (c .before .before .before .before .before .head2 .given .1) at (c .before .before .before .before .before .before .before .step-head .ensures) in
     tested-done look within _ _ _ _ _ _ _ _ (c .before .before .predicates .result) h (c .before .before .predicates .ensures (h .way) (h .kind) (h .number) (h .tested))
@@ -630,14 +630,14 @@ step-returns-2 t c =
 step-returns-3 : (t : ℕ) → step-lts.Need-returns-3 (step-claims t) (step-at t) step.Post
 step-returns-3 t c =
     let s = c .before .before .before .before .before .before .before in
-    let look = lookOf (s .args .known) (now (s .args .list)) in
+    let look = lookOf (s .args .lookup) (now (s .args .list)) in
     let within = readWithin look (s .args .depth) in
     (rw (c .before .head3 .given .1) at (c .before .before .before .step-head .ensures)) within
 
 step-returns-4 : (t : ℕ) → step-lts.Need-returns-4 (step-claims t) (step-at t) step.Post
 step-returns-4 t c =
     let s = c .before .before .before .before .before .before .before in
-    let look = lookOf (s .args .known) (now (s .args .list)) in
+    let look = lookOf (s .args .lookup) (now (s .args .list)) in
     let within = readWithin look (s .args .depth) in
     (rw (c .before .head4 .given .1) at (c .before .before .before .step-head .ensures)) within
 
@@ -650,18 +650,18 @@ steps-claims t = (
   step.Post,
   joined-reads.Asked,
   joined-reads.Learnt,
-  path-word-reads.Asked,
-  path-word-reads.Learnt,
+  item-of-path-reads.Asked,
+  item-of-path-reads.Learnt,
   put-reads.Asked,
   put-reads.Learnt,
 )
 
 abbrev steps-Inv-loop : steps-lts.InvT-loop
-steps-Inv-loop text list starts count known depth out₀ place deep here₀ filled₀ lead₀ taken₀ out here filled lead taken =
-    (length out ≡ length out₀) × (StepRow (lookOf known list) (readWithin (lookOf known list) depth) text out₀ out (here₀ .at) place (then (readSteps (lookOf known list) (readWithin (lookOf known list) depth) (length (tokensAt text (here₀ .at))) (tokensAt text (here₀ .at))) (λ s. got (deepIf deep s))) (here .at) filled lead taken)
+steps-Inv-loop text list starts count lookup depth out₀ slot deep here₀ filled₀ lead₀ taken₀ out here filled lead taken =
+    (length out ≡ length out₀) × (StepRow (lookOf lookup list) (readWithin (lookOf lookup list) depth) text out₀ out (here₀ .at) slot (then (readSteps (lookOf lookup list) (readWithin (lookOf lookup list) depth) (length (tokensAt text (here₀ .at))) (tokensAt text (here₀ .at))) (λ s. got (deepIf deep s))) (here .at) filled lead taken)
 
 abbrev steps-μ-loop : steps-lts.MeasureT-loop
-steps-μ-loop text list starts count known depth out₀ place deep here₀ filled₀ lead₀ taken₀ out here filled lead taken =
+steps-μ-loop text list starts count lookup depth out₀ slot deep here₀ filled₀ lead₀ taken₀ out here filled lead taken =
     length text - here .at
 
 steps-add-filled : (t : ℕ) → steps-lts.Need-add-filled (steps-claims t) (steps-at t) steps.Post steps-Inv-loop steps-μ-loop
@@ -689,7 +689,7 @@ steps-same-length t c = search needs
 steps-returns : (t : ℕ) → steps-lts.Need-returns (steps-claims t) (steps-at t) steps.Post steps-Inv-loop steps-μ-loop
 steps-returns t c =
     let s = c .before .before .before .before .before .before .before .before .before .before .before .before .before in
-    let look = lookOf (s .args .known) (now (s .args .list)) in
+    let look = lookOf (s .args .lookup) (now (s .args .list)) in
     let within = readWithin look (s .args .depth) in
     let l = c .before .before .before .before .before .before .before .before .before .loop .inv .1 in
     passed-on _ _ _ _ _ _ _ _ _ _ _ _ _ _ _ _ _ _ (c .before .before .before .step .result) (c .match .keys2) (c .before .before .before .step .ensures) (step-stuck look within _ _ _ _ _ _ _ _ _ _ l)
@@ -720,7 +720,7 @@ steps-loop-again : (t : ℕ) → steps-lts.Need-loop-again (steps-claims t) (ste
 steps-loop-again t c = (
   search needs,
   let s = c .before .before .before .before .before .before .before .before .before .before .before .before .before .before .before .before .before .before .before in
-      let look = lookOf (s .args .known) (now (s .args .list)) in
+      let look = lookOf (s .args .lookup) (now (s .args .list)) in
       let within = readWithin look (s .args .depth) in
       let g = rw (c .before .before .before .before .before .one .given .1) at (c .before .before .before .before .before .before .before .before .before .step .ensures) in
       let l = step-more look within _ _ _ _ _ _ _ _ _ _ (c .before .before .before .before .before .before .before .before .before .before .before .before .before .before .before .loop .inv .1) _ _ _ _ _ (c .before .before .before .before .before .before .before .before .before .before .before .before .before .put-deep .ensures .0) (c .before .before .before .before .before .before .before .before .before .before .before .before .before .put-deep .ensures .1) g in
@@ -730,8 +730,8 @@ steps-loop-again t c = (
 steps-enum-told : (t : ℕ) → steps-lts.Need-enum-told (steps-claims t) (steps-at t) steps.Post steps-Inv-loop steps-μ-loop
 steps-enum-told t c = search needs
 
-steps-path-word-requires : (t : ℕ) → steps-lts.Need-path-word-requires (steps-claims t) (steps-at t) steps.Post steps-Inv-loop steps-μ-loop
-steps-path-word-requires t c κs = search needs
+steps-item-of-path-requires : (t : ℕ) → steps-lts.Need-item-of-path-requires (steps-claims t) (steps-at t) steps.Post steps-Inv-loop steps-μ-loop
+steps-item-of-path-requires t c κs = search needs
 
 steps-put-requires : (t : ℕ) → steps-lts.Need-put-requires (steps-claims t) (steps-at t) steps.Post steps-Inv-loop steps-μ-loop
 steps-put-requires t c κs = search needs
@@ -742,11 +742,11 @@ steps-same-length-2 t c = search needs
 steps-returns-2 : (t : ℕ) → steps-lts.Need-returns-2 (steps-claims t) (steps-at t) steps.Post steps-Inv-loop steps-μ-loop
 steps-returns-2 t c =
     let s = c .before .before .before .before .before .before .before .before .before .before .before .before .before .before .before .before .before .before .before .before .before .before .before in
-    let look = lookOf (s .args .known) (now (s .args .list)) in
+    let look = lookOf (s .args .lookup) (now (s .args .list)) in
     let within = readWithin look (s .args .depth) in
     let g = rw (c .before .before .before .before .before .before .before .before .before .one .given .1) at (c .before .before .before .before .before .before .before .before .before .before .before .before .before .step .ensures) in
     let l = step-more look within _ _ _ _ _ _ _ _ _ _ (c .before .before .before .before .before .before .before .before .before .before .before .before .before .before .before .before .before .before .before .loop .inv .1) _ _ _ _ _ (c .before .before .before .before .before .before .before .before .before .before .before .before .before .before .before .before .before .put-deep .ensures .0) (c .before .before .before .before .before .before .before .before .before .before .before .before .before .before .before .before .before .put-deep .ensures .1) g in
-    steps-done look within _ _ _ _ _ _ _ _ _ l _ _ _ (rw (c .before .before .before .before .before .enum-told .given .1) at (c .before .before .before .before .before .before .before .joined .ensures)) (c .before .before .before .path-word .ensures) (c .before .before .put .ensures)
+    steps-done look within _ _ _ _ _ _ _ _ _ l _ _ _ (rw (c .before .before .before .before .before .enum-told .given .1) at (c .before .before .before .before .before .before .before .joined .ensures)) (c .before .before .before .item-of-path .ensures) (c .before .before .put .ensures)
 
 pub +bracketed+expression+operand+predicates+step+steps-spec : {M : Type 1} → statement M
 +bracketed+expression+operand+predicates+step+steps-spec =
@@ -825,7 +825,7 @@ pub +bracketed+expression+operand+predicates+step+steps-spec : {M : Type 1} → 
     (predicates-add-filled t)
     (predicates-loop-holds t)
     (predicates-mark-requires t)
-    (predicates-enum-known-ahead t)
+    (predicates-enum-known-square t)
     (predicates-enum-told t)
     (predicates-bracketed-requires t)
     (predicates-enum-known-one t)
@@ -834,7 +834,7 @@ pub +bracketed+expression+operand+predicates+step+steps-spec : {M : Type 1} → 
     (predicates-add-taken t)
     (predicates-loop-less t)
     (predicates-loop-again t)
-    (predicates-step-word-requires t)
+    (predicates-item-of-step-requires t)
     (predicates-put-requires t)
     (predicates-same-length-2 t)
     (predicates-returns-2 t))
@@ -843,7 +843,7 @@ pub +bracketed+expression+operand+predicates+step+steps-spec : {M : Type 1} → 
     step.Post
     (step-step-head-requires t)
     (step-enum-known-head t)
-    (step-step-word-requires t)
+    (step-item-of-step-requires t)
     (step-put-requires t)
     (step-add-t23 t)
     (step-enum-known-head-2 t)
@@ -876,7 +876,7 @@ pub +bracketed+expression+operand+predicates+step+steps-spec : {M : Type 1} → 
     (steps-loop-less t)
     (steps-loop-again t)
     (steps-enum-told t)
-    (steps-path-word-requires t)
+    (steps-item-of-path-requires t)
     (steps-put-requires t)
     (steps-same-length-2 t)
     (steps-returns-2 t)

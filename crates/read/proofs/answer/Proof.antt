@@ -23,20 +23,20 @@ measure-requires c κs = search needs
 enum-told : tie.Need-enum-told
 enum-told c = search needs
 
-refusal-requires : tie.Need-refusal-requires
-refusal-requires c κs = search needs
+answer-of-requires : tie.Need-answer-of-requires
+answer-of-requires c κs = search needs
 
 same-length : tie.Need-same-length
 same-length c = search needs
 
 returns : tie.Need-returns
 returns c = (
-  refused-told _ (c .before .before .measure .result) _ _ (c .before .match2 .keys2) (c .before .before .measure .ensures) (c .refusal .ensures),
-  λ n e. refused-value (c .before .before .measure .result) _ (c .before .match2 .keys2) (c .refusal .ensures) n e,
+  refused-told _ (c .before .before .measure .result) _ _ (c .before .match2 .keys2) (c .before .before .measure .ensures) (c .answer-of .ensures),
+  λ n e. refused-value (c .before .before .measure .result) _ (c .before .match2 .keys2) (c .answer-of .ensures) n e,
 )
 
-refusal-requires-2 : tie.Need-refusal-requires-2
-refusal-requires-2 c κs = search needs
+answer-of-requires-2 : tie.Need-answer-of-requires-2
+answer-of-requires-2 c κs = search needs
 
 same-length-2 : tie.Need-same-length-2
 same-length-2 c = search needs
@@ -44,9 +44,9 @@ same-length-2 c = search needs
 returns-2 : tie.Need-returns-2
 returns-2 c =
     let first = c .before .before .before .before .before .before .before .paths in (
-      refused-told _ (first .result) _ _ (c .before .before .before .before .match .keys2) (measured _ _ _ (first .result) (first .ensures)) (c .refusal2 .ensures) ∙
+      refused-told _ (first .result) _ _ (c .before .before .before .before .match .keys2) (measured _ _ _ (first .result) (first .ensures)) (c .answer-of2 .ensures) ∙
           goes-later _ _ _ (rw (c .before .enum-told .given .1) at (c .before .before .before .measure .ensures)),
-      λ n e. refused-value (first .result) _ (c .before .before .before .before .match .keys2) (c .refusal2 .ensures) n e,
+      λ n e. refused-value (first .result) _ (c .before .before .before .before .match .keys2) (c .answer-of2 .ensures) n e,
     )
 
 -- The text was read with the list's names.
@@ -89,10 +89,10 @@ answer-spec =
     enum-known-whole
     measure-requires
     enum-told
-    refusal-requires
+    answer-of-requires
     same-length
     returns
-    refusal-requires-2
+    answer-of-requires-2
     same-length-2
     returns-2
     same-length-3

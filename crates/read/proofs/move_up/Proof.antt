@@ -9,10 +9,10 @@ use Rattle.read.proofs.move_up.Statement.{statement}
 use Rattle.read.proofs.move_up.Tie as tie
 
 abbrev Inv-loop : tie.InvT-loop
-Inv-loop out₀ place end count i₀ out i = (Moving out₀ out place end count i) × (place ≤ i) × (i ≤ end) × (length out ≡ length out₀)
+Inv-loop out₀ slot end count i₀ out i = (Moving out₀ out slot end count i) × (slot ≤ i) × (i ≤ end) × (length out ≡ length out₀)
 
 abbrev μ-loop : tie.MeasureT-loop
-μ-loop out₀ place end count i₀ out i = i - place
+μ-loop out₀ slot end count i₀ out i = i - slot
 
 loop-holds : tie.Need-loop-holds Inv-loop μ-loop
 loop-holds c = (moving-starts _ _ _ _, omega arith, omega arith, refl)

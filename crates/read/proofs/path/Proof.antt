@@ -42,7 +42,7 @@ same-length c = search needs
 returns : tie.Need-returns
 returns c =
     let s = c .before .before .before .before .before .before .before .before .before .before .before .before in
-    path-alone (lookOf (s .args .known) (now (s .args .list))) (readWithin (lookOf (s .args .known) (now (s .args .list))) bracketLimit) _ _ _ _ _ _ (c .before .before .before .before .before .before .lead .given .0 .0) (rw (c .before .before .before .before .before .before .lead .given .1) at (c .before .before .before .before .before .before .before .before .path-lead .ensures)) (c .before .before .before .pack-path .ensures) (c .before .before .put .ensures)
+    path-alone (lookOf (s .args .lookup) (now (s .args .list))) (readWithin (lookOf (s .args .lookup) (now (s .args .list))) bracketLimit) _ _ _ _ _ _ (c .before .before .before .before .before .before .lead .given .0 .0) (rw (c .before .before .before .before .before .before .lead .given .1) at (c .before .before .before .before .before .before .before .before .path-lead .ensures)) (c .before .before .before .pack-path .ensures) (c .before .before .put .ensures)
 
 same-length-2 : tie.Need-same-length-2
 same-length-2 c = search needs
@@ -50,12 +50,12 @@ same-length-2 c = search needs
 returns-2 : tie.Need-returns-2
 returns-2 c =
     let s = c .before .before .before .before .before .before .before .before .before .before .before in
-    path-before (lookOf (s .args .known) (now (s .args .list))) (readWithin (lookOf (s .args .known) (now (s .args .list))) bracketLimit) _ _ _ _ _ (c .before .before .before .before .before .lead2 .given .0 .0) (c .before .before .before .before .before .lead2 .given .0 .1 .0) (c .before .before .steps .result) (rw (c .before .before .before .before .before .lead2 .given .1) at (c .before .before .before .before .before .before .before .path-lead .ensures)) (c .before .before .steps .ensures)
+    path-before (lookOf (s .args .lookup) (now (s .args .list))) (readWithin (lookOf (s .args .lookup) (now (s .args .list))) bracketLimit) _ _ _ _ _ (c .before .before .before .before .before .lead2 .given .0 .0) (c .before .before .before .before .before .lead2 .given .0 .1 .0) (c .before .before .steps .result) (rw (c .before .before .before .before .before .lead2 .given .1) at (c .before .before .before .before .before .before .before .path-lead .ensures)) (c .before .before .steps .ensures)
 
 returns-3 : tie.Need-returns-3
 returns-3 c =
     let s = c .before .before .before .before .before .before .before in
-    path-none (lookOf (s .args .known) (now (s .args .list))) (readWithin (lookOf (s .args .known) (now (s .args .list))) bracketLimit) _ (s .args .out .now) (s .args .out .now) _ (s .args .place) _ (rw (c .before .lead3 .given .1) at (c .before .before .before .path-lead .ensures))
+    path-none (lookOf (s .args .lookup) (now (s .args .list))) (readWithin (lookOf (s .args .lookup) (now (s .args .list))) bracketLimit) _ (s .args .out .now) (s .args .out .now) _ (s .args .slot) _ (rw (c .before .lead3 .given .1) at (c .before .before .before .path-lead .ensures))
 
 pub path-spec : {M : Type 1} → statement M
 path-spec =

@@ -13,11 +13,11 @@ use Rattle.read.proofs.paths.Statement.{statement}
 use Rattle.read.proofs.paths.Tie as tie
 
 abbrev Inv-loop : tie.InvT-loop
-Inv-loop text list starts count known out₀ here₀ filled₀ out here filled =
-    (length out ≡ length out₀) × (PathRow (lookOf known list) (readWithin (lookOf known list) bracketLimit) text out₀ out (readText (lookOf known list) text) (here .at) filled)
+Inv-loop text list starts count lookup out₀ here₀ filled₀ out here filled =
+    (length out ≡ length out₀) × (PathRow (lookOf lookup list) (readWithin (lookOf lookup list) bracketLimit) text out₀ out (readText (lookOf lookup list) text) (here .at) filled)
 
 abbrev μ-loop : tie.MeasureT-loop
-μ-loop text list starts count known out₀ here₀ filled₀ out here filled = length text - here .at
+μ-loop text list starts count lookup out₀ here₀ filled₀ out here filled = length text - here .at
 
 loop-holds : tie.Need-loop-holds Inv-loop μ-loop
 loop-holds c = (refl, paths-start _ _ _)
@@ -37,7 +37,7 @@ same-length c = search needs
 returns : tie.Need-returns Inv-loop μ-loop
 returns c =
     let s = c .before .before .before .before .before .before .before .before .before in
-    all-refused _ _ _ _ _ _ _ _ _ _ _ _ (c .before .before .before .path .result) (c .match .keys2) (c .before .before .before .path .ensures) (paths-stuck (lookOf (s .args .known) (now (s .args .list))) (readWithin (lookOf (s .args .known) (now (s .args .list))) bracketLimit) _ _ _ _ _ _ (c .before .before .before .before .before .loop .inv .1))
+    all-refused _ _ _ _ _ _ _ _ _ _ _ _ (c .before .before .before .path .result) (c .match .keys2) (c .before .before .before .path .ensures) (paths-stuck (lookOf (s .args .lookup) (now (s .args .list))) (readWithin (lookOf (s .args .lookup) (now (s .args .list))) bracketLimit) _ _ _ _ _ _ (c .before .before .before .before .before .loop .inv .1))
 
 mark-requires : tie.Need-mark-requires Inv-loop μ-loop
 mark-requires c κs = ((rw (c .before .one .given .1) at (c .before .before .before .before .before .path .ensures)) .inside, search needs)
@@ -57,7 +57,7 @@ loop-again c = (
   let s = c .before .before .before .before .before .before .before .before .before .before .before .before .before .before .before in
       let g = rw (c .before .before .before .before .before .one .given .1) at (c .before .before .before .before .before .before .before .before .before .path .ensures) in
       let m = rw (c .before .bar .given .1) at (c .before .before .before .mark .ensures) in
-      paths-more (lookOf (s .args .known) (now (s .args .list))) (readWithin (lookOf (s .args .known) (now (s .args .list))) bracketLimit) _ _ _ _ _ _ (c .before .before .before .before .before .before .before .before .before .before .before .loop .inv .1) _ _ _ g _ (m .0) (m .2),
+      paths-more (lookOf (s .args .lookup) (now (s .args .list))) (readWithin (lookOf (s .args .lookup) (now (s .args .list))) bracketLimit) _ _ _ _ _ _ (c .before .before .before .before .before .before .before .before .before .before .before .loop .inv .1) _ _ _ g _ (m .0) (m .2),
 )
 
 enum-told : tie.Need-enum-told Inv-loop μ-loop
@@ -74,7 +74,7 @@ returns-2 c =
     let s = c .before .before .before .before .before .before .before .before .before .before .before .before .before .before .before in
     let g = rw (c .before .before .before .before .before .one .given .1) at (c .before .before .before .before .before .before .before .before .before .path .ensures) in
     let m = rw (c .before .enum-told .given .1) at (c .before .before .before .mark .ensures) in
-    paths-done (lookOf (s .args .known) (now (s .args .list))) (readWithin (lookOf (s .args .known) (now (s .args .list))) bracketLimit) _ _ _ _ _ _ (c .before .before .before .before .before .before .before .before .before .before .before .loop .inv .1) _ _ _ g (c .finished .result) (m .0) (c .finished .ensures)
+    paths-done (lookOf (s .args .lookup) (now (s .args .list))) (readWithin (lookOf (s .args .lookup) (now (s .args .list))) bracketLimit) _ _ _ _ _ _ (c .before .before .before .before .before .before .before .before .before .before .before .loop .inv .1) _ _ _ g (c .finished .result) (m .0) (c .finished .ensures)
 
 pub paths-spec : {M : Type 1} → statement M
 paths-spec =

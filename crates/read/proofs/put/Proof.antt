@@ -1,4 +1,4 @@
--- `read::put` meets its contract: the item stands at its place if there is one. Assumes nothing.
+-- `read::put` meets its contract: the item stands at its slot if there is one. Assumes nothing.
 use Rattle.read.proofs.Writing.{put-there, put-past}
 use mathlib.Core.Path.{refl}
 use borrow.Author.Needs.{needs}

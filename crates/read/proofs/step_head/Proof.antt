@@ -38,11 +38,11 @@ enum-told-2 c = search needs
 axis-ahead-requires : tie.Need-axis-ahead-requires
 axis-ahead-requires c κs = search needs
 
-enum-known-ahead : tie.Need-enum-known-ahead
-enum-known-ahead c = search needs
+enum-known-leading : tie.Need-enum-known-leading
+enum-known-leading c = search needs
 
 tested-requires : tie.Need-tested-requires
-tested-requires c κs = (c .before .before .before .before .before .before .before .before .before .before .before .before .pre .0, (rw (c .before .ahead .given .1) at (c .before .before .before .axis-ahead .ensures)) .inside)
+tested-requires c κs = (c .before .before .before .before .before .before .before .before .before .before .before .before .pre .0, (rw (c .before .leading .given .1) at (c .before .before .before .axis-ahead .ensures)) .inside)
 
 enum-told-3 : tie.Need-enum-told-3
 enum-told-3 c = search needs
@@ -54,7 +54,7 @@ returns-3 : tie.Need-returns-3
 returns-3 c =
     let d = rw (c .before .before .before .before .before .before .before .before .enum-told .given .1) at (c .before .before .before .before .before .before .before .before .before .before .mark .ensures) in
     let s = rw (c .before .before .before .before .before .enum-told2 .given .1) at (c .before .before .before .before .before .before .before .mark2 .ensures) in
-    let w = rw (c .before .before .ahead .given .1) at (c .before .before .before .before .axis-ahead .ensures) in
+    let w = rw (c .before .before .leading .given .1) at (c .before .before .before .before .axis-ahead .ensures) in
     head-axis _ _ _ (d .0) (s .0) (c .tested .result) _ _ w (c .tested .ensures (w .way) (w .number))
 
 returns-4 : tie.Need-returns-4
@@ -76,7 +76,7 @@ step-head-spec =
     returns-2
     enum-told-2
     axis-ahead-requires
-    enum-known-ahead
+    enum-known-leading
     tested-requires
     enum-told-3
     tested-requires-2

@@ -2,6 +2,7 @@
 use mathlib.Core.Path.{_≡_, sym, _∙_, ap}
 use lib.ListN.{replicate}
 use denote.Ref.{now}
+use Rattle.paper.specs.Limits.{itemLimit}
 use Rattle.paper.specs.Items.{decode}
 use Rattle.paper.specs.Answers.{value, composeAnswer, composedGot}
 use Rattle.paper.specs.Told.{told}
@@ -39,15 +40,15 @@ returns c =
 -- The queries are composed, and the composition stands at the start of the room.
 says : (c : tie.After-known-told) →
     let start = c .before .before .before .before .before .before .before .before .before .before in
-    value (c .before .answer .given .0 .0) ≡ composeAnswer (now (start .args .outer)) (now (start .args .inner)) 4096
+    value (c .before .answer .given .0 .0) ≡ composeAnswer (now (start .args .outer)) (now (start .args .inner)) itemLimit
 says c = ap told (sym (c .before .answer .given .1)) ∙ c .before .before .before .before .compose .ensures .0
 
 gives : (c : tie.After-known-told) →
     let start = c .before .before .before .before .before .before .before .before .before .before in
-    Gives (composedGot (decode (now (start .args .outer))) (decode (now (start .args .inner)))) (c .before .answer .given .0 .0) 4096 (c .before .before .before .before .compose .last .1 .1 .0)
+    Gives (composedGot (decode (now (start .args .outer))) (decode (now (start .args .inner)))) (c .before .answer .given .0 .0) itemLimit (c .before .before .before .before .compose .last .1 .1 .0)
 gives c =
     let start = c .before .before .before .before .before .before .before .before .before .before in
-    compose-gives (c .before .answer .given .0 .0) (replicate 4096 0) _ (now (start .args .outer)) (now (start .args .inner)) (says c) (c .before .before .before .before .compose .ensures .1)
+    compose-gives (c .before .answer .given .0 .0) (replicate itemLimit 0) _ (now (start .args .outer)) (now (start .args .inner)) (says c) (c .before .before .before .before .compose .ensures .1)
 
 array-share-prefix-room : tie.Need-array-share-prefix-room
 array-share-prefix-room c = gives c .inside

@@ -3,6 +3,7 @@ use native.Mathlib.Omega.{arith}
 use mathlib.Core.Path.{_≡_, sym, _∙_, ap}
 use lib.ListN.{replicate}
 use denote.Ref.{now}
+use Rattle.paper.specs.Limits.{textLimit}
 use Rattle.paper.specs.Names.{namesOf}
 use Rattle.paper.specs.Items.{decode}
 use Rattle.paper.specs.Answers.{value, printAnswer, textGot}
@@ -41,15 +42,15 @@ returns c =
 -- The query is printed, and its text stands at the start of the room.
 says : (c : tie.After-known-told) →
     let start = c .before .before .before .before .before .before .before .before .before in
-    value (c .before .answer .given .0 .0) ≡ printAnswer (now (start .args .query)) (now (start .args .list)) 32768
+    value (c .before .answer .given .0 .0) ≡ printAnswer (now (start .args .query)) (now (start .args .list)) textLimit
 says c = ap told (sym (c .before .answer .given .1)) ∙ c .before .before .before .before .print .ensures .0
 
 gives : (c : tie.After-known-told) →
     let start = c .before .before .before .before .before .before .before .before .before in
-    Gives (textGot (namesOf (now (start .args .list))) (decode (now (start .args .query)))) (c .before .answer .given .0 .0) 32768 (c .before .before .before .before .print .last .1 .1 .0)
+    Gives (textGot (namesOf (now (start .args .list))) (decode (now (start .args .query)))) (c .before .answer .given .0 .0) textLimit (c .before .before .before .before .print .last .1 .1 .0)
 gives c =
     let start = c .before .before .before .before .before .before .before .before .before in
-    print-gives (c .before .answer .given .0 .0) (replicate 32768 0) _ (now (start .args .query)) (now (start .args .list)) (says c) (c .before .before .before .before .print .ensures .1)
+    print-gives (c .before .answer .given .0 .0) (replicate textLimit 0) _ (now (start .args .query)) (now (start .args .list)) (says c) (c .before .before .before .before .print .ensures .1)
 
 array-share-prefix-text : tie.Need-array-share-prefix-text
 array-share-prefix-text c = gives (c .before) .inside

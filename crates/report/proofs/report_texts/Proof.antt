@@ -2,6 +2,7 @@
 use mathlib.Core.Path.{_≡_, sym, _∙_, ap}
 use lib.ListN.{replicate}
 use denote.Ref.{now}
+use Rattle.paper.specs.Limits.{itemLimit}
 use Rattle.paper.specs.Answers.{value, readAnswer, readItems}
 use Rattle.paper.specs.Told.{told}
 use Rattle.paper.specs.Program.{textsPrint}
@@ -38,28 +39,28 @@ returns c =
 -- The outer text is read, and its query stands at the start of its room.
 outer-says : (c : tie.After-known-told) →
     let start = c .before .before .before .before .before .before .before .before .before .before in
-    value (c .before .outer-answer .given .0 .0) ≡ readAnswer (now (start .args .outer)) (now (start .args .list)) 4096
+    value (c .before .outer-answer .given .0 .0) ≡ readAnswer (now (start .args .outer)) (now (start .args .list)) itemLimit
 outer-says c = ap told (sym (c .before .outer-answer .given .1)) ∙ c .before .before .before .before .read .ensures .0
 
 outer-gives : (c : tie.After-known-told) →
     let start = c .before .before .before .before .before .before .before .before .before .before in
-    Gives (readItems (now (start .args .outer)) (now (start .args .list))) (c .before .outer-answer .given .0 .0) 4096 (c .before .before .before .before .read .last .1 .1 .0)
+    Gives (readItems (now (start .args .outer)) (now (start .args .list))) (c .before .outer-answer .given .0 .0) itemLimit (c .before .before .before .before .read .last .1 .1 .0)
 outer-gives c =
     let start = c .before .before .before .before .before .before .before .before .before .before in
-    read-gives (c .before .outer-answer .given .0 .0) (replicate 4096 0) _ (now (start .args .outer)) (now (start .args .list)) (outer-says c) (c .before .before .before .before .read .ensures .1)
+    read-gives (c .before .outer-answer .given .0 .0) (replicate itemLimit 0) _ (now (start .args .outer)) (now (start .args .list)) (outer-says c) (c .before .before .before .before .read .ensures .1)
 
 -- The inner text is read, and its query stands at the start of its room.
 inner-says : (c : tie.After-known-told2) →
     let start = c .before .before .before .before .before .before .before .before .before .before .before .before .before .before .before .before in
-    value (c .before .inner-answer .given .0 .0) ≡ readAnswer (now (start .args .inner)) (now (start .args .list)) 4096
+    value (c .before .inner-answer .given .0 .0) ≡ readAnswer (now (start .args .inner)) (now (start .args .list)) itemLimit
 inner-says c = ap told (sym (c .before .inner-answer .given .1)) ∙ c .before .before .before .before .read2 .ensures .0
 
 inner-gives : (c : tie.After-known-told2) →
     let start = c .before .before .before .before .before .before .before .before .before .before .before .before .before .before .before .before in
-    Gives (readItems (now (start .args .inner)) (now (start .args .list))) (c .before .inner-answer .given .0 .0) 4096 (c .before .before .before .before .read2 .last .1 .1 .0)
+    Gives (readItems (now (start .args .inner)) (now (start .args .list))) (c .before .inner-answer .given .0 .0) itemLimit (c .before .before .before .before .read2 .last .1 .1 .0)
 inner-gives c =
     let start = c .before .before .before .before .before .before .before .before .before .before .before .before .before .before .before .before in
-    read-gives (c .before .inner-answer .given .0 .0) (replicate 4096 0) _ (now (start .args .inner)) (now (start .args .list)) (inner-says c) (c .before .before .before .before .read2 .ensures .1)
+    read-gives (c .before .inner-answer .given .0 .0) (replicate itemLimit 0) _ (now (start .args .inner)) (now (start .args .list)) (inner-says c) (c .before .before .before .before .read2 .ensures .1)
 
 slice-aggregate-read-2 : tie.Need-slice-aggregate-read-2
 slice-aggregate-read-2 c = search needs

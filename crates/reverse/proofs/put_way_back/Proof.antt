@@ -7,7 +7,7 @@ use denote.Ref.{now}
 use lib.ListN.{length, length-set}
 use Rattle.paper.specs.Items.{encodeExpr}
 use Rattle.paper.specs.Composition.{turned, atRoot}
-use Rattle.paper.proofs.Fields.{axis-small}
+use Rattle.paper.proofs.Axes.{axis-small}
 use Rattle.item.proofs.Placing.{same-size}
 use Rattle.reverse.proofs.WayBack.{TurnedTo, turned-start, turned-more, turned-done, part-size}
 use Rattle.reverse.proofs.put_way_back.Statement.{statement}

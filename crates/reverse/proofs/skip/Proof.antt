@@ -1,4 +1,5 @@
 -- `reverse::skip` meets its contract. The invariant: what was passed and what is left make up what is owed in all. The measure is what is left of the items. Assumes nothing.
+use Rattle.paper.specs.Items.{countLimit}
 use borrow.Author.Needs.{needs}
 use Prim.Native.Nat.{_+_, _*_, _-_, _≤_}
 use native.Mathlib.Omega.{arith}
@@ -11,7 +12,7 @@ use Rattle.reverse.proofs.skip.Statement.{statement}
 use Rattle.reverse.proofs.skip.Tie as tie
 
 abbrev Inv-loop : tie.InvT-loop
-Inv-loop items at count place₀ owed₀ place owed = (at ≤ place) × (place ≤ length items) × (place + eaten (drop place items) owed ≡ at + eaten (drop at items) count) × (owed ≤ 8191 + 8191 * (place - at))
+Inv-loop items at count place₀ owed₀ place owed = (at ≤ place) × (place ≤ length items) × (place + eaten (drop place items) owed ≡ at + eaten (drop at items) count) × (owed ≤ countLimit + countLimit * (place - at))
 
 abbrev μ-loop : tie.MeasureT-loop
 μ-loop items at count place₀ owed₀ place owed = length items - place

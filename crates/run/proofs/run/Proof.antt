@@ -15,8 +15,8 @@ use borrow.Author.Needs.{needs}
 use Rattle.run.proofs.run.Statement.{statement}
 use Rattle.run.proofs.run.Tie as tie
 
-room-requires : tie.Need-room-requires
-room-requires c κs = search needs
+judge-requires : tie.Need-judge-requires
+judge-requires c κs = search needs
 
 enum-known-said : tie.Need-enum-known-said
 enum-known-said c = search needs
@@ -26,7 +26,7 @@ returns c =
     let start = c .before .before .before .before .before .before .before .before in
     let a = start .args in
     let t = tableOf (now (a .parent)) (now (a .kind)) in
-    let said = c .before .room in (
+    let said = c .before .judge in (
       refused-answer (now (a .query)) t (now (a .given)) (now (a .marks)) (now (a .scratch)) (said .result) (c .match .keys2) (said .ensures),
       (
         refused-marks (now (a .query)) t (now (a .given)) (now (a .marks)) (now (a .scratch)) (said .result) (c .match .keys2) (said .ensures),
@@ -40,7 +40,7 @@ slice-relend-prefix-keep c =
     let a = start .args in
     let t = tableOf (now (a .parent)) (now (a .kind)) in
     let needed = c .before .before .said .given .0 .0 in
-    let agreed = accepted (now (a .query)) t (now (a .given)) (length (now (a .marks))) (length (now (a .scratch))) needed (sym (c .before .before .before .before .room .ensures) ∙ ap told (c .before .before .said .given .1)) in
+    let agreed = accepted (now (a .query)) t (now (a .given)) (length (now (a .marks))) (length (now (a .scratch))) needed (sym (c .before .before .before .before .judge .ensures) ∙ ap told (c .before .before .said .given .1)) in
     agreed .room-enough
 
 slice-aggregate-keep : tie.Need-slice-aggregate-keep
@@ -49,7 +49,7 @@ slice-aggregate-keep c =
     let a = start .args in
     let t = tableOf (now (a .parent)) (now (a .kind)) in
     let needed = c .before .before .before .said .given .0 .0 in
-    let agreed = accepted (now (a .query)) t (now (a .given)) (length (now (a .marks))) (length (now (a .scratch))) needed (sym (c .before .before .before .before .before .room .ensures) ∙ ap told (c .before .before .before .said .given .1)) in
+    let agreed = accepted (now (a .query)) t (now (a .given)) (length (now (a .marks))) (length (now (a .scratch))) needed (sym (c .before .before .before .before .before .judge .ensures) ∙ ap told (c .before .before .before .said .given .1)) in
     sym (length-take-le needed (now (a .scratch)) (agreed .room-enough))
 
 keep-requires : tie.Need-keep-requires
@@ -58,7 +58,7 @@ keep-requires c κs =
     let a = start .args in
     let t = tableOf (now (a .parent)) (now (a .kind)) in
     let needed = c .before .before .before .said .given .0 .0 in
-    let agreed = accepted (now (a .query)) t (now (a .given)) (length (now (a .marks))) (length (now (a .scratch))) needed (sym (c .before .before .before .before .before .room .ensures) ∙ ap told (c .before .before .before .said .given .1)) in (
+    let agreed = accepted (now (a .query)) t (now (a .given)) (length (now (a .marks))) (length (now (a .scratch))) needed (sym (c .before .before .before .before .before .judge .ensures) ∙ ap told (c .before .before .before .said .given .1)) in (
       searchable (now (a .query)) (now (a .parent)) (now (a .kind)) (now (a .given)) (length (now (a .marks))) (now (a .scratch)) needed agreed,
       (
         agreed .agree .marks-all,
@@ -71,7 +71,7 @@ count-requires c κs =
     let a = c .before .before .before .before .before .before .before .before .before .before .before .before .before .before .before .before .before .before .args in
     let t = tableOf (now (a .parent)) (now (a .kind)) in
     let needed = c .before .before .before .before .before .before .before .before .before .said .given .0 .0 in
-    let agreed = accepted (now (a .query)) t (now (a .given)) (length (now (a .marks))) (length (now (a .scratch))) needed (sym (c .before .before .before .before .before .before .before .before .before .before .before .room .ensures) ∙ ap told (c .before .before .before .before .before .before .before .before .before .said .given .1)) in
+    let agreed = accepted (now (a .query)) t (now (a .given)) (length (now (a .marks))) (length (now (a .scratch))) needed (sym (c .before .before .before .before .before .before .before .before .before .before .before .judge .ensures) ∙ ap told (c .before .before .before .before .before .before .before .before .before .said .given .1)) in
     omega (arith, c .before .before .before .before .before .keep .kept .1 .1 .1 .1 .0, agreed .agree .marks-all, agreed .agree .nodes-few)
 
 same-length : tie.Need-same-length
@@ -86,7 +86,7 @@ returns-2 c =
     let a = start .args in
     let t = tableOf (now (a .parent)) (now (a .kind)) in
     let needed = c .before .before .before .before .before .before .before .before .before .before .said .given .0 .0 in
-    let agreed = accepted (now (a .query)) t (now (a .given)) (length (now (a .marks))) (length (now (a .scratch))) needed (sym (c .before .before .before .before .before .before .before .before .before .before .before .before .room .ensures) ∙ ap told (c .before .before .before .before .before .before .before .before .before .before .said .given .1)) in
+    let agreed = accepted (now (a .query)) t (now (a .given)) (length (now (a .marks))) (length (now (a .scratch))) needed (sym (c .before .before .before .before .before .before .before .before .before .before .before .before .judge .ensures) ∙ ap told (c .before .before .before .before .before .before .before .before .before .before .said .given .1)) in
     let spread = c .before .before .before .before .before .before .keep in
     let marks1 = spread .last .1 .1 .1 .1 .0 in
     let same : marks1 ≡ kept t (now (a .given)) (agreed .query-is) = spread .ensures .0 (agreed .query-is) (agreed .decodes) in
@@ -102,7 +102,7 @@ pub run-spec : {M : Type 1} → statement M
 run-spec =
     tie.close
     (tie.spec
-    room-requires
+    judge-requires
     enum-known-said
     returns
     slice-relend-prefix-keep

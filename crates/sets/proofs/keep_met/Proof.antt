@@ -9,18 +9,19 @@ use lib.Dec.{eqb, leb}
 use lib.ListN.{length, getD}
 use denote.Ref.{now}
 use borrow.Author.Needs.{needs}
-use Rattle.paper.specs.Query.{Test}
+use Rattle.paper.specs.Query.{Test, anyElement}
+use Rattle.paper.specs.Document.{elementKind}
 use Rattle.paper.specs.Items.{testNumber}
 use Rattle.paper.specs.Selection.{meets}
 use Rattle.paper.proofs.Fields.{test-small}
-use Rattle.item.proofs.Turning.{meets-node, meets-text, meets-element, meets-name}
+use Rattle.item.proofs.Meeting.{meets-node, meets-text, meets-element, meets-name}
 use Rattle.sets.specs.Sets.{bits}
 use Rattle.sets.proofs.Bits.{bits-same, and-all}
 use Rattle.sets.proofs.keep_met.Statement.{statement}
 use Rattle.sets.proofs.keep_met.Tie as tie
 
 -- Text and names are met by one kind, whose number the test has.
-meets-kind : (t : Test) (kind n : ℕ) → n ≡ testNumber t → (n ≡ 0 → ⊥) → (n ≡ 258 → ⊥) → eqb kind n ≡ meets t kind
+meets-kind : (t : Test) (kind n : ℕ) → n ≡ testNumber t → (n ≡ 0 → ⊥) → (n ≡ testNumber anyElement → ⊥) → eqb kind n ≡ meets t kind
 meets-kind t kind n e a b = by-cases (ℕ-discrete n 1) (λ q. ap (eqb kind) q ∙ meets-text t kind (sym q ∙ e)) (λ q. meets-name t kind n e a q b)
 
 keep-at-least-requires : tie.Need-keep-at-least-requires
@@ -45,11 +46,11 @@ same-length c = search needs
 returns-2 : tie.Need-returns-2
 returns-2 c = λ t f g e s.
     let d = c .before .before .before .before .before .before .before .args in
-    let n : d .test ≡ 258 = omega arith in
+    let n : d .test ≡ testNumber anyElement = omega arith in
     let kind : ℕ → ℕ = λ k. getD (now (d .kind)) k 0 in
-    let kept : c .before .before .keep-at-least .last .1 .1 .0 ≡ bits (length (now (d .set))) (λ k. f k && leb 2 (kind k)) = c .before .before .keep-at-least .ensures f s in
+    let kept : c .before .before .keep-at-least .last .1 .1 .0 ≡ bits (length (now (d .set))) (λ k. f k && leb elementKind (kind k)) = c .before .before .keep-at-least .ensures f s in
     kept
-    ∙ bits-same (length (now (d .set))) (λ k. f k && leb 2 (kind k)) (λ k. f k && meets t (kind k)) (λ k l. ap (λ x. f k && x) (meets-element t (kind k) g (sym n ∙ e)))
+    ∙ bits-same (length (now (d .set))) (λ k. f k && leb elementKind (kind k)) (λ k. f k && meets t (kind k)) (λ k l. ap (λ x. f k && x) (meets-element t (kind k) g (sym n ∙ e)))
 
 same-length-2 : tie.Need-same-length-2
 same-length-2 c = search needs

@@ -1,7 +1,7 @@
--- `read::refusal` meets its contract, case by case. Assumes nothing.
+-- `read::answer_of` meets its contract, case by case. Assumes nothing.
 use borrow.Author.Needs.{needs}
-use Rattle.read.proofs.refusal.Statement.{statement}
-use Rattle.read.proofs.refusal.Tie as tie
+use Rattle.read.proofs.answer_of.Statement.{statement}
+use Rattle.read.proofs.answer_of.Tie as tie
 
 enum-known-part : tie.Need-enum-known-part
 enum-known-part c = search needs
@@ -27,8 +27,8 @@ returns-3 c = rw (c .before .part3 .given .1)
 returns-4 : tie.Need-returns-4
 returns-4 c = rw (c .before .part4 .given .1)
 
-pub refusal-spec : {M : Type 1} → statement M
-refusal-spec =
+pub answer-of-spec : {M : Type 1} → statement M
+answer-of-spec =
     tie.close
     (tie.spec
     enum-known-part

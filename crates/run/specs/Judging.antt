@@ -1,4 +1,4 @@
--- What a run needs, where nothing refuses it.
+-- How a run is judged: what refuses it, or what it needs.
 use Prim.Native.Nat.{ℕ}
 use mathlib.Core.Bool.{not, _||_}
 use mathlib.Core.List.{List}
@@ -11,8 +11,8 @@ use Rattle.paper.specs.Items.{decode}
 use Rattle.paper.specs.Answers.{Answer, value, line, lineQuery, tooLong, short, scratchOf}
 
 -- What a run answers, with the bytes of scratch needed in the place of the number of nodes kept.
-unfoldable pub roomAnswer : List ℕ → Table → List ℕ → ℕ → ℕ → Answer
-roomAnswer query t given marksRoom scratchRoom =
+unfoldable pub judgement : List ℕ → Table → List ℕ → ℕ → ℕ → Answer
+judgement query t given marksRoom scratchRoom =
     line 1
     (when
     (tooLong query itemLimit || ltb nodeLimit (nodes t) || not (eqb (length (t .kinds)) (nodes t)) || not (eqb (length given) (nodes t)) || not (eqb marksRoom (nodes t)))

@@ -1,0 +1,126 @@
+-- The laws of the axes: their numbers, their words, and that a turned axis is the converse.
+-- What tells one axis from another stands here as far as it can. A new axis touches
+--   definitions: `Axis` in Query; `axisNumber`, `axes` and `axisOf` in Items, with `axisBound` and the layout where a number needs more bits; `axisNamed` in Reading;
+--     `axisText` in Printing; `leads` in Selection; `turned` in Composition; `rises` in theorems/specs/Demands;
+--   code: the constants, `AXES` and `turn` of item; `axis_of` of ahead; `put_axis` of pen; `along` of sets, with a pass for it;
+--   proofs: this file; theorems/proofs/Axes (it stays inside marks if it rises, and renumbering keeps it); ahead/proofs/Words and axis_of (its word);
+--     an arm in each of item/proofs/turn, pen/proofs/put_axis and sets/proofs/along; the proof of its pass in sets;
+--   edits: theorems/must-fail/descendant_turned_into_itself, which writes `turned` out;
+--   tests in C: the axes, their words, `turned` and `leads` in tests/paper.c; those that tests/making.c makes; the numbers of no axis in tests/refusals.c;
+--   pages: docs/VIEWS.md, and what else lists the axes.
+-- No other proof splits on an axis. Assumes nothing.
+use Prim.Native.Nat.{ℕ, zero, suc, _≤_, _<_}
+use native.Mathlib.Omega.{arith}
+use mathlib.Core.Path.{_≡_, refl, sym, _∙_, ap, subst}
+use mathlib.Core.Bool.{true}
+use mathlib.Core.Option.{none, some}
+use lib.Dec.{eqb}
+use lib.ListN.{length}
+use borrow.Author.Tests.{eqb-true, eq-eqb}
+use Rattle.paper.specs.Query.{Axis, self, child, parent, descendantOrSelf, ancestorOrSelf}
+use Rattle.paper.specs.Document.{Table}
+use Rattle.paper.specs.Names.{isName}
+use Rattle.paper.specs.Items.{axisNumber, axes, axisOf, axisBound}
+use Rattle.paper.specs.Printing.{axisText, axisTextLimit}
+use Rattle.paper.specs.Reading.{axisNamed}
+use Rattle.paper.specs.Selection.{leads}
+use Rattle.paper.specs.Composition.{turned}
+use Rattle.paper.proofs.Tests.{none-some, some-inj, agree}
+
+-- THE NUMBERS. An axis is the one of its number;
+pub axis-number : (a : Axis) → axisOf (axisNumber a) ≡ some a
+axis-number self = refl
+axis-number child = refl
+axis-number parent = refl
+axis-number descendantOrSelf = refl
+axis-number ancestorOrSelf = refl
+
+-- its number is below the number of axes,
+pub axis-below : (a : Axis) → axisNumber a < axes
+axis-below self = omega arith
+axis-below child = omega arith
+axis-below parent = omega arith
+axis-below descendantOrSelf = omega arith
+axis-below ancestorOrSelf = omega arith
+
+-- and fits its field.
+pub axis-small : (a : Axis) → axisNumber a < axisBound
+axis-small a = omega (arith, axis-below a)
+
+-- The axis of a number has that number.
+pub axis-found : (n : ℕ) (a : Axis) → axisOf n ≡ some a → n ≡ axisNumber a
+axis-found zero a h = ap axisNumber (let e : self ≡ a = cc in e)
+axis-found (suc zero) a h = ap axisNumber (let e : child ≡ a = cc in e)
+axis-found (suc (suc zero)) a h = ap axisNumber (let e : parent ≡ a = cc in e)
+axis-found (suc (suc (suc zero))) a h = ap axisNumber (let e : descendantOrSelf ≡ a = cc in e)
+axis-found (suc (suc (suc (suc zero)))) a h = ap axisNumber (let e : ancestorOrSelf ≡ a = cc in e)
+axis-found (suc (suc (suc (suc (suc n))))) a h = none-some h
+
+-- There is an axis of each number below the number of axes, and none of the others.
+pub axis-some : (n : ℕ) → n < axes → (a : Axis) × (axisOf n ≡ some a)
+axis-some zero l = (self, refl)
+axis-some (suc zero) l = (child, refl)
+axis-some (suc (suc zero)) l = (parent, refl)
+axis-some (suc (suc (suc zero))) l = (descendantOrSelf, refl)
+axis-some (suc (suc (suc (suc zero)))) l = (ancestorOrSelf, refl)
+axis-some (suc (suc (suc (suc (suc n))))) l = absurd (omega arith)
+
+pub axis-none : (n : ℕ) → axes ≤ n → axisOf n ≡ none
+axis-none zero l = absurd (omega arith)
+axis-none (suc zero) l = absurd (omega arith)
+axis-none (suc (suc zero)) l = absurd (omega arith)
+axis-none (suc (suc (suc zero))) l = absurd (omega arith)
+axis-none (suc (suc (suc (suc zero)))) l = absurd (omega arith)
+axis-none (suc (suc (suc (suc (suc n))))) l = refl
+
+-- What holds of the axis that an arm of a `match` names by its number holds of every axis of that number.
+pub of-number : (P : Axis → Type 0) (b a : Axis) {n : ℕ} → n ≡ axisNumber b → n ≡ axisNumber a → P b → P a
+of-number P b a p q = subst P (some-inj (sym (axis-number b) ∙ ap axisOf (sym p ∙ q) ∙ axis-number a))
+
+-- What the last arm of a `match` on an axis knows, where each axis has an arm of its own;
+abbrev pub NoAxis : ℕ → Type 0
+NoAxis n = ((((Unit × (n ≡ 0 → ⊥)) × (n ≡ 1 → ⊥)) × (n ≡ 2 → ⊥)) × (n ≡ 3 → ⊥)) × (n ≡ 4 → ⊥)
+
+-- then the number is that of no axis.
+pub no-axis : (a : Axis) (n : ℕ) → n ≡ axisNumber a → NoAxis n → ⊥
+no-axis self n e h = h .0 .0 .0 .0 .1 e
+no-axis child n e h = h .0 .0 .0 .1 e
+no-axis parent n e h = h .0 .0 .1 e
+no-axis descendantOrSelf n e h = h .0 .1 e
+no-axis ancestorOrSelf n e h = h .1 e
+
+-- THE WORDS. The word of an axis names it,
+pub axis-named : (a : Axis) → axisNamed (axisText a) ≡ some a
+axis-named self = refl
+axis-named child = refl
+axis-named parent = refl
+axis-named descendantOrSelf = refl
+axis-named ancestorOrSelf = refl
+
+-- is a name,
+pub axis-name : (a : Axis) → isName (axisText a) ≡ true
+axis-name self = refl
+axis-name child = refl
+axis-name parent = refl
+axis-name descendantOrSelf = refl
+axis-name ancestorOrSelf = refl
+
+-- and is short.
+pub axis-short : (a : Axis) → length (axisText a) ≤ axisTextLimit
+axis-short self = omega arith
+axis-short child = omega arith
+axis-short parent = omega arith
+axis-short descendantOrSelf = omega arith
+axis-short ancestorOrSelf = omega arith
+
+-- THE WAY BACK. A node is itself either way round;
+pub same-turned : (i j : ℕ) → eqb i j ≡ eqb j i
+same-turned i j = agree (eqb i j) (eqb j i) (λ h. eq-eqb j i (sym (eqb-true i j h))) (λ h. eq-eqb i j (sym (eqb-true j i h)))
+
+-- THE TURNED AXIS IS THE CONVERSE.
+pub converse : (t : Table) (a : Axis) (i j : ℕ) → leads t (turned a) i j ≡ leads t a j i
+converse t self i j = same-turned i j
+converse t child i j = refl
+converse t parent i j = refl
+converse t descendantOrSelf i j = refl
+converse t ancestorOrSelf i j = refl
