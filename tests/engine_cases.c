@@ -43,15 +43,24 @@ static void write_marks(char letter, const uint8_t *marks)
     printf("\n");
 }
 
-/* A text on one line: tab and LF become \t and \n. */
+/* A text on one line: tab, LF and CR become \t, \n and \r. */
 static void write_text(const uint8_t *bytes, size_t length)
 {
     printf("Q ");
     for (size_t i = 0; i < length; i++)
-        if (bytes[i] == '\n' || bytes[i] == '\t')
-            printf(bytes[i] == '\n' ? "\\n" : "\\t");
-        else
+        switch (bytes[i]) {
+        case '\t':
+            printf("\\t");
+            break;
+        case '\n':
+            printf("\\n");
+            break;
+        case '\r':
+            printf("\\r");
+            break;
+        default:
             putchar(bytes[i]);
+        }
     printf("\n");
 }
 

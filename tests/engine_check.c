@@ -137,13 +137,13 @@ static void take_column(char *words, unsigned *column)
         column[now.nodes++] = (unsigned)strtoul(word, NULL, 10);
 }
 
-/* Turns \t and \n back into the bytes they stand for. */
+/* Turns \t, \n and \r back into the bytes they stand for. */
 static void unescape(char *text)
 {
     char *to = text;
     for (const char *from = text; *from != 0; from++)
         if (*from == '\\')
-            *to++ = *++from == 'n' ? '\n' : '\t';
+            *to++ = *++from == 'n' ? '\n' : *from == 'r' ? '\r' : '\t';
         else
             *to++ = *from;
     *to = 0;

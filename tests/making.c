@@ -309,7 +309,7 @@ static void put_byte(struct text *text, uint8_t byte)
 
 static void put_space(struct writing *writing, bool needed)
 {
-    static const char spaces[] = "   \t\n";
+    static const char spaces[] = "   \t\n\r";
     while (needed || chance(writing->dice, writing->loose)) {
         put_byte(writing->text, (uint8_t)spaces[below(writing->dice, sizeof spaces - 1)]);
         needed = false;

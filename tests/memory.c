@@ -27,7 +27,7 @@ static void any_text(struct dice *dice)
         scatter(dice, text.bytes, text.length);
         return;
     }
-    static const char bytes[] = "/////..::||[[]](()))**aab\n\t ornotdextself-_1";
+    static const char bytes[] = "/////..::||[[]](()))**aab\n\r\t ornotdextself-_1";
     for (size_t i = 0; i < text.length; i++)
         text.bytes[i] = (uint8_t)bytes[below(dice, sizeof bytes)];
 }

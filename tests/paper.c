@@ -200,7 +200,7 @@ static struct token token_at(const uint8_t *text, size_t length, size_t place)
 
 static struct token next_token(const uint8_t *text, size_t length, size_t place)
 {
-    while (place < length && (text[place] == ' ' || text[place] == '\t' || text[place] == '\n'))
+    while (place < length && (text[place] == ' ' || text[place] == '\t' || text[place] == '\n' || text[place] == '\r'))
         place++;
     return token_at(text, length, place);
 }

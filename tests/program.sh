@@ -39,6 +39,8 @@ prints 'a predicate after a dot' 'refused outer 3 2' < <(printf '/.[a]\n/b\na\nb
 prints 'an axis left out' 'refused outer 3 12' < <(printf '/a/preceding::b\n/b\na\nb\n')
 prints 'an attribute' 'refused outer 3 3' < <(printf '/a[@b]\n/b\na\nb\n')
 prints '65 brackets' 'refused outer 4 66' < <(printf '/a[%sb%s]\n/b\na\nb\n' "$(times 64 '(')" "$(times 64 ')')")
+prints 'lines that end with CR LF' "$step$last"$'\nsize 28 nesting 4' < <(printf '/a\r\n/b\r\na\nb\n')
+prints 'CR in the name list' 'refused outer 2 2' < <(printf '/a\r\n/b\r\na\nb\r\n')
 prints 'an unknown name' 'refused outer 5 1' < <(printf '/e\n/b\na\nb\n')
 prints 'an unknown name in the view' 'refused inner 5 1' < <(printf '/a\n/e\na\nb\n')
 prints 'the outer query first' 'refused outer 5 1' < <(printf '/e\n/[\na\nb\n')

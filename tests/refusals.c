@@ -212,7 +212,7 @@ static void read_syntax(void)
         {"/a[1]", 3, 3},
         {"/a[b=c]", 3, 4},
         {"/a[b|c]", 3, 4},
-        {"/a\r", 3, 2},
+        {"/a\r", 0, 2},
         {"/a and", 3, 3},
         {"/a and /b", 3, 3},
         {"/ and", 5, 2},
@@ -278,6 +278,9 @@ static void read_syntax(void)
         {"/a[self ::\tb]", 0, 4},
         {"/a[b][c][d]", 0, 8},
         {"//a\n|\n//b", 0, 6},
+        {"\r/\ra\r[\rself\r::\rb\rand\rnot\r(\rnode\r(\r)\r)\r]\r|\r//\r*\r", 0, 11},
+        {"/a\r\n/b\r\n", 0, 3},
+        {"/a\r\nb", 3, 4},
         {"/a[not(not(b))]", 0, 6},
         {"/descendant-or-self::node()/a", 0, 3},
     };

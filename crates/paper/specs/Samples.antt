@@ -143,7 +143,9 @@ textsRead =
     reads (ascii "/ and") (5 ∷ 2 ∷ []) &&
     reads (ascii "/a and") (3 ∷ 3 ∷ []) &&
     reads (ascii "/a[not(b) or not]") (5 ∷ 13 ∷ []) &&
-    reads (ascii "/a\t| \n/b [ c ]") (6 ∷ [])
+    reads (ascii "/a\t| \n/b [ c ]") (6 ∷ []) &&
+    reads (ascii "/a\r\n| /b\r[\rc ]\r") (6 ∷ []) &&
+    reads (ascii "/a\r\n/b\n/\r\n/c") (3 ∷ 10 ∷ [])
 
 abbrev pub textPrinted : Bool
 textPrinted =
@@ -182,6 +184,8 @@ inputsPrinted =
     printsOf (ascii "/a") "refused outer 5 1\n" &&
     printsOf (ascii "/\n/[\n") "refused inner 3 1\n" &&
     printsOf (ascii "/a\n/b\na\nb") "refused outer 2 2\n" &&
+    printsOf (ascii "/\r\n/\r\n") "/descendant-or-self::node()[ancestor-or-self::node()[self::node()[not(parent::node())]]]\nsize 9 nesting 4\n" &&
+    printsOf (ascii "/a\r\n/b\r\na\nb\r\n") "refused outer 2 2\n" &&
     printsOf (ascii "/a[" ++ denied 60 ++ ascii "]\n/b\na\nb\n") "refused compose 9 65\n"
 
 -- All of it is printed so, by computation.

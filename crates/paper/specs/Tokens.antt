@@ -50,9 +50,9 @@ letters finish = []
 letters stray = []
 letters (word w) = w
 
--- White space: space, tab, LF.
+-- White space: space, tab, LF and, by 02's 2026-03, CR.
 abbrev pub white : ℕ → Bool
-white b = eqb b 32 || eqb b 9 || eqb b 10
+white b = eqb b 32 || eqb b 9 || eqb b 10 || eqb b 13
 
 -- How many of the first bytes go on with a name?
 abbrev pub run : List ℕ → ℕ

@@ -141,7 +141,7 @@ not-white b h =
     (or-true (leb 65 b && leb b 90) (leb 97 b && leb b 122) l))
     (λ u. let k : b ≡ 95 = eqb-true b 95 u in omega arith)
     (or-true (letter b) (eqb b 95) h) in
-    rw (ne-eqb b 32 (λ e. omega arith), ne-eqb b 9 (λ e. omega arith), ne-eqb b 10 (λ e. omega arith))
+    rw (ne-eqb b 32 (λ e. omega arith), ne-eqb b 9 (λ e. omega arith), ne-eqb b 10 (λ e. omega arith), ne-eqb b 13 (λ e. omega arith))
 
 -- A name is one token.
 name-token : (w tail : List ℕ) (at : ℕ) → isName w ≡ true → Halts tail

@@ -44,7 +44,7 @@ pub struct Taken {
 pub fn white_space(b: u8) -> bool
     ensures { λ r. ⌜ r ≡ white b ⌝ }
 {
-    (b == b' ') | (b == b'\t') | (b == b'\n')
+    (b == b' ') | (b == b'\t') | (b == b'\n') | (b == b'\r')
 }
 
 // The first place from `from` on where no white space stands.
