@@ -1,7 +1,7 @@
 -- docs/SCOPE.md, "Numbers refused": for each entry point its answer and each lent slice at exit, for every input, as the first line that holds in the order of 01.
 use Prim.Native.Nat.{ℕ, suc, _+_, _*_}
 use mathlib.Core.Bool.{Bool, false, not, _||_, cond}
-use mathlib.Core.List.{List, [], _∷_}
+use mathlib.Core.List.{List, [], _∷_, map}
 use mathlib.Core.Option.{Option, none, some}
 use lib.Dec.{eqb, leb, ltb}
 use lib.ListN.{length, replicate}
@@ -17,6 +17,7 @@ use Rattle.paper.specs.Document.{Table, nodes, tableFault, marksFault}
 use Rattle.paper.specs.Selection.{kept}
 use Rattle.paper.specs.Extraction.{rank, extracted}
 use Rattle.paper.specs.Composition.{composed}
+use Rattle.paper.specs.Xml.{Nodes, Judged, wanted, unwanted, readXml, Row, table, kindBy, unnamed}
 
 -- An answer is either the value or a refusal number with a place.
 pub data Answer : Type 0 where
@@ -191,3 +192,48 @@ extractParents t marks out kindRoom = atExit (extractAnswer t marks (length out)
 
 unfoldable pub extractKinds : Table → List ℕ → ℕ → List ℕ → List ℕ
 extractKinds t marks parentRoom out = atExit (extractAnswer t marks parentRoom (length out)) (extracted t marks .kinds) out
+
+-- READ XML (02, 2026-01). What a text is, with any names: refusal 12 or 11, whichever comes first.
+abbrev pub lineXml : Judged → (Nodes → Answer) → Answer
+lineXml (unwanted number place) later = refusal number place
+lineXml (wanted tree) later = later tree
+
+-- Refusal 10 of nodes, of which there may be at most 4,096.
+abbrev pub shortOfNodes : ℕ → ℕ → Option ℕ
+shortOfNodes room needed = when (ltb room needed || ltb nodeLimit needed) needed
+
+-- The lines of the table of a text.
+abbrev pub rowsGot : ℕ → Judged → List Row
+rowsGot long (unwanted number place) = []
+rowsGot long (wanted tree) = table long tree
+
+-- Lines 5 and 10 of a wanted text: the root is a node too.
+abbrev pub readXmlLast : List ℕ → ℕ → List Row → Answer
+readXmlLast list room lines =
+    line 5 (unnamed (numberOf (namesOf list)) lines) (line 10 (shortOfNodes room (length lines)) (value (length lines)))
+
+-- Read XML: 1, 2, then 12 or 11 by place, 5, 10; it answers the number of nodes. The four columns written are of one length.
+unfoldable pub readXmlAnswer : List ℕ → List ℕ → ℕ → ℕ → ℕ → ℕ → Answer
+readXmlAnswer text list parentRoom kindRoom beginRoom endRoom =
+    line 1
+    (when
+    (tooLong text textLimit || tooLong list listLimit || not (eqb kindRoom parentRoom) || not (eqb beginRoom parentRoom) || not (eqb endRoom parentRoom))
+    0)
+    (line 2 (namesFault list) (lineXml (readXml text) (λ tree. readXmlLast list parentRoom (table (length text) tree))))
+
+-- What each line of the table says in the four columns.
+abbrev pub parentField : Row → ℕ
+parentField r = r .parent
+
+abbrev pub kindField : List ℕ → Row → ℕ
+kindField list r = kindBy (numberOf (namesOf list)) (r .what)
+
+abbrev pub beginField : Row → ℕ
+beginField r = r .begin
+
+abbrev pub endField : Row → ℕ
+endField r = r .end
+
+-- A column at exit of a call that answers so, by what it has of each line.
+unfoldable pub readXmlColumn : (Row → ℕ) → List ℕ → Answer → List ℕ → List ℕ
+readXmlColumn field text answer out = atExit answer (map field (rowsGot (length text) (readXml text))) out

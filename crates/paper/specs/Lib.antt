@@ -6,6 +6,7 @@ pub mod Names
 pub mod Tokens
 pub mod Reading
 pub mod Document
+pub mod Xml
 pub mod Selection
 pub mod Extraction
 pub mod Items
@@ -15,4 +16,5 @@ pub mod Composition
 pub mod Answers
 pub mod Program
 pub mod Samples
+pub mod XmlSamples
 pub mod Told

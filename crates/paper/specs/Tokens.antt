@@ -4,7 +4,7 @@ use mathlib.Core.Bool.{Bool, _||_, cond}
 use mathlib.Core.List.{List, [], _∷_}
 use lib.Dec.{eqb}
 use lib.ListN.{length, take}
-use Rattle.paper.specs.Tools.{begins}
+use Rattle.paper.specs.Tools.{begins, runOf}
 use Rattle.paper.specs.Names.{nameStart, namePart}
 
 -- The tokens; beside them the end of the text, and a byte that starts no token.
@@ -56,8 +56,7 @@ white b = eqb b 32 || eqb b 9 || eqb b 10 || eqb b 13
 
 -- How many of the first bytes go on with a name?
 abbrev pub run : List ℕ → ℕ
-run [] = 0
-run (b ∷ bs) = let more = suc (run bs) in cond (namePart b) more 0
+run bs = runOf namePart bs
 
 -- The longest token that starts with byte b, where the bytes bs follow.
 unfoldable pub tokenAt : ℕ → List ℕ → Token

@@ -25,6 +25,11 @@ abbrev pub begins : ℕ → List ℕ → Bool
 begins x [] = false
 begins x (y ∷ ys) = eqb x y
 
+-- How many of the first of the list pass the test?
+abbrev pub runOf : (ℕ → Bool) → List ℕ → ℕ
+runOf test [] = 0
+runOf test (x ∷ xs) = let more = suc (runOf test xs) in cond (test x) more 0
+
 -- Does some number below n pass the test?
 abbrev pub someBelow : ℕ → (ℕ → Bool) → Bool
 someBelow zero test = false

@@ -11,6 +11,7 @@ use Rattle.paper.specs.Items.{Taken}
 use Rattle.paper.proofs.Tests.{none-some, some-inj}
 use Rattle.names.proofs.Unique as names
 use Rattle.token.proofs.Unique as token
+use Rattle.xml.proofs.Unique as xml
 use Rattle.ahead.proofs.Unique as ahead
 use Rattle.shape.specs.declared.Walked.{Walked}
 use Rattle.shape.specs.declared.Walked.the-variants.{Done, Malformed}
@@ -21,6 +22,7 @@ use Rattle.table.specs.declared.Fault.the-variants.{Nothing, At}
 use Rattle.table.specs.Faults.{faultOf}
 use Rattle.promises.specs.UniqueParts.{UnpackUnique, PackPathUnique, PackStepUnique, TurnUnique, PutItemsUnique, PutSameUnique}
 use Rattle.promises.specs.UniqueParts.{NameStartUnique, NamePartUnique, IndexUnique, FindUnique, SpellUnique, WhiteSpaceUnique, TakeUnique}
+use Rattle.promises.specs.UniqueParts.{SkipSpaceUnique, RunEndUnique, TakePieceUnique, RootPieceUnique, FinishUnique, LeadUnique}
 use Rattle.promises.specs.UniqueParts.{MarkUnique, WordAheadUnique, JoinedUnique, PathLeadUnique, OpeningUnique, AxisAheadUnique, TestCallUnique}
 use Rattle.promises.specs.UniqueParts.{LargerUnique, RunOfUnique, StepsUnique, MeasureUnique, WideUnique, TableFaultUnique, MarksFaultUnique, CountUnique}
 use Rattle.promises.specs.UniqueParts.{PutByteUnique, PutUnique, PutSlashUnique, PutBarUnique, PutOpenUnique, PutOrUnique, PutAndUnique, PutNotUnique, PutHeadUnique}
@@ -69,8 +71,27 @@ spell-unique κs a u v x y g p q = names.spell-unique (now (a .0)) (now (a .1 .0
 pub white-space-unique : WhiteSpaceUnique
 white-space-unique κs a u v x y g p q = same p q
 
+pub skip-space-unique : SkipSpaceUnique
+skip-space-unique κs a u v x y g p q = same p q
+
+pub run-end-unique : RunEndUnique
+run-end-unique κs a u v x y g p q = same p q
+
 pub take-unique : TakeUnique
 take-unique κs a u v x y g p q = token.take-unique (now (a .1 .0)) (a .0 .at) u v p q
+
+-- PIECES OF XML TEXT.
+pub take-piece-unique : TakePieceUnique
+take-piece-unique κs a u v x y g p q = xml.take-unique (now (a .1 .0)) (a .0 .at) (a .1 .1 .0) u v p q
+
+pub root-piece-unique : RootPieceUnique
+root-piece-unique κs a u v x y g p q = xml.root-unique (now (a .1 .0)) (a .0 .at) u v p q
+
+pub finish-unique : FinishUnique
+finish-unique κs a u v x y g p q = xml.finish-unique (now (a .0)) (a .1 .0) u v p q
+
+pub lead-unique : LeadUnique
+lead-unique κs a u v x y g p q = xml.lead-unique (now (a .0)) u v p q
 
 -- WHAT COMES NEXT IN A TEXT.
 pub mark-unique : MarkUnique

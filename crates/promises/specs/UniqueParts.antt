@@ -21,6 +21,12 @@ use Rattle.names.proofs.index
 use Rattle.names.proofs.find
 use Rattle.names.proofs.spell
 use Rattle.token.proofs.white_space
+use Rattle.token.proofs.skip as skip_space
+use Rattle.token.proofs.run_end
+use Rattle.xml.proofs.Cursor.take as take_piece
+use Rattle.xml.proofs.Cursor.root as root_piece
+use Rattle.xml.proofs.finish
+use Rattle.xml.proofs.lead
 use Rattle.token.proofs.Cursor.take as take_token
 use Rattle.ahead.proofs.mark
 use Rattle.ahead.proofs.word_ahead
@@ -118,8 +124,27 @@ SpellUnique = UniqueAnswer spell.Kinds.ps spell.Kinds.r spell.Reads.Pre spell.Re
 abbrev pub WhiteSpaceUnique : Type 0
 WhiteSpaceUnique = UniqueAnswer white_space.Kinds.ps white_space.Kinds.r white_space.Reads.Pre white_space.Reads.Post
 
+abbrev pub SkipSpaceUnique : Type 0
+SkipSpaceUnique = UniqueAnswer skip_space.Kinds.ps skip_space.Kinds.r skip_space.Reads.Pre skip_space.Reads.Post
+
+abbrev pub RunEndUnique : Type 0
+RunEndUnique = UniqueAnswer run_end.Kinds.ps run_end.Kinds.r run_end.Reads.Pre run_end.Reads.Post
+
 abbrev pub TakeUnique : Type 0
 TakeUnique = UniqueAnswer take_token.Kinds.ps take_token.Kinds.r take_token.Reads.Pre take_token.Reads.Post
+
+-- PIECES OF XML TEXT.
+abbrev pub TakePieceUnique : Type 0
+TakePieceUnique = UniqueAnswer take_piece.Kinds.ps take_piece.Kinds.r take_piece.Reads.Pre take_piece.Reads.Post
+
+abbrev pub RootPieceUnique : Type 0
+RootPieceUnique = UniqueAnswer root_piece.Kinds.ps root_piece.Kinds.r root_piece.Reads.Pre root_piece.Reads.Post
+
+abbrev pub FinishUnique : Type 0
+FinishUnique = UniqueAnswer finish.Kinds.ps finish.Kinds.r finish.Reads.Pre finish.Reads.Post
+
+abbrev pub LeadUnique : Type 0
+LeadUnique = UniqueAnswer lead.Kinds.ps lead.Kinds.r lead.Reads.Pre lead.Reads.Post
 
 -- WHAT COMES NEXT IN A TEXT.
 abbrev pub MarkUnique : Type 0

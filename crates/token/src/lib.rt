@@ -5,10 +5,10 @@ ghost use Prim.Native.Nat.{suc, _+_, _≤_, _<_};
 ghost use mathlib.Core.Path.{_≡_};
 ghost use mathlib.Core.Bool.{false};
 ghost use lib.ListN.{length, getD, drop};
-ghost use Rattle.paper.specs.Tools.{begins};
-ghost use Rattle.paper.specs.Names.{nameStart};
-ghost use Rattle.paper.specs.Tokens.{white, run};
-ghost use Rattle.token.specs.Taking.{Skips, Longest, Takes, widthOf};
+ghost use Rattle.paper.specs.Tools.{begins, runOf};
+ghost use Rattle.paper.specs.Names.{nameStart, namePart};
+ghost use Rattle.paper.specs.Tokens.{white};
+ghost use Rattle.token.specs.Taking.{Longest, Takes, widthOf};
 
 // Where the next token is looked for.
 pub struct Cursor {
@@ -48,9 +48,9 @@ pub fn white_space(b: u8) -> bool
 }
 
 // The first place from `from` on where no white space stands.
-fn skip(text: &[u8], from: usize) -> usize
+pub fn skip(text: &[u8], from: usize) -> usize
     requires { ⌜ from ≤ length (now text) ⌝ }
-    ensures { λ r. ⌜ Skips (now (text .entry)) from r ⌝ }
+    ensures { λ r. ⌜ r ≡ from + runOf white (drop from (now (text .entry))) ⌝ }
 {
     let mut at = from;
     while at < text.len() {
@@ -63,9 +63,9 @@ fn skip(text: &[u8], from: usize) -> usize
 }
 
 // Where the bytes that go on with a name end, from `from` on.
-fn run_end(text: &[u8], from: usize) -> usize
+pub fn run_end(text: &[u8], from: usize) -> usize
     requires { ⌜ from ≤ length (now text) ⌝ }
-    ensures { λ r. ⌜ r ≡ from + run (drop from (now (text .entry))) ⌝ }
+    ensures { λ r. ⌜ r ≡ from + runOf namePart (drop from (now (text .entry))) ⌝ }
 {
     let mut end = from;
     while end < text.len() {

@@ -7,13 +7,14 @@ use borrow.Author.Needs.{needs}
 use borrow.Author.Tests.{not-true, not-false}
 use mathlib.Core.Path.{_≡_, refl, sym, _∙_, ap}
 use lib.ListN.{length, drop, drop-of-length-le}
-use Rattle.paper.specs.Tokens.{run}
+use Rattle.paper.specs.Tools.{runOf}
+use Rattle.paper.specs.Names.{namePart}
 use Rattle.paper.proofs.Lexing.{run-more, run-ends}
 use Rattle.token.proofs.run_end.Statement.{statement}
 use Rattle.token.proofs.run_end.Tie as tie
 
 abbrev Inv-loop : tie.InvT-loop
-Inv-loop text from end₀ end = (from ≤ end) × (end ≤ length text) × (end + run (drop end text) ≡ from + run (drop from text))
+Inv-loop text from end₀ end = (from ≤ end) × (end ≤ length text) × (end + runOf namePart (drop end text) ≡ from + runOf namePart (drop from text))
 
 abbrev μ-loop : tie.MeasureT-loop
 μ-loop text from end₀ end = length text - end
@@ -31,7 +32,7 @@ returns : tie.Need-returns Inv-loop μ-loop
 returns c =
     let l = c .before .before .before .before .loop in
     let text = c .before .before .before .before .before .before .args .text .now in
-    let none = run-ends text (l .end) (omega arith) (sym (c .before .name-part .ensures) ∙ not-true _ (c .if1 .taken)) in
+    let none = run-ends text (l .end) (omega arith) namePart (sym (c .before .name-part .ensures) ∙ not-true _ (c .if1 .taken)) in
     omega arith
 
 add-end : tie.Need-add-end Inv-loop μ-loop
@@ -44,13 +45,13 @@ loop-again : tie.Need-loop-again Inv-loop μ-loop
 loop-again c =
     let l = c .before .before .before .before .loop in
     let text = c .before .before .before .before .before .before .args .text .now in
-    let more = run-more text (l .end) (omega arith) (sym (c .before .name-part .ensures) ∙ not-false _ (c .if1 .left)) in
+    let more = run-more text (l .end) (omega arith) namePart (sym (c .before .name-part .ensures) ∙ not-false _ (c .if1 .left)) in
     (omega arith, omega arith, rw (add-one) (omega arith))
 
 returns-2 : tie.Need-returns-2 Inv-loop μ-loop
 returns-2 c =
     let l = c .before .loop in
-    let none = ap run (drop-of-length-le (c .before .before .before .args .text .now) (c .loop-test .left)) in
+    let none = ap (λ bs. runOf namePart bs) (drop-of-length-le (c .before .before .before .args .text .now) (c .loop-test .left)) in
     omega arith
 
 pub run-end-spec : {M : Type 1} → statement M

@@ -1,19 +1,20 @@
--- `token::skip` meets its contract. The loop's invariant: the tokens from `at` on are those from `from` on.
+-- `token::skip` meets its contract. The loop's invariant: the run from `at` on ends where the run from `from` on does.
 -- The measure is what is left of the text. Assumes nothing.
-use Prim.Native.Nat.{_-_, _≤_}
+use Prim.Native.Nat.{_+_, _-_, _≤_}
 use native.Mathlib.Omega.{arith}
 use native.Mathlib.Numerals.{add-one}
 use borrow.Author.Needs.{needs}
 use borrow.Author.Tests.{not-true, not-false}
-use mathlib.Core.Path.{_≡_, refl, sym, _∙_}
-use lib.ListN.{length, drop}
-use Rattle.paper.specs.Tokens.{tokensFrom}
-use Rattle.paper.proofs.Lexing.{blank}
+use mathlib.Core.Path.{_≡_, refl, sym, _∙_, ap}
+use lib.ListN.{length, drop, drop-of-length-le}
+use Rattle.paper.specs.Tools.{runOf}
+use Rattle.paper.specs.Tokens.{white}
+use Rattle.paper.proofs.Lexing.{run-more, run-ends}
 use Rattle.token.proofs.skip.Statement.{statement}
 use Rattle.token.proofs.skip.Tie as tie
 
 abbrev Inv-loop : tie.InvT-loop
-Inv-loop text from at₀ at = (from ≤ at) × (at ≤ length text) × (tokensFrom 0 from (drop from text) ≡ tokensFrom 0 at (drop at text))
+Inv-loop text from at₀ at = (from ≤ at) × (at ≤ length text) × (at + runOf white (drop at text) ≡ from + runOf white (drop from text))
 
 abbrev μ-loop : tie.MeasureT-loop
 μ-loop text from at₀ at = length text - at
@@ -30,7 +31,9 @@ white-space-requires c κs = search needs
 returns : tie.Need-returns Inv-loop μ-loop
 returns c =
     let l = c .before .before .before .before .loop in
-    record { least = l .inv .0; most = l .inv .1; same = l .inv .2; stops = λ _. sym (c .before .white-space .ensures) ∙ not-true _ (c .if1 .taken) }
+    let text = c .before .before .before .before .before .before .args .text .now in
+    let none = run-ends text (l .at) (omega arith) white (sym (c .before .white-space .ensures) ∙ not-true _ (c .if1 .taken)) in
+    omega arith
 
 add-at : tie.Need-add-at Inv-loop μ-loop
 add-at c = omega arith
@@ -42,12 +45,14 @@ loop-again : tie.Need-loop-again Inv-loop μ-loop
 loop-again c =
     let l = c .before .before .before .before .loop in
     let text = c .before .before .before .before .before .before .args .text .now in
-    (omega arith, omega arith, rw (add-one) (l .inv .2 ∙ blank text (l .at) (omega arith) (sym (c .before .white-space .ensures) ∙ not-false _ (c .if1 .left))))
+    let more = run-more text (l .at) (omega arith) white (sym (c .before .white-space .ensures) ∙ not-false _ (c .if1 .left)) in
+    (omega arith, omega arith, rw (add-one) (omega arith))
 
 returns-2 : tie.Need-returns-2 Inv-loop μ-loop
 returns-2 c =
     let l = c .before .loop in
-    record { least = l .inv .0; most = l .inv .1; same = l .inv .2; stops = λ h. absurd (omega arith) }
+    let none = ap (λ bs. runOf white bs) (drop-of-length-le (c .before .before .before .args .text .now) (c .loop-test .left)) in
+    omega arith
 
 pub skip-spec : {M : Type 1} → statement M
 skip-spec =

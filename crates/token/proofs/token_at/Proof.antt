@@ -8,8 +8,9 @@ use mathlib.Core.Bool.{true}
 use mathlib.Core.List.{List}
 use lib.ListN.{length, getD, drop, length-drop}
 use lib.Seq.{drop-cons, length-take-le}
-use Rattle.paper.specs.Names.{nameStart}
-use Rattle.paper.specs.Tokens.{run, tokenAt}
+use Rattle.paper.specs.Tools.{runOf}
+use Rattle.paper.specs.Names.{nameStart, namePart}
+use Rattle.paper.specs.Tokens.{tokenAt}
 use Rattle.paper.proofs.Lexing.{run-within}
 use Rattle.token.specs.declared.Token.the-variants.{Word}
 use Rattle.token.specs.Taking.{Longest}
@@ -18,14 +19,14 @@ use Rattle.token.proofs.token_at.Tie as tie
 
 -- A byte that starts a name and the run after it are a word.
 word-longest : (text : List ℕ) (place count : ℕ) → place < length text → nameStart (getD text place 0) ≡ true
-    → count ≡ suc (run (drop (suc place) text)) → Longest text place (Word count)
+    → count ≡ suc (runOf namePart (drop (suc place) text)) → Longest text place (Word count)
 unfolding tokenAt
 word-longest text place count inside starts e =
     let rest = drop (suc place) text in
-    let room = run-within rest in
+    let room = run-within namePart rest in
     record {
       right = rw (drop-cons text place 0 inside, e, starts);
-      wide = rw (drop-cons text place 0 inside, e) (ap suc (sym (length-take-le (run rest) rest room)));
+      wide = rw (drop-cons text place 0 inside, e) (ap suc (sym (length-take-le (runOf namePart rest) rest room)));
       within = omega (arith, length-drop (suc place) text);
       goesOn = refl;
     }
@@ -48,7 +49,7 @@ sub-t8 c = search needs
 returns : tie.Need-returns
 returns c =
     let a = c .before .before .before .before .before .args in
-    let e : c .run-end .result ≡ a .place + 1 + run (drop (suc (a .place)) (a .text .now)) = c .run-end .ensures ∙ rw (add-one (a .place)) in
+    let e : c .run-end .result ≡ a .place + 1 + runOf namePart (drop (suc (a .place)) (a .text .now)) = c .run-end .ensures ∙ rw (add-one (a .place)) in
     word-longest (a .text .now) (a .place) (c .run-end .result - a .place) (omega arith)
     (sym (c .before .before .name-start .ensures) ∙ c .before .if1 .taken) (omega arith)
 

@@ -1,0 +1,152 @@
+-- How reading goes through an end tag: the name of the element again, letter by letter, white space, and its `>`. Assumes nothing.
+use Prim.Native.Nat.{ℕ, zero, suc, _+_, _≤_, _<_}
+use native.Mathlib.Omega.{arith}
+use native.Mathlib.Nat.{add-zero}
+use native.Mathlib.Numerals.{add-one}
+use borrow.Author.Tests.{ne-eqb}
+use mathlib.Core.Path.{_≡_, refl, sym, _∙_, ap, subst}
+use mathlib.Core.Bool.{Bool, true, false, cond}
+use mathlib.Core.List.{List, [], _∷_}
+use types.Run.{miss}
+use lib.Dec.{eqb}
+use lib.ListN.{length, getD, take, drop, length-drop}
+use lib.Seq.{drop-cons, drop-drop, getD-drop}
+use Rattle.paper.specs.Tools.{runOf}
+use Rattle.paper.specs.Names.{namePart}
+use Rattle.paper.specs.Tokens.{white}
+use Rattle.paper.specs.Xml.{nothing, element, Frame, State, closing, close, leftOut, leftOutAnywhere}
+use Rattle.paper.proofs.Lexing.{run-more, run-ends, run-within, run-stops}
+use Rattle.xml.specs.Seeking.{stops, seek}
+use Rattle.xml.specs.Promised.{state, seekAt, reached, Between, refusalAt, calm, Row, Reads}
+use Rattle.xml.specs.Pieces.{nameAt, added, Named, Renames, endTook, Ends}
+use Rattle.xml.specs.declared.Reach.{Reach}
+use Rattle.xml.specs.declared.Reach.the-variants.{At, Wrong, LeftOut}
+use Rattle.xml.proofs.Steps.{Calm, is-calm, text-ends, steps-on, refused-here}
+use Rattle.xml.proofs.Rows.{Refused}
+use Rattle.xml.proofs.Holding.{opens-not}
+use Rattle.xml.proofs.Tagging.{added-stops, add-added, end-gap, wait-letter, part-calm}
+
+-- A name that goes on at a place has this letter first; one that ends there is empty.
+name-letter : (text : List ℕ) (at : ℕ) → at < length text → namePart (getD text at 0) ≡ true → nameAt text at ≡ getD text at 0 ∷ nameAt text (suc at)
+name-letter text at inside h = rw (drop-cons text at 0 inside, h)
+
+name-over : (text : List ℕ) (at : ℕ) → at < length text → namePart (getD text at 0) ≡ false → nameAt text at ≡ []
+name-over text at inside h = rw (drop-cons text at 0 inside, h)
+
+module _ (text : List ℕ) (at inner : ℕ) where
+  -- What is read so far: the letters before `letter` have come again.
+  pub record Renaming (place letter : ℕ) : Type 0 where
+    pub goes : (frames : List Frame) → seekAt text at (state (closing (nameAt text (suc inner))) frames) ≡ seekAt text place (state (closing (nameAt text letter)) frames)
+    pub within : letter + runOf namePart (drop letter text) < length text
+    pub least : at ≤ place
+    pub most : place ≤ length text
+
+  pub renaming-begins : (letter : ℕ) → at ≤ length text → Named text inner → letter ≡ inner + 1 → Renaming at letter
+  renaming-begins letter l n e =
+      let f : suc inner ≡ letter = omega arith in
+      record {
+        goes = λ frames. ap (λ m. seekAt text at (state (closing (nameAt text m)) frames)) f;
+        within = subst (λ m. m + runOf namePart (drop m text) < length text) f n;
+        least = omega arith;
+        most = l;
+      }
+
+  module _ (place letter : ℕ) (so-far : Renaming place letter) where
+    pub letter-inside : letter < length text
+    letter-inside = omega (arith, so-far .within)
+
+    module _ (part : namePart (getD text letter 0) ≡ true) where
+      letter-goes : (r : Reach) → Reads text place 1 (λ i. eqb (getD text letter 0)) r → (frames : List Frame)
+          → seekAt text at (state (closing (nameAt text (suc inner))) frames) ≡ reached text (state (closing (nameAt text (suc letter))) frames) r
+      letter-goes r h frames =
+          so-far .goes frames ∙ ap (λ (w : List ℕ). seekAt text place (state (closing w) frames)) (name-letter text letter letter-inside part) ∙ h .goes states waits
+        where
+          states : ℕ → State
+          states zero = state (closing (getD text letter 0 ∷ nameAt text (suc letter))) frames
+          states (suc i) = state (closing (nameAt text (suc letter))) frames
+
+          waits : Row place 1 (λ i. eqb (getD text letter 0)) states
+          waits zero l = rw (add-zero place) (wait-letter place (getD text letter 0) (nameAt text (suc letter)) frames)
+          waits (suc i) l = absurd (omega arith)
+
+      pub renaming-more : (to : ℕ) → Reads text place 1 (λ i. eqb (getD text letter 0)) (At to) → Renaming to (letter + 1)
+      renaming-more to h =
+          let e : suc letter ≡ letter + 1 = omega arith in
+          let longer : runOf namePart (drop letter text) ≡ suc (runOf namePart (drop (suc letter) text)) = run-more text letter letter-inside namePart part in
+          record {
+            goes = λ frames. letter-goes (At to) h frames ∙ ap (λ m. seekAt text to (state (closing (nameAt text m)) frames)) e;
+            within = subst (λ m. m + runOf namePart (drop m text) < length text) e (omega (arith, so-far .within));
+            least = omega (arith, so-far .least, h .bounds .0);
+            most = h .bounds .1;
+          }
+
+      pub renaming-refused : (r : Reach) → Refused r → Reads text place 1 (λ i. eqb (getD text letter 0)) r → Renames text at inner r
+      renaming-refused (At to) stuck h = absurd (miss (1 ∷ 2 ∷ []) 0 tt stuck)
+      renaming-refused (Wrong spot) stuck h = record { goes = λ frames. letter-goes (Wrong spot) h frames; bounds = h .bounds }
+      renaming-refused (LeftOut spot) stuck h = record { goes = λ frames. letter-goes (LeftOut spot) h frames; bounds = h .bounds }
+
+    pub renaming-done : namePart (getD text letter 0) ≡ false → Renames text at inner (At place)
+    renaming-done over =
+        record {
+          goes = λ frames. so-far .goes frames ∙ ap (λ (w : List ℕ). seekAt text place (state (closing w) frames)) (name-over text letter letter-inside over);
+          bounds = (so-far .least, so-far .most);
+        }
+
+  -- PAST THE NAME.
+  module _ (nameEnd place : ℕ) (named : Renames text at inner (At nameEnd)) (e : place ≡ nameEnd + runOf white (drop nameEnd text)) where
+    pub place-within : place ≤ length text
+    place-within = omega (arith, run-within white (drop nameEnd text), length-drop nameEnd text, named .bounds .1)
+
+    to-place : (f : Frame) (fs : List Frame) → f .name ≡ nameAt text (suc inner) → seekAt text at (state (closing (f .name)) (f ∷ fs)) ≡ seekAt text place (state (closing []) (f ∷ fs))
+    to-place f fs n =
+        ap (λ (w : List ℕ). seekAt text at (state (closing w) (f ∷ fs))) n ∙ named .goes (f ∷ fs) ∙ end-gap nameEnd (f ∷ fs) (drop nameEnd text)
+        ∙ ap (λ (l : List ℕ). seek (nameEnd + runOf white (drop nameEnd text)) (state (closing []) (f ∷ fs)) l) (drop-drop (runOf white (drop nameEnd text)) nameEnd text)
+        ∙ ap (λ m. seekAt text m (state (closing []) (f ∷ fs))) (sym e)
+
+    pub end-cut : length text ≤ place → Ends text at inner (Wrong place)
+    end-cut l = record { goes = λ f fs n. to-place f fs n ∙ text-ends text place (state (closing []) (f ∷ fs)) l refl; bounds = place-within }
+
+    module _ (inside : place < length text) where
+      no-space : white (getD text place 0) ≡ false
+      no-space =
+          ap white (ap (λ n. getD text n 0) e ∙ sym (getD-drop nameEnd text (runOf white (drop nameEnd text)) 0))
+          ∙ run-stops white (drop nameEnd text) (omega (arith, length-drop nameEnd text))
+
+      pub end-closes : (to : ℕ) → getD text place 0 ≡ 62 → to ≡ place + 1 → Ends text at inner (At to)
+      unfolding leftOut
+      end-closes to mark f =
+          let next : suc place ≡ to = omega arith in
+          record {
+            goes = λ g fs n. to-place g fs n
+                ∙ steps-on text place (state (closing []) (g ∷ fs)) inside refl (added (element (g .name) (g .begin) (suc place) (g .inside) nothing) fs) (opens-not text place inside (subst Calm (sym mark) (is-calm 62 refl)))
+                (rw mark (add-added (element (g .name) (g .begin) (suc place) (g .inside) nothing) fs))
+                ∙ added-stops (suc place) (element (g .name) (g .begin) (suc place) (g .inside) nothing) fs (drop (suc place) text)
+                ∙ ap (λ m. stops m (added (element (g .name) (g .begin) m (g .inside) nothing) fs)) next;
+            bounds = (omega (arith, named .bounds .0), omega arith);
+          }
+
+      pub end-refused : (r : Reach) → (getD text place 0 ≡ 62 → ⊥) → r ≡ refusalAt (leftOutAnywhere (drop place text)) place → Ends text at inner r
+      unfolding leftOut
+      end-refused r other f =
+          record {
+            goes = λ g fs n. to-place g fs n
+                ∙ refused-here text place (state (closing []) (g ∷ fs)) inside refl (state (closing []) (g ∷ fs)) refl (rw (no-space, ne-eqb (getD text place 0) 62 other))
+                ∙ as-end g fs (leftOutAnywhere (drop place text)) ∙ ap (endTook g fs) (sym f);
+            bounds = rw f (in-bounds (leftOutAnywhere (drop place text)));
+          }
+        where
+          as-end : (g : Frame) (fs : List Frame) (t : Bool) → reached text (state (closing []) (g ∷ fs)) (refusalAt t place) ≡ endTook g fs (refusalAt t place)
+          as-end g fs true = refl
+          as-end g fs false = refl
+
+          in-bounds : (t : Bool) → Between (suc at) (length text) (refusalAt t place)
+          in-bounds true = omega arith
+          in-bounds false = omega arith
+
+  -- A refusal of the name is one of the tag.
+  pub end-stuck : (r : Reach) → Refused r → Renames text at inner r → Ends text at inner r
+  end-stuck (At to) stuck h = absurd (miss (1 ∷ 2 ∷ []) 0 tt stuck)
+  end-stuck (Wrong spot) stuck h =
+      record { goes = λ f fs n. ap (λ (w : List ℕ). seekAt text at (state (closing w) (f ∷ fs))) n ∙ h .goes (f ∷ fs); bounds = h .bounds }
+  end-stuck (LeftOut spot) stuck h =
+      record { goes = λ f fs n. ap (λ (w : List ℕ). seekAt text at (state (closing w) (f ∷ fs))) n ∙ h .goes (f ∷ fs); bounds = h .bounds }

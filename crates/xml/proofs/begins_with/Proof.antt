@@ -1,0 +1,59 @@
+-- `xml::begins_with` meets its contract. The loop's invariant: the first `done` bytes of the word stand there.
+-- The measure is what is left of the word. Assumes nothing.
+use Prim.Native.Nat.{_-_, _≤_}
+use lib.ListN.{length, drop}
+use mathlib.Core.Path.{_≡_, refl, sym}
+use native.Mathlib.Omega.{arith}
+use Rattle.paper.specs.Xml.{starts}
+use Rattle.xml.proofs.Beginnings.{starts-all, starts-cut, starts-differs, starts-more}
+use Rattle.xml.proofs.begins_with.Statement.{statement}
+use Rattle.xml.proofs.begins_with.Tie as tie
+
+abbrev Inv-loop : tie.InvT-loop
+Inv-loop text word done₀ done = (done ≤ length word) × (done ≤ length text) × (starts word text ≡ starts (drop done word) (drop done text))
+
+abbrev μ-loop : tie.MeasureT-loop
+μ-loop text word done₀ done = length word - done
+
+loop-holds : tie.Need-loop-holds Inv-loop μ-loop
+loop-holds c = (omega arith, omega arith, refl)
+
+returns : tie.Need-returns Inv-loop μ-loop
+returns c = sym (starts-cut (c .before .before .before .args .text .now) (c .before .before .before .args .word .now) (c .before .before .loop .done) (c .before .before .loop .inv .2) (c .before .loop-test .taken) (c .if1 .taken))
+
+shared-slice-read-if2 : tie.Need-shared-slice-read-if2 Inv-loop μ-loop
+shared-slice-read-if2 c = omega arith
+
+shared-slice-read-if2-2 : tie.Need-shared-slice-read-if2-2 Inv-loop μ-loop
+shared-slice-read-if2-2 c = omega arith
+
+returns-2 : tie.Need-returns-2 Inv-loop μ-loop
+returns-2 c = sym (starts-differs (c .before .before .before .before .before .before .args .text .now) (c .before .before .before .before .before .before .args .word .now) (c .before .before .before .before .before .loop .done) (c .before .before .before .before .before .loop .inv .2) (c .before .before .before .before .loop-test .taken) (c .before .before .before .if1 .left) (c .if2 .taken))
+
+add-done : tie.Need-add-done Inv-loop μ-loop
+add-done c = omega arith
+
+loop-less : tie.Need-loop-less Inv-loop μ-loop
+loop-less c = omega arith
+
+loop-again : tie.Need-loop-again Inv-loop μ-loop
+loop-again c = (omega (arith, c .before .before .before .before .loop-test .taken), omega (arith, c .before .before .before .if1 .left), starts-more (c .before .before .before .before .before .before .args .text .now) (c .before .before .before .before .before .before .args .word .now) (c .before .before .before .before .before .loop .done) (c .before .before .before .before .before .loop .inv .2) (c .before .before .before .before .loop-test .taken) (c .before .before .before .if1 .left) (c .if2 .left))
+
+returns-3 : tie.Need-returns-3 Inv-loop μ-loop
+returns-3 c = sym (starts-all (c .before .before .args .text .now) (c .before .before .args .word .now) (c .before .loop .done) (c .before .loop .inv .2) (omega arith))
+
+pub begins-with-spec : {M : Type 1} → statement M
+begins-with-spec =
+    tie.close
+    (tie.spec
+    Inv-loop
+    μ-loop
+    loop-holds
+    returns
+    shared-slice-read-if2
+    shared-slice-read-if2-2
+    returns-2
+    add-done
+    loop-less
+    loop-again
+    returns-3)

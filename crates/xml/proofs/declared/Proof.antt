@@ -1,0 +1,40 @@
+-- `xml::declared` meets its contract: `<?xml`, and white space behind it. Assumes nothing.
+use borrow.Author.Needs.{needs}
+use borrow.Author.Tests.{not-true, not-false}
+use mathlib.Core.Path.{sym, _∙_}
+use Rattle.xml.proofs.Beginnings.{undeclared, declares-cut, declares-by}
+use Rattle.xml.proofs.declared.Statement.{statement}
+use Rattle.xml.proofs.declared.Tie as tie
+
+slice-aggregate-begins-with : tie.Need-slice-aggregate-begins-with
+slice-aggregate-begins-with c = search needs
+
+begins-with-requires : tie.Need-begins-with-requires
+begins-with-requires c κs = search needs
+
+returns : tie.Need-returns
+returns c = sym (undeclared (c .before .before .before .before .args .text .now) (sym (c .before .begins-with .ensures) ∙ not-true _ (c .if1 .taken)))
+
+returns-2 : tie.Need-returns-2
+returns-2 c = sym (declares-cut (c .before .before .before .before .before .args .text .now) (c .if2 .taken))
+
+shared-slice-read-white-space : tie.Need-shared-slice-read-white-space
+shared-slice-read-white-space c = search needs
+
+white-space-requires : tie.Need-white-space-requires
+white-space-requires c κs = search needs
+
+returns-3 : tie.Need-returns-3
+returns-3 c = c .white-space .ensures ∙ sym (declares-by (c .before .before .before .before .before .before .before .args .text .now) (c .before .before .if2 .left) (sym (c .before .before .before .before .begins-with .ensures) ∙ not-false _ (c .before .before .before .if1 .left)))
+
+pub declared-spec : {M : Type 1} → statement M
+declared-spec =
+    tie.close
+    (tie.spec
+    slice-aggregate-begins-with
+    begins-with-requires
+    returns
+    returns-2
+    shared-slice-read-white-space
+    white-space-requires
+    returns-3)

@@ -1,0 +1,4 @@
+pub mod Seeking
+pub mod Promised
+pub mod Pieces
+pub mod Heading

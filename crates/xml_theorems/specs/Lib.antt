@@ -1,0 +1,3 @@
+pub mod Productions
+pub mod Owed
+pub mod Tables
