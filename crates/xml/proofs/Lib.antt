@@ -16,7 +16,7 @@ pub mod Ending
 pub mod Taking
 -- The promises leave one answer: `take-unique`, `root-unique`, `finish-unique`, `lead-unique`.
 pub mod Unique
--- What reading a piece says of the judgement of the text: `judged`, `judged-next`, `lead-judged`, `root-judged`, `take-judged`.
+-- What reading a piece says of the judgement of the text: `judged`, `judged-next`, and by case `judged-on`, `judged-refused`.
 pub mod Judging
 -- The start tag of the one element, and what may stand behind the element.
 pub mod Finishing
