@@ -1,4 +1,5 @@
-/* Runs and reads the same queries with the library, libxml2 and pugixml, and prints tables of times and ratios. */
+/* Runs and reads the same queries, and loads the same XML texts, with the library, libxml2 and pugixml, and prints
+ * tables of times and ratios. */
 #include "sides.h"
 
 #include <stdio.h>
@@ -223,6 +224,55 @@ static void readings(const struct document *document)
     rows_of_readings(&few);
 }
 
+/* Loading. */
+
+enum { LEAST_BYTES = HALYARDFIG_TEXT_BYTES / 8 };
+
+/* A row of one text, with the library's time for the row before, if there is one; answers its time for this one. */
+static double row_of_loading(const char *name, const struct xml_text *text, double before)
+{
+    double micros[SIDES], bytes = (double)text->length;
+    time_loading(text, micros);
+    printf("| %s | %zu | %zu | %.1f | %.1f | %.1f | %.2f | %.2f | ", name, text->length, text->document->nodes,
+           bytes / micros[OURS], bytes / micros[LIBXML2], bytes / micros[PUGIXML], micros[LIBXML2] / micros[OURS],
+           micros[PUGIXML] / micros[OURS]);
+    if (before > 0)
+        printf("%.2f", micros[OURS] / before);
+    printf(" |\n");
+    fflush(stdout);
+    return micros[OURS];
+}
+
+/* The largest document like XMark whose text has at most so many bytes. */
+static void make_xmark_text(struct document *document, size_t bytes, struct xml_text *text)
+{
+    size_t nodes = NODE_ROOM;
+    for (make_xmark(document, nodes); !write_xml(document, bytes, text); make_xmark(document, nodes))
+        nodes -= nodes / 64 + 1;
+}
+
+static void loadings(void)
+{
+    static struct document document;
+    static struct xml_text text;
+    double before = 0;
+    printf("\n### Loading XML, the bytes doubled\n\n");
+    printf(
+        "| text | bytes | nodes | ours, MB/s | libxml2, MB/s | pugixml, MB/s | libxml2 / ours | pugixml / ours | ours, "
+        "times the row before |\n|---|---|---|---|---|---|---|---|---|\n");
+    for (size_t bytes = LEAST_BYTES; bytes <= HALYARDFIG_TEXT_BYTES; bytes *= 2) {
+        make_xmark_text(&document, bytes, &text);
+        before = row_of_loading("like XMark", &text, before);
+    }
+    before = 0;
+    for (size_t nodes = LEAST_NODES; nodes <= NODE_ROOM; nodes *= 2) {
+        make_chain(&document, nodes);
+        if (!write_xml(&document, sizeof text.bytes, &text))
+            fail("does not fit", "the text of a chain");
+        before = row_of_loading("chain", &text, before);
+    }
+}
+
 int main(void)
 {
     static struct document document, small;
@@ -234,6 +284,7 @@ int main(void)
     doubled_nodes();
     doubled_items(&document, &small);
     readings(&document);
+    loadings();
     chains();
     return 0;
 }

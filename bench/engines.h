@@ -15,6 +15,11 @@ struct engine {
     void (*discard)(void *query);
     /* Writes the numbers of the nodes that the query selects from the root, and answers how many they are. */
     size_t (*select)(void *loaded, void *query, uint16_t *selected);
+    /* Reads XML text into a tree; a null pointer if the engine does not take it. */
+    void *(*parse)(const uint8_t *text, size_t length);
+    void (*release)(void *parsed);
+    /* How many nodes the tree has, the root included. */
+    size_t (*count)(void *parsed);
 };
 
 #ifdef __cplusplus

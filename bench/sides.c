@@ -156,6 +156,66 @@ void time_reading(const struct document *document, const struct query *query, do
     time_side_by_side(works, SIDES, micros);
 }
 
+/* Loading. */
+
+/* The columns that the library writes: parent, kind, begin and end. */
+static uint16_t columns[4][NODE_ROOM];
+
+static void load_own(void *with)
+{
+    const struct xml_text *text = with;
+    uint64_t answer =
+        halyardfig_read_xml(text->bytes, text->length, text->document->list, text->document->list_length, columns[0],
+                            NODE_ROOM, columns[1], NODE_ROOM, columns[2], NODE_ROOM, columns[3], NODE_ROOM);
+    if (accepted(answer, "an XML text") != text->document->nodes)
+        fail("other nodes than were written", "ours");
+}
+
+/* An engine with the text that it reads. */
+struct loading {
+    const struct engine *engine;
+    const struct xml_text *text;
+};
+
+static void load_engine(void *with)
+{
+    const struct loading *loading = with;
+    void *parsed = loading->engine->parse(loading->text->bytes, loading->text->length);
+    if (parsed == NULL)
+        fail("does not take an XML text", loading->engine->name);
+    loading->engine->release(parsed);
+}
+
+static void check_loading(const struct loading *loading)
+{
+    void *parsed = loading->engine->parse(loading->text->bytes, loading->text->length);
+    if (parsed == NULL || loading->engine->count(parsed) != loading->text->document->nodes)
+        fail("other nodes than were written", loading->engine->name);
+    loading->engine->release(parsed);
+}
+
+static void check_columns(const struct document *document)
+{
+    size_t bytes = document->nodes * sizeof columns[0][0];
+    if (memcmp(columns[0], document->parent, bytes) != 0 || memcmp(columns[1], document->kind, bytes) != 0)
+        fail("another document than was written", "ours");
+}
+
+void time_loading(const struct xml_text *text, double micros[SIDES])
+{
+    struct loading loadings[SIDES];
+    struct work works[SIDES] = {{load_own, (void *)text}};
+    load_own((void *)text);
+    check_columns(text->document);
+    for (size_t s = OURS + 1; s < SIDES; s++) {
+        loadings[s] = (struct loading){engines[s], text};
+        works[s] = (struct work){load_engine, &loadings[s]};
+        check_loading(&loadings[s]);
+    }
+    time_first(works, SIDES, micros);
+    time_side_by_side(works, SIDES, micros);
+}
+
 const char *versions(void)
 {
     static char words[64];

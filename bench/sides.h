@@ -3,6 +3,7 @@
 #define SIDES_H
 
 #include "queries.h"
+#include "texts.h"
 
 enum { OURS, LIBXML2, PUGIXML, SIDES };
 
@@ -15,6 +16,10 @@ double time_own_run(const struct document *document, const struct query *query);
 
 /* Times the reading of a query's text. */
 void time_reading(const struct document *document, const struct query *query, double micros[SIDES]);
+
+/* Times the reading of XML text. The library has to write the text's document, and the others have to find as many
+   nodes. */
+void time_loading(const struct xml_text *text, double micros[SIDES]);
 
 /* The versions of the other engines, in words. */
 const char *versions(void);

@@ -1,6 +1,7 @@
 /* libxml2 as an engine: a node keeps its number in the field that is left to the user. */
 #include "engines.h"
 
+#include <libxml/parser.h>
 #include <libxml/tree.h>
 #include <libxml/xpath.h>
 #include <stdlib.h>
@@ -57,4 +58,31 @@ static size_t select_nodes(void *loaded, void *query, uint16_t *selected)
     return (size_t)count;
 }
 
-const struct engine libxml2_engine = {"libxml2", LIBXML_DOTTED_VERSION, load, unload, compile, discard, select_nodes};
+/* The option is the one for deep trees. */
+static void *parse(const uint8_t *text, size_t length)
+{
+    return xmlReadMemory((const char *)text, (int)length, NULL, NULL, XML_PARSE_HUGE | XML_PARSE_NONET);
+}
+
+static void release(void *parsed)
+{
+    xmlFreeDoc(parsed);
+}
+
+static size_t count_nodes(void *parsed)
+{
+    size_t count = 1;
+    for (xmlNodePtr node = ((xmlDocPtr)parsed)->children; node != NULL; count++) {
+        if (node->children != NULL) {
+            node = node->children;
+            continue;
+        }
+        while (node != NULL && node->next == NULL)
+            node = node->parent;
+        node = node == NULL ? NULL : node->next;
+    }
+    return count;
+}
+
+const struct engine libxml2_engine = {"libxml2", LIBXML_DOTTED_VERSION, load,  unload,  compile,
+                                      discard,   select_nodes,          parse, release, count_nodes};

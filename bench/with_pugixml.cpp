@@ -88,6 +88,36 @@ std::size_t select_nodes(void *loaded, void *query, std::uint16_t *selected)
     return count;
 }
 
+// Blank text is kept, as the library and libxml2 keep it.
+void *parse(const std::uint8_t *text, std::size_t length)
+{
+    auto *tree = new pugi::xml_document;
+    if (tree->load_buffer(text, length, pugi::parse_default | pugi::parse_ws_pcdata, pugi::encoding_utf8))
+        return tree;
+    delete tree;
+    return nullptr;
+}
+
+void release(void *parsed)
+{
+    delete static_cast<pugi::xml_document *>(parsed);
+}
+
+std::size_t count_nodes(void *parsed)
+{
+    struct : pugi::xml_tree_walker {
+        std::size_t nodes = 1;
+        bool for_each(pugi::xml_node &) override
+        {
+            nodes++;
+            return true;
+        }
+    } walker;
+    static_cast<pugi::xml_document *>(parsed)->traverse(walker);
+    return walker.nodes;
+}
+
 } // namespace
 
-const engine pugixml_engine = {"pugixml", version, load, unload, compile, discard, select_nodes};
+const engine pugixml_engine = {"pugixml", version,      load,  unload,  compile,
+                               discard,   select_nodes, parse, release, count_nodes};

@@ -1,9 +1,11 @@
 /*
- * Halyardfig: queries in a part of XPath 1.0, run over node tables as subtree queries, and composed.
+ * Halyardfig: queries in a part of XPath 1.0, run over node tables as subtree queries, and composed;
+ * and XML text read into such tables.
  *
  * A query in memory is an array of 32-bit items, made by halyardfig_read or halyardfig_compose.
  * A document is two columns of one length, parent and kind: node 0 is the root (parent 0, kind 0),
  * kind 1 is text, kind 2 + v an element with the name v of the name list, counted from 0.
+ * halyardfig_read_xml makes them of XML text, and two columns more that say where each node's text stands.
  * Marks are one byte a node, 0 or 1; a marked node's parent is marked.
  * A name list is names one after another, each ended by LF.
  *
@@ -31,7 +33,10 @@
  *   7   table: a bad node, or no nodes                                       the node; 0 for no nodes
  *   8   marks: not 0 or 1, or a marked node under an unmarked one            the node
  *   9   the composed query would be nested over 64                           its nesting
- *   10  room too short, or a query over 4,096 items                          the number needed
+ *   10  room too short, or a query over 4,096 items,
+ *       or XML text of over 4,096 nodes                                      the number needed
+ *   11  XML text: no wanted text goes on like this, or it ends too early     the byte, or the length
+ *   12  XML text: a thing of XML that is left out begins                     its first byte
  */
 #ifndef HALYARDFIG_H
 #define HALYARDFIG_H
@@ -69,6 +74,8 @@
 #define HALYARDFIG_REFUSED_MARKS 8
 #define HALYARDFIG_REFUSED_NESTING 9
 #define HALYARDFIG_REFUSED_ROOM 10
+#define HALYARDFIG_REFUSED_XML 11
+#define HALYARDFIG_REFUSED_LEFT_OUT 12
 
 #ifdef __cplusplus
 extern "C" {
@@ -145,6 +152,25 @@ uint64_t halyardfig_run(const uint32_t *query, size_t query_len, const uint16_t 
 uint64_t halyardfig_extract(const uint16_t *parent, size_t parent_len, const uint16_t *kind, size_t kind_len,
                             const uint8_t *marks, size_t marks_len, uint16_t *out_parent, size_t out_parent_len,
                             uint16_t *out_kind, size_t out_kind_len);
+
+/*
+ * Reads XML 1.0 text in UTF-8 with the names of a list and writes a document: its columns parent and kind,
+ * and the columns begin and end, which say for each node the place of its first byte and the place past its last.
+ * The root's place is the whole text; an element's runs from its first `<` past its last `>`; a run of characters and
+ * references inside an element, blank or not, is one text node, and its place is the run as it stands.
+ * Value: the number of nodes, in document order; all four columns past it are untouched.
+ * Wanted are one element, white space around it, the XML declaration, character data and the references
+ * `&lt;`, `&gt;`, `&amp;`, `&apos;` and `&quot;`, with names as in a name list but of any length.
+ * Left out are `<!`, `&#`, `<?` (but a declaration at place 0), a byte order mark, attributes, names that only XML 1.0
+ * allows, and every encoding but UTF-8.
+ * Refuses, in this order: 1 (text over 32,768 bytes, list over 8,192, columns of unequal length), 2,
+ * then 12 or 11, whichever place comes first (12 if they are equal), 5 (place: where the first start tag's name begins
+ * that the list lacks), 10 (place: the nodes; also over 4,096 of them).
+ * A refused call changes no byte of the columns, and the stack does not grow with the elements that are open.
+ */
+uint64_t halyardfig_read_xml(const uint8_t *text, size_t text_len, const uint8_t *names, size_t names_len,
+                             uint16_t *parent, size_t parent_len, uint16_t *kind, size_t kind_len, uint16_t *begin,
+                             size_t begin_len, uint16_t *end, size_t end_len);
 
 #ifdef __cplusplus
 }

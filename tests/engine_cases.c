@@ -3,8 +3,8 @@
  * A line starts with a letter: C case, N names, P parents, K kinds, G given marks,
  * Q a query text, each run inside the marks left by the one before it, and E the marks expected.
  */
+#include "cases.h"
 #include "halyardfig.h"
-#include "making.h"
 
 #include <stdio.h>
 #include <string.h>
@@ -15,25 +15,6 @@ static struct list list;
 static struct table table;
 static struct query query, outer, inner, composed;
 static uint8_t kept[NODE_ROOM];
-
-static void write_names(void)
-{
-    printf("N");
-    for (unsigned v = 0; v < list.count; v++) {
-        size_t length;
-        const uint8_t *name = name_at(&list, v, &length);
-        printf(" %.*s", (int)length, (const char *)name);
-    }
-    printf("\n");
-}
-
-static void write_column(char letter, const uint16_t *column)
-{
-    putchar(letter);
-    for (size_t i = 0; i < table.nodes; i++)
-        printf(" %u", column[i]);
-    printf("\n");
-}
 
 static void write_marks(char letter, const uint8_t *marks)
 {
@@ -66,10 +47,10 @@ static void write_text(const uint8_t *bytes, size_t length)
 
 static void write_document(const char *what)
 {
-    printf("C %s, CASE=%llu\n", what, (unsigned long long)group_case());
-    write_names();
-    write_column('P', table.parent);
-    write_column('K', table.kind);
+    write_case(what);
+    write_names(&list);
+    write_column('P', table.parent, table.nodes);
+    write_column('K', table.kind, table.nodes);
     write_marks('G', table.marks);
 }
 

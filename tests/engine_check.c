@@ -1,7 +1,5 @@
 /* Reads cases from standard input and holds them to libxml2's XPath under the subtree rule. */
-#define _GNU_SOURCE
-#include "halyardfig.h"
-#include "support.h"
+#include "checking.h"
 
 #include <libxml/tree.h>
 #include <libxml/xpath.h>
@@ -9,26 +7,16 @@
 #include <stdlib.h>
 #include <string.h>
 
-enum { NODES = HALYARDFIG_NODES, NAMES = HALYARDFIG_NAMES };
+enum { NODES = HALYARDFIG_NODES };
 
 static struct {
-    char *what;
-    char *names[NAMES];
-    unsigned parent[NODES];
-    unsigned kind[NODES];
+    case_column parent;
+    case_column kind;
     uint8_t marks[NODES];
     size_t nodes;
-    char shown[1 << 16];
-    bool ended;
 } now;
 
 static xmlNodePtr tree[NODES];
-
-static void ignore_error(void *context, const char *message, ...)
-{
-    (void)context;
-    (void)message;
-}
 
 /* Links a node as its parent's last child; libxml2's own call would join neighbouring texts. */
 static void append(xmlNodePtr parent, xmlNodePtr child)
@@ -52,7 +40,7 @@ static xmlDocPtr build(void)
             continue;
         tree[i] = now.kind[i] == HALYARDFIG_KIND_TEXT
                       ? xmlNewDocText(document, BAD_CAST "t")
-                      : xmlNewDocNode(document, NULL, BAD_CAST now.names[now.kind[i] - HALYARDFIG_KIND_ELEMENT], NULL);
+                      : xmlNewDocNode(document, NULL, BAD_CAST name_of(now.kind[i] - HALYARDFIG_KIND_ELEMENT), NULL);
         append(tree[now.parent[i]], tree[i]);
     }
     for (size_t i = 0; i < now.nodes; i++)
@@ -117,24 +105,8 @@ static void compare(const char *expected)
     for (size_t i = 0; i < now.nodes; i++)
         found[i] = (char)('0' + now.marks[i]);
     found[now.nodes] = 0;
-    tally(strcmp(found, expected) == 0, "%s, SEED=%llu: libxml2 keeps %s, the library %s\n%s", now.what,
-          (unsigned long long)group_seed(), found, expected, now.shown);
-}
-
-static void take_names(char *words)
-{
-    size_t count = 0;
-    for (char *word = strtok(words, " "); word != NULL && count < NAMES; word = strtok(NULL, " ")) {
-        free(now.names[count]);
-        now.names[count++] = strdup(word);
-    }
-}
-
-static void take_column(char *words, unsigned *column)
-{
-    now.nodes = 0;
-    for (char *word = strtok(words, " "); word != NULL && now.nodes < NODES; word = strtok(NULL, " "))
-        column[now.nodes++] = (unsigned)strtoul(word, NULL, 10);
+    tally(strcmp(found, expected) == 0, "%s, SEED=%llu: libxml2 keeps %s, the library %s\n%s", case_now(),
+          (unsigned long long)group_seed(), found, expected, case_lines());
 }
 
 /* Turns \t, \n and \r back into the bytes they stand for. */
@@ -149,35 +121,14 @@ static void unescape(char *text)
     *to = 0;
 }
 
-static void remember(const char *line)
+static void take_line(char letter, char *rest)
 {
-    size_t used = strlen(now.shown);
-    snprintf(now.shown + used, sizeof now.shown - used, "  %s\n", line);
-}
-
-static void take_case(const char *what)
-{
-    free(now.what);
-    now.what = strdup(what);
-    now.shown[0] = 0;
-}
-
-static void take_line(char *line)
-{
-    char *rest = strlen(line) > 2 ? line + 2 : line + strlen(line);
-    remember(line);
-    switch (line[0]) {
-    case 'C':
-        take_case(rest);
-        return;
-    case 'N':
-        take_names(rest);
-        return;
+    switch (letter) {
     case 'P':
-        take_column(rest, now.parent);
+        now.nodes = take_column(rest, now.parent);
         return;
     case 'K':
-        take_column(rest, now.kind);
+        now.nodes = take_column(rest, now.kind);
         return;
     case 'G':
         for (size_t i = 0; i < now.nodes; i++)
@@ -191,24 +142,11 @@ static void take_line(char *line)
         compare(rest);
         return;
     default:
-        now.ended = strncmp(line, "engine: ", 8) == 0 && strstr(line, " 0 failed") != NULL;
-        if (!now.ended)
-            tally(false, "%s", line);
+        no_such_line();
     }
 }
 
 int main(void)
 {
-    char *line = NULL;
-    size_t room = 0;
-    group_start("engine");
-    xmlSetGenericErrorFunc(NULL, ignore_error);
-    for (ssize_t length; (length = getline(&line, &room, stdin)) > 0;) {
-        line[length - 1] = 0;
-        take_line(line);
-    }
-    free(line);
-    if (!now.ended)
-        tally(false, "the cases do not end as they should");
-    return group_end();
+    return check_cases("engine", take_line);
 }

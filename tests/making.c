@@ -283,6 +283,41 @@ void make_long_query(struct dice *dice, struct query *query, size_t most_items, 
 
 /* Texts. */
 
+void clear_text(struct text *text)
+{
+    text->length = 0;
+    text->overflowed = false;
+}
+
+void put_byte(struct text *text, uint8_t byte)
+{
+    if (text->length < TEXT_ROOM)
+        text->bytes[text->length++] = byte;
+    else
+        text->overflowed = true;
+}
+
+void put_word(struct text *text, const char *word)
+{
+    for (; *word != 0; word++)
+        put_byte(text, (uint8_t)*word);
+}
+
+void put_white(struct dice *dice, struct text *text, unsigned percent, bool needed)
+{
+    static const char spaces[] = "   \t\n\r";
+    while (needed || chance(dice, percent)) {
+        put_byte(text, (uint8_t)spaces[below(dice, sizeof spaces - 1)]);
+        needed = false;
+    }
+}
+
+void put_soup(struct dice *dice, struct text *text, const char *const *soup, size_t parts, size_t times)
+{
+    for (; times > 0; times--)
+        put_word(text, soup[below(dice, parts)]);
+}
+
 struct writing {
     struct dice *dice;
     struct text *text;
@@ -299,21 +334,9 @@ static bool in_word(uint8_t byte)
            byte == '.' || byte == '-' || byte == '_';
 }
 
-static void put_byte(struct text *text, uint8_t byte)
-{
-    if (text->length < TEXT_ROOM)
-        text->bytes[text->length++] = byte;
-    else
-        text->overflowed = true;
-}
-
 static void put_space(struct writing *writing, bool needed)
 {
-    static const char spaces[] = "   \t\n\r";
-    while (needed || chance(writing->dice, writing->loose)) {
-        put_byte(writing->text, (uint8_t)spaces[below(writing->dice, sizeof spaces - 1)]);
-        needed = false;
-    }
+    put_white(writing->dice, writing->text, writing->loose, needed);
 }
 
 static void put_token_bytes(struct writing *writing, const uint8_t *token, size_t length)
@@ -430,8 +453,7 @@ static void write_expr(struct writing *writing)
 void make_text(struct dice *dice, struct text *text, const struct query *query, const struct list *list)
 {
     struct writing writing = {dice, text, query, list, 0, chance(dice, 50) ? 20 : 0, false};
-    text->length = 0;
-    text->overflowed = false;
+    clear_text(text);
     while (writing.at < query->count) {
         unsigned steps = query->items[writing.at++] >> 3;
         if (steps == 0)
@@ -548,10 +570,7 @@ void make_token_soup(struct dice *dice, struct text *text, size_t tokens)
     static const char *const soup[] = {"/", "/", "//", ".",   "..", "::",    "|",    "[",      "]",    "(", ")",
                                        "*", "a", "b",  "and", "or", "not",   "node", "text",   "self", "[", "]",
                                        "(", ")", " ",  "\t",  "\n", "child", "not(", "node()", "a",    ":", "-"};
-    text->length = 0;
-    text->overflowed = false;
+    clear_text(text);
     put_byte(text, '/');
-    for (; tokens > 0; tokens--)
-        for (const char *byte = soup[below(dice, sizeof soup / sizeof soup[0])]; *byte != 0; byte++)
-            put_byte(text, (uint8_t)*byte);
+    put_soup(dice, text, soup, sizeof soup / sizeof soup[0], tokens);
 }

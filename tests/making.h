@@ -66,6 +66,17 @@ void make_deep_query(struct dice *dice, struct query *query, unsigned nesting, u
 /* A query that is one long run of some kind: steps, predicates, paths, or left-grouped operands. */
 void make_long_query(struct dice *dice, struct query *query, size_t most_items, unsigned names);
 
+/* Writing a text: what is past its room is left out, and the text says so. */
+void clear_text(struct text *text);
+void put_byte(struct text *text, uint8_t byte);
+void put_word(struct text *text, const char *word);
+
+/* White space of every kind, as long as the percentage is thrown; at least one where it is needed. */
+void put_white(struct dice *dice, struct text *text, unsigned percent, bool needed);
+
+/* Parts of a choice in any order, so many times. */
+void put_soup(struct dice *dice, struct text *text, const char *const *soup, size_t parts, size_t times);
+
 /* A text of the query with random abbreviations, white space and superfluous brackets. */
 void make_text(struct dice *dice, struct text *text, const struct query *query, const struct list *list);
 

@@ -102,10 +102,10 @@ static size_t agreeing(struct dice *dice)
 }
 
 /* Both answers are those of one call, so it must have looked at nothing else. */
-static bool in_range(const char *call, uint64_t first, size_t most_value)
+static bool in_range(const char *call, uint64_t first, size_t most_value, unsigned most_number)
 {
     uint64_t number = halyardfig_refused(first);
-    if (number > HALYARDFIG_REFUSED_ROOM || (number == 0 && halyardfig_value(first) > most_value))
+    if (number > most_number || (number == 0 && halyardfig_value(first) > most_value))
         return complain("%s gives an answer out of range", call);
     return twin_answer == first || complain("%s answers otherwise the second time", call);
 }
@@ -118,7 +118,8 @@ static bool read_anything(struct dice *dice)
     if (!twin_read(dice, text.bytes, text.length, list.bytes, list.length, room))
         return false;
     uint64_t first = twin_answer;
-    return twin_read(dice, text.bytes, text.length, list.bytes, list.length, room) && in_range("read", first, room);
+    return twin_read(dice, text.bytes, text.length, list.bytes, list.length, room) &&
+           in_range("read", first, room, HALYARDFIG_REFUSED_ROOM);
 }
 
 static bool print_anything(struct dice *dice)
@@ -129,7 +130,8 @@ static bool print_anything(struct dice *dice)
     if (!twin_print(dice, query.items, query.count, list.bytes, list.length, room))
         return false;
     uint64_t first = twin_answer;
-    return twin_print(dice, query.items, query.count, list.bytes, list.length, room) && in_range("print", first, room);
+    return twin_print(dice, query.items, query.count, list.bytes, list.length, room) &&
+           in_range("print", first, room, HALYARDFIG_REFUSED_ROOM);
 }
 
 static bool compose_anything(struct dice *dice)
@@ -141,7 +143,7 @@ static bool compose_anything(struct dice *dice)
         return false;
     uint64_t first = twin_answer;
     return twin_compose(dice, query.items, query.count, second.items, second.count, room) &&
-           in_range("compose", first, room);
+           in_range("compose", first, room, HALYARDFIG_REFUSED_ROOM);
 }
 
 static bool run_anything(struct dice *dice)
@@ -160,7 +162,7 @@ static bool run_anything(struct dice *dice)
             return false;
         first = time == 0 ? twin_answer : first;
     }
-    return in_range("run", first, table.nodes);
+    return in_range("run", first, table.nodes, HALYARDFIG_REFUSED_ROOM);
 }
 
 static bool extract_anything(struct dice *dice)
@@ -174,7 +176,40 @@ static bool extract_anything(struct dice *dice)
             return false;
         first = time == 0 ? twin_answer : first;
     }
-    return in_range("extract", first, room);
+    return in_range("extract", first, room, HALYARDFIG_REFUSED_ROOM);
+}
+
+/* Any bytes, pieces of XML, or a damaged text. */
+static void any_xml(struct dice *dice)
+{
+    static struct xml xml;
+    size_t throw = below(dice, 10);
+    if (throw < 3) {
+        any_text(dice);
+    } else if (throw < 6 || list.count == 0) {
+        make_xml_soup(dice, &text, between(dice, 0, 40));
+    } else {
+        make_xml(dice, &xml, &list, any_growth(dice));
+        text = xml.text;
+        if (throw < 9)
+            damage_xml(dice, &text);
+    }
+}
+
+static bool read_any_xml(struct dice *dice)
+{
+    make_list(dice, &list, (unsigned)below(dice, 6));
+    any_xml(dice);
+    if (chance(dice, 20))
+        any_list(dice);
+    size_t room = any_length(dice, 60, NODE_ROOM), rooms[COLUMNS] = {room, room, room, room};
+    if (chance(dice, 2))
+        rooms[below(dice, COLUMNS)] = any_length(dice, 60, NODE_ROOM);
+    if (!twin_read_xml(dice, text.bytes, text.length, list.bytes, list.length, rooms))
+        return false;
+    uint64_t first = twin_answer;
+    return twin_read_xml(dice, text.bytes, text.length, list.bytes, list.length, rooms) &&
+           in_range("read_xml", first, room, HALYARDFIG_REFUSED_LEFT_OUT);
 }
 
 int main(void)
@@ -185,5 +220,6 @@ int main(void)
     try_cases("compose", 8000, compose_anything);
     try_cases("run", 15000, run_anything);
     try_cases("extract", 10000, extract_anything);
+    try_cases("read_xml", 15000, read_any_xml);
     return group_end();
 }

@@ -3,6 +3,7 @@
 #include "paper.h"
 
 #include "halyardfig.h"
+#include "names.h"
 #include "support.h"
 
 #include <stdio.h>
@@ -87,60 +88,10 @@ static struct step *new_step(enum axis axis, unsigned test, struct expr *predica
     return made;
 }
 
-/* The name list. */
-
-struct names {
-    const uint8_t *start[HALYARDFIG_NAMES];
-    size_t length[HALYARDFIG_NAMES];
-    size_t count;
-};
-
-static bool starts_name(uint8_t byte)
-{
-    return (byte >= 'a' && byte <= 'z') || (byte >= 'A' && byte <= 'Z') || byte == '_';
-}
-
-static bool continues_name(uint8_t byte)
-{
-    return starts_name(byte) || (byte >= '0' && byte <= '9') || byte == '.' || byte == '-';
-}
-
-static bool is_name(const uint8_t *bytes, size_t length)
-{
-    if (length == 0 || !starts_name(bytes[0]))
-        return false;
-    for (size_t i = 1; i < length; i++)
-        if (!continues_name(bytes[i]))
-            return false;
-    return true;
-}
-
 static unsigned test_named(const struct names *names, const uint8_t *bytes, size_t length)
 {
-    for (size_t v = 0; v < names->count; v++)
-        if (names->length[v] == length && memcmp(names->start[v], bytes, length) == 0)
-            return TEST_NAME + (unsigned)v;
-    return TEST_UNKNOWN;
-}
-
-/* Takes the list apart; answers 0 or the refusal. */
-static uint64_t take_names(struct names *names, const uint8_t *list, size_t list_len)
-{
-    names->count = 0;
-    for (size_t at = 0; at < list_len;) {
-        size_t length = 0;
-        while (at + length < list_len && list[at + length] != '\n')
-            length++;
-        bool ended = at + length < list_len;
-        bool good = ended && is_name(list + at, length) && length <= HALYARDFIG_NAME_BYTES &&
-                    names->count < HALYARDFIG_NAMES && test_named(names, list + at, length) == TEST_UNKNOWN;
-        if (!good)
-            return REFUSED(2, at);
-        names->start[names->count] = list + at;
-        names->length[names->count++] = length;
-        at += length + 1;
-    }
-    return 0;
+    size_t v = number_named(names, bytes, length);
+    return v < names->count ? TEST_NAME + (unsigned)v : TEST_UNKNOWN;
 }
 
 /* Tokens. */

@@ -1,5 +1,5 @@
 /*
- * docs/SCOPE.md in plain C, as an independent model of the five calls.
+ * docs/SCOPE.md in plain C, as an independent model of the six calls.
  * Each model call takes what the library's call takes, answers alike and writes alike.
  */
 #ifndef PAPER_H
@@ -21,6 +21,9 @@ uint64_t model_run(const uint32_t *query, size_t query_len, const uint16_t *pare
 uint64_t model_extract(const uint16_t *parent, size_t parent_len, const uint16_t *kind, size_t kind_len,
                        const uint8_t *marks, size_t marks_len, uint16_t *out_parent, size_t out_parent_len,
                        uint16_t *out_kind, size_t out_kind_len);
+uint64_t model_read_xml(const uint8_t *text, size_t text_len, const uint8_t *names, size_t names_len, uint16_t *parent,
+                        size_t parent_len, uint16_t *kind, size_t kind_len, uint16_t *begin, size_t begin_len,
+                        uint16_t *end, size_t end_len);
 
 /* What can be measured of a query in memory. */
 struct measures {

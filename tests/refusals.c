@@ -2,61 +2,24 @@
 #define _GNU_SOURCE
 #include "halyardfig.h"
 #include "making.h"
+#include "offering.h"
 
 #include <stdio.h>
 #include <stdlib.h>
 #include <string.h>
 #include <sys/mman.h>
 
-enum { PIECES = 6, FILL = 0x5A, LONGEST = 1 << 17, BUILT_MOST = 4 };
+enum { LONGEST = 1 << 17, BUILT_MOST = 4 };
 enum { LAST_KIND = HALYARDFIG_KIND_ELEMENT + HALYARDFIG_NAMES - 1 };
-
-/* Memory lent to one call, and how it was before. */
-static struct {
-    uint8_t *start;
-    uint8_t *before;
-    size_t bytes;
-} pieces[PIECES];
-static unsigned piece_count;
 
 /* Strings built for one call. */
 static char built[BUILT_MOST][LONGEST];
 static unsigned built_count;
 
-static void *offer(const void *from, size_t bytes)
-{
-    uint8_t *start = lend(piece_count, bytes);
-    uint8_t *before = realloc(pieces[piece_count].before, bytes + 1);
-    if (before == NULL)
-        abort();
-    if (from == NULL)
-        memset(start, FILL, bytes);
-    else
-        memcpy(start, from, bytes);
-    memcpy(before, start, bytes);
-    pieces[piece_count].start = start;
-    pieces[piece_count].before = before;
-    pieces[piece_count].bytes = bytes;
-    piece_count++;
-    return start;
-}
-
-/* Is a piece as it was, from some byte on? */
-static bool stands(unsigned piece, size_t from)
-{
-    return memcmp(pieces[piece].start + from, pieces[piece].before + from, pieces[piece].bytes - from) == 0;
-}
-
-/* The answer is the expected one, nothing else is touched, and of a piece that is written only its first bytes. */
+/* Ends a call: it is judged, and the strings built for it are given back. */
 static void expect(const char *what, uint64_t answer, uint64_t expected, const size_t *written)
 {
-    bool untouched = guards_whole();
-    for (unsigned i = 0; i < piece_count; i++)
-        untouched = untouched && stands(i, halyardfig_refused(answer) == 0 ? written[i] : 0);
-    tally(answer == expected && untouched, "%s: answer %u with %u, expected %u with %u%s", what,
-          halyardfig_refused(answer), halyardfig_place(answer), halyardfig_refused(expected),
-          halyardfig_place(expected), untouched ? "" : "; wrote where it may not");
-    piece_count = 0;
+    judge_offered(what, answer, expected, written);
     built_count = 0;
 }
 
@@ -711,7 +674,7 @@ static void lent_twice(void)
 /* Lengths of 2^32 and a little, which are no small lengths; the memory is all zeros and hardly touched. */
 static void huge_lengths(void)
 {
-    const size_t huge = ((size_t)1 << 32) + 1, bytes = huge * sizeof(uint32_t);
+    const size_t huge = ((size_t)1 << 32) + 1, bytes = huge * sizeof(uint64_t);
     void *memory = mmap(NULL, bytes, PROT_READ | PROT_WRITE, MAP_PRIVATE | MAP_ANONYMOUS | MAP_NORESERVE, -1, 0);
     if (memory == MAP_FAILED) {
         printf("no room to try huge lengths\n");
@@ -721,7 +684,7 @@ static void huge_lengths(void)
     const uint16_t zero[] = {0};
     uint32_t items[9];
     uint8_t marks[1], room[9];
-    uint16_t parents[1], kinds[1];
+    uint16_t parents[1], kinds[1], begins[1], ends[1], *columns = memory;
     answer_is("huge text", halyardfig_read(memory, huge, slash, 0, items, 9), REFUSED(1, 0));
     answer_is("huge list", halyardfig_read(slash, 1, memory, huge, items, 9), REFUSED(1, 0));
     answer_is("huge room for items", halyardfig_read(slash, 1, slash, 0, memory, huge), 1);
@@ -746,6 +709,16 @@ static void huge_lengths(void)
               REFUSED(1, 0));
     answer_is("huge output column", halyardfig_extract(zero, 1, zero, 1, one, 1, memory, huge, kinds, 1),
               REFUSED(1, 0));
+    answer_is("huge XML text", halyardfig_read_xml(memory, huge, slash, 0, parents, 1, kinds, 1, begins, 1, ends, 1),
+              REFUSED(1, 0));
+    answer_is("huge list of XML", halyardfig_read_xml(slash, 1, memory, huge, parents, 1, kinds, 1, begins, 1, ends, 1),
+              REFUSED(1, 0));
+    answer_is("huge column of XML",
+              halyardfig_read_xml(slash, 1, slash, 0, parents, 1, kinds, 1, columns, huge, ends, 1), REFUSED(1, 0));
+    answer_is("huge room for XML",
+              halyardfig_read_xml((const uint8_t *)"<a/>", 4, (const uint8_t *)"a\n", 2, columns, huge, columns + huge,
+                                  huge, columns + 2 * huge, huge, columns + 3 * huge, huge),
+              2);
     munmap(memory, bytes);
 }
 

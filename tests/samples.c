@@ -1,5 +1,5 @@
-/* docs/SCOPE.md, "Samples on both sides": the samples, through the C interface; and what they leave out of `*` and of
- * items. */
+/* docs/SCOPE.md, "Samples on both sides" and "XML text into the table": the samples, through the C interface; and what
+ * they leave out of `*` and of items. */
 #include "halyardfig.h"
 #include "making.h"
 
@@ -226,6 +226,85 @@ static void printed_sample(void)
     tally(memcmp(printed, expected, strlen(expected)) == 0, "printed: %.*s", (int)strlen(expected), printed);
 }
 
+static uint64_t read_document(const char *text, size_t room, uint16_t *parent, uint16_t *kind, uint16_t *begin,
+                              uint16_t *end)
+{
+    static const char names[] = "a\nb\n";
+    return halyardfig_read_xml((const uint8_t *)text, strlen(text), (const uint8_t *)names, strlen(names), parent, room,
+                               kind, room, begin, room, end, room);
+}
+
+/* XML texts with the nodes and the columns that they are, with the names a and b. */
+static void document_samples(void)
+{
+    enum { ROOM = 9, MOST = 6 };
+    static const struct {
+        const char *text;
+        size_t nodes;
+        uint16_t parent[MOST], kind[MOST], begin[MOST], end[MOST];
+    } samples[] = {
+        {" <a/> ", 2, {0, 0}, {0, 2}, {0, 1}, {6, 5}},
+        {"<a>x<b/>y</a>", 5, {0, 0, 1, 1, 1}, {0, 2, 1, 3, 1}, {0, 0, 3, 4, 8}, {13, 13, 4, 8, 9}},
+        {"<a>&lt;x&amp;</a>", 3, {0, 0, 1}, {0, 2, 1}, {0, 0, 3}, {17, 17, 13}},
+        {"<?xml version='1.0' encoding=\"utf-8\" standalone = 'no' ?>\n<a ></a >\n",
+         2,
+         {0, 0},
+         {0, 2},
+         {0, 58},
+         {68, 67}},
+        {"<a> <b>]</b>\r\n</a>",
+         6,
+         {0, 0, 1, 1, 3, 1},
+         {0, 2, 1, 3, 1, 1},
+         {0, 0, 3, 4, 7, 12},
+         {18, 18, 4, 12, 8, 14}},
+    };
+    for (size_t i = 0; i < sizeof samples / sizeof samples[0]; i++) {
+        uint16_t parent[ROOM], kind[ROOM], begin[ROOM], end[ROOM];
+        size_t bytes = samples[i].nodes * sizeof parent[0];
+        answer_is(samples[i].text, read_document(samples[i].text, ROOM, parent, kind, begin, end), samples[i].nodes);
+        tally(memcmp(parent, samples[i].parent, bytes) == 0, "`%s` has other parents", samples[i].text);
+        tally(memcmp(kind, samples[i].kind, bytes) == 0, "`%s` has other kinds", samples[i].text);
+        tally(memcmp(begin, samples[i].begin, bytes) == 0, "`%s` has nodes that begin elsewhere", samples[i].text);
+        tally(memcmp(end, samples[i].end, bytes) == 0, "`%s` has nodes that end elsewhere", samples[i].text);
+    }
+}
+
+static void refused_document_samples(void)
+{
+    static const struct {
+        const char *text;
+        unsigned number, place;
+    } samples[] = {
+        {"", 11, 0},
+        {"<a>x", 11, 4},
+        {"<a/><b/>", 11, 4},
+        {"<a></ab>", 11, 6},
+        {"<a>]]></a>", 11, 5},
+        {"<a>\xED\xA0\x80", 11, 4},
+        {"<a>\xEF\xBF\xBE", 11, 5},
+        {"<a b=\"c\"/>", 12, 3},
+        {"<a:b/>", 12, 2},
+        {"<a/><!--", 12, 4},
+        {"<a>&#65;", 12, 3},
+        {" <?xml version=\"1.0\"?>", 12, 1},
+        {"<?xml?>", 12, 0},
+        {"<a<!", 12, 2},
+        {"<a>&&#", 12, 4},
+        {"<?xm", 12, 0},
+        {"<a\xC3\x97", 12, 2},
+        {"<?xml version=\"1.0\" encoding=\"UTF-16\"?>", 12, 30},
+        {"<?xml version=\"1.0\" encoding=\"UTF-1", 11, 34},
+        {"<?xml ", 11, 6},
+        {"<", 11, 1},
+        {"<e/>", 5, 1},
+    };
+    uint16_t none[4];
+    for (size_t i = 0; i < sizeof samples / sizeof samples[0]; i++)
+        answer_is(samples[i].text, read_document(samples[i].text, 0, none, none + 1, none + 2, none + 3),
+                  REFUSED(samples[i].number, samples[i].place));
+}
+
 int main(void)
 {
     group_start("samples");
@@ -235,5 +314,7 @@ int main(void)
     read_samples();
     item_samples();
     printed_sample();
+    document_samples();
+    refused_document_samples();
     return group_end();
 }

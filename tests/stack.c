@@ -1,7 +1,7 @@
 /* The stack that each call uses on its worst inputs, measured on a painted stack. */
 #define _GNU_SOURCE
 #include "halyardfig.h"
-#include "making.h"
+#include "xml_making.h"
 
 #include <stdio.h>
 #include <stdlib.h>
@@ -13,8 +13,8 @@
 enum { STACK_BYTES = 1 << 18, PAINT = 0xC7 };
 enum { SCRATCH_ROOM = 1 << 25, PRINT_ROOM = 1 << 19, MIXED_TEXTS = 60, NAMED_MOST = 100 };
 
-enum call { READ, PRINT, COMPOSE, RUN, EXTRACT, CALLS };
-static const char *const call_names[CALLS] = {"read", "print", "compose", "run", "extract"};
+enum call { READ, PRINT, COMPOSE, RUN, EXTRACT, READ_XML, CALLS };
+static const char *const call_names[CALLS] = {"read", "print", "compose", "run", "extract", "read_xml"};
 
 static struct {
     size_t bytes;
@@ -30,6 +30,7 @@ static struct list list;
 static struct query query, outer, inner, made;
 static struct table table, extracted;
 static uint8_t kept[NODE_ROOM], scratch[SCRATCH_ROOM], printed[PRINT_ROOM];
+static uint16_t columns[COLUMNS][NODE_ROOM];
 static uint64_t answer;
 
 static void call_nothing(void)
@@ -62,6 +63,13 @@ static void call_extract(void)
 {
     answer = halyardfig_extract(table.parent, table.nodes, table.kind, table.nodes, table.marks, table.nodes,
                                 extracted.parent, NODE_ROOM, extracted.kind, NODE_ROOM);
+}
+
+static void call_read_xml(void)
+{
+    answer = halyardfig_read_xml((const uint8_t *)text, text_length, list.bytes, list.length, columns[PARENT_COLUMN],
+                                 NODE_ROOM, columns[KIND_COLUMN], NODE_ROOM, columns[BEGIN_COLUMN], NODE_ROOM,
+                                 columns[END_COLUMN], NODE_ROOM);
 }
 
 /* A painted stack; below it is a page that cannot be touched. */
@@ -110,7 +118,8 @@ static size_t painted_over(void (*call)(void))
 
 static void measure_call(enum call which, const char *input)
 {
-    static void (*const calls[CALLS])(void) = {call_read, call_print, call_compose, call_run, call_extract};
+    static void (*const calls[CALLS])(void) = {call_read, call_print,   call_compose,
+                                               call_run,  call_extract, call_read_xml};
     static char trying[2 * NAMED_MOST];
     static size_t empty;
     if (empty == 0)
@@ -396,12 +405,83 @@ static void large_tables(struct dice *dice)
     measure_text();
 }
 
+/* XML: a part as often as given, or as often as a text can hold, then a middle and as many closers. */
+static const struct document {
+    const char *start, *part, *middle, *closer;
+    size_t times;
+} documents[] = {
+    {"", "<a>", "", "", OPEN_MOST},
+    {"", "<a>", "</", "", OPEN_MOST},
+    {"", "<a>", "<!", "", OPEN_MOST},
+    {"", "<a>", "\xC3\xA9", "", OPEN_MOST},
+    {"", "<a>", "", "</a>", NODE_ROOM - 1},
+    {"", "<a>", "x", "</a>", NODE_ROOM - 2},
+    {"", "<a>", "", "</a>", 0},
+    {"", "<a >", "", "</a >", 0},
+    {"", "<b>x", "", "</b>", 0},
+    {"<a>", "<b/>", "</a>", "", NODE_ROOM - 2},
+    {"<a>", "<b/>", "</a>", "", 0},
+    {"<a>", "<b/>x", "</a>", "", NODE_ROOM / 2 - 1},
+    {"<a>", "<b/>x", "</a>", "", 0},
+    {"<a>", "<b>&lt;</b>", "</a>", "", 0},
+    {"<a>", "x", "</a>", "", 0},
+    {"<a>", "]", "]></a>", "", 0},
+    {"<a>", "&quot;", "</a>", "", 0},
+    {"<a>", "\xF0\x90\x80\x80", "</a>", "", 0},
+    {"<a>", "\xF0\x90\x80\x80", "\xF0\x90", "", 0},
+    {"<", "a", "/>", "", 0},
+    {"<", "a", ":", "", 0},
+    {"<a", " ", "/>", "", 0},
+    {"<a></a", "\n", ">", "", 0},
+    {"", "\r", "<a/>", "", 0},
+    {"<a/>", "\t", "", "", 0},
+    {"<?xml", " ", "version='1.0'?><a/>", "", 0},
+    {"<?xml version='1.", "0", "'?><a/>", "", 0},
+    {"<?xml version='1.0' encoding=", " ", "'UTF-8' standalone='yes'?><a/>", "", 0},
+    {"<?xml version='1.0' encoding='", "x", "'", "", 0},
+    {"<e", "e", "/>", "", 0},
+};
+
+static void xml_texts(void)
+{
+    for (size_t i = 0; i < sizeof documents / sizeof documents[0]; i++) {
+        const struct document *d = &documents[i];
+        size_t room = TEXT_ROOM - strlen(d->start) - strlen(d->middle),
+               most = room / (strlen(d->part) + strlen(d->closer));
+        size_t times = d->times > 0 && d->times < most ? d->times : most;
+        start_text(d->start);
+        add_times(d->part, times);
+        add(d->middle);
+        add_times(d->closer, times);
+        measure_call(READ_XML, text);
+    }
+}
+
+/* Random XML texts, as long as they can be and shorter, good and damaged. */
+static void random_xml_texts(struct dice *dice)
+{
+    static struct xml xml;
+    for (unsigned i = 0; i < 4 * MIXED_TEXTS; i++) {
+        struct growth growth = any_growth(dice);
+        growth.bytes = i % 4 == 0 ? TEXT_ROOM : growth.bytes;
+        make_xml(dice, &xml, &list, growth);
+        if (i % 2 == 0)
+            damage_xml(dice, &xml.text);
+        memcpy(text, xml.text.bytes, xml.text.length);
+        text[xml.text.length] = 0;
+        text_length = xml.text.length;
+        measure_call(READ_XML, text);
+    }
+}
+
 /* The longest list of names, a and b among them. */
 static void many_names(struct dice *dice)
 {
     make_list(dice, &list, HALYARDFIG_NAMES);
     single_openings();
     mixed_openings(dice);
+    xml_texts();
+    random_xml_texts(dice);
 }
 
 static void report(enum call which)
@@ -426,6 +506,8 @@ int main(void)
     malformed_queries();
     long_and_deep_queries(&dice);
     deep_compositions(&dice);
+    xml_texts();
+    random_xml_texts(&dice);
     many_names(&dice);
     large_tables(&dice);
     for (unsigned i = 0; i < CALLS; i++)

@@ -6,8 +6,9 @@
 
 #include <string.h>
 
-/* Two slots for each piece lent: the library's, and the same piece as the model has it. */
-enum { PIECES = 6 };
+/* Two slots for each piece lent: the library's, and the same piece as the model has it. The columns of a read of XML
+   follow the text and the names. */
+enum { PIECES = 6, FIRST_COLUMN = 2 };
 
 uint64_t twin_answer;
 
@@ -176,5 +177,32 @@ bool twin_extract(struct dice *dice, const uint16_t *parent, size_t parent_len, 
     show_words("parent", parent, parent_len);
     show_words("kind", kind, kind_len);
     show_bytes("marks", marks, marks_len);
+    return false;
+}
+
+const uint16_t *twin_column(enum column column)
+{
+    return pieces[FIRST_COLUMN + column].ours;
+}
+
+bool twin_read_xml(struct dice *dice, const uint8_t *text, size_t text_len, const uint8_t *names, size_t names_len,
+                   const size_t rooms[COLUMNS])
+{
+    piece_count = 0;
+    const uint8_t *our_text = lend_read(text, text_len);
+    const uint8_t *our_names = lend_read(names, names_len);
+    uint16_t *out[COLUMNS], *models_out[COLUMNS];
+    for (unsigned i = 0; i < COLUMNS; i++) {
+        out[i] = lend_write(dice, rooms[i] * sizeof *out[i]);
+        models_out[i] = model_piece(FIRST_COLUMN + i);
+    }
+    uint64_t ours = halyardfig_read_xml(our_text, text_len, our_names, names_len, out[0], rooms[0], out[1], rooms[1],
+                                        out[2], rooms[2], out[3], rooms[3]);
+    uint64_t models = model_read_xml(model_piece(0), text_len, model_piece(1), names_len, models_out[0], rooms[0],
+                                     models_out[1], rooms[1], models_out[2], rooms[2], models_out[3], rooms[3]);
+    if (compare("read_xml", ours, models))
+        return true;
+    show_text("text", text, text_len);
+    show_text("names", names, names_len);
     return false;
 }

@@ -6,7 +6,7 @@
 #ifndef TWIN_H
 #define TWIN_H
 
-#include "making.h"
+#include "xml_making.h"
 
 extern uint64_t twin_answer;
 
@@ -22,11 +22,17 @@ bool twin_run(struct dice *dice, const uint32_t *query, size_t query_len, const 
 bool twin_extract(struct dice *dice, const uint16_t *parent, size_t parent_len, const uint16_t *kind, size_t kind_len,
                   const uint8_t *marks, size_t marks_len, size_t parent_room, size_t kind_room);
 
+bool twin_read_xml(struct dice *dice, const uint8_t *text, size_t text_len, const uint8_t *names, size_t names_len,
+                   const size_t rooms[COLUMNS]);
+
 /* What the last accepted read, compose or print wrote. */
 const uint32_t *twin_items(void);
 const uint8_t *twin_bytes(void);
 
 /* What the last accepted run wrote. */
 const uint8_t *twin_marks(void);
+
+/* What the last accepted read of XML wrote. */
+const uint16_t *twin_column(enum column column);
 
 #endif

@@ -4,7 +4,7 @@ ghost use Prim.Native.Nat.{_+_, _*_, _<_};
 ghost use mathlib.Core.Path.{_≡_};
 ghost use lib.ListN.{length};
 ghost use Rattle.paper.specs.Document.{tableOf};
-ghost use Rattle.paper.specs.Answers.{readAnswer, readOut, printAnswer, printOut, composeAnswer, composeOut, runAnswer, runMarks, runScratch, extractAnswer, extractParents, extractKinds};
+ghost use Rattle.paper.specs.Answers.{readAnswer, readOut, printAnswer, printOut, composeAnswer, composeOut, runAnswer, runMarks, runScratch, extractAnswer, extractParents, extractKinds, readXmlAnswer, readXmlColumn, parentField, kindField, beginField, endField};
 ghost use Rattle.paper.specs.Told.{told};
 ghost use Rattle.theorems.specs.Bounds.{Small};
 ghost use Rattle.halyardfig.specs.Codes.{high, codeOf};
@@ -14,7 +14,7 @@ const HIGH: u64 = 4294967296;
 
 // A refusal in one number.
 fn refused(number: u64, place: usize) -> u64
-    requires { ⌜ number < 11 ⌝ }
+    requires { ⌜ number < high ⌝ }
     ensures { λ r. ⌜ (place < high → r ≡ number * high + place) ⌝ }
 {
     number * HIGH + place as u64 % HIGH
@@ -36,6 +36,8 @@ fn code(answer: Answer) -> u64
         Answer::BadMarks(place) => refused(8, place),
         Answer::TooNested(nesting) => refused(9, nesting),
         Answer::Short(needed) => refused(10, needed),
+        Answer::NoXml(place) => refused(11, place),
+        Answer::LeftOut(place) => refused(12, place),
     }
 }
 
@@ -97,4 +99,23 @@ pub extern "C" fn halyardfig_extract(
     ensures { λ _. ⌜ now («out_kind» .exit) ≡ extractKinds (tableOf (now (parent .entry)) (now (kind .entry))) (now (marks .entry)) (length (now («out_parent» .entry))) (now («out_kind» .entry)) ⌝ }
 {
     code(extract::extract(parent, kind, marks, out_parent, out_kind))
+}
+
+// Reads XML text into a table: `read_xml::read_xml` for C.
+#[no_mangle]
+pub extern "C" fn halyardfig_read_xml(
+    text: &[u8],
+    names: &[u8],
+    parent: &mut [u16],
+    kind: &mut [u16],
+    begin: &mut [u16],
+    end: &mut [u16],
+) -> u64
+    ensures { λ r. ⌜ r ≡ codeOf (readXmlAnswer (now (text .entry)) (now (names .entry)) (length (now (parent .entry))) (length (now (kind .entry))) (length (now (begin .entry))) (length (now (end .entry)))) ⌝ }
+    ensures { λ _. ⌜ now (parent .exit) ≡ readXmlColumn parentField (now (text .entry)) (readXmlAnswer (now (text .entry)) (now (names .entry)) (length (now (parent .entry))) (length (now (kind .entry))) (length (now (begin .entry))) (length (now (end .entry)))) (now (parent .entry)) ⌝ }
+    ensures { λ _. ⌜ now (kind .exit) ≡ readXmlColumn (kindField (now (names .entry))) (now (text .entry)) (readXmlAnswer (now (text .entry)) (now (names .entry)) (length (now (parent .entry))) (length (now (kind .entry))) (length (now (begin .entry))) (length (now (end .entry)))) (now (kind .entry)) ⌝ }
+    ensures { λ _. ⌜ now (begin .exit) ≡ readXmlColumn beginField (now (text .entry)) (readXmlAnswer (now (text .entry)) (now (names .entry)) (length (now (parent .entry))) (length (now (kind .entry))) (length (now (begin .entry))) (length (now (end .entry)))) (now (begin .entry)) ⌝ }
+    ensures { λ _. ⌜ now (end .exit) ≡ readXmlColumn endField (now (text .entry)) (readXmlAnswer (now (text .entry)) (now (names .entry)) (length (now (parent .entry))) (length (now (kind .entry))) (length (now (begin .entry))) (length (now (end .entry)))) (now (end .entry)) ⌝ }
+{
+    code(read_xml::read_xml(text, names, parent, kind, begin, end))
 }

@@ -71,6 +71,8 @@ fn number_of(answer: Answer) -> usize
         Answer::BadMarks(_) => 8,
         Answer::TooNested(_) => 9,
         Answer::Short(_) => 10,
+        Answer::NoXml(_) => 11,
+        Answer::LeftOut(_) => 12,
     }
 }
 
@@ -90,6 +92,8 @@ fn place_of(answer: Answer) -> usize
         Answer::BadMarks(place) => place,
         Answer::TooNested(nesting) => nesting,
         Answer::Short(needed) => needed,
+        Answer::NoXml(place) => place,
+        Answer::LeftOut(place) => place,
     }
 }
 

@@ -1,7 +1,7 @@
 -- What an answer that is a value says of the lines before it, and that a refusal leaves what is lent as it was. Assumes nothing.
 use Prim.Native.Nat.{ℕ}
 use native.Mathlib.Omega.{arith}
-use mathlib.Core.Path.{_≡_, refl, sym}
+use mathlib.Core.Path.{_≡_, refl, sym, ap}
 use mathlib.Core.Bool.{Bool, true, false, _||_, false≢true}
 use mathlib.Core.List.{List, [], _∷_}
 use mathlib.Core.Option.{Option, none, some}
@@ -12,7 +12,7 @@ use Rattle.paper.specs.Answers.{value, refusal, line, atExit}
 use Rattle.paper.specs.Answers.{Answer as Told}
 use Rattle.paper.specs.Told.{told}
 use Rattle.paper.specs.declared.Answer.{Answer}
-use Rattle.paper.specs.declared.Answer.the-variants.{Value, TooLong, BadName, NoQuery, TooDeep, UnknownName, BadQuery, BadTable, BadMarks, TooNested, Short}
+use Rattle.paper.specs.declared.Answer.the-variants.{Value, TooLong, BadName, NoQuery, TooDeep, UnknownName, BadQuery, BadTable, BadMarks, TooNested, Short, NoXml, LeftOut}
 use Rattle.paper.proofs.Answer.{the-type}
 
 -- Where a value is answered, no line before it holds.
@@ -29,13 +29,17 @@ pub or-none : (a b : Bool) → (a || b) ≡ false → (a ≡ false) × (b ≡ fa
 or-none true b h = absurd (false≢true (sym h))
 or-none false b h = (refl, h)
 
--- An answer is a refusal: one of the cases of `Answer` after the first, as a branch on the case of an answer says it.
+-- The cases of `Answer` that are refusals: all after the first.
+abbrev refusals : List ℕ
+refusals = 1 ∷ 2 ∷ 3 ∷ 4 ∷ 5 ∷ 6 ∷ 7 ∷ 8 ∷ 9 ∷ 10 ∷ 11 ∷ 12 ∷ []
+
+-- An answer is a refusal, as a branch on the case of an answer says it.
 abbrev pub Refuses : Answer → Type 0
-Refuses a = OneOf (1 ∷ 2 ∷ 3 ∷ 4 ∷ 5 ∷ 6 ∷ 7 ∷ 8 ∷ 9 ∷ 10 ∷ []) (tagOf the-type a)
+Refuses a = OneOf refusals (tagOf the-type a)
 
 -- A refusal tells its number and place.
 pub refusal-told : (a : Answer) → Refuses a → (number : ℕ) × (place : ℕ) × (told a ≡ refusal number place)
-refusal-told (Value n) h = absurd (miss (1 ∷ 2 ∷ 3 ∷ 4 ∷ 5 ∷ 6 ∷ 7 ∷ 8 ∷ 9 ∷ 10 ∷ []) 0 tt h)
+refusal-told (Value n) h = absurd (miss refusals 0 tt h)
 refusal-told TooLong h = (1, 0, refl)
 refusal-told (BadName place) h = (2, place, refl)
 refusal-told (NoQuery place) h = (3, place, refl)
@@ -46,17 +50,9 @@ refusal-told (BadTable place) h = (7, place, refl)
 refusal-told (BadMarks place) h = (8, place, refl)
 refusal-told (TooNested place) h = (9, place, refl)
 refusal-told (Short place) h = (10, place, refl)
+refusal-told (NoXml place) h = (11, place, refl)
+refusal-told (LeftOut place) h = (12, place, refl)
 
 -- A refused call writes nothing.
 pub refused-keeps : (a : Answer) (new old : List ℕ) → Refuses a → atExit (told a) new old ≡ old
-refused-keeps (Value n) new old h = absurd (miss (1 ∷ 2 ∷ 3 ∷ 4 ∷ 5 ∷ 6 ∷ 7 ∷ 8 ∷ 9 ∷ 10 ∷ []) 0 tt h)
-refused-keeps TooLong new old h = refl
-refused-keeps (BadName place) new old h = refl
-refused-keeps (NoQuery place) new old h = refl
-refused-keeps (TooDeep place) new old h = refl
-refused-keeps (UnknownName place) new old h = refl
-refused-keeps (BadQuery place) new old h = refl
-refused-keeps (BadTable place) new old h = refl
-refused-keeps (BadMarks place) new old h = refl
-refused-keeps (TooNested place) new old h = refl
-refused-keeps (Short place) new old h = refl
+refused-keeps a new old h = ap (λ answer. atExit answer new old) (refusal-told a h .2)

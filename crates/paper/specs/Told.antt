@@ -2,7 +2,7 @@
 use Rattle.paper.specs.Answers.{value, refusal}
 use Rattle.paper.specs.Answers.{Answer as Told}
 use Rattle.paper.specs.declared.Answer.{Answer}
-use Rattle.paper.specs.declared.Answer.the-variants.{Value, TooLong, BadName, NoQuery, TooDeep, UnknownName, BadQuery, BadTable, BadMarks, TooNested, Short}
+use Rattle.paper.specs.declared.Answer.the-variants.{Value, TooLong, BadName, NoQuery, TooDeep, UnknownName, BadQuery, BadTable, BadMarks, TooNested, Short, NoXml, LeftOut}
 
 abbrev pub told : Answer → Told
 told (Value n) = value n
@@ -16,3 +16,5 @@ told (BadTable place) = refusal 7 place
 told (BadMarks place) = refusal 8 place
 told (TooNested place) = refusal 9 place
 told (Short place) = refusal 10 place
+told (NoXml place) = refusal 11 place
+told (LeftOut place) = refusal 12 place

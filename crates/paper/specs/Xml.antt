@@ -9,6 +9,7 @@ use lib.ListN.{take, drop}
 use Rattle.paper.specs.Tools.{ascii, same, begins, runOf}
 use Rattle.paper.specs.Names.{letter, nameStart, namePart}
 use Rattle.paper.specs.Tokens.{white}
+use Rattle.paper.specs.Document.{elementKind}
 
 -- A row of nodes beside each other, each with the place of its first byte and the place past its last; an element has its name and what is inside it.
 pub data Nodes : Type 0 where
@@ -383,14 +384,14 @@ abbrev pub table : ℕ → Nodes → List Row
 table long tree = row 0 root 0 long ∷ rows 0 1 tree
 
 -- The kind of a node, by the numbers of the names; a name that the list lacks is refused before.
-abbrev pub elementKind : Option ℕ → ℕ
-elementKind none = 2
-elementKind (some v) = 2 + v
+abbrev pub nameKind : Option ℕ → ℕ
+nameKind none = elementKind
+nameKind (some v) = elementKind + v
 
 abbrev pub kindBy : (List ℕ → Option ℕ) → What → ℕ
 kindBy look root = 0
 kindBy look text = 1
-kindBy look (named name) = elementKind (look name)
+kindBy look (named name) = nameKind (look name)
 
 -- Refusal 5: where the first start tag's name begins that the list lacks.
 abbrev pub lacks : (List ℕ → Option ℕ) → What → Bool

@@ -14,7 +14,9 @@ pub const BRACKET_LIMIT: usize = 64;
 pub const NAME_LIMIT: usize = 64;
 // The most names of a list.
 pub const NAMES_LIMIT: usize = 256;
-// The kind of an element of the first name, and the greatest kind.
+// The kind of text, of an element of the first name, and the greatest kind.
+pub const TEXT_KIND: u16 = 1;
+
 pub const ELEMENT_KIND: u16 = 2;
 
 pub const KIND_LIMIT: u16 = 257;
@@ -32,4 +34,6 @@ pub enum Answer {
     BadMarks(usize),
     TooNested(usize),
     Short(usize),
+    NoXml(usize),
+    LeftOut(usize),
 }

@@ -8,7 +8,7 @@ use Rattle.paper.specs.Answers.{value, refusal}
 use Rattle.paper.specs.Answers.{Answer as Told}
 use Rattle.paper.specs.Told.{told}
 use Rattle.paper.specs.declared.Answer.{Answer}
-use Rattle.paper.specs.declared.Answer.the-variants.{Value, TooLong, BadName, NoQuery, TooDeep, UnknownName, BadQuery, BadTable, BadMarks, TooNested, Short}
+use Rattle.paper.specs.declared.Answer.the-variants.{Value, TooLong, BadName, NoQuery, TooDeep, UnknownName, BadQuery, BadTable, BadMarks, TooNested, Short, NoXml, LeftOut}
 
 -- The answer that tells this.
 abbrev telling : Told → Answer
@@ -22,7 +22,9 @@ telling (refusal number place) =
     (cond (eqb number 6) (BadQuery place)
     (cond (eqb number 7) (BadTable place)
     (cond (eqb number 8) (BadMarks place)
-    (cond (eqb number 9) (TooNested place) (Short place)))))))))
+    (cond (eqb number 9) (TooNested place)
+    (cond (eqb number 10) (Short place)
+    (cond (eqb number 11) (NoXml place) (LeftOut place)))))))))))
 
 telling-told : (r : Answer) → telling (told r) ≡ r
 telling-told (Value n) = refl
@@ -36,6 +38,8 @@ telling-told (BadTable place) = refl
 telling-told (BadMarks place) = refl
 telling-told (TooNested place) = refl
 telling-told (Short place) = refl
+telling-told (NoXml place) = refl
+telling-told (LeftOut place) = refl
 
 pub told-same : (r s : Answer) → told r ≡ told s → r ≡ s
 told-same r s h = sym (telling-told r) ∙ ap telling h ∙ telling-told s
@@ -53,3 +57,6 @@ same-slice p q = ap (λ l. l ∷ []) (same p q)
 
 pub same-slices : {x y z x′ y′ z′ : List ℕ} → x ≡ z → x′ ≡ z′ → y ≡ z → y′ ≡ z′ → x ∷ x′ ∷ [] ≡ y ∷ y′ ∷ []
 same-slices p p′ q q′ = ap₂ (λ l m. l ∷ m ∷ []) (same p q) (same p′ q′)
+
+pub same-more : {x y z : List ℕ} {xs ys : List (List ℕ)} → x ≡ z → y ≡ z → xs ≡ ys → x ∷ xs ≡ y ∷ ys
+same-more p q more = ap₂ (λ l m. l ∷ m) (same p q) more

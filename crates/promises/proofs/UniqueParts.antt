@@ -10,6 +10,7 @@ use denote.Ref.{now}
 use Rattle.paper.specs.Items.{Taken}
 use Rattle.paper.proofs.Tests.{none-some, some-inj}
 use Rattle.names.proofs.Unique as names
+use Rattle.initials.proofs.Unique.{chained-unique}
 use Rattle.token.proofs.Unique as token
 use Rattle.xml.proofs.Unique as xml
 use Rattle.ahead.proofs.Unique as ahead
@@ -21,7 +22,7 @@ use Rattle.table.specs.declared.Fault.{Fault}
 use Rattle.table.specs.declared.Fault.the-variants.{Nothing, At}
 use Rattle.table.specs.Faults.{faultOf}
 use Rattle.promises.specs.UniqueParts.{UnpackUnique, PackPathUnique, PackStepUnique, TurnUnique, PutItemsUnique, PutSameUnique}
-use Rattle.promises.specs.UniqueParts.{NameStartUnique, NamePartUnique, IndexUnique, FindUnique, SpellUnique, WhiteSpaceUnique, TakeUnique}
+use Rattle.promises.specs.UniqueParts.{NameStartUnique, NamePartUnique, IndexUnique, FindUnique, LinkUnique, FindInitialUnique, SpellUnique, WhiteSpaceUnique, TakeUnique}
 use Rattle.promises.specs.UniqueParts.{SkipSpaceUnique, RunEndUnique, TakePieceUnique, RootPieceUnique, FinishUnique, LeadUnique}
 use Rattle.promises.specs.UniqueParts.{MarkUnique, WordAheadUnique, JoinedUnique, PathLeadUnique, OpeningUnique, AxisAheadUnique, TestCallUnique}
 use Rattle.promises.specs.UniqueParts.{LargerUnique, RunOfUnique, StepsUnique, MeasureUnique, WideUnique, TableFaultUnique, MarksFaultUnique, CountUnique}
@@ -64,6 +65,12 @@ index-unique κs a u v x y g p q =
 
 pub find-unique : FindUnique
 find-unique κs a u v x y g p q = names.find-unique u v (same p q)
+
+pub link-unique : LinkUnique
+link-unique κs a u v x y g p q = (refl, ap (λ l. l ∷ []) (chained-unique _ _ _ _ _ p q))
+
+pub find-initial-unique : FindInitialUnique
+find-initial-unique κs a u v x y g p q = names.find-unique u v (same p q)
 
 pub spell-unique : SpellUnique
 spell-unique κs a u v x y g p q = names.spell-unique (now (a .0)) (now (a .1 .0)) (a .1 .1 .1 .0) u v p q

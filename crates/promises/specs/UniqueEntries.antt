@@ -6,12 +6,14 @@ use Rattle.print.proofs.print
 use Rattle.compose.proofs.compose
 use Rattle.run.proofs.run
 use Rattle.extract.proofs.extract
+use Rattle.read_xml.proofs.read_xml
 use Rattle.report.proofs.report
 use Rattle.halyardfig.proofs.halyardfig_read
 use Rattle.halyardfig.proofs.halyardfig_print
 use Rattle.halyardfig.proofs.halyardfig_compose
 use Rattle.halyardfig.proofs.halyardfig_run
 use Rattle.halyardfig.proofs.halyardfig_extract
+use Rattle.halyardfig.proofs.halyardfig_read_xml
 use Rattle.promises.specs.Uniqueness.{Unique}
 
 abbrev pub ReadUnique : Type 0
@@ -28,6 +30,11 @@ RunUnique = Unique run.Kinds.ps run.Kinds.r run.Reads.Pre run.Reads.Post (λ κs
 
 abbrev pub ExtractUnique : Type 0
 ExtractUnique = Unique extract.Kinds.ps extract.Kinds.r extract.Reads.Pre extract.Reads.Post (λ κs x. now (x .1 .1 .1 .0) ∷ now (x .1 .1 .1 .1 .0) ∷ [])
+
+abbrev pub ReadXmlUnique : Type 0
+ReadXmlUnique =
+    Unique read_xml.Kinds.ps read_xml.Kinds.r read_xml.Reads.Pre read_xml.Reads.Post
+    (λ κs x. now (x .1 .1 .0) ∷ now (x .1 .1 .1 .0) ∷ now (x .1 .1 .1 .1 .0) ∷ now (x .1 .1 .1 .1 .1 .0) ∷ [])
 
 abbrev pub ReadForCUnique : Type 0
 ReadForCUnique = Unique halyardfig_read.Kinds.ps halyardfig_read.Kinds.r halyardfig_read.Reads.Pre halyardfig_read.Reads.Post (λ κs x. now (x .1 .1 .0) ∷ [])
@@ -48,6 +55,11 @@ abbrev pub ExtractForCUnique : Type 0
 ExtractForCUnique =
     Unique halyardfig_extract.Kinds.ps halyardfig_extract.Kinds.r halyardfig_extract.Reads.Pre halyardfig_extract.Reads.Post
     (λ κs x. now (x .1 .1 .1 .0) ∷ now (x .1 .1 .1 .1 .0) ∷ [])
+
+abbrev pub ReadXmlForCUnique : Type 0
+ReadXmlForCUnique =
+    Unique halyardfig_read_xml.Kinds.ps halyardfig_read_xml.Kinds.r halyardfig_read_xml.Reads.Pre halyardfig_read_xml.Reads.Post
+    (λ κs x. now (x .1 .1 .0) ∷ now (x .1 .1 .1 .0) ∷ now (x .1 .1 .1 .1 .0) ∷ now (x .1 .1 .1 .1 .1 .0) ∷ [])
 
 abbrev pub ReportUnique : Type 0
 ReportUnique = Unique report.Kinds.ps report.Kinds.r report.Reads.Pre report.Reads.Post (λ κs x. now (x .1 .0) ∷ [])

@@ -20,6 +20,8 @@ use Rattle.names.proofs.name_part
 use Rattle.names.proofs.index
 use Rattle.names.proofs.find
 use Rattle.names.proofs.spell
+use Rattle.initials.proofs.link
+use Rattle.initials.proofs.find as find_initial
 use Rattle.token.proofs.white_space
 use Rattle.token.proofs.skip as skip_space
 use Rattle.token.proofs.run_end
@@ -116,6 +118,12 @@ IndexUnique = Unique index.Kinds.ps index.Kinds.r index.Reads.Pre index.Reads.Po
 
 abbrev pub FindUnique : Type 0
 FindUnique = UniqueAnswer find.Kinds.ps find.Kinds.r find.Reads.Pre find.Reads.Post
+
+abbrev pub LinkUnique : Type 0
+LinkUnique = Unique link.Kinds.ps link.Kinds.r link.Reads.Pre link.Reads.Post (λ κs x. now (x .1 .1 .1 .0) ∷ [])
+
+abbrev pub FindInitialUnique : Type 0
+FindInitialUnique = UniqueAnswer find_initial.Kinds.ps find_initial.Kinds.r find_initial.Reads.Pre find_initial.Reads.Post
 
 abbrev pub SpellUnique : Type 0
 SpellUnique = UniqueAnswer spell.Kinds.ps spell.Kinds.r spell.Reads.Pre spell.Reads.Post

@@ -33,11 +33,11 @@ use Rattle.theorems.proofs.ComposeBounds.{nesting-size, composed-small}
 use Rattle.theorems.proofs.ReadBounds.{Bounded, text-bounded}
 
 -- A line is small if its place is and the later lines are, which may know that it does not hold.
-small-line : (number : ℕ) (o : Option ℕ) (later : Answer) → ((place : ℕ) → o ≡ some place → place < 4294967296) → Small later → Small (line number o later)
+pub small-line : (number : ℕ) (o : Option ℕ) (later : Answer) → ((place : ℕ) → o ≡ some place → place < 4294967296) → Small later → Small (line number o later)
 small-line number none later h l = l
 small-line number (some place) later h l = h place refl
 
-small-when : (number place : ℕ) (b : Bool) (later : Answer) → place < 4294967296 → (b ≡ false → Small later) → Small (line number (when b place) later)
+pub small-when : (number place : ℕ) (b : Bool) (later : Answer) → place < 4294967296 → (b ≡ false → Small later) → Small (line number (when b place) later)
 small-when number place true later h l = h
 small-when number place false later h l = l refl
 
@@ -56,7 +56,7 @@ small-lists xs ys most limit later l =
     (λ h. let short = or-none (tooLong xs most) (tooLong ys limit) h in l (ltb-false most (length xs) (short .0)) (ltb-false limit (length ys) (short .1)))
 
 -- The last line: a number is answered, or refused for want of room.
-small-room : (n : ℕ) (b : Bool) → n < 4294967296 → Small (line 10 (when b n) (value n))
+pub small-room : (n : ℕ) (b : Bool) → n < 4294967296 → Small (line 10 (when b n) (value n))
 small-room n b h = small-when 10 n b (value n) h (λ e. h)
 
 -- What a search finds is below the number searched.

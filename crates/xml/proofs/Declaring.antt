@@ -21,9 +21,9 @@ use Rattle.xml.specs.Promised.{state, Between, refusalAt, calm}
 use Rattle.xml.specs.Heading.{seekHead, headAt, awaiting, comes, Heads, valued, isQuote, Gives, numbered, utf8, encodingValue, yesNo, standaloneValue}
 use Rattle.xml.specs.declared.Reach.{Reach}
 use Rattle.xml.specs.declared.Reach.the-variants.{At, Wrong, LeftOut}
-use Rattle.xml.proofs.Steps.{Calm, is-calm}
+use Rattle.xml.proofs.Steps.{Calm, is-calm, in-or-out, run-inside, stops-run}
 use Rattle.xml.proofs.Rows.{Refused}
-use Rattle.xml.proofs.Heading.{in-or-out, pattern-cut, pattern-takes, pattern-none, pattern-alike, farther, heads-stuck, heads-from, stops-run, run-inside, many-run, enters-run, space-calm}
+use Rattle.xml.proofs.Heading.{pattern-cut, pattern-takes, pattern-none, pattern-alike, farther, heads-stuck, heads-from, many-run, enters-run, space-calm}
 
 -- LETTERS. In either case.
 pub case-same : (b small : ℕ) → 97 ≤ small → (eqb b small || eqb b (small - 32)) ≡ anyCase small b
@@ -58,7 +58,7 @@ module _ (text : List ℕ) (at place : ℕ) (e : place ≡ at + runOf white (dro
   equals-read next end f p more plain h =
       record {
         goes = many-run white space-calm text at place e (one (eqb 61) (many white p)) refl refl ∙ h .goes ∙ many-run white space-calm text next end f p more plain ∙ rw more;
-        bounds = (omega (arith, h .bounds .0), run-inside white space-calm text next end f (h .bounds .1));
+        bounds = (omega (arith, h .bounds .0), run-inside white text next end f (h .bounds .1));
       }
 
 -- THE QUOTE THAT OPENS A VALUE.
@@ -152,10 +152,10 @@ module _ (text : List ℕ) (at end q : ℕ) (e : end ≡ at + runOf digit (drop 
 
   pub number-read : (r : Reach) → at < end → Heads text end (one (eqb q) p) p r → Heads text at (numbered q p) p r
   number-read r m h =
-      let inside : at < length text = let z = run-inside digit digit-calm text at end e l in omega arith in
+      let inside : at < length text = let z = run-inside digit text at end e l in omega arith in
       heads-from text at end (numbered q p) (one (eqb q) p) p r (omega arith)
       (enters-run digit digit-calm text at end e (numbered q p) (many digit (one (eqb q) p)) m inside refl refl refl (λ b d. rw d) (λ b d. rw d)
-      ∙ pattern-alike text end (many digit (one (eqb q) p)) (one (eqb q) p) refl refl (λ in′. let s = stops-run digit digit-calm text at end e in′ in rw s)) h
+      ∙ pattern-alike text end (many digit (one (eqb q) p)) (one (eqb q) p) refl refl (λ in′. let s = stops-run digit text at end e in′ in rw s)) h
 
 -- WHAT STANDS AT A PLACE.
 pub stood : (text : List ℕ) (at b : ℕ) → at < length text → begins b (drop at text) ≡ eqb b (getD text at 0)
@@ -187,10 +187,10 @@ coded-or-more = fork (many white coded) alone-or-over
 
 module _ (text : List ℕ) (at place : ℕ) (l : at ≤ length text) (e : place ≡ at + runOf white (drop at text)) where
   no-white : place < length text → white (getD text place 0) ≡ false
-  no-white = stops-run white space-calm text at place e
+  no-white = stops-run white text at place e
 
   inside-text : at < place → at < length text
-  inside-text m = let z = run-inside white space-calm text at place e l in omega arith
+  inside-text m = let z = run-inside white text at place e l in omega arith
 
   pub over-on : (r : Reach) → Heads text place over done r → Heads text at declarationEnd done r
   over-on r h = heads-from text at place declarationEnd over done r (omega arith) (many-run white space-calm text at place e over refl refl) h

@@ -1,30 +1,28 @@
 -- How reading goes through an end tag: the name of the element again, letter by letter, white space, and its `>`. Assumes nothing.
-use Prim.Native.Nat.{ℕ, zero, suc, _+_, _≤_, _<_}
+use Prim.Native.Nat.{ℕ, suc, _+_, _≤_, _<_}
 use native.Mathlib.Omega.{arith}
-use native.Mathlib.Nat.{add-zero}
-use native.Mathlib.Numerals.{add-one}
 use borrow.Author.Tests.{ne-eqb}
 use mathlib.Core.Path.{_≡_, refl, sym, _∙_, ap, subst}
-use mathlib.Core.Bool.{Bool, true, false, cond}
+use mathlib.Core.Bool.{Bool, true, false}
 use mathlib.Core.List.{List, [], _∷_}
 use types.Run.{miss}
 use lib.Dec.{eqb}
-use lib.ListN.{length, getD, take, drop, length-drop}
-use lib.Seq.{drop-cons, drop-drop, getD-drop}
+use lib.ListN.{length, getD, drop}
+use lib.Seq.{drop-cons, drop-drop}
 use Rattle.paper.specs.Tools.{runOf}
 use Rattle.paper.specs.Names.{namePart}
 use Rattle.paper.specs.Tokens.{white}
-use Rattle.paper.specs.Xml.{nothing, element, Frame, State, closing, close, leftOut, leftOutAnywhere}
-use Rattle.paper.proofs.Lexing.{run-more, run-ends, run-within, run-stops}
+use Rattle.paper.specs.Xml.{nothing, element, Frame, closing, leftOut, leftOutAnywhere}
+use Rattle.paper.proofs.Lexing.{run-more}
 use Rattle.xml.specs.Seeking.{stops, seek}
-use Rattle.xml.specs.Promised.{state, seekAt, reached, Between, refusalAt, calm, Row, Reads}
+use Rattle.xml.specs.Promised.{state, seekAt, reached, Between, refusalAt, Reads}
 use Rattle.xml.specs.Pieces.{nameAt, added, Named, Renames, endTook, Ends}
 use Rattle.xml.specs.declared.Reach.{Reach}
 use Rattle.xml.specs.declared.Reach.the-variants.{At, Wrong, LeftOut}
-use Rattle.xml.proofs.Steps.{Calm, is-calm, text-ends, steps-on, refused-here}
-use Rattle.xml.proofs.Rows.{Refused}
+use Rattle.xml.proofs.Steps.{Calm, is-calm, run-inside, stops-run, text-ends, steps-on, refused-here}
+use Rattle.xml.proofs.Rows.{Refused, reads-bounds, wait-read, byte-calm}
 use Rattle.xml.proofs.Holding.{opens-not}
-use Rattle.xml.proofs.Tagging.{added-stops, add-added, end-gap, wait-letter, part-calm}
+use Rattle.xml.proofs.Tagging.{added-stops, add-added, end-gap, wait-letter, calm-part}
 
 -- A name that goes on at a place has this letter first; one that ends there is empty.
 name-letter : (text : List ℕ) (at : ℕ) → at < length text → namePart (getD text at 0) ≡ true → nameAt text at ≡ getD text at 0 ∷ nameAt text (suc at)
@@ -56,34 +54,29 @@ module _ (text : List ℕ) (at inner : ℕ) where
     letter-inside = omega (arith, so-far .within)
 
     module _ (part : namePart (getD text letter 0) ≡ true) where
-      letter-goes : (r : Reach) → Reads text place 1 (λ i. eqb (getD text letter 0)) r → (frames : List Frame)
+      letter-goes : (r : Reach) → Reads text place (eqb (getD text letter 0) ∷ []) r → (frames : List Frame)
           → seekAt text at (state (closing (nameAt text (suc inner))) frames) ≡ reached text (state (closing (nameAt text (suc letter))) frames) r
       letter-goes r h frames =
-          so-far .goes frames ∙ ap (λ (w : List ℕ). seekAt text place (state (closing w) frames)) (name-letter text letter letter-inside part) ∙ h .goes states waits
-        where
-          states : ℕ → State
-          states zero = state (closing (getD text letter 0 ∷ nameAt text (suc letter))) frames
-          states (suc i) = state (closing (nameAt text (suc letter))) frames
+          so-far .goes frames ∙ ap (λ (w : List ℕ). seekAt text place (state (closing w) frames)) (name-letter text letter letter-inside part)
+          ∙ wait-read text place (eqb (getD text letter 0)) (state (closing (getD text letter 0 ∷ nameAt text (suc letter))) frames) (state (closing (nameAt text (suc letter))) frames) r
+          (wait-letter place (getD text letter 0) (nameAt text (suc letter)) frames) (byte-calm (getD text letter 0) (calm-part (getD text letter 0) part)) h
 
-          waits : Row place 1 (λ i. eqb (getD text letter 0)) states
-          waits zero l = rw (add-zero place) (wait-letter place (getD text letter 0) (nameAt text (suc letter)) frames)
-          waits (suc i) l = absurd (omega arith)
-
-      pub renaming-more : (to : ℕ) → Reads text place 1 (λ i. eqb (getD text letter 0)) (At to) → Renaming to (letter + 1)
+      pub renaming-more : (to : ℕ) → Reads text place (eqb (getD text letter 0) ∷ []) (At to) → Renaming to (letter + 1)
       renaming-more to h =
+          let end = reads-bounds text place (eqb (getD text letter 0) ∷ []) (At to) (so-far .most) h in
           let e : suc letter ≡ letter + 1 = omega arith in
           let longer : runOf namePart (drop letter text) ≡ suc (runOf namePart (drop (suc letter) text)) = run-more text letter letter-inside namePart part in
           record {
             goes = λ frames. letter-goes (At to) h frames ∙ ap (λ m. seekAt text to (state (closing (nameAt text m)) frames)) e;
             within = subst (λ m. m + runOf namePart (drop m text) < length text) e (omega (arith, so-far .within));
-            least = omega (arith, so-far .least, h .bounds .0);
-            most = h .bounds .1;
+            least = omega (arith, so-far .least, end .0);
+            most = end .1;
           }
 
-      pub renaming-refused : (r : Reach) → Refused r → Reads text place 1 (λ i. eqb (getD text letter 0)) r → Renames text at inner r
+      pub renaming-refused : (r : Reach) → Refused r → Reads text place (eqb (getD text letter 0) ∷ []) r → Renames text at inner r
       renaming-refused (At to) stuck h = absurd (miss (1 ∷ 2 ∷ []) 0 tt stuck)
-      renaming-refused (Wrong spot) stuck h = record { goes = λ frames. letter-goes (Wrong spot) h frames; bounds = h .bounds }
-      renaming-refused (LeftOut spot) stuck h = record { goes = λ frames. letter-goes (LeftOut spot) h frames; bounds = h .bounds }
+      renaming-refused (Wrong spot) stuck h = record { goes = λ frames. letter-goes (Wrong spot) h frames; bounds = reads-bounds text place (eqb (getD text letter 0) ∷ []) (Wrong spot) (so-far .most) h }
+      renaming-refused (LeftOut spot) stuck h = record { goes = λ frames. letter-goes (LeftOut spot) h frames; bounds = reads-bounds text place (eqb (getD text letter 0) ∷ []) (LeftOut spot) (so-far .most) h }
 
     pub renaming-done : namePart (getD text letter 0) ≡ false → Renames text at inner (At place)
     renaming-done over =
@@ -95,7 +88,7 @@ module _ (text : List ℕ) (at inner : ℕ) where
   -- PAST THE NAME.
   module _ (nameEnd place : ℕ) (named : Renames text at inner (At nameEnd)) (e : place ≡ nameEnd + runOf white (drop nameEnd text)) where
     pub place-within : place ≤ length text
-    place-within = omega (arith, run-within white (drop nameEnd text), length-drop nameEnd text, named .bounds .1)
+    place-within = run-inside white text nameEnd place e (named .bounds .1)
 
     to-place : (f : Frame) (fs : List Frame) → f .name ≡ nameAt text (suc inner) → seekAt text at (state (closing (f .name)) (f ∷ fs)) ≡ seekAt text place (state (closing []) (f ∷ fs))
     to-place f fs n =
@@ -108,9 +101,7 @@ module _ (text : List ℕ) (at inner : ℕ) where
 
     module _ (inside : place < length text) where
       no-space : white (getD text place 0) ≡ false
-      no-space =
-          ap white (ap (λ n. getD text n 0) e ∙ sym (getD-drop nameEnd text (runOf white (drop nameEnd text)) 0))
-          ∙ run-stops white (drop nameEnd text) (omega (arith, length-drop nameEnd text))
+      no-space = stops-run white text nameEnd place e inside
 
       pub end-closes : (to : ℕ) → getD text place 0 ≡ 62 → to ≡ place + 1 → Ends text at inner (At to)
       unfolding leftOut

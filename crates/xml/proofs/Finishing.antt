@@ -5,18 +5,17 @@ use native.Mathlib.Nat.{add-zero}
 use mathlib.Core.Path.{_≡_, refl, sym, _∙_, ap, subst}
 use mathlib.Core.Bool.{Bool, true, false, cond}
 use mathlib.Core.List.{List, [], _∷_}
-use lib.ListN.{length, getD, drop, drop-of-length-le, length-drop}
-use lib.Seq.{drop-cons, drop-drop, getD-drop}
+use lib.ListN.{length, getD, drop, drop-of-length-le}
+use lib.Seq.{drop-cons, drop-drop}
 use Rattle.paper.specs.Tools.{runOf}
 use Rattle.paper.specs.Tokens.{white}
 use Rattle.paper.specs.Xml.{Nodes, ahead, opening, ended, leftOut, leftOutAnywhere, unwanted, judge}
-use Rattle.paper.proofs.Lexing.{run-within, run-stops}
 use Rattle.xml.specs.Promised.{state, refusalAt}
 use Rattle.xml.specs.Pieces.{Tags, Roots, finished, FinishBounds, Finishes}
 use Rattle.xml.specs.declared.Reach.{Reach}
 use Rattle.xml.specs.declared.Reach.the-variants.{At}
 use Rattle.xml.specs.declared.Piece.{Piece}
-use Rattle.xml.proofs.Steps.{calm-opens, steps-on}
+use Rattle.xml.proofs.Steps.{calm-opens, run-inside, stops-run, steps-on}
 use Rattle.xml.proofs.Tagging.{white-calm}
 
 -- The `<` of the one element, then its start tag.
@@ -28,6 +27,7 @@ roots text at next r inside tag opens e h =
     record {
       goes = steps-on text at (state ahead []) inside refl (state (opening at) []) opens (rw tag) ∙ h′ .goes at [] (λ s. refl);
       bounds = h′ .bounds;
+      named = h′ .named;
     }
 
 -- White space past the element.
@@ -45,7 +45,7 @@ end-white tree at (b ∷ bs) = go (white b) refl (end-white tree (suc at) bs)
 
 module _ (text : List ℕ) (at end : ℕ) (l : at ≤ length text) (e : end ≡ at + runOf white (drop at text)) where
   pub end-within : end ≤ length text
-  end-within = omega (arith, run-within white (drop at text), length-drop at text)
+  end-within = run-inside white text at end e l
 
   to-end : (tree : Nodes) → judge at (state (ended tree) []) (drop at text) ≡ judge end (state (ended tree) []) (drop end text)
   to-end tree =
@@ -67,7 +67,7 @@ module _ (text : List ℕ) (at end : ℕ) (l : at ≤ length text) (e : end ≡ 
       }
     where
       no-space : white (getD text end 0) ≡ false
-      no-space = ap white (ap (λ n. getD text n 0) e ∙ sym (getD-drop at text (runOf white (drop at text)) 0)) ∙ run-stops white (drop at text) (omega (arith, length-drop at text))
+      no-space = stops-run white text at end e inside
 
       go : (tree : Nodes) (t : Bool) → cond t (unwanted 12 end) (unwanted 11 end) ≡ finished tree (refusalAt t end)
       go tree true = refl

@@ -1,30 +1,26 @@
 -- How reading goes through what stands before the one element: a pattern's byte, white space and digits in a row, and which of two patterns goes on.
 -- Assumes nothing.
-use Prim.Native.Nat.{ℕ, suc, _+_, _-_, _≤_, _<_}
+use Prim.Native.Nat.{ℕ, suc, _+_, _≤_, _<_}
 use native.Mathlib.Omega.{arith}
 use native.Mathlib.Nat.{add-zero}
-use borrow.Author.Tests.{leb-true, leb-false}
 use mathlib.Core.Path.{_≡_, refl, sym, _∙_, ap}
 use mathlib.Core.Bool.{Bool, true, false, _||_, cond}
 use mathlib.Core.List.{List, [], _∷_}
-use mathlib.Core.Logic.{⊎-elim}
 use mathlib.Core.Option.{none, some}
 use types.Run.{miss}
-use lib.Dec.{eqb, leb}
-use lib.ListN.{length, getD, drop, drop-of-length-le, length-drop}
-use lib.Seq.{drop-cons, drop-drop, getD-drop}
+use lib.Dec.{eqb}
+use lib.ListN.{length, getD, drop, drop-of-length-le}
+use lib.Seq.{drop-cons, drop-drop}
 use Rattle.paper.specs.Tools.{runOf}
 use Rattle.paper.specs.Tokens.{white}
 use Rattle.paper.specs.Xml.{Pattern, one, many, isDone, quoteOf, after, say, State, stands, heading, ahead, headingGoesOn, leftOut, leftOutAnywhere}
-use Rattle.paper.proofs.Tests.{decide}
-use Rattle.paper.proofs.Lexing.{run-within, run-stops}
 use Rattle.xml.specs.Seeking.{refused}
-use Rattle.xml.specs.Promised.{state, Between, Exactly, refusalAt}
+use Rattle.xml.specs.Promised.{state, Between, refusalAt, rowOf, Reads, calm, allCalm, spelling}
 use Rattle.xml.specs.Heading.{seekHead, headAt, awaiting, comes, Heads}
 use Rattle.xml.specs.declared.Reach.{Reach}
 use Rattle.xml.specs.declared.Reach.the-variants.{At, Wrong, LeftOut}
-use Rattle.xml.proofs.Steps.{Calm, calm-opens}
-use Rattle.xml.proofs.Rows.{Refused}
+use Rattle.xml.proofs.Steps.{Calm, calm-opens, in-or-out, stops-run}
+use Rattle.xml.proofs.Rows.{Refused, CalmSets, landed, row-goes, reads-bounds, exactly-between, byte-calm, word-calm, ones, say-ones}
 use Rattle.xml.proofs.Tagging.{white-calm}
 
 or-none : (t : Bool) → (t || false) ≡ t
@@ -37,10 +33,6 @@ goes-awaiting p = go (isDone p)
     go : (b : Bool) → cond b (stands ahead []) (stands (heading p) []) ≡ some (cond b (state ahead []) (state (heading p) []))
     go true = refl
     go false = refl
-
--- What stands at a place decides.
-pub in-or-out : (at long : ℕ) {C : Type 0} → (at < long → C) → (long ≤ at → C) → C
-in-or-out at long inside outside = ⊎-elim (λ t. inside (leb-true (suc at) long t)) (λ t. outside (let l : long < suc at = leb-false (suc at) long t in omega arith)) (decide (leb (suc at) long))
 
 -- ONE BYTE.
 module _ (text : List ℕ) (at : ℕ) (p : Pattern) (plain : quoteOf p ≡ none) where
@@ -69,14 +61,6 @@ pattern-alike text at p q f g h =
     in-or-out at (length text) (λ inside. let e = h inside in rw (drop-cons text at 0 inside, f, g, e)) (λ l. rw (drop-of-length-le text l))
 
 -- FROM PATTERN TO PATTERN.
-within-by : (opens : Bool) (at most : ℕ) → at ≤ most → Between at most (refusalAt opens at)
-within-by true at most l = l
-within-by false at most l = l
-
-pub refused-exactly : (opens : Bool) (at end most : ℕ) (r : Reach) → at ≤ most → r ≡ refusalAt opens at → Exactly end most r
-refused-exactly true at end most r l e = rw e l
-refused-exactly false at end most r l e = rw e l
-
 pub farther : (least least′ most : ℕ) (r : Reach) → least′ ≤ least → Between least most r → Between least′ most r
 farther least least′ most (At to) l b = (omega (arith, b .0), b .1)
 farther least least′ most (Wrong place) l b = b
@@ -97,57 +81,27 @@ module _ (text : List ℕ) (at : ℕ) where
   pub heads-from : (from : ℕ) (p p′ q : Pattern) (r : Reach) → at ≤ from → headAt text at (awaiting p) ≡ headAt text from (awaiting p′) → Heads text from p′ q r → Heads text at p q r
   heads-from from p p′ q r l e h = record { goes = e ∙ h .goes; bounds = farther from at (length text) r l (h .bounds) }
 
-  -- One byte of a set.
-  module _ (set : ℕ → Bool) (p : Pattern) where
-    pub one-cut : at ≤ length text → length text ≤ at → Heads text at (one set p) p (Wrong at)
-    one-cut m l = record { goes = pattern-cut text at (one set p) refl l; bounds = m }
-
-    pub one-taken : (to : ℕ) → at < length text → set (getD text at 0) ≡ true → Calm (getD text at 0) → to ≡ at + 1 → Heads text at (one set p) p (At to)
-    one-taken to inside h calm e =
-        let next : suc at ≡ to = omega arith in
-        record {
-          goes = pattern-takes text at (one set p) refl inside p calm (rw h) ∙ ap (λ n. headAt text n (awaiting p)) next;
-          bounds = (omega arith, omega arith);
-        }
-
-    pub one-other : (r : Reach) → at < length text → set (getD text at 0) ≡ false → r ≡ refusalAt (leftOutAnywhere (drop at text)) at → Heads text at (one set p) p r
-    one-other r inside h e =
-        record {
-          goes = pattern-none text at (one set p) refl inside r (awaiting p) (rw h) e;
-          bounds = rw e (within-by (leftOutAnywhere (drop at text)) at (length text) (omega arith));
-        }
-
--- A WORD. The first of its bytes are read.
-module _ (text : List ℕ) (at : ℕ) (word : List ℕ) where
-  abbrev pub Spelled : ℕ → Type 0
-  Spelled k = (p : Pattern) → headAt text at (awaiting (say word p)) ≡ headAt text (at + k) (awaiting (say (drop k word) p))
-
-  pub none-spelled : Spelled 0
-  none-spelled p = rw (add-zero at)
-
-  spelled-by : (k : ℕ) (r : Reach) → k < length word → Spelled k → ((p : Pattern) → Heads text (at + k) (one (eqb (getD word k 0)) p) p r)
-      → (p : Pattern) → headAt text at (awaiting (say word p)) ≡ comes text (awaiting (say (drop (suc k) word) p)) r
-  spelled-by k r l so-far h p =
-      so-far p ∙ ap (λ (w : List ℕ). headAt text (at + k) (awaiting (say w p))) (drop-cons word k 0 l) ∙ h (say (drop (suc k) word) p) .goes
-
-  pub one-spelled : (k to : ℕ) → k < length word → to ≡ at + k + 1 → Spelled k → ((p : Pattern) → Heads text (at + k) (one (eqb (getD word k 0)) p) p (At to)) → Spelled (k + 1)
-  one-spelled k to l e so-far h p =
-      let f : to ≡ at + (k + 1) = omega arith in
-      let g : suc k ≡ k + 1 = omega arith in
-      spelled-by k (At to) l so-far h p ∙ ap (λ n. headAt text n (awaiting (say (drop (suc k) word) p))) f ∙ ap (λ n. headAt text (at + (k + 1)) (awaiting (say (drop n word) p))) g
-
-  pub spell-refused : (k : ℕ) (r : Reach) → k < length word → Spelled k → Refused r → ((p : Pattern) → Heads text (at + k) (one (eqb (getD word k 0)) p) p r)
-      → (p : Pattern) → Heads text at (say word p) p r
-  spell-refused k (At to) l so-far stuck h p = absurd (miss (1 ∷ 2 ∷ []) 0 tt stuck)
-  spell-refused k (Wrong place) l so-far stuck h p = record { goes = spelled-by k (Wrong place) l so-far h p; bounds = h p .bounds }
-  spell-refused k (LeftOut place) l so-far stuck h p = record { goes = spelled-by k (LeftOut place) l so-far h p; bounds = h p .bounds }
-
-  pub spelled-all : (k : ℕ) → k ≡ length word → at + k ≤ length text → Spelled k → (p : Pattern) → Heads text at (say word p) p (At (at + k))
-  spelled-all k e l so-far p =
+  -- A row of bytes.
+  pub row-heads : (sets : List (ℕ → Bool)) (r : Reach) → CalmSets sets → at ≤ length text → Reads text at sets r → (p : Pattern) → Heads text at (ones sets p) p r
+  row-heads sets r calm l h p =
       record {
-        goes = so-far p ∙ ap (λ (w : List ℕ). headAt text (at + k) (awaiting (say w p))) (drop-of-length-le word {i = k} (omega arith));
-        bounds = (omega arith, l);
+        goes = row-goes text (λ n rest. headAt text n (awaiting (ones rest p))) (λ n set rest m. pattern-cut text n (one set (ones rest p)) refl m)
+            (λ n set rest inside t c. pattern-takes text n (one set (ones rest p)) refl inside (ones rest p) c (rw t))
+            (λ n set rest inside t. pattern-none text n (one set (ones rest p)) refl inside (refusalAt (leftOutAnywhere (drop n text)) n) (awaiting p) (rw t) refl ∙ as-comes (refusalAt (leftOutAnywhere (drop n text)) n)) at sets calm
+            ∙ sym (as-comes (rowOf at sets (drop at text))) ∙ ap (comes text (awaiting p)) (sym (h .comes));
+        bounds = exactly-between (at + length sets) at (length text) r (omega arith) (reads-bounds text at sets r l h);
       }
+    where
+      as-comes : (q : Reach) → comes text (awaiting p) q ≡ landed (λ to. headAt text to (awaiting p)) q
+      as-comes (At to) = refl
+      as-comes (Wrong place) = refl
+      as-comes (LeftOut place) = refl
+
+  pub byte-heads : (b : ℕ) (r : Reach) → calm b ≡ true → at ≤ length text → Reads text at (eqb b ∷ []) r → (p : Pattern) → Heads text at (one (eqb b) p) p r
+  byte-heads b r calm l h p = row-heads (eqb b ∷ []) r (byte-calm b calm, tt) l h p
+
+  pub word-heads : (word : List ℕ) (r : Reach) → allCalm word ≡ true → at ≤ length text → Reads text at (spelling word) r → (p : Pattern) → Heads text at (say word p) p r
+  word-heads word r calm l h p = rw (say-ones word p) (row-heads (spelling word) r (word-calm word calm) l h p)
 
 -- RUNS. A pattern that goes on with any number of bytes of a set.
 module _ (set : ℕ → Bool) (calm : (b : ℕ) → set b ≡ true → Calm b) where
@@ -171,17 +125,10 @@ module _ (set : ℕ → Bool) (calm : (b : ℕ) → set b ≡ true → Calm b) w
         loops p more plain again at (drop at text) ∙ ap (λ (l : List ℕ). seekHead (at + runOf set (drop at text)) (state (heading p) []) l) (drop-drop (runOf set (drop at text)) at text)
         ∙ ap (λ n. headAt text n (state (heading p) [])) (sym e)
 
-    pub stops-run : to < length text → set (getD text to 0) ≡ false
-    stops-run inside =
-        ap set (ap (λ n. getD text n 0) e ∙ sym (getD-drop at text (runOf set (drop at text)) 0)) ∙ run-stops set (drop at text) (omega (arith, length-drop at text))
-
-    pub run-inside : at ≤ length text → to ≤ length text
-    run-inside l = omega (arith, run-within set (drop at text), length-drop at text)
-
     -- Any number of such bytes, then what must come.
     pub many-run : (p : Pattern) → isDone p ≡ false → quoteOf p ≡ none → headAt text at (state (heading (many set p)) []) ≡ headAt text to (state (heading p) [])
     many-run p more plain =
-        loop-run (many set p) refl refl (λ b h. rw h) ∙ pattern-alike text to (many set p) p refl plain (λ inside. let h = stops-run inside in rw h)
+        loop-run (many set p) refl refl (λ b h. rw h) ∙ pattern-alike text to (many set p) p refl plain (λ inside. let h = stops-run set text at to e inside in rw h)
 
     -- A first such byte, which leads to a pattern that they leave as it is.
     pub enters-run : (p q : Pattern) → at < to → at < length text → isDone q ≡ false → quoteOf p ≡ none → quoteOf q ≡ none → ((b : ℕ) → set b ≡ true → after p b ≡ some q)

@@ -1,22 +1,22 @@
 -- From one state of a run of characters to another: the states that wait for a pattern wait for its bytes, and the first byte of a pattern decides how it goes on.
 -- Assumes nothing.
-use Prim.Native.Nat.{ℕ, zero, suc, _+_, _-_, _≤_, _<_}
+use Prim.Native.Nat.{ℕ, suc, _+_, _≤_, _<_}
 use native.Mathlib.Omega.{arith}
-use native.Mathlib.Nat.{add-zero}
 use mathlib.Core.Path.{_≡_, refl, sym, _∙_, ap, subst}
 use mathlib.Core.Bool.{Bool, true, false, cond}
 use mathlib.Core.List.{List, [], _∷_}
-use mathlib.Core.Option.{Option, none, some}
+use mathlib.Core.Option.{none, some}
 use borrow.Author.Tests.{ne-eqb}
 use lib.Dec.{eqb}
-use lib.ListN.{length, getD, drop, drop-of-length-le}
+use lib.ListN.{length, getD, drop}
 use lib.Seq.{drop-cons}
-use Rattle.paper.specs.Xml.{from, Pattern, done, one, isDone, after, say, tail, Frame, Mode, State, stands, run, partly, goesOn, stepMode, leftOut, leftOutAnywhere}
-use Rattle.xml.specs.Seeking.{Sought, refused, settled}
-use Rattle.xml.specs.Promised.{state, seekAt, reached, Between, Exactly, refusalAt, Waits, Row, Reads, spelling, tailing, narrowing, Crosses}
+use Rattle.paper.specs.Xml.{Pattern, done, one, isDone, after, say, Frame, Mode, State, stands, run, partly, goesOn, stepMode, leftOut, leftOutAnywhere}
+use Rattle.xml.specs.Seeking.{Sought, settled}
+use Rattle.xml.specs.Promised.{state, seekAt, reached, Between, refusalAt, rowOf, Reads, calm, allCalm, spelling, Crosses}
 use Rattle.xml.specs.declared.Reach.{Reach}
 use Rattle.xml.specs.declared.Reach.the-variants.{At, Wrong, LeftOut}
-use Rattle.xml.proofs.Steps.{Calm, calm-opens, text-ends, opens-here, steps-on, no-step, refused-here}
+use Rattle.xml.proofs.Rows.{CalmSet, CalmSets, landed, row-goes, reads-bounds, exactly-between, word-calm, ones, say-ones}
+use Rattle.xml.proofs.Steps.{Calm, is-calm, Waits, calm-opens, text-ends, opens-here, steps-on, no-step, refused-here, wait-ends, wait-over, wait-refused}
 
 -- The state of a run that waits for a pattern; where nothing must come, the run goes on.
 abbrev pub held : ℕ → List Frame → Pattern → State
@@ -38,66 +38,33 @@ wait-one begin at frames set p = record { unsettled = λ bs. refl; goes = λ b. 
     go true = goes-held begin frames p
     go false = refl
 
--- The states of a word, of bytes that go on with a character, and of a byte before those.
-pub spelled : (begin at : ℕ) (frames : List Frame) (word : List ℕ) → Row at (length word) (spelling word) (λ i. held begin frames (say (drop i word) done))
-spelled begin at frames word i l = rw (drop-cons word i 0 l) (wait-one begin (at + i) frames (eqb (getD word i 0)) (say (drop (suc i) word) done))
-
-abbrev pub tailsOf : ℕ → Pattern
-tailsOf zero = done
-tailsOf (suc n) = tail (tailsOf n)
-
-pub tailed : (begin at n : ℕ) (frames : List Frame) → Row at n tailing (λ i. held begin frames (tailsOf (n - i)))
-tailed begin at n frames i l =
-    let e : n - i ≡ suc (n - suc i) = omega arith in
-    rw e (wait-one begin (at + i) frames (from 128 191) (tailsOf (n - suc i)))
-
-abbrev narrowStates : ℕ → List Frame → ℕ → ℕ → ℕ → ℕ → State
-narrowStates begin frames low high n zero = held begin frames (one (from low high) (tailsOf n))
-narrowStates begin frames low high n (suc i) = held begin frames (tailsOf (n - i))
-
-narrowed : (begin at low high n : ℕ) (frames : List Frame) → Row at (suc n) (narrowing low high) (narrowStates begin frames low high n)
-narrowed begin at low high n frames zero l =
-    let e : n - 0 ≡ n = omega arith in
-    rw (add-zero at, e) (wait-one begin at frames (from low high) (tailsOf n))
-narrowed begin at low high n frames (suc i) l =
-    let e : n - i ≡ suc (n - suc i) = omega arith in
-    rw e (wait-one begin (at + suc i) frames (from 128 191) (tailsOf (n - suc i)))
-
 -- CROSSING.
 module _ (text : List ℕ) (at : ℕ) where
-  -- A row of bytes crosses, if there is one.
-  row-bounds : (n : ℕ) (r : Reach) → 0 < n → Exactly (at + n) (length text) r → Between (suc at) (length text) r
-  row-bounds n (At to) l h = (omega (arith, h .0), h .1)
-  row-bounds n (Wrong place) l h = h
-  row-bounds n (LeftOut place) l h = h
-
-  pub cross-word : (word : List ℕ) (r : Reach) → 0 < length word → Reads text at (length word) (spelling word) r → Crosses text at (λ begin. partly begin (say word done)) (λ begin. run begin 0) r
-  cross-word [] r l h = absurd (omega arith)
-  cross-word (b ∷ bs) r l h =
+  -- A row of bytes, at least one.
+  pub cross-row : (set : ℕ → Bool) (sets : List (ℕ → Bool)) (r : Reach) → CalmSet set → CalmSets sets → at ≤ length text → Reads text at (set ∷ sets) r
+      → Crosses text at (λ begin. partly begin (ones (set ∷ sets) done)) (λ begin. run begin 0) r
+  cross-row set sets r first calm l h =
       record {
-        goes = λ begin frames. h .goes (λ i. held begin frames (say (drop i (b ∷ bs)) done)) (spelled begin at frames (b ∷ bs))
-            ∙ ap (λ w. reached text (held begin frames (say w done)) r) (drop-of-length-le (b ∷ bs) {i = length (b ∷ bs)} (omega arith));
-        bounds = row-bounds (length (b ∷ bs)) r l (h .bounds);
+        goes = λ begin frames. row-goes text (waiting begin frames)
+            (λ n x rest m. wait-ends text n x (waiting-for begin frames (x ∷ rest)) (waiting-for begin frames rest) (wait-one begin n frames x (ones rest done)) m)
+            (λ n x rest inside t c. wait-over text n x (waiting-for begin frames (x ∷ rest)) (waiting-for begin frames rest) (wait-one begin n frames x (ones rest done)) inside t c)
+            (λ n x rest inside t. wait-refused text n x (waiting-for begin frames (x ∷ rest)) (waiting-for begin frames rest) (wait-one begin n frames x (ones rest done)) (waiting-for begin frames []) inside t
+            ∙ as-reached begin frames (refusalAt (leftOutAnywhere (drop n text)) n))
+            at (set ∷ sets) (first, calm)
+            ∙ sym (as-reached begin frames (rowOf at (set ∷ sets) (drop at text))) ∙ ap (reached text (waiting-for begin frames [])) (sym (h .comes));
+        bounds = exactly-between (at + suc (length sets)) (suc at) (length text) r (omega arith) (reads-bounds text at (set ∷ sets) r l h);
       }
+    where
+      waiting-for : ℕ → List Frame → List (ℕ → Bool) → State
+      waiting-for begin frames rest = held begin frames (ones rest done)
 
-  pub cross-tails : (n : ℕ) (r : Reach) → Reads text at (suc n) tailing r → Crosses text at (λ begin. partly begin (tailsOf (suc n))) (λ begin. run begin 0) r
-  cross-tails n r h =
-      let none : suc n ≡ suc n - 0 = omega arith in
-      let e : suc n - suc n ≡ 0 = omega arith in
-      record {
-        goes = λ begin frames. ap (λ m. seekAt text at (held begin frames (tailsOf m))) none ∙ h .goes (λ i. held begin frames (tailsOf (suc n - i))) (tailed begin at (suc n) frames)
-            ∙ ap (λ m. reached text (held begin frames (tailsOf m)) r) e;
-        bounds = row-bounds (suc n) r (omega arith) (h .bounds);
-      }
+      waiting : ℕ → List Frame → ℕ → List (ℕ → Bool) → Sought
+      waiting begin frames n rest = seekAt text n (waiting-for begin frames rest)
 
-  pub cross-narrow : (low high n : ℕ) (r : Reach) → Reads text at (suc n) (narrowing low high) r
-      → Crosses text at (λ begin. partly begin (one (from low high) (tailsOf n))) (λ begin. run begin 0) r
-  cross-narrow low high n r h =
-      let e : n - n ≡ 0 = omega arith in
-      record {
-        goes = λ begin frames. h .goes (narrowStates begin frames low high n) (narrowed begin at low high n frames) ∙ ap (λ m. reached text (held begin frames (tailsOf m)) r) e;
-        bounds = row-bounds (suc n) r (omega arith) (h .bounds);
-      }
+      as-reached : (begin : ℕ) (frames : List Frame) (q : Reach) → reached text (waiting-for begin frames []) q ≡ landed (λ to. waiting begin frames to []) q
+      as-reached begin frames (At to) = refl
+      as-reached begin frames (Wrong place) = refl
+      as-reached begin frames (LeftOut place) = refl
 
   -- The text ends where a pattern must go on.
   pub cross-ends : (p : Pattern) (after : ℕ → Mode) → length text ≤ at → at ≤ length text → Crosses text at (λ begin. partly begin p) after (Wrong at)
@@ -202,3 +169,15 @@ module _ (text : List ℕ) (at : ℕ) where
       where
         same-way : (begin : ℕ) (frames : List Frame) → seekAt text at (state (partly begin p) frames) ≡ seekAt text at (state (partly begin q) frames)
         same-way begin frames = rw (drop-cons text at 0 inside, e)
+
+-- A KNOWN BYTE leads to a pattern, or to a word.
+module _ (text : List ℕ) (at : ℕ) (inside : at < length text) (p : Pattern) (n : ℕ) (r : Reach) (here : getD text at 0 ≡ n) (calm-here : calm n ≡ true) where
+  pub byte-on : (q : Pattern) → after p n ≡ some q → isDone q ≡ false → Crosses text (at + 1) (λ begin. partly begin q) (λ begin. run begin 0) r
+      → Crosses text at (λ begin. partly begin p) (λ begin. run begin 0) r
+  byte-on q e more h = pattern-on text at inside p q r (subst Calm (sym here) (is-calm n calm-here)) (ap (after p) here ∙ e) more h
+
+  pub word-on : (b : ℕ) (word : List ℕ) → after p n ≡ some (say (b ∷ word) done) → allCalm (b ∷ word) ≡ true → Reads text (at + 1) (spelling (b ∷ word)) r
+      → Crosses text at (λ begin. partly begin p) (λ begin. run begin 0) r
+  word-on b word e calm h =
+      let sets = word-calm (b ∷ word) calm in
+      byte-on (say (b ∷ word) done) e refl (rw (say-ones word done) (cross-row text (at + 1) (eqb b) (spelling word) r (sets .0) (sets .1) (omega arith) h))

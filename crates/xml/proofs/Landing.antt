@@ -22,9 +22,9 @@ use Rattle.xml.specs.Promised.{state, seekAt, reached, refusalAt}
 use Rattle.xml.specs.Heading.{seekHead, headAt, Heads, valued, versionValue, led, Marked, Lands, Leads}
 use Rattle.xml.specs.declared.Reach.{Reach}
 use Rattle.xml.specs.declared.Reach.the-variants.{At, Wrong, LeftOut}
-use Rattle.xml.proofs.Steps.{calm-opens}
+use Rattle.xml.proofs.Steps.{calm-opens, in-or-out, run-inside, stops-run}
 use Rattle.xml.proofs.Rows.{Refused}
-use Rattle.xml.proofs.Heading.{in-or-out, stops-run, run-inside, many-run, space-calm}
+use Rattle.xml.proofs.Heading.{many-run, space-calm}
 use Rattle.xml.proofs.Declaring.{stood}
 
 -- PAST WHITE SPACE.
@@ -45,7 +45,7 @@ ahead-run at (b ∷ bs) = go (white b) refl (ahead-run (suc at) bs)
 
 module _ (text : List ℕ) (at place : ℕ) (l : at ≤ length text) (e : place ≡ at + runOf white (drop at text)) where
   pub place-inside : place ≤ length text
-  place-inside = run-inside white space-calm text at place e l
+  place-inside = run-inside white text at place e l
 
   to-place : headAt text at (state ahead []) ≡ headAt text place (state ahead [])
   to-place =
@@ -70,7 +70,7 @@ module _ (text : List ℕ) (at place : ℕ) (l : at ≤ length text) (e : place 
           no-tag′ = ne-eqb (getD text place 0) 60 (λ g. eqb-false 60 (getD text place 0) no-tag (sym g))
 
           no-space : white (getD text place 0) ≡ false
-          no-space = stops-run white space-calm text at place e inside
+          no-space = stops-run white text at place e inside
 
           go : (t : Bool) → leftOutAnywhere (drop place text) ≡ t → Lands text at (refusalAt t place)
           go true o = let o′ = rw (drop-cons text place 0 inside) at o in record { goes = to-place ∙ rw (drop-cons text place 0 inside, no-tag, o′); marked = place-inside }
@@ -199,7 +199,7 @@ module _ (text : List ℕ) where
 
     module _ (place : ℕ) (e : place ≡ 6 + runOf white (drop 6 text)) where
       pub version-inside : place ≤ length text
-      version-inside = run-inside white space-calm text 6 place e room
+      version-inside = run-inside white text 6 place e room
 
       by-head : (r : Reach) → headAt text place (state (heading versioned) []) ≡ led r → Marked text r → Leads text r
       by-head r h m =

@@ -1,137 +1,175 @@
--- Bytes read one after the other, each of its set: one byte, one more after those read so far, and a refusal handed upward. Assumes nothing.
+-- Bytes read one after the other, each of its set: one byte, one more after those read so far, a refusal handed upward, and how reading goes through them. Assumes nothing.
 use Prim.Native.Nat.{ℕ, zero, suc, _+_, _≤_, _<_}
 use native.Mathlib.Omega.{arith}
-use native.Mathlib.Nat.{add-zero}
-use mathlib.Core.Path.{_≡_, refl, sym, _∙_, ap}
-use mathlib.Core.Bool.{Bool, true, false}
+use mathlib.Core.Path.{_≡_, refl, sym, _∙_, ap, subst}
+use mathlib.Core.Bool.{Bool, true, false, false≢true}
 use mathlib.Core.List.{List, [], _∷_}
+use mathlib.Core.Logic.{⊎-elim}
 use denote.Enum.Declared.{tagOf}
 use types.Run.{OneOf, miss}
-use lib.ListN.{length, getD, drop}
-use Rattle.paper.specs.Xml.{from, State, leftOutAnywhere}
-use Rattle.xml.specs.Seeking.{Sought}
-use Rattle.xml.specs.Promised.{seekAt, reached, Exactly, refusalAt, Waits, Row, Reads, narrowing}
+use lib.Dec.{eqb, leb}
+use lib.ListN.{length, getD, drop, drop-of-length-le}
+use lib.Seq.{drop-cons}
+use borrow.Author.Tests.{eqb-true, leb-true}
+use Rattle.paper.specs.Xml.{from, Pattern, one, say, State, leftOutAnywhere}
+use Rattle.paper.proofs.Tests.{and-true, decide}
+use Rattle.xml.specs.Seeking.{Sought, refused}
+use Rattle.xml.specs.Promised.{seekAt, reached, Between, refusalAt, rowOf, Reads, calm, allCalm, spelling, tailing}
 use Rattle.xml.specs.declared.Reach.{Reach}
 use Rattle.xml.specs.declared.Reach.the-variants.{At, Wrong, LeftOut}
 use Rattle.xml.proofs.Reach.{the-type}
-use Rattle.xml.proofs.Steps.{Calm, wait-ends, wait-over, wait-refused}
+use Rattle.xml.proofs.Steps.{Calm, is-calm, in-or-out, Waits, wait-ends, wait-over, wait-refused}
 
 -- A refusal, as a branch on the case of an answer says it.
 abbrev pub Refused : Reach → Type 0
 Refused r = OneOf (1 ∷ 2 ∷ []) (tagOf the-type r)
 
--- It is the same whatever state is waited for.
-pub refused-same : (text : List ℕ) (s t : State) (r : Reach) → Refused r → reached text s r ≡ reached text t r
-refused-same text s t (At to) n = absurd (miss (1 ∷ 2 ∷ []) 0 tt n)
-refused-same text s t (Wrong place) n = refl
-refused-same text s t (LeftOut place) n = refl
+-- An answer that is a place is no refusal.
+abbrev isPlace : Reach → Bool
+isPlace (At to) = true
+isPlace (Wrong place) = false
+isPlace (LeftOut place) = false
 
-pub refused-within : (end end′ most : ℕ) (r : Reach) → Refused r → Exactly end most r → Exactly end′ most r
-refused-within end end′ most (At to) n h = absurd (miss (1 ∷ 2 ∷ []) 0 tt n)
-refused-within end end′ most (Wrong place) n h = h
-refused-within end end′ most (LeftOut place) n h = h
+abbrev placeOf : Reach → ℕ
+placeOf (At to) = to
+placeOf (Wrong place) = place
+placeOf (LeftOut place) = place
+
+not-refused : (opens : Bool) (to at : ℕ) → At to ≡ refusalAt opens at → ⊥
+not-refused true to at h = false≢true (sym (ap isPlace h))
+not-refused false to at h = false≢true (sym (ap isPlace h))
+
+-- The place past a part is this one.
+abbrev pub Exactly : ℕ → ℕ → Reach → Type 0
+Exactly end most (At to) = (to ≡ end) × (to ≤ most)
+Exactly end most (Wrong place) = place ≤ most
+Exactly end most (LeftOut place) = place ≤ most
 
 refusal-within : (opens : Bool) (at end most : ℕ) → at ≤ most → Exactly end most (refusalAt opens at)
 refusal-within true at end most l = l
 refusal-within false at end most l = l
 
--- ONE BYTE.
-module _ (text : List ℕ) (at : ℕ) (set : ℕ → ℕ → Bool) where
-  -- The state that waits first.
-  first : (s : ℕ → State) → Row at 1 set s → Waits (s 0) at (set 0) (s 1)
-  first s row = rw (add-zero at) at (row 0 (omega arith))
+-- WHAT THE FIRST BYTE OF A ROW MAKES OF IT.
+module _ (text : List ℕ) (at : ℕ) (set : ℕ → Bool) where
+  -- The text ends, a byte of the set comes, or another does.
+  by-byte : {C : Type 0} → (length text ≤ at → C) → (at < length text → set (getD text at 0) ≡ true → C) → (at < length text → set (getD text at 0) ≡ false → C) → C
+  by-byte ends takes other = in-or-out at (length text) (λ inside. ⊎-elim (takes inside) (other inside) (decide (set (getD text at 0)))) ends
 
-  pub reads-end : at ≤ length text → length text ≤ at → Reads text at 1 set (Wrong at)
-  reads-end l m = record { goes = λ s row. wait-ends text at (set 0) (s 0) (s 1) (first s row) m; bounds = l }
+  module _ (sets : List (ℕ → Bool)) where
+    row-ends : length text ≤ at → rowOf at (set ∷ sets) (drop at text) ≡ Wrong at
+    row-ends l = rw (drop-of-length-le text l)
 
-  pub reads-taken : (to : ℕ) → at < length text → set 0 (getD text at 0) ≡ true → Calm (getD text at 0) → to ≡ at + 1 → Reads text at 1 set (At to)
-  reads-taken to inside h calm e =
-      let next : suc at ≡ to = omega arith in
+    row-takes : at < length text → set (getD text at 0) ≡ true → rowOf at (set ∷ sets) (drop at text) ≡ rowOf (suc at) sets (drop (suc at) text)
+    row-takes inside h = rw (drop-cons text at 0 inside, h)
+
+    row-other : at < length text → set (getD text at 0) ≡ false → rowOf at (set ∷ sets) (drop at text) ≡ refusalAt (leftOutAnywhere (drop at text)) at
+    row-other inside h = rw (drop-cons text at 0 inside, h)
+
+  pub reads-end : length text ≤ at → Reads text at (set ∷ []) (Wrong at)
+  reads-end l = record { comes = sym (row-ends [] l) }
+
+  pub reads-taken : (to : ℕ) → at < length text → set (getD text at 0) ≡ true → to ≡ at + 1 → Reads text at (set ∷ []) (At to)
+  reads-taken to inside h e = let next : to ≡ suc at = omega arith in record { comes = ap At next ∙ sym (row-takes [] inside h) }
+
+  pub reads-other : (r : Reach) → at < length text → set (getD text at 0) ≡ false → r ≡ refusalAt (leftOutAnywhere (drop at text)) at → Reads text at (set ∷ []) r
+  reads-other r inside h e = record { comes = e ∙ sym (row-other [] inside h) }
+
+  -- It is passed, and the rest of the row must come; or it is refused, and the row with it.
+  pub row-next : (to : ℕ) → Reads text at (set ∷ []) (At to) → (sets : List (ℕ → Bool)) → rowOf at (set ∷ sets) (drop at text) ≡ rowOf to sets (drop to text)
+  row-next to h sets =
+      by-byte (λ l. absurd (not-refused false to at (h .comes ∙ row-ends [] l)))
+      (λ inside t. row-takes sets inside t ∙ ap (λ n. rowOf n sets (drop n text)) (sym (ap placeOf (h .comes ∙ row-takes [] inside t))))
+      (λ inside t. absurd (not-refused (leftOutAnywhere (drop at text)) to at (h .comes ∙ row-other [] inside t)))
+
+  pub row-stuck : (r : Reach) → Refused r → Reads text at (set ∷ []) r → (sets : List (ℕ → Bool)) → Reads text at (set ∷ sets) r
+  row-stuck r stuck h sets =
       record {
-        goes = λ s row. wait-over text at (set 0) (s 0) (s 1) (first s row) inside h calm ∙ ap (λ n. seekAt text n (s 1)) next;
-        bounds = (e, omega arith);
+        comes = by-byte (λ l. h .comes ∙ row-ends [] l ∙ sym (row-ends sets l)) (λ inside t. absurd (miss (1 ∷ 2 ∷ []) 0 tt (subst Refused (h .comes ∙ row-takes [] inside t) stuck)))
+            (λ inside t. h .comes ∙ row-other [] inside t ∙ sym (row-other sets inside t));
       }
 
-  pub reads-other : (r : Reach) → at < length text → set 0 (getD text at 0) ≡ false → r ≡ refusalAt (leftOutAnywhere (drop at text)) at → Reads text at 1 set r
-  reads-other r inside h e =
-      record {
-        goes = λ s row. wait-refused text at (set 0) (s 0) (s 1) (first s row) (s 1) inside h ∙ ap (reached text (s 1)) (sym e);
-        bounds = rw e (refusal-within (leftOutAnywhere (drop at text)) at (at + 1) (length text) (omega arith));
-      }
-
--- SEVERAL.
--- Two states in a row.
-abbrev two : State → State → ℕ → State
-two a b zero = a
-two a b (suc i) = b
-
-module _ (text : List ℕ) (at n : ℕ) (set : ℕ → ℕ → Bool) where
-  -- The first k of the n bytes are read.
-  abbrev pub Passed : ℕ → Type 0
-  Passed k = (s : ℕ → State) → Row at n set s → seekAt text at (s 0) ≡ seekAt text (at + k) (s k)
-
-  pub none-passed : Passed 0
-  none-passed s row = rw (add-zero at)
-
-  -- What the next byte makes of it.
-  one-by : (k : ℕ) (r : Reach) → k < n → Reads text (at + k) 1 (λ i. set k) r → (s : ℕ → State) → Row at n set s → seekAt text (at + k) (s k) ≡ reached text (s (suc k)) r
-  one-by k r l one s row = one .goes (two (s k) (s (suc k))) waits
-    where
-      waits : Row (at + k) 1 (λ i. set k) (two (s k) (s (suc k)))
-      waits zero l′ = rw (add-zero (at + k)) (row k l)
-      waits (suc i) l′ = absurd (omega arith)
-
-  pub one-more : (k to : ℕ) → k < n → Passed k → Reads text (at + k) 1 (λ i. set k) (At to) → Passed (k + 1)
-  one-more k to l p one s row =
-      let e : to ≡ at + (k + 1) = omega (arith, one .bounds .0) in
-      let f : suc k ≡ k + 1 = omega arith in
-      p s row ∙ one-by k (At to) l one s row ∙ ap (λ m. seekAt text m (s (suc k))) e ∙ ap (λ m. seekAt text (at + (k + 1)) (s m)) f
-
-  pub row-refused : (k : ℕ) (r : Reach) → k < n → Passed k → Refused r → Reads text (at + k) 1 (λ i. set k) r → Reads text at n set r
-  row-refused k r l p stuck one =
-      record {
-        goes = λ s row. p s row ∙ one-by k r l one s row ∙ refused-same text (s (suc k)) (s n) r stuck;
-        bounds = refused-within (at + k + 1) (at + n) (length text) r stuck (one .bounds);
-      }
-
-  pub row-read : (k : ℕ) → k ≡ n → at + k ≤ length text → Passed k → Reads text at n set (At (at + k))
-  row-read k e l p = record { goes = λ s row. p s row ∙ ap (λ m. seekAt text (at + k) (s m)) e; bounds = (ap (_+_ at) e, l) }
-
--- ONE BYTE, THEN OTHERS.
-module _ (text : List ℕ) (at n : ℕ) (set : ℕ → ℕ → Bool) where
-  begins-by : (r : Reach) → Reads text at 1 (λ i. set 0) r → (s : ℕ → State) → Row at (suc n) set s → seekAt text at (s 0) ≡ reached text (s 1) r
-  begins-by r one s row = one .goes (two (s 0) (s 1)) waits
-    where
-      waits : Row at 1 (λ i. set 0) (two (s 0) (s 1))
-      waits zero l = row 0 (omega arith)
-      waits (suc i) l = absurd (omega arith)
-
-  pub first-refused : (r : Reach) → Refused r → Reads text at 1 (λ i. set 0) r → Reads text at (suc n) set r
-  first-refused r stuck one =
-      record {
-        goes = λ s row. begins-by r one s row ∙ refused-same text (s 1) (s (suc n)) r stuck;
-        bounds = refused-within (at + 1) (at + suc n) (length text) r stuck (one .bounds);
-      }
-
-  pub first-then : (to : ℕ) (r : Reach) → Reads text at 1 (λ i. set 0) (At to) → Reads text to n (λ i. set (suc i)) r → Reads text at (suc n) set r
-  first-then to r one rest =
-      record {
-        goes = λ s row. begins-by (At to) one s row ∙ rest .goes (λ i. s (suc i)) (shifted s row);
-        bounds = rw (ends) (rest .bounds);
-      }
-    where
-      ends : at + suc n ≡ to + n
-      ends = omega (arith, one .bounds .0)
-
-      shifted : (s : ℕ → State) → Row at (suc n) set s → Row to n (λ i. set (suc i)) (λ i. s (suc i))
-      shifted s row i l =
-          let e : to + i ≡ at + suc i = omega (arith, one .bounds .0) in
-          rw e (row (suc i) (omega arith))
-
--- One byte of a range is a row of one.
-pub narrow-one : (text : List ℕ) (at low high : ℕ) (r : Reach) → Reads text at 1 (λ i. from low high) r → Reads text at 1 (narrowing low high) r
-narrow-one text at low high r h = record { goes = λ s row. h .goes s (λ i l. first-set s row i l); bounds = h .bounds }
+-- THE PLACE PAST A ROW.
+row-bounds : (text : List ℕ) (at : ℕ) (sets : List (ℕ → Bool)) → at ≤ length text → Exactly (at + length sets) (length text) (rowOf at sets (drop at text))
+row-bounds text at [] l = (omega arith, l)
+row-bounds text at (set ∷ sets) l =
+    by-byte text at set (λ m. subst (Exactly (at + suc (length sets)) (length text)) (sym (row-ends text at set sets m)) l)
+    (λ inside t. subst (Exactly (at + suc (length sets)) (length text)) (sym (row-takes text at set sets inside t)) (further (row-bounds text (suc at) sets (omega arith))))
+    (λ inside t. subst (Exactly (at + suc (length sets)) (length text)) (sym (row-other text at set sets inside t)) (refusal-within (leftOutAnywhere (drop at text)) at (at + suc (length sets)) (length text) l))
   where
-    first-set : (s : ℕ → State) → Row at 1 (narrowing low high) s → Row at 1 (λ i. from low high) s
-    first-set s row zero l = row 0 l
-    first-set s row (suc i) l = absurd (omega arith)
+    further : Exactly (suc at + length sets) (length text) (rowOf (suc at) sets (drop (suc at) text)) → Exactly (at + suc (length sets)) (length text) (rowOf (suc at) sets (drop (suc at) text))
+    further h = let e : suc at + length sets ≡ at + suc (length sets) = omega arith in subst (λ n. Exactly n (length text) (rowOf (suc at) sets (drop (suc at) text))) e h
+
+pub reads-bounds : (text : List ℕ) (at : ℕ) (sets : List (ℕ → Bool)) (r : Reach) → at ≤ length text → Reads text at sets r → Exactly (at + length sets) (length text) r
+reads-bounds text at sets r l h = subst (Exactly (at + length sets) (length text)) (sym (h .comes)) (row-bounds text at sets l)
+
+pub exactly-between : (end least most : ℕ) (r : Reach) → least ≤ end → Exactly end most r → Between least most r
+exactly-between end least most (At to) l h = (omega (arith, h .0), h .1)
+exactly-between end least most (Wrong place) l h = h
+exactly-between end least most (LeftOut place) l h = h
+
+-- A ROW READ BYTE BY BYTE. What is left of it from a place on comes to the same.
+module _ (text : List ℕ) (at : ℕ) (sets : List (ℕ → Bool)) where
+  abbrev pub Passed : ℕ → List (ℕ → Bool) → Type 0
+  Passed place rest = rowOf at sets (drop at text) ≡ rowOf place rest (drop place text)
+
+  pub passed-on : (place to : ℕ) (set : ℕ → Bool) (rest : List (ℕ → Bool)) → Passed place (set ∷ rest) → Reads text place (set ∷ []) (At to) → Passed to rest
+  passed-on place to set rest p h = p ∙ row-next text place set to h rest
+
+  pub passed-stuck : (place : ℕ) (set : ℕ → Bool) (rest : List (ℕ → Bool)) (r : Reach) → Passed place (set ∷ rest) → Refused r → Reads text place (set ∷ []) r → Reads text at sets r
+  passed-stuck place set rest r p stuck h = record { comes = row-stuck text place set r stuck h rest .comes ∙ sym p }
+
+-- HOW READING GOES THROUGH A ROW of calm bytes, whatever it comes to behind it.
+abbrev pub landed : (ℕ → Sought) → Reach → Sought
+landed f (At to) = f to
+landed f (Wrong place) = refused 11 place
+landed f (LeftOut place) = refused 12 place
+
+abbrev pub CalmSet : (ℕ → Bool) → Type 0
+CalmSet set = (b : ℕ) → set b ≡ true → Calm b
+
+abbrev pub CalmSets : List (ℕ → Bool) → Type 0
+CalmSets [] = Unit
+CalmSets (set ∷ sets) = CalmSet set × CalmSets sets
+
+module _ (text : List ℕ) (f : ℕ → List (ℕ → Bool) → Sought)
+    (ends : (at : ℕ) (set : ℕ → Bool) (sets : List (ℕ → Bool)) → length text ≤ at → f at (set ∷ sets) ≡ refused 11 at)
+    (takes : (at : ℕ) (set : ℕ → Bool) (sets : List (ℕ → Bool)) → at < length text → set (getD text at 0) ≡ true → Calm (getD text at 0) → f at (set ∷ sets) ≡ f (suc at) sets)
+    (other : (at : ℕ) (set : ℕ → Bool) (sets : List (ℕ → Bool)) → at < length text → set (getD text at 0) ≡ false
+    → f at (set ∷ sets) ≡ landed (λ to. f to []) (refusalAt (leftOutAnywhere (drop at text)) at)) where
+  pub row-goes : (at : ℕ) (sets : List (ℕ → Bool)) → CalmSets sets → f at sets ≡ landed (λ to. f to []) (rowOf at sets (drop at text))
+  row-goes at [] calm = refl
+  row-goes at (set ∷ sets) calm =
+      by-byte text at set (λ l. ends at set sets l ∙ ap (landed (λ to. f to [])) (sym (row-ends text at set sets l)))
+      (λ inside t. takes at set sets inside t (calm .0 (getD text at 0) t) ∙ row-goes (suc at) sets (calm .1) ∙ ap (landed (λ to. f to [])) (sym (row-takes text at set sets inside t)))
+      (λ inside t. other at set sets inside t ∙ ap (landed (λ to. f to [])) (sym (row-other text at set sets inside t)))
+
+-- A state that waits for one such byte.
+pub wait-read : (text : List ℕ) (at : ℕ) (set : ℕ → Bool) (s t : State) (r : Reach) → Waits s at set t → CalmSet set → Reads text at (set ∷ []) r → seekAt text at s ≡ reached text t r
+wait-read text at set s t r w calm h =
+    by-byte text at set (λ l. wait-ends text at set s t w l ∙ ap (reached text t) (sym (h .comes ∙ row-ends text at set [] l)))
+    (λ inside u. wait-over text at set s t w inside u (calm (getD text at 0) u) ∙ ap (reached text t) (sym (h .comes ∙ row-takes text at set [] inside u)))
+    (λ inside u. wait-refused text at set s t w t inside u ∙ ap (reached text t) (sym (h .comes ∙ row-other text at set [] inside u)))
+
+-- The bytes of a word, and those that go on with a character.
+pub byte-calm : (b : ℕ) → calm b ≡ true → CalmSet (eqb b)
+byte-calm b h n e = subst Calm (eqb-true b n e) (is-calm b h)
+
+pub word-calm : (word : List ℕ) → allCalm word ≡ true → CalmSets (spelling word)
+word-calm [] h = tt
+word-calm (b ∷ bs) h = let both = and-true (calm b) (allCalm bs) h in (byte-calm b (both .0), word-calm bs (both .1))
+
+pub range-calm : (low high : ℕ) → 60 < low → CalmSet (from low high)
+range-calm low high l b h = let m = leb-true low b (and-true (leb low b) (leb b high) h .0) in record { no-tag = λ e. omega arith; no-reference = λ e. omega arith }
+
+pub tails-calm : (n : ℕ) → CalmSets (tailing n)
+tails-calm zero = tt
+tails-calm (suc n) = (range-calm 128 191 (omega arith), tails-calm n)
+
+-- The pattern of a row; a word is one.
+abbrev pub ones : List (ℕ → Bool) → Pattern → Pattern
+ones [] p = p
+ones (set ∷ sets) p = one set (ones sets p)
+
+pub say-ones : (word : List ℕ) (p : Pattern) → say word p ≡ ones (spelling word) p
+say-ones [] p = refl
+say-ones (b ∷ bs) p = ap (one (eqb b)) (say-ones bs p)

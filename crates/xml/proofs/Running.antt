@@ -1,16 +1,16 @@
 -- How a run of characters begins inside an element, and how it ends before a `<`. Assumes nothing.
-use Prim.Native.Nat.{ℕ, suc, _≤_, _<_}
+use Prim.Native.Nat.{ℕ, _≤_, _<_}
 use native.Mathlib.Omega.{arith}
 use borrow.Author.Tests.{ne-eqb, eq-eqb}
-use mathlib.Core.Path.{_≡_, refl, sym, _∙_, ap}
+use mathlib.Core.Path.{_≡_, sym, _∙_, ap}
 use mathlib.Core.List.{List, [], _∷_}
 use lib.ListN.{length, getD, drop, drop-of-length-le}
 use lib.Seq.{drop-cons}
 use types.Run.{miss}
-use Rattle.paper.specs.Xml.{nothing, chars, Frame, Mode, with, content, run, leftOut}
-use Rattle.xml.specs.Seeking.{stops, refused, seekNext}
-use Rattle.xml.specs.Promised.{state, seekAt, reached, Between, Crosses}
-use Rattle.xml.specs.Pieces.{ran, Runs}
+use Rattle.paper.specs.Xml.{Frame, Mode, content, run, leftOut}
+use Rattle.xml.specs.Seeking.{seekNext}
+use Rattle.xml.specs.Promised.{state, seekAt, Crosses}
+use Rattle.xml.specs.Pieces.{Runs}
 use Rattle.xml.specs.declared.Reach.{Reach}
 use Rattle.xml.specs.declared.Reach.the-variants.{At, Wrong, LeftOut}
 use Rattle.xml.proofs.Rows.{Refused}

@@ -1,17 +1,21 @@
 -- How reading goes on from a byte of the text: the text ends, a thing that is left out opens, the byte is taken, or it is another. Assumes nothing.
-use Prim.Native.Nat.{ℕ, zero, suc, _≤_, _<_}
+use Prim.Native.Nat.{ℕ, suc, _+_, _≤_, _<_}
 use native.Mathlib.Omega.{arith}
-use borrow.Author.Tests.{ne-eqb, eq-eqb}
+use borrow.Author.Tests.{ne-eqb, eq-eqb, leb-true, leb-false}
 use mathlib.Core.Path.{_≡_, refl, sym, _∙_, ap}
-use mathlib.Core.Bool.{Bool, true, false, not, _&&_, _||_, cond, false≢true}
+use mathlib.Core.Bool.{Bool, true, false, _&&_, cond, false≢true}
 use mathlib.Core.List.{List, [], _∷_}
-use mathlib.Core.Option.{Option, none, some}
-use lib.ListN.{length, getD, drop, drop-of-length-le}
-use lib.Seq.{drop-cons}
+use mathlib.Core.Logic.{⊎-elim}
+use mathlib.Core.Option.{none, some}
+use lib.Dec.{leb}
+use lib.ListN.{length, getD, drop, drop-of-length-le, length-drop}
+use lib.Seq.{drop-cons, getD-drop}
+use Rattle.paper.specs.Tools.{runOf}
 use Rattle.paper.specs.Xml.{State, step, leftOut, leftOutAnywhere}
-use Rattle.xml.specs.Seeking.{Sought, refused, settled, seek}
-use Rattle.xml.specs.Promised.{seekAt, reached, refusalAt, calm, allCalm, Waits}
-use Rattle.paper.proofs.Tests.{and-true}
+use Rattle.xml.specs.Seeking.{refused, settled}
+use Rattle.xml.specs.Promised.{seekAt, reached, refusalAt, calm}
+use Rattle.paper.proofs.Tests.{decide}
+use Rattle.paper.proofs.Lexing.{run-within, run-stops}
 
 -- A byte with which nothing opens that is left out everywhere.
 pub record Calm (b : ℕ) : Type 0 where
@@ -25,11 +29,6 @@ is-calm b h = record { no-tag = λ e. false≢true (sym (rw (eq-eqb b 60 e)) ∙
     both : b ≡ 38 → calm b ≡ false
     both e = rw (e)
 
-pub calm-byte : (word : List ℕ) → allCalm word ≡ true → (i : ℕ) → i < length word → calm (getD word i 0) ≡ true
-calm-byte [] h i l = absurd (omega arith)
-calm-byte (b ∷ bs) h zero l = and-true (calm b) (allCalm bs) h .0
-calm-byte (b ∷ bs) h (suc i) l = calm-byte bs (and-true (calm b) (allCalm bs) h .1) i (omega arith)
-
 pub calm-opens : (b : ℕ) (bs : List ℕ) → Calm b → leftOutAnywhere (b ∷ bs) ≡ false
 calm-opens b bs c = rw (ne-eqb b 60 (c .no-tag), ne-eqb b 38 (c .no-reference))
 
@@ -40,6 +39,19 @@ alone-opens b = simp and-zero
     and-zero : (x : Bool) → (x && false) ≡ false
     and-zero true = refl
     and-zero false = refl
+
+-- What stands at a place decides.
+pub in-or-out : (at long : ℕ) {C : Type 0} → (at < long → C) → (long ≤ at → C) → C
+in-or-out at long inside outside = ⊎-elim (λ t. inside (leb-true (suc at) long t)) (λ t. outside (let l : long < suc at = leb-false (suc at) long t in omega arith)) (decide (leb (suc at) long))
+
+-- A run of bytes of a set ends within the text, and before another byte.
+module _ (set : ℕ → Bool) (text : List ℕ) (at to : ℕ) (e : to ≡ at + runOf set (drop at text)) where
+  pub run-inside : at ≤ length text → to ≤ length text
+  run-inside l = omega (arith, run-within set (drop at text), length-drop at text)
+
+  pub stops-run : to < length text → set (getD text to 0) ≡ false
+  stops-run inside =
+      ap set (ap (λ n. getD text n 0) e ∙ sym (getD-drop at text (runOf set (drop at text)) 0)) ∙ run-stops set (drop at text) (omega (arith, length-drop at text))
 
 module _ (text : List ℕ) (at : ℕ) (s : State) where
   -- The text ends where no piece ends.
@@ -77,7 +89,12 @@ module _ (text : List ℕ) (at : ℕ) (s : State) where
         go true p = opens-here (o ∙ p)
         go false p = no-step (o ∙ p) e
 
--- WAITING FOR A BYTE OF A SET.
+-- WAITING FOR A BYTE OF A SET. A state does, and opens nothing of its own.
+pub record Waits (s : State) (at : ℕ) (set : ℕ → Bool) (t : State) : Type 0 where
+  pub unsettled : (bs : List ℕ) → settled (s .mode) at (s .frames) bs ≡ none
+  pub goes : (b : ℕ) → step at s b ≡ cond (set b) (some t) none
+  pub opens : (bs : List ℕ) → leftOut (s .mode) bs ≡ leftOutAnywhere bs
+
 module _ (text : List ℕ) (at : ℕ) (set : ℕ → Bool) (s t : State) (w : Waits s at set t) where
   pub wait-ends : length text ≤ at → seekAt text at s ≡ refused 11 at
   wait-ends l = text-ends text at s l (w .unsettled [])

@@ -1,38 +1,35 @@
 -- How reading goes through a tag: its name, the white space behind it, its end. Assumes nothing.
-use Prim.Native.Nat.{ℕ, zero, suc, _+_, _≤_, _<_}
+use Prim.Native.Nat.{ℕ, suc, _+_, _≤_, _<_}
 use native.Mathlib.Omega.{arith}
 use native.Mathlib.Nat.{add-zero}
-use borrow.Author.Tests.{ne-eqb, eq-eqb, leb-true, eqb-true, eqb-false, lt-ltb, le-ltb, ltb-false}
+use borrow.Author.Tests.{ne-eqb, leb-true, eqb-true, lt-ltb, le-ltb, ltb-false}
 use mathlib.Core.Path.{_≡_, refl, sym, _∙_, ap, subst}
-use mathlib.Core.Bool.{Bool, true, false, not, _&&_, _||_, cond, false≢true}
+use mathlib.Core.Bool.{Bool, true, false, not, _&&_, _||_, cond}
 use mathlib.Core.List.{List, [], _∷_, _++_, append-assoc, append-nil}
 use mathlib.Core.Logic.{⊎-elim}
 use types.Run.{miss}
 use mathlib.Core.Option.{Option, none, some}
 use lib.Dec.{eqb, leb, ltb}
-use lib.ListN.{length, getD, take, drop, length-drop}
+use lib.ListN.{length, getD, take, drop}
 use lib.Seq.{drop-cons, drop-drop}
 use Rattle.paper.specs.Tools.{runOf}
 use Rattle.paper.specs.Names.{letter, nameStart, namePart}
 use Rattle.paper.specs.Tokens.{white}
-use Rattle.paper.specs.Xml.{Nodes, nothing, element, xmlStart, xmlPart, Frame, Mode, State, stands, with, add, opening, inName, inTag, emptied, content, closing, ended, tagGoesOn, stepMode, step, firstIs, leftOut, leftOutAnywhere}
+use Rattle.paper.specs.Xml.{Nodes, nothing, element, xmlStart, xmlPart, Frame, State, add, opening, inName, inTag, emptied, content, closing, tagGoesOn, stepMode, leftOut, leftOutAnywhere}
+use Rattle.paper.proofs.Axes.{same-turned}
 use Rattle.paper.proofs.Tests.{and-true, or-true, decide}
 use Rattle.paper.proofs.Lexing.{run-more}
-use Rattle.xml.specs.Seeking.{Sought, stops, refused, settled, seek}
-use Rattle.xml.specs.Promised.{state, seekAt, reached, refusalAt, calm, Waits, Row, Reads}
+use Rattle.xml.specs.Seeking.{stops, settled, seek}
+use Rattle.xml.specs.Promised.{state, seekAt, reached, refusalAt, calm, Reads}
 use Rattle.xml.specs.Pieces.{nameAt, opened, added, tagMode, foreignIn, Past, refusedPiece, tagTook, TagBounds, TagEnds, EmptyEnds, HasName, Tags}
 use Rattle.xml.specs.declared.Reach.{Reach}
 use Rattle.xml.specs.declared.Reach.the-variants.{At, Wrong, LeftOut}
 use Rattle.xml.specs.declared.Piece.{Piece}
 use Rattle.xml.specs.declared.Piece.the-variants.{Start, Empty, End, Text}
 use Rattle.xml.specs.declared.Piece.the-variants as piece
-use Rattle.xml.proofs.Steps.{Calm, is-calm, calm-opens, text-ends, opens-here, steps-on, refused-here}
-use Rattle.xml.proofs.Rows.{Refused}
+use Rattle.xml.proofs.Steps.{Calm, is-calm, Waits, calm-opens, text-ends, opens-here, steps-on, refused-here}
+use Rattle.xml.proofs.Rows.{Refused, reads-bounds, wait-read, byte-calm}
 use Rattle.xml.proofs.Holding.{opens-not}
-
--- Equality of numbers, the other way round.
-pub flip : (a b : ℕ) → eqb a b ≡ eqb b a
-flip a b = ⊎-elim (λ (h : eqb a b ≡ true). h ∙ sym (eq-eqb b a (sym (eqb-true a b h)))) (λ (h : eqb a b ≡ false). h ∙ sym (ne-eqb b a (λ e. eqb-false a b h (sym e)))) (decide (eqb a b))
 
 -- Where a node is read, a piece ends.
 pub added-stops : (at : ℕ) (node : Nodes) (frames : List Frame) (bs : List ℕ) → seek at (added node frames) bs ≡ stops at (added node frames)
@@ -182,13 +179,13 @@ unfolding leftOut
 wait-empty begin at name frames =
     record {
       unsettled = λ bs. refl;
-      goes = λ b. rw (flip b 62) (ap (λ (o : Option State). cond (eqb 62 b) o none) (add-added (element name begin (suc at) nothing nothing) frames));
+      goes = λ b. rw (same-turned b 62) (ap (λ (o : Option State). cond (eqb 62 b) o none) (add-added (element name begin (suc at) nothing nothing) frames));
       opens = λ bs. refl;
     }
 
 pub wait-letter : (at x : ℕ) (xs : List ℕ) (frames : List Frame) → Waits (state (closing (x ∷ xs)) frames) at (eqb x) (state (closing xs) frames)
 unfolding leftOut
-wait-letter at x xs frames = record { unsettled = λ bs. refl; goes = λ b. rw (flip b x); opens = λ bs. refl }
+wait-letter at x xs frames = record { unsettled = λ bs. refl; goes = λ b. rw (same-turned b x); opens = λ bs. refl }
 
 -- In a start tag, past its name: a byte opens what is left out by where it stands, or goes on with the tag.
 module _ (m : Bool) (begin at b : ℕ) (name bs : List ℕ) (frames : List Frame) (past : m ≡ false → namePart b ≡ false) where
@@ -317,31 +314,26 @@ tag-cut text nameEnd at l m =
 
 -- The `>` of an empty element.
 module _ (text : List ℕ) (nameEnd at : ℕ) where
-  empty-goes : (r : Reach) → Reads text at 1 (λ i. eqb 62) r → (begin : ℕ) (name : List ℕ) (frames : List Frame)
+  empty-goes : (r : Reach) → Reads text at (eqb 62 ∷ []) r → (begin : ℕ) (name : List ℕ) (frames : List Frame)
       → seekAt text at (state (emptied begin name) frames) ≡ reached text (added (element name begin (suc at) nothing nothing) frames) r
-  empty-goes r h begin name frames = h .goes states waits
-    where
-      states : ℕ → State
-      states zero = state (emptied begin name) frames
-      states (suc i) = added (element name begin (suc at) nothing nothing) frames
+  empty-goes r h begin name frames = wait-read text at (eqb 62) (state (emptied begin name) frames) (added (element name begin (suc at) nothing nothing) frames) r (wait-empty begin at name frames) (byte-calm 62 refl) h
 
-      waits : Row at 1 (λ i. eqb 62) states
-      waits zero l = rw (add-zero at) (wait-empty begin at name frames)
-      waits (suc i) l = absurd (omega arith)
-
-  pub empty-read : (to : ℕ) → nameEnd < at → Reads text at 1 (λ i. eqb 62) (At to) → EmptyEnds text nameEnd at (Empty nameEnd (record { at = to }))
-  empty-read to l h =
-      let e : suc at ≡ to = omega (arith, h .bounds .0) in
+  pub empty-read : (to : ℕ) → nameEnd < at → at ≤ length text → Reads text at (eqb 62 ∷ []) (At to) → EmptyEnds text nameEnd at (Empty nameEnd (record { at = to }))
+  empty-read to l m h =
+      let end = reads-bounds text at (eqb 62 ∷ []) (At to) m h in
+      let e : suc at ≡ to = omega (arith, end .0) in
       record {
         goes = λ begin name frames. empty-goes (At to) h begin name frames ∙ added-stops to (element name begin (suc at) nothing nothing) frames (drop to text)
             ∙ ap (λ n. stops to (added (element name begin n nothing nothing) frames)) e;
-        bounds = (refl, omega arith, h .bounds .1);
+        bounds = (refl, omega arith, end .1);
       }
 
-  pub empty-refused : (r : Reach) (q : Piece) → Refused r → Reads text at 1 (λ i. eqb 62) r → q ≡ refusedPiece r → EmptyEnds text nameEnd at q
-  empty-refused (At to) q stuck h e = absurd (miss (1 ∷ 2 ∷ []) 0 tt stuck)
-  empty-refused (Wrong place) q stuck h e = record { goes = λ begin name frames. empty-goes (Wrong place) h begin name frames ∙ ap (tagTook begin name frames) (sym e); bounds = rw e (h .bounds) }
-  empty-refused (LeftOut place) q stuck h e = record { goes = λ begin name frames. empty-goes (LeftOut place) h begin name frames ∙ ap (tagTook begin name frames) (sym e); bounds = rw e (h .bounds) }
+  pub empty-refused : (r : Reach) (q : Piece) → Refused r → at ≤ length text → Reads text at (eqb 62 ∷ []) r → q ≡ refusedPiece r → EmptyEnds text nameEnd at q
+  empty-refused (At to) q stuck m h e = absurd (miss (1 ∷ 2 ∷ []) 0 tt stuck)
+  empty-refused (Wrong place) q stuck m h e =
+      record { goes = λ begin name frames. empty-goes (Wrong place) h begin name frames ∙ ap (tagTook begin name frames) (sym e); bounds = rw e (reads-bounds text at (eqb 62 ∷ []) (Wrong place) m h) }
+  empty-refused (LeftOut place) q stuck m h e =
+      record { goes = λ begin name frames. empty-goes (LeftOut place) h begin name frames ∙ ap (tagTook begin name frames) (sym e); bounds = rw e (reads-bounds text at (eqb 62 ∷ []) (LeftOut place) m h) }
 
 -- A START TAG, PAST ITS `<`.
 module _ (text : List ℕ) (at : ℕ) where

@@ -1,18 +1,17 @@
 -- What stands at a place inside an element: a run of characters, an end tag or a start tag, as a piece. Assumes nothing.
 use Prim.Native.Nat.{ℕ, suc, _+_, _≤_, _<_}
 use native.Mathlib.Omega.{arith}
-use borrow.Author.Tests.{ne-eqb, eq-eqb}
-use mathlib.Core.Path.{_≡_, refl, sym, _∙_, ap, subst}
-use mathlib.Core.Bool.{Bool, true, false, cond}
+use borrow.Author.Tests.{eq-eqb}
+use mathlib.Core.Path.{_≡_, sym, _∙_, ap, subst}
+use mathlib.Core.Bool.{true, false}
 use mathlib.Core.List.{List, [], _∷_}
 use types.Run.{miss}
-use lib.Dec.{eqb}
 use lib.ListN.{length, getD, drop, drop-of-length-le}
 use lib.Seq.{drop-cons}
-use Rattle.paper.specs.Xml.{nothing, Frame, opening, content, closing, leftOut, leftOutAnywhere}
-use Rattle.xml.specs.Seeking.{refused, seekNext}
-use Rattle.xml.specs.Promised.{state, seekAt, Between}
-use Rattle.xml.specs.Pieces.{nameAt, added, Runs, ran, refusedPiece, Tags, TagBounds, tagTook, Ends, endTook, took, TookBounds, Takes}
+use Rattle.paper.specs.Xml.{Frame, opening, content, closing, leftOut, leftOutAnywhere}
+use Rattle.xml.specs.Seeking.{seekNext}
+use Rattle.xml.specs.Promised.{state, seekAt}
+use Rattle.xml.specs.Pieces.{Runs, refusedPiece, Tags, Ends, took, Takes}
 use Rattle.xml.specs.declared.Reach.{Reach}
 use Rattle.xml.specs.declared.Reach.the-variants.{At, Wrong, LeftOut}
 use Rattle.xml.specs.declared.Piece.{Piece}

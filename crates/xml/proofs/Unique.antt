@@ -8,7 +8,7 @@ use lib.Dec.{eqb}
 use lib.ListN.{length, drop}
 use Rattle.paper.specs.Tools.{runOf}
 use Rattle.paper.specs.Names.{namePart}
-use Rattle.paper.specs.Xml.{Nodes, nothing, element, chars, Frame, Mode, start, first, heading, ahead, opening, inName, inTag, emptied, content, run, partly, closing, ended, State, Judged, wanted, unwanted}
+use Rattle.paper.specs.Xml.{Nodes, nothing, element, chars, Frame, Mode, start, first, heading, ahead, opening, inName, inTag, emptied, content, run, partly, closing, ended, Judged, wanted, unwanted}
 use Rattle.xml.specs.Seeking.{Sought, stops, refused}
 use Rattle.xml.specs.Pieces.{nameAt, opened, took, TookBounds, Takes, tagTook, TagBounds, Roots, finished, FinishBounds, Finishes}
 use Rattle.xml.specs.Heading.{led, Leads}

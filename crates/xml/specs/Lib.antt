@@ -1,3 +1,4 @@
+pub mod Blocks
 pub mod Seeking
 pub mod Promised
 pub mod Pieces

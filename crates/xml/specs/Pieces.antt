@@ -145,6 +145,7 @@ pub record Takes (text : List ℕ) (at inner : ℕ) (r : Piece) : Type 0 where
 pub record Roots (text : List ℕ) (at : ℕ) (r : Piece) : Type 0 where
   pub goes : seekAt text at (state ahead []) ≡ tagTook at (nameAt text (suc at)) [] r
   pub bounds : TagBounds (suc at + runOf namePart (drop (suc at) text)) (length text) r
+  pub named : HasName text (suc at) r
 
 -- Past it the text ends, or no wanted text goes on.
 abbrev pub finished : Nodes → Reach → Judged

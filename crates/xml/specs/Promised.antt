@@ -1,20 +1,15 @@
 -- What the functions of this crate promise of the paper's reading.
-use Prim.Native.Nat.{ℕ, zero, suc, _+_, _≤_, _<_}
+use Prim.Native.Nat.{ℕ, zero, suc, _≤_}
 use mathlib.Core.Path.{_≡_}
 use mathlib.Core.Bool.{Bool, true, false, not, _&&_, _||_, cond}
 use mathlib.Core.List.{List, [], _∷_}
-use mathlib.Core.Option.{Option, none, some}
-use lib.Dec.{eqb, leb}
-use lib.ListN.{length, getD, take, drop}
-use Rattle.paper.specs.Tools.{ascii, runOf}
-use Rattle.paper.specs.Names.{namePart}
-use Rattle.paper.specs.Xml.{Nodes, nothing, element, chars, from, Pattern, done, one, fork, tail, say, reference, squares, Frame, Mode, State, with, opening, content, ended, run, partly, closing, step, leftOut, leftOutAnywhere}
-use Rattle.xml.specs.Seeking.{Sought, stops, refused, settled, seek, seekNext}
+use lib.Dec.{eqb}
+use lib.ListN.{length, drop}
+use Rattle.paper.specs.Tools.{ascii}
+use Rattle.paper.specs.Xml.{from, Pattern, done, one, fork, tail, say, squares, Frame, Mode, State, leftOutAnywhere}
+use Rattle.xml.specs.Seeking.{Sought, refused, seek}
 use Rattle.xml.specs.declared.Reach.{Reach}
 use Rattle.xml.specs.declared.Reach.the-variants.{At, Wrong, LeftOut}
-use Rattle.xml.specs.declared.Cursor.{Cursor}
-use Rattle.xml.specs.declared.Piece.{Piece}
-use Rattle.xml.specs.declared.Piece.the-variants as piece
 
 abbrev pub state : Mode → List Frame → State
 state mode frames = record { mode = mode; frames = frames }
@@ -35,31 +30,20 @@ Between least most (At to) = (least ≤ to) × (to ≤ most)
 Between least most (Wrong place) = place ≤ most
 Between least most (LeftOut place) = place ≤ most
 
--- The place past a part is this one.
-abbrev pub Exactly : ℕ → ℕ → Reach → Type 0
-Exactly end most (At to) = (to ≡ end) × (to ≤ most)
-Exactly end most (Wrong place) = place ≤ most
-Exactly end most (LeftOut place) = place ≤ most
-
 -- Refusal 12 or 11 at a place.
 abbrev pub refusalAt : Bool → ℕ → Reach
 refusalAt true at = LeftOut at
 refusalAt false at = Wrong at
 
--- A state that waits for a byte of the set, and opens nothing of its own.
-pub record Waits (s : State) (at : ℕ) (set : ℕ → Bool) (t : State) : Type 0 where
-  pub unsettled : (bs : List ℕ) → settled (s .mode) at (s .frames) bs ≡ none
-  pub goes : (b : ℕ) → step at s b ≡ cond (set b) (some t) none
-  pub opens : (bs : List ℕ) → leftOut (s .mode) bs ≡ leftOutAnywhere bs
+-- Bytes from a place on, each of its set: the place past them, or where the first other one stands.
+abbrev pub rowOf : ℕ → List (ℕ → Bool) → List ℕ → Reach
+rowOf at [] bs = At at
+rowOf at (set ∷ sets) [] = Wrong at
+rowOf at (set ∷ sets) (b ∷ bs) = cond (set b) (rowOf (suc at) sets bs) (refusalAt (leftOutAnywhere (b ∷ bs)) at)
 
--- The states wait one after the other for n bytes from `at` on, each of its set.
-abbrev pub Row : ℕ → ℕ → (ℕ → ℕ → Bool) → (ℕ → State) → Type 0
-Row at n set s = (i : ℕ) → i < n → Waits (s i) (at + i) (set i) (s (suc i))
-
--- So many bytes are read from `at` on, each of its set, whatever states wait for them.
-pub record Reads (text : List ℕ) (at n : ℕ) (set : ℕ → ℕ → Bool) (r : Reach) : Type 0 where
-  pub goes : (s : ℕ → State) → Row at n set s → seekAt text at (s 0) ≡ reached text (s n) r
-  pub bounds : Exactly (at + n) (length text) r
+-- What reading such bytes from a place of the text on comes to.
+pub record Reads (text : List ℕ) (at : ℕ) (sets : List (ℕ → Bool)) (r : Reach) : Type 0 where
+  pub comes : r ≡ rowOf at sets (drop at text)
 
 -- A byte with which nothing opens that is left out everywhere.
 abbrev pub calm : ℕ → Bool
@@ -69,16 +53,14 @@ abbrev pub allCalm : List ℕ → Bool
 allCalm [] = true
 allCalm (b ∷ bs) = calm b && allCalm bs
 
--- The sets of a word's bytes, and of bytes that go on with a character.
-abbrev pub spelling : List ℕ → ℕ → ℕ → Bool
-spelling word i = eqb (getD word i 0)
+-- The sets of a word's bytes, and of so many bytes that go on with a character.
+abbrev pub spelling : List ℕ → List (ℕ → Bool)
+spelling [] = []
+spelling (b ∷ bs) = eqb b ∷ spelling bs
 
-abbrev pub tailing : ℕ → ℕ → Bool
-tailing i = from 128 191
-
-abbrev pub narrowing : ℕ → ℕ → ℕ → ℕ → Bool
-narrowing low high zero = from low high
-narrowing low high (suc i) = from 128 191
+abbrev pub tailing : ℕ → List (ℕ → Bool)
+tailing zero = []
+tailing (suc n) = from 128 191 ∷ tailing n
 
 -- From one state of a run to another, past at least one byte.
 pub record Crosses (text : List ℕ) (at : ℕ) (before after : ℕ → Mode) (r : Reach) : Type 0 where

@@ -1,6 +1,6 @@
 -- Reading as far as one piece goes: the paper's automaton, stopped where it stands between two pieces.
 use Prim.Native.Nat.{ℕ, suc}
-use mathlib.Core.Bool.{Bool, true, false, cond}
+use mathlib.Core.Bool.{cond}
 use mathlib.Core.List.{List, [], _∷_}
 use mathlib.Core.Option.{Option, none, some}
 use Rattle.paper.specs.Tools.{begins}

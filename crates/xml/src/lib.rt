@@ -6,19 +6,20 @@ use token::skip;
 use token::white_space;
 ghost use Prim.Native.Nat.{ℕ, suc, _+_, _-_, _≤_, _<_};
 ghost use mathlib.Core.Path.{_≡_};
-ghost use mathlib.Core.Bool.{Bool, true, false};
-ghost use mathlib.Core.List.{List, [], _∷_, map};
+ghost use mathlib.Core.Bool.{true, false};
+ghost use mathlib.Core.List.{[], _∷_, map};
 ghost use mathlib.Core.Option.{none, some};
 ghost use lib.ListN.{length, getD, take, drop};
-ghost use lib.Dec.{eqb, leb};
+ghost use lib.Dec.{eqb};
 ghost use Rattle.paper.specs.Tools.{ascii, begins, same, runOf};
 ghost use Rattle.paper.specs.Tokens.{white};
-ghost use Rattle.paper.specs.Xml.{Frame, from, xmlStart, xmlPart, reference, run, partly, leftOutAnywhere};
+ghost use Rattle.paper.specs.Xml.{from, xmlStart, xmlPart, reference, run, partly, leftOutAnywhere};
 ghost use Rattle.paper.specs.Xml.{Pattern, one, many, isDone, quoteOf, quoted, digit, anyCase, starts, lower, otherEncoding, declares, declarationEnd, afterEncoding, afterVersion};
 ghost use Rattle.paper.specs.Xml as xml;
+ghost use Rattle.xml.specs.Blocks.{block, isOrdinary, AllFit, ordinaryFrom, repeatedFrom, Sooner, OrdinaryEnds, SquaresPast};
 ghost use Rattle.xml.specs.Heading.{Heads, valued, Gives, numbered, versionValue, utf8, encodingValue, yesNo, standaloneValue, Lands, Leads};
 ghost use Rattle.xml.specs.Pieces.{Runs, refusedPiece, foreignIn, EmptyEnds, Past, TagEnds, Tags, Named, Renames, Ends, Takes, Roots, Finishes};
-ghost use Rattle.xml.specs.Promised.{Exactly, refusalAt, calm, allCalm, Reads, spelling, tailing, narrowing, Crosses, pastEf, pastA, squaresAfter};
+ghost use Rattle.xml.specs.Promised.{refusalAt, calm, allCalm, Reads, spelling, tailing, Crosses, pastEf, pastA, squaresAfter};
 
 // Where the next piece is looked for.
 pub struct Cursor {
@@ -105,8 +106,8 @@ fn plain(b: u8) -> bool
 
 // This byte must come.
 fn byte(text: &[u8], at: usize, wanted: u8) -> Reach
-    requires { ⌜ (at ≤ length (now text)) × (calm wanted ≡ true) ⌝ }
-    ensures { λ r. ⌜ Reads (now (text .entry)) at 1 (λ i. eqb wanted) r ⌝ }
+    requires { ⌜ at ≤ length (now text) ⌝ }
+    ensures { λ r. ⌜ Reads (now (text .entry)) at (eqb wanted ∷ []) r ⌝ }
 {
     if text.len() <= at {
         return Reach::Wrong(at);
@@ -120,8 +121,8 @@ fn byte(text: &[u8], at: usize, wanted: u8) -> Reach
 
 // The word must come.
 fn say(text: &[u8], at: usize, word: &[u8]) -> Reach
-    requires { ⌜ (at ≤ length (now text)) × (allCalm (now word) ≡ true) ⌝ }
-    ensures { λ r. ⌜ Reads (now (text .entry)) at (length (now (word .entry))) (spelling (now (word .entry))) r ⌝ }
+    requires { ⌜ at ≤ length (now text) ⌝ }
+    ensures { λ r. ⌜ Reads (now (text .entry)) at (spelling (now (word .entry))) r ⌝ }
 {
     let mut done = 0;
     while done < word.len() {
@@ -138,8 +139,8 @@ fn say(text: &[u8], at: usize, word: &[u8]) -> Reach
 
 // One byte of a range must come.
 fn within(text: &[u8], at: usize, low: u8, high: u8) -> Reach
-    requires { ⌜ (at ≤ length (now text)) × (60 < low) ⌝ }
-    ensures { λ r. ⌜ Reads (now (text .entry)) at 1 (λ i. from low high) r ⌝ }
+    requires { ⌜ at ≤ length (now text) ⌝ }
+    ensures { λ r. ⌜ Reads (now (text .entry)) at (from low high ∷ []) r ⌝ }
 {
     if text.len() <= at {
         return Reach::Wrong(at);
@@ -155,7 +156,7 @@ fn within(text: &[u8], at: usize, low: u8, high: u8) -> Reach
 // So many bytes that go on with a character must come.
 fn tails(text: &[u8], at: usize, count: usize) -> Reach
     requires { ⌜ at ≤ length (now text) ⌝ }
-    ensures { λ r. ⌜ Reads (now (text .entry)) at count tailing r ⌝ }
+    ensures { λ r. ⌜ Reads (now (text .entry)) at (tailing count) r ⌝ }
 {
     let mut done = 0;
     while done < count {
@@ -170,8 +171,8 @@ fn tails(text: &[u8], at: usize, count: usize) -> Reach
 
 // A byte of a range, and then so many that go on with a character.
 fn narrow(text: &[u8], at: usize, low: u8, high: u8, count: usize) -> Reach
-    requires { ⌜ (at ≤ length (now text)) × (60 < low) ⌝ }
-    ensures { λ r. ⌜ Reads (now (text .entry)) at (suc count) (narrowing low high) r ⌝ }
+    requires { ⌜ at ≤ length (now text) ⌝ }
+    ensures { λ r. ⌜ Reads (now (text .entry)) at (from low high ∷ tailing count) r ⌝ }
 {
     let one = within(text, at, low, high);
     let Reach::At(next) = one else {
@@ -286,6 +287,65 @@ fn squares_after(b: u8, squares: usize) -> usize
     if squares == 0 { 1 } else { 2 }
 }
 
+// A character of one byte other than `<`, `&`, `>` and `]`?
+fn ordinary(b: u8) -> bool
+    ensures { λ r. ⌜ r ≡ isOrdinary b ⌝ }
+{
+    plain(b) & (b != b'<') & (b != b'&') & (b != b'>') & (b != b']')
+}
+
+// So many bytes are looked at together.
+const BLOCK: u8 = 16;
+
+// The first place of a block that does not fit, with one place more looked at; one that fits counts as past the block, by a sum and no branch.
+fn sooner(stop: u8, i: u8, fit: bool) -> u8
+    requires { ⌜ i < block ⌝ }
+    ensures { λ r. ⌜ Sooner stop i fit r ⌝ }
+{
+    let here = (fit as u8) * BLOCK + i;
+    if here < stop { here } else { stop }
+}
+
+// How many bytes of a block are ordinary, up to the first that is not. No branch, so that they are looked at together.
+fn ordinary_block(text: &[u8], at: usize) -> usize
+    requires { ⌜ at + block ≤ length (now text) ⌝ }
+    ensures { λ r. ⌜ (r ≤ block) × AllFit (ordinaryFrom (now (text .entry)) at) r ⌝ }
+{
+    let mut stop = BLOCK;
+    let mut i: u8 = 0;
+    while i < BLOCK {
+        stop = sooner(stop, i, ordinary(text[at + i as usize]));
+        i += 1;
+    }
+    stop as usize
+}
+
+// A place up to which all bytes are ordinary.
+fn ordinary_end(text: &[u8], from: usize) -> usize
+    requires { ⌜ from < length (now text) ⌝ }
+    ensures { λ r. ⌜ OrdinaryEnds (now (text .entry)) from r ⌝ }
+{
+    if !ordinary(text[from]) {
+        return from;
+    }
+    let mut at = from;
+    while at + BLOCK as usize <= text.len() {
+        let count = ordinary_block(text, at);
+        at += count;
+        if count < BLOCK as usize {
+            return at;
+        }
+    }
+    at
+}
+
+// How many `]` end the run past ordinary bytes.
+fn squares_past(at: usize, past: usize, squares: usize) -> usize
+    ensures { λ r. ⌜ SquaresPast at past squares r ⌝ }
+{
+    if at < past { 0 } else { squares }
+}
+
 // A run of characters, up to the `<` that ends it.
 fn run(text: &[u8], begin: usize) -> Reach
     requires { ⌜ (begin < length (now text)) × (getD (now text) begin 0 ≡ 60 → ⊥) ⌝ }
@@ -294,11 +354,16 @@ fn run(text: &[u8], begin: usize) -> Reach
     let mut at = begin;
     let mut squares: usize = 0;
     while at < text.len() {
-        let b = text[at];
-        if b == b'<' {
-            return Reach::At(at);
+        let past = ordinary_end(text, at);
+        squares = squares_past(at, past, squares);
+        if text.len() <= past {
+            return Reach::Wrong(past);
         }
-        let one = character(text, at, squares);
+        let b = text[past];
+        if b == b'<' {
+            return Reach::At(past);
+        }
+        let one = character(text, past, squares);
         let Reach::At(next) = one else {
             return one;
         };
@@ -390,13 +455,46 @@ fn start_tag(text: &[u8], at: usize) -> Piece
     tag_end(text, name_end, skip(text, name_end))
 }
 
+// How many bytes of a block go on with a name at `letter` and stand at `place` too, up to the first that does not. No branch, so that they are looked at together.
+fn same_block(text: &[u8], place: usize, letter: usize) -> usize
+    requires { ⌜ (place + block ≤ length (now text)) × (letter + block ≤ length (now text)) ⌝ }
+    ensures { λ r. ⌜ (r ≤ block) × AllFit (repeatedFrom (now (text .entry)) place letter) r ⌝ }
+{
+    let mut stop = BLOCK;
+    let mut i: u8 = 0;
+    while i < BLOCK {
+        let b = text[letter + i as usize];
+        stop = sooner(stop, i, name_part(b) & (b == text[place + i as usize]));
+        i += 1;
+    }
+    stop as usize
+}
+
+// How many letters of the name at `letter` stand at `place` too, in a block if both places have one and the name has three letters or more.
+fn same_letters(text: &[u8], place: usize, letter: usize) -> usize
+    requires { ⌜ (place ≤ length (now text)) × (letter ≤ length (now text)) ⌝ }
+    ensures { λ r. ⌜ (place + r ≤ length (now (text .entry))) × AllFit (repeatedFrom (now (text .entry)) place letter) r ⌝ }
+{
+    if text.len() < place + BLOCK as usize {
+        return 0;
+    }
+    if text.len() < letter + BLOCK as usize {
+        return 0;
+    }
+    if !name_part(text[letter + 2]) {
+        return 0;
+    }
+    same_block(text, place, letter)
+}
+
 // The name of the element that begins at `inner` must come again.
 fn same_name(text: &[u8], at: usize, inner: usize) -> Reach
     requires { ⌜ (at ≤ length (now text)) × Named (now text) inner ⌝ }
     ensures { λ r. ⌜ Renames (now (text .entry)) at inner r ⌝ }
 {
-    let mut place = at;
-    let mut letter = inner + 1;
+    let passed = same_letters(text, at, inner + 1);
+    let mut place = at + passed;
+    let mut letter = inner + 1 + passed;
     while name_part(text[letter]) {
         let one = byte(text, place, text[letter]);
         let Reach::At(next) = one else {
@@ -504,25 +602,10 @@ pub fn finish(text: &[u8], at: usize) -> Reach
 
 // BEFORE THE ELEMENT.
 
-// This byte must come in the declaration.
-fn sign(text: &[u8], at: usize, wanted: u8) -> Reach
-    requires { ⌜ (at ≤ length (now text)) × (calm wanted ≡ true) ⌝ }
-    ensures { λ r. ⌜ ((p : Pattern) → Heads (now (text .entry)) at (one (eqb wanted) p) p r) × Exactly (at + 1) (length (now (text .entry))) r ⌝ }
-{
-    if text.len() <= at {
-        return Reach::Wrong(at);
-    }
-    if wanted == text[at] {
-        Reach::At(at + 1)
-    } else {
-        refuse(text, at)
-    }
-}
-
 // This letter must come, small or capital.
 fn any_case(text: &[u8], at: usize, small: u8) -> Reach
     requires { ⌜ (at ≤ length (now text)) × (97 ≤ small) × (small ≤ 122) ⌝ }
-    ensures { λ r. ⌜ ((p : Pattern) → Heads (now (text .entry)) at (one (anyCase small) p) p r) ⌝ }
+    ensures { λ r. ⌜ Reads (now (text .entry)) at (anyCase small ∷ []) r ⌝ }
 {
     if text.len() <= at {
         return Reach::Wrong(at);
@@ -535,28 +618,12 @@ fn any_case(text: &[u8], at: usize, small: u8) -> Reach
     }
 }
 
-// The word must come.
-fn phrase(text: &[u8], at: usize, word: &[u8]) -> Reach
-    requires { ⌜ (at ≤ length (now text)) × (allCalm (now word) ≡ true) ⌝ }
-    ensures { λ r. ⌜ ((p : Pattern) → Heads (now (text .entry)) at (xml.say (now (word .entry)) p) p r) ⌝ }
-{
-    let mut done = 0;
-    while done < word.len() {
-        let one = sign(text, at + done, word[done]);
-        let Reach::At(_) = one else {
-            return one;
-        };
-        done += 1;
-    }
-    Reach::At(at + done)
-}
-
 // `=` with white space on both sides.
 fn equals(text: &[u8], at: usize) -> Reach
     requires { ⌜ at ≤ length (now text) ⌝ }
     ensures { λ r. ⌜ ((p : Pattern) → isDone p ≡ false → quoteOf p ≡ none → Heads (now (text .entry)) at (many white (one (eqb 61) (many white p))) p r) ⌝ }
 {
-    let mark = sign(text, skip(text, at), b'=');
+    let mark = byte(text, skip(text, at), b'=');
     let Reach::At(next) = mark else {
         return mark;
     };
@@ -584,7 +651,7 @@ fn given(text: &[u8], at: usize, name: &[u8]) -> Reach
     requires { ⌜ (at ≤ length (now text)) × (allCalm (now name) ≡ true) ⌝ }
     ensures { λ r. ⌜ Gives (now (text .entry)) at (λ value. xml.say (now (name .entry)) (valued value)) r ⌝ }
 {
-    let named = phrase(text, at, name);
+    let named = say(text, at, name);
     let Reach::At(name_end) = named else {
         return named;
     };
@@ -620,7 +687,7 @@ fn number(text: &[u8], at: usize, closing: u8) -> Reach
     if end <= at {
         return refuse(text, at);
     }
-    sign(text, end, closing)
+    byte(text, end, closing)
 }
 
 // Does this byte stand here?
@@ -638,7 +705,7 @@ fn declaration_end(text: &[u8], at: usize) -> Reach
     requires { ⌜ at ≤ length (now text) ⌝ }
     ensures { λ r. ⌜ Heads (now (text .entry)) at declarationEnd xml.done r ⌝ }
 {
-    phrase(text, skip(text, at), b"?>")
+    say(text, skip(text, at), b"?>")
 }
 
 // `yes` or `no`.
@@ -647,9 +714,9 @@ fn yes_no(text: &[u8], at: usize) -> Reach
     ensures { λ r. ⌜ ((p : Pattern) → Heads (now (text .entry)) at (yesNo p) p r) ⌝ }
 {
     if stands(text, at, b'y') {
-        phrase(text, at, b"yes")
+        say(text, at, b"yes")
     } else {
-        phrase(text, at, b"no")
+        say(text, at, b"no")
     }
 }
 
@@ -666,7 +733,7 @@ fn standalone(text: &[u8], at: usize) -> Reach
     let Reach::At(end) = word else {
         return word;
     };
-    let closed = sign(text, end, text[from - 1]);
+    let closed = byte(text, end, text[from - 1]);
     let Reach::At(next) = closed else {
         return closed;
     };
@@ -743,11 +810,11 @@ fn utf_8(text: &[u8], at: usize, closing: u8) -> Reach
     let Reach::At(past_f) = f else {
         return f;
     };
-    let rest = phrase(text, past_f, b"-8");
+    let rest = say(text, past_f, b"-8");
     let Reach::At(end) = rest else {
         return rest;
     };
-    sign(text, end, closing)
+    byte(text, end, closing)
 }
 
 // The value of the encoding, past its quote, and what follows.
@@ -795,7 +862,7 @@ fn version_value(text: &[u8], at: usize, closing: u8) -> Reach
     requires { ⌜ (at ≤ length (now text)) × (calm closing ≡ true) ⌝ }
     ensures { λ r. ⌜ Heads (now (text .entry)) at (versionValue closing) xml.done r ⌝ }
 {
-    let one = phrase(text, at, b"1.");
+    let one = say(text, at, b"1.");
     let Reach::At(from) = one else {
         return one;
     };

@@ -46,3 +46,5 @@ pub mod Written
 pub mod Standing
 -- Places tell who is over whom: `places-tell`.
 pub mod Telling
+-- Every answer is below 2^32: `read-xml-small`; `halyardfig` hands it to `coded`.
+pub mod Bounds

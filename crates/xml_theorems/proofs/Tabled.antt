@@ -14,7 +14,7 @@ use borrow.Author.Tests.{eq-eqb, ne-eqb, le-leb}
 use Rattle.paper.specs.Tools.{same}
 use Rattle.paper.specs.Names.{Line, linesFrom, firstBad, badLine, namesFault, namesOf, numberFrom, numberOf}
 use Rattle.paper.specs.Document.{Table, nodes, tableOf, parentOf, kindOf, over, goodNode, tableFault, marked, goodMark, marksFault}
-use Rattle.paper.specs.Xml.{Nodes, nothing, element, chars, What, Row, row, rows, table, count, elementKind, kindBy}
+use Rattle.paper.specs.Xml.{Nodes, nothing, element, chars, What, Row, row, rows, table, count, nameKind, kindBy}
 use Rattle.paper.specs.Answers.{parentField, kindField}
 use Rattle.paper.proofs.Tests.{true-and, or-right, decide, none-some}
 use Rattle.paper.proofs.Searches.{none-first}
@@ -51,11 +51,11 @@ number-below (n ∷ ns) v k word h =
     (decide (same n word))
 
 -- KINDS.
-element-low : (o : Option ℕ) → 2 ≤ elementKind o
+element-low : (o : Option ℕ) → 2 ≤ nameKind o
 element-low none = omega arith
 element-low (some v) = omega arith
 
-element-high : (o : Option ℕ) → ((v : ℕ) → o ≡ some v → v < 256) → elementKind o ≤ 257
+element-high : (o : Option ℕ) → ((v : ℕ) → o ≡ some v → v < 256) → nameKind o ≤ 257
 element-high none h = omega arith
 element-high (some v) h = omega (arith, h v refl)
 

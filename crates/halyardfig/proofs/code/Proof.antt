@@ -69,6 +69,18 @@ enum-known-answer-10 c = search needs
 refused-requires-10 : tie.Need-refused-requires-10
 refused-requires-10 c κs = search needs
 
+enum-known-answer-11 : tie.Need-enum-known-answer-11
+enum-known-answer-11 c = search needs
+
+refused-requires-11 : tie.Need-refused-requires-11
+refused-requires-11 c κs = search needs
+
+enum-known-answer-12 : tie.Need-enum-known-answer-12
+enum-known-answer-12 c = search needs
+
+refused-requires-12 : tie.Need-refused-requires-12
+refused-requires-12 c κs = search needs
+
 returns : tie.Need-returns
 returns c = value-code _ _ _ (ap told (c .before .answer .given .1)) refl
 
@@ -102,6 +114,12 @@ returns-10 c = refusal-code _ 9 _ _ (ap told (c .before .before .answer9 .given 
 returns-11 : tie.Need-returns-11
 returns-11 c = refusal-code _ 10 _ _ (ap told (c .before .before .answer10 .given .1)) (c .refused10 .ensures)
 
+returns-12 : tie.Need-returns-12
+returns-12 c = refusal-code _ 11 _ _ (ap told (c .before .before .answer11 .given .1)) (c .refused11 .ensures)
+
+returns-13 : tie.Need-returns-13
+returns-13 c = refusal-code _ 12 _ _ (ap told (c .before .before .answer12 .given .1)) (c .refused12 .ensures)
+
 pub code-spec : {M : Type 1} → statement M
 code-spec =
     tie.close
@@ -127,6 +145,10 @@ code-spec =
     refused-requires-9
     enum-known-answer-10
     refused-requires-10
+    enum-known-answer-11
+    refused-requires-11
+    enum-known-answer-12
+    refused-requires-12
     returns
     returns-2
     returns-3
@@ -137,4 +159,6 @@ code-spec =
     returns-8
     returns-9
     returns-10
-    returns-11)
+    returns-11
+    returns-12
+    returns-13)

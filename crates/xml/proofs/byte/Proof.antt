@@ -1,16 +1,14 @@
 -- `xml::byte` meets its contract: the text ends, the byte comes, or another does. Assumes nothing.
 use native.Mathlib.Omega.{arith}
-use mathlib.Core.Path.{refl, sym}
+use mathlib.Core.Path.{refl}
 use borrow.Author.Needs.{needs}
 use borrow.Author.Tests.{eq-eqb, ne-eqb}
-use lib.Dec.{eqb}
-use Rattle.xml.proofs.Steps.{Calm, is-calm}
 use Rattle.xml.proofs.Rows.{reads-end, reads-taken, reads-other}
 use Rattle.xml.proofs.byte.Statement.{statement}
 use Rattle.xml.proofs.byte.Tie as tie
 
 returns : tie.Need-returns
-returns c = reads-end _ _ _ (c .before .before .pre .0) (omega arith)
+returns c = reads-end _ _ _ (omega arith)
 
 shared-slice-read-if2 : tie.Need-shared-slice-read-if2
 shared-slice-read-if2 c = search needs
@@ -22,9 +20,7 @@ refuse-requires : tie.Need-refuse-requires
 refuse-requires c κs = search needs
 
 returns-2 : tie.Need-returns-2
-returns-2 c =
-    let calm = is-calm (c .before .before .before .before .args .wanted) (c .before .before .before .before .pre .1) in
-    reads-taken _ _ _ _ (omega arith) (eq-eqb _ _ (c .if2 .taken)) (rw (c .if2 .taken) at calm) refl
+returns-2 c = reads-taken _ _ _ _ (omega arith) (eq-eqb _ _ (c .if2 .taken)) refl
 
 returns-3 : tie.Need-returns-3
 returns-3 c = reads-other _ _ _ _ (omega arith) (ne-eqb _ _ (c .before .if2 .left)) (c .refuse .ensures)

@@ -1,25 +1,38 @@
 -- `xml::declaration_end` meets its contract: white space and `?>`. Assumes nothing.
+use Prim.Native.Nat.{_≤_}
 use borrow.Author.Needs.{needs}
+use lib.ListN.{length}
 use mathlib.Core.Path.{refl}
 use Rattle.paper.specs.Tokens.{white}
+use Rattle.paper.specs.Tools.{ascii}
 use Rattle.paper.specs.Xml.{done}
 use Rattle.xml.proofs.Declaring.{over-on}
-use Rattle.xml.proofs.Heading.{run-inside, space-calm}
+use Rattle.xml.proofs.Heading.{word-heads}
+use Rattle.xml.proofs.Steps.{run-inside}
 use Rattle.xml.proofs.declaration_end.Statement.{statement}
 use Rattle.xml.proofs.declaration_end.Tie as tie
+
+-- White space is skipped up to a place of the text.
+abbrev begun : tie.After-skip → tie.Start
+begun c = c .before .before
+
+inside : (c : tie.After-skip) → c .skip .result ≤ length (begun c .args .text .now)
+inside c = run-inside white _ _ _ (c .skip .ensures) (begun c .pre)
 
 skip-requires : tie.Need-skip-requires
 skip-requires c κs = search needs
 
-slice-aggregate-phrase : tie.Need-slice-aggregate-phrase
-slice-aggregate-phrase c = search needs
+slice-aggregate-say : tie.Need-slice-aggregate-say
+slice-aggregate-say c = search needs
 
-phrase-requires : tie.Need-phrase-requires
-phrase-requires c κs = (run-inside white space-calm _ _ _ (c .before .skip .ensures) (c .before .before .before .pre), refl)
+say-requires : tie.Need-say-requires
+say-requires c κs = inside (c .before)
 
 returns : tie.Need-returns
-returns c = over-on _ _ _ (c .before .before .before .before .pre) (c .before .before .skip .ensures) _ (c .phrase .ensures done)
+returns c =
+    let skipped = c .before .before in
+    over-on _ _ _ (begun skipped .pre) (skipped .skip .ensures) _ (word-heads _ _ (ascii "?>") (c .say .result) refl (inside skipped) (c .say .ensures) done)
 
 pub declaration-end-spec : {M : Type 1} → statement M
 declaration-end-spec =
-    tie.close (tie.spec skip-requires slice-aggregate-phrase phrase-requires returns)
+    tie.close (tie.spec skip-requires slice-aggregate-say say-requires returns)

@@ -1,13 +1,25 @@
 -- `xml::end_tag` meets its contract: the name again, white space, and `>`. Assumes nothing.
-use Prim.Native.Nat.{ℕ, suc, _+_, _<_}
 use borrow.Author.Needs.{needs}
-use lib.ListN.{length, getD}
-use mathlib.Core.Path.{_≡_, refl, sym, _∙_, ap, subst}
-use native.Mathlib.Omega.{arith}
-use Rattle.xml.proofs.Ending.{place-within, end-cut, end-closes, end-refused, end-stuck}
+use mathlib.Core.Path.{refl, subst}
+use Rattle.xml.proofs.Ending.{end-cut, end-closes, end-refused, end-stuck}
 use Rattle.xml.specs.Pieces.{Renames}
+use Rattle.xml.specs.declared.Reach.the-variants.{At}
 use Rattle.xml.proofs.end_tag.Statement.{statement}
 use Rattle.xml.proofs.end_tag.Tie as tie
+
+-- The name came again.
+abbrev sought : tie.After-known-told → tie.After-same-name
+sought c = c .before .before .before
+
+abbrev begun : tie.After-known-told → tie.Start
+begun c = sought c .before .before
+
+name-read : (c : tie.After-known-told) → let s = begun c in Renames (s .args .text .now) (s .args .at) (s .args .inner) (At (c .before .named .given .0 .0))
+name-read c = let s = begun c in subst (Renames (s .args .text .now) (s .args .at) (s .args .inner)) (c .before .named .given .1) (sought c .same-name .ensures)
+
+-- Behind it and white space stands a byte.
+abbrev past-space : tie.After-shared-slice-known2 → tie.After-skip
+past-space c = c .before .before
 
 same-name-requires : tie.Need-same-name-requires
 same-name-requires c κs = search needs
@@ -19,10 +31,10 @@ returns : tie.Need-returns
 returns c = end-stuck _ _ _ (c .before .same-name .result) (c .match .keys2) (c .before .same-name .ensures)
 
 skip-requires : tie.Need-skip-requires
-skip-requires c κs = (subst (Renames (c .before .before .before .before .before .args .text .now) (c .before .before .before .before .before .args .at) (c .before .before .before .before .before .args .inner)) (c .before .named .given .1) (c .before .before .before .same-name .ensures)) .bounds .1
+skip-requires c κs = name-read c .bounds .1
 
 returns-2 : tie.Need-returns-2
-returns-2 c = end-cut _ _ _ _ _ (subst (Renames (c .before .before .before .before .before .before .before .args .text .now) (c .before .before .before .before .before .before .before .args .at) (c .before .before .before .before .before .before .before .args .inner)) (c .before .before .before .named .given .1) (c .before .before .before .before .before .same-name .ensures)) (c .before .skip .ensures) (c .if1 .taken)
+returns-2 c = let skipped = c .before in end-cut _ _ _ _ _ (name-read (skipped .before)) (skipped .skip .ensures) (c .if1 .taken)
 
 shared-slice-read-if2 : tie.Need-shared-slice-read-if2
 shared-slice-read-if2 c = search needs
@@ -34,10 +46,17 @@ refuse-requires : tie.Need-refuse-requires
 refuse-requires c κs = search needs
 
 returns-3 : tie.Need-returns-3
-returns-3 c = end-closes _ _ _ _ _ (subst (Renames (c .before .before .before .before .before .before .before .before .before .args .text .now) (c .before .before .before .before .before .before .before .before .before .args .at) (c .before .before .before .before .before .before .before .before .before .args .inner)) (c .before .before .before .before .before .named .given .1) (c .before .before .before .before .before .before .before .same-name .ensures)) (c .before .before .before .skip .ensures) (c .before .before .if1 .left) _ (c .if2 .taken) refl
+returns-3 c =
+    let inside = c .before .before in
+    let skipped = past-space (c .before) in
+    end-closes _ _ _ _ _ (name-read (skipped .before)) (skipped .skip .ensures) (inside .if1 .left) _ (c .if2 .taken) refl
 
 returns-4 : tie.Need-returns-4
-returns-4 c = end-refused _ _ _ _ _ (subst (Renames (c .before .before .before .before .before .before .before .before .before .before .args .text .now) (c .before .before .before .before .before .before .before .before .before .before .args .at) (c .before .before .before .before .before .before .before .before .before .before .args .inner)) (c .before .before .before .before .before .before .named .given .1) (c .before .before .before .before .before .before .before .before .same-name .ensures)) (c .before .before .before .before .skip .ensures) (c .before .before .before .if1 .left) _ (c .before .if2 .left) (c .refuse .ensures)
+returns-4 c =
+    let other = c .before in
+    let inside = other .before .before in
+    let skipped = past-space (other .before) in
+    end-refused _ _ _ _ _ (name-read (skipped .before)) (skipped .skip .ensures) (inside .if1 .left) _ (other .if2 .left) (c .refuse .ensures)
 
 pub end-tag-spec : {M : Type 1} → statement M
 end-tag-spec =

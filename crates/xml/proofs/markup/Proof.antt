@@ -1,27 +1,30 @@
 -- `xml::markup` meets its contract: two bytes decide, and at the end of the text nothing opens. Assumes nothing.
-use Prim.Native.Nat.{suc}
+use Prim.Native.Nat.{ℕ, suc}
 use native.Mathlib.Omega.{arith}
 use native.Mathlib.Numerals.{add-one}
-use mathlib.Core.Path.{_≡_, sym, _∙_, ap}
-use lib.ListN.{length, getD, drop, drop-of-length-le}
+use mathlib.Core.List.{List}
+use mathlib.Core.Path.{sym}
+use lib.ListN.{getD, drop-of-length-le}
 use lib.Seq.{drop-cons}
-use Rattle.paper.specs.Xml.{leftOutAnywhere}
 use Rattle.xml.proofs.Steps.{alone-opens}
 use borrow.Author.Needs.{needs}
 use Rattle.xml.proofs.markup.Statement.{statement}
 use Rattle.xml.proofs.markup.Tie as tie
 
+abbrev text : tie.Start → List ℕ
+text s = s .args .text .now
+
 returns : tie.Need-returns
-returns c = rw (drop-of-length-le (c .before .before .args .text .now) {i = c .before .before .args .at} (c .if1 .taken))
+returns c = let s = c .before .before in rw (drop-of-length-le (text s) {i = s .args .at} (c .if1 .taken))
 
 add-next : tie.Need-add-next
 add-next c = search needs
 
 returns-2 : tie.Need-returns-2
 returns-2 c =
-    let text = c .before .before .before .args .text .now in
-    let at = c .before .before .before .args .at in
-    rw (drop-cons text at 0 (omega arith), drop-of-length-le text {i = suc at} (omega arith)) (sym (alone-opens (getD text at 0)))
+    let s = c .before .before .before in
+    let at = s .args .at in
+    rw (drop-cons (text s) at 0 (omega arith), drop-of-length-le (text s) {i = suc at} (omega arith)) (sym (alone-opens (getD (text s) at 0)))
 
 shared-slice-read-opens : tie.Need-shared-slice-read-opens
 shared-slice-read-opens c = search needs
@@ -34,9 +37,9 @@ opens-requires c κs = search needs
 
 returns-3 : tie.Need-returns-3
 returns-3 c =
-    let text = c .before .before .before .before .before .before .args .text .now in
-    let at = c .before .before .before .before .before .before .args .at in
-    rw (drop-cons text at 0 (omega arith), drop-cons text (suc at) 0 (omega arith)) (rw (add-one at) at (c .opens .ensures))
+    let s = c .before .before .before .before .before .before in
+    let at = s .args .at in
+    rw (drop-cons (text s) at 0 (omega arith), drop-cons (text s) (suc at) 0 (omega arith)) (rw (add-one at) at (c .opens .ensures))
 
 pub markup-spec : {M : Type 1} → statement M
 markup-spec =

@@ -1,14 +1,12 @@
 -- `xml::named_character` meets its contract: the byte that comes decides between the words. Assumes nothing.
 use borrow.Author.Needs.{needs}
 use borrow.Author.Tests.{ne-eqb}
-use lib.Dec.{eqb}
 use lib.ListN.{getD}
-use mathlib.Core.Path.{_≡_, refl, sym, _∙_, ap, subst}
+use mathlib.Core.Path.{refl, sym}
 use native.Mathlib.Omega.{arith}
 use Rattle.paper.specs.Tools.{ascii}
-use Rattle.paper.specs.Xml.{Pattern, done, fork, say, reference, after}
-use Rattle.xml.proofs.Holding.{cross-word, cross-ends, pattern-on, pattern-refused}
-use Rattle.xml.proofs.Steps.{Calm, is-calm}
+use Rattle.paper.specs.Xml.{say, reference}
+use Rattle.xml.proofs.Holding.{cross-ends, byte-on, word-on, pattern-refused}
 use Rattle.xml.proofs.named_character.Statement.{statement}
 use Rattle.xml.proofs.named_character.Tie as tie
 use Rattle.xml.specs.Promised.{pastA}
@@ -47,29 +45,23 @@ refuse-requires : tie.Need-refuse-requires
 refuse-requires c κs = search needs
 
 returns-2 : tie.Need-returns-2
-returns-2 c =
-    let calm : Calm _ = subst Calm (sym (c .before .before .match .keys1)) (is-calm 108 refl) in
-    pattern-on _ _ (omega arith) reference (say (ascii "t;") done) _ calm (ap (after reference) (c .before .before .match .keys1)) refl (cross-word _ _ (ascii "t;") _ (omega arith) (c .say .ensures))
+returns-2 c = word-on _ _ (omega arith) reference 108 _ (c .before .before .match .keys1) refl 116 (ascii ";") refl refl (c .say .ensures)
 
 returns-3 : tie.Need-returns-3
-returns-3 c =
-    let calm : Calm _ = subst Calm (sym (c .before .before .match .keys2)) (is-calm 103 refl) in
-    pattern-on _ _ (omega arith) reference (say (ascii "t;") done) _ calm (ap (after reference) (c .before .before .match .keys2)) refl (cross-word _ _ (ascii "t;") _ (omega arith) (c .say2 .ensures))
+returns-3 c = word-on _ _ (omega arith) reference 103 _ (c .before .before .match .keys2) refl 116 (ascii ";") refl refl (c .say2 .ensures)
 
 returns-4 : tie.Need-returns-4
-returns-4 c =
-    let calm : Calm _ = subst Calm (sym (c .before .match .keys3)) (is-calm 97 refl) in
-    pattern-on _ _ (omega arith) reference pastA _ calm (ap (after reference) (c .before .match .keys3)) refl (c .past-a .ensures)
+returns-4 c = byte-on _ _ (omega arith) reference 97 _ (c .before .match .keys3) refl pastA refl refl (c .past-a .ensures)
 
 returns-5 : tie.Need-returns-5
-returns-5 c =
-    let calm : Calm _ = subst Calm (sym (c .before .before .match .keys4)) (is-calm 113 refl) in
-    pattern-on _ _ (omega arith) reference (say (ascii "uot;") done) _ calm (ap (after reference) (c .before .before .match .keys4)) refl (cross-word _ _ (ascii "uot;") _ (omega arith) (c .say3 .ensures))
+returns-5 c = word-on _ _ (omega arith) reference 113 _ (c .before .before .match .keys4) refl 117 (ascii "ot;") refl refl (c .say3 .ensures)
 
 returns-6 : tie.Need-returns-6
 returns-6 c =
-    let b = getD (c .before .before .before .before .before .args .text .now) (c .before .before .before .before .before .args .at) 0 in
-    let n = c .before .match .rest in
+    let rest = c .before in
+    let s = rest .before .before .before .before in
+    let b = getD (s .args .text .now) (s .args .at) 0 in
+    let n = rest .match .rest in
     pattern-refused _ _ (omega arith) reference _ _
     (rw (ne-eqb 108 b (λ e. n .0 .0 .0 .1 (sym e)), ne-eqb 103 b (λ e. n .0 .0 .1 (sym e)), ne-eqb 97 b (λ e. n .0 .1 (sym e)), ne-eqb 113 b (λ e. n .1 (sym e)))) (c .refuse .ensures)
 

@@ -1,12 +1,27 @@
 -- `xml::narrow` meets its contract: one byte, then the others. Assumes nothing.
-use native.Mathlib.Omega.{arith}
-use mathlib.Core.Path.{subst}
+use mathlib.Core.List.{[], _∷_}
+use mathlib.Core.Path.{sym, _∙_, subst}
 use borrow.Author.Needs.{needs}
 use Rattle.paper.specs.Xml.{from}
-use Rattle.xml.specs.Promised.{Reads, narrowing}
-use Rattle.xml.proofs.Rows.{first-refused, first-then}
+use Rattle.xml.specs.Promised.{Reads, tailing}
+use Rattle.xml.specs.declared.Reach.{Reach}
+use Rattle.xml.specs.declared.Reach.the-variants.{At}
+use Rattle.xml.proofs.Rows.{row-stuck, row-next, reads-bounds}
 use Rattle.xml.proofs.narrow.Statement.{statement}
 use Rattle.xml.proofs.narrow.Tie as tie
+
+-- The first byte is read.
+abbrev First : tie.Start → Reach → Type 0
+First s r = Reads (s .args .text .now) (s .args .at) (from (s .args .low) (s .args .high) ∷ []) r
+
+abbrev begun : tie.After-within → tie.Start
+begun c = c .before .before
+
+abbrev sought : tie.After-known-told → tie.After-within
+sought c = c .before .before .before
+
+first-read : (c : tie.After-known-told) → First (begun (sought c)) (At (c .before .one .given .0 .0))
+first-read c = subst (First (begun (sought c))) (c .before .one .given .1) (sought c .within .ensures)
 
 within-requires : tie.Need-within-requires
 within-requires c κs = search needs
@@ -15,17 +30,15 @@ enum-known-one : tie.Need-enum-known-one
 enum-known-one c = search needs
 
 returns : tie.Need-returns
-returns c = first-refused _ _ _ (narrowing (c .before .before .before .args .low) (c .before .before .before .args .high)) (c .before .within .result) (c .match .keys2) (c .before .within .ensures)
+returns c = let w = c .before in row-stuck _ _ _ (w .within .result) (c .match .keys2) (w .within .ensures) _
 
 tails-requires : tie.Need-tails-requires
-tails-requires c κs =
-    let one = subst (Reads (c .before .before .before .before .before .args .text .now) (c .before .before .before .before .before .args .at) 1 (λ i. from (c .before .before .before .before .before .args .low) (c .before .before .before .before .before .args .high))) (c .before .one .given .1) (c .before .before .before .within .ensures) in
-    one .bounds .1
+tails-requires c κs = let s = begun (sought c) in reads-bounds _ _ (from (s .args .low) (s .args .high) ∷ []) _ (s .pre) (first-read c) .1
 
 returns-2 : tie.Need-returns-2
 returns-2 c =
-    let one = subst (Reads (c .before .before .before .before .before .before .args .text .now) (c .before .before .before .before .before .before .args .at) 1 (λ i. from (c .before .before .before .before .before .before .args .low) (c .before .before .before .before .before .before .args .high))) (c .before .before .one .given .1) (c .before .before .before .before .within .ensures) in
-    first-then _ _ _ (narrowing (c .before .before .before .before .before .before .args .low) (c .before .before .before .before .before .before .args .high)) _ (c .tails .result) one (c .tails .ensures)
+    let s = begun (sought (c .before)) in
+    record { comes = c .tails .ensures .comes ∙ sym (row-next _ _ _ _ (first-read (c .before)) (tailing (s .args .count))) }
 
 pub narrow-spec : {M : Type 1} → statement M
 narrow-spec = tie.close (tie.spec within-requires enum-known-one returns tails-requires returns-2)

@@ -1,14 +1,12 @@
 -- `xml::past_a` meets its contract: the byte that comes decides between the two words. Assumes nothing.
 use borrow.Author.Needs.{needs}
 use borrow.Author.Tests.{ne-eqb}
-use lib.Dec.{eqb}
 use lib.ListN.{getD}
-use mathlib.Core.Path.{_≡_, refl, sym, _∙_, ap, subst}
+use mathlib.Core.Path.{refl, sym}
 use native.Mathlib.Omega.{arith}
 use Rattle.paper.specs.Tools.{ascii}
-use Rattle.paper.specs.Xml.{Pattern, done, fork, say, reference, after}
-use Rattle.xml.proofs.Holding.{cross-word, cross-ends, pattern-on, pattern-refused}
-use Rattle.xml.proofs.Steps.{Calm, is-calm}
+use Rattle.paper.specs.Xml.{say}
+use Rattle.xml.proofs.Holding.{cross-ends, word-on, pattern-refused}
 use Rattle.xml.proofs.past_a.Statement.{statement}
 use Rattle.xml.proofs.past_a.Tie as tie
 use Rattle.xml.specs.Promised.{pastA}
@@ -38,19 +36,17 @@ refuse-requires : tie.Need-refuse-requires
 refuse-requires c κs = search needs
 
 returns-2 : tie.Need-returns-2
-returns-2 c =
-    let calm : Calm _ = subst Calm (sym (c .before .before .match .keys1)) (is-calm 109 refl) in
-    pattern-on _ _ (omega arith) pastA (say (ascii "p;") done) _ calm (ap (after pastA) (c .before .before .match .keys1)) refl (cross-word _ _ (ascii "p;") _ (omega arith) (c .say .ensures))
+returns-2 c = word-on _ _ (omega arith) pastA 109 _ (c .before .before .match .keys1) refl 112 (ascii ";") refl refl (c .say .ensures)
 
 returns-3 : tie.Need-returns-3
-returns-3 c =
-    let calm : Calm _ = subst Calm (sym (c .before .before .match .keys2)) (is-calm 112 refl) in
-    pattern-on _ _ (omega arith) pastA (say (ascii "os;") done) _ calm (ap (after pastA) (c .before .before .match .keys2)) refl (cross-word _ _ (ascii "os;") _ (omega arith) (c .say2 .ensures))
+returns-3 c = word-on _ _ (omega arith) pastA 112 _ (c .before .before .match .keys2) refl 111 (ascii "s;") refl refl (c .say2 .ensures)
 
 returns-4 : tie.Need-returns-4
 returns-4 c =
-    let b = getD (c .before .before .before .before .before .args .text .now) (c .before .before .before .before .before .args .at) 0 in
-    let n = c .before .match .rest in
+    let rest = c .before in
+    let s = rest .before .before .before .before in
+    let b = getD (s .args .text .now) (s .args .at) 0 in
+    let n = rest .match .rest in
     pattern-refused _ _ (omega arith) pastA _ _ (rw (ne-eqb 109 b (λ e. n .0 .1 (sym e)), ne-eqb 112 b (λ e. n .1 (sym e)))) (c .refuse .ensures)
 
 pub past-a-spec : {M : Type 1} → statement M

@@ -1,19 +1,18 @@
 -- `xml::past_ef` meets its contract: after BF the last byte goes up to BD, after another byte any comes. Assumes nothing.
 use borrow.Author.Needs.{needs}
-use borrow.Author.Tests.{ne-eqb, eq-eqb, leb-true, leb-false}
+use borrow.Author.Tests.{ne-eqb}
 use mathlib.Core.Bool.{Bool, true, false, cond}
 use mathlib.Core.Option.{none, some}
-use lib.Dec.{eqb}
+use mathlib.Core.List.{[]}
 use lib.ListN.{getD}
-use mathlib.Core.Path.{_≡_, refl, sym, _∙_, ap, subst}
+use mathlib.Core.Path.{_≡_, refl, sym}
 use native.Mathlib.Omega.{arith}
-use Rattle.paper.specs.Xml.{from, Pattern, done, one, tail, after, ways}
-use Rattle.xml.proofs.Holding.{cross-narrow, cross-ends, pattern-on, pattern-same}
-use Rattle.xml.proofs.Rows.{narrow-one}
-use Rattle.xml.proofs.Steps.{Calm, is-calm}
+use Rattle.paper.specs.Xml.{from, done, one, tail, ways}
+use Rattle.xml.proofs.Holding.{cross-row, cross-ends, byte-on, pattern-same}
+use Rattle.xml.proofs.Rows.{range-calm, tails-calm}
 use Rattle.xml.proofs.past_ef.Statement.{statement}
 use Rattle.xml.proofs.past_ef.Tie as tie
-use Rattle.xml.specs.Promised.{pastEf}
+use Rattle.xml.specs.Promised.{pastEf, tailing}
 
 -- Of two ways one is left.
 one-way : (t : Bool) → ways (cond t (some (tail done)) none) none ≡ cond t (some (tail done)) none
@@ -34,16 +33,16 @@ within-requires c κs = search needs
 
 returns-2 : tie.Need-returns-2
 returns-2 c =
-    let calm : Calm _ = subst Calm (sym (c .before .if2 .taken)) (is-calm 191 refl) in
-    pattern-on _ _ (omega arith) pastEf (one (from 128 189) done) _ calm (ap (after pastEf) (c .before .if2 .taken)) refl (cross-narrow _ _ 128 189 0 _ (narrow-one _ _ 128 189 _ (c .within .ensures)))
+    byte-on _ _ (omega arith) pastEf 191 _ (c .before .if2 .taken) refl (one (from 128 189) done) refl refl (cross-row _ _ (from 128 189) [] _ (range-calm 128 189 (omega arith)) tt (omega arith) (c .within .ensures))
 
 narrow-requires : tie.Need-narrow-requires
 narrow-requires c κs = search needs
 
 returns-3 : tie.Need-returns-3
 returns-3 c =
-    let b = getD (c .before .before .before .before .before .args .text .now) (c .before .before .before .before .before .args .at) 0 in
-    pattern-same _ _ (omega arith) pastEf (one (from 128 190) (tail done)) _ _ (rw (ne-eqb 191 b (λ e. c .before .if2 .left (sym e))) (one-way (from 128 190 b))) (cross-narrow _ _ 128 190 1 _ (c .narrow .ensures))
+    let s = c .before .before .before .before .before in
+    let b = getD (s .args .text .now) (s .args .at) 0 in
+    pattern-same _ _ (omega arith) pastEf (one (from 128 190) (tail done)) _ _ (rw (ne-eqb 191 b (λ e. c .before .if2 .left (sym e))) (one-way (from 128 190 b))) (cross-row _ _ (from 128 190) (tailing 1) _ (range-calm 128 190 (omega arith)) (tails-calm 1) (omega arith) (c .narrow .ensures))
 
 pub past-ef-spec : {M : Type 1} → statement M
 past-ef-spec =

@@ -1,5 +1,5 @@
 -- `xml::small` meets its contract: a capital letter is made small. Assumes nothing.
-use Prim.Native.Nat.{_+_, _-_}
+use Prim.Native.Nat.{_+_}
 use borrow.Author.Tests.{leb-true}
 use lib.Dec.{leb}
 use mathlib.Core.Bool.{Bool, cond}

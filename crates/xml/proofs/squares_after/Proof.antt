@@ -1,8 +1,7 @@
 -- `xml::squares_after` meets its contract. Assumes nothing.
 use Prim.Native.Nat.{ℕ, zero, suc}
-use borrow.Author.Tests.{ne-eqb, eq-eqb}
-use mathlib.Core.Path.{_≡_, refl, sym, ap}
-use native.Mathlib.Omega.{arith}
+use borrow.Author.Tests.{ne-eqb}
+use mathlib.Core.Path.{_≡_, refl}
 use Rattle.paper.specs.Xml.{squares}
 use Rattle.xml.proofs.squares_after.Statement.{statement}
 use Rattle.xml.proofs.squares_after.Tie as tie

@@ -1,5 +1,4 @@
 -- `xml::stands` meets its contract: the text ends before it, or the byte is compared. Assumes nothing.
-use Prim.Native.Nat.{_-_}
 use borrow.Author.Needs.{needs}
 use lib.ListN.{drop-of-length-le}
 use mathlib.Core.Path.{sym, ap}

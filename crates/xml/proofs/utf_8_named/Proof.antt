@@ -1,20 +1,24 @@
 -- `xml::utf_8_named` meets its contract: five bytes, each compared. Assumes nothing.
-use Prim.Native.Nat.{_+_, _-_}
+use Prim.Native.Nat.{ℕ}
 use borrow.Author.Needs.{needs}
-use lib.Dec.{eqb}
-use lib.ListN.{getD}
-use mathlib.Core.Bool.{_&&_}
-use mathlib.Core.Path.{sym, _∙_, ap}
-use Rattle.paper.specs.Xml.{lower}
+use mathlib.Core.List.{List}
+use mathlib.Core.Path.{sym}
 use Rattle.xml.proofs.Beginnings.{named-other, named-five}
 use Rattle.xml.proofs.utf_8_named.Statement.{statement}
 use Rattle.xml.proofs.utf_8_named.Tie as tie
+
+abbrev text : tie.Start → List ℕ
+text s = s .args .text .now
+
+-- The name has five bytes.
+abbrev begun : tie.Else1 → tie.Start
+begun c = c .before .before
 
 sub-if1 : tie.Need-sub-if1
 sub-if1 c = search needs
 
 returns : tie.Need-returns
-returns c = sym (named-other (c .before .before .args .text .now) (c .before .before .args .at) (c .before .before .args .end) (c .before .before .pre .0) (c .before .before .pre .1) (c .if1 .taken))
+returns c = let s = c .before .before in sym (named-other (text s) (s .args .at) (s .args .end) (s .pre .0) (s .pre .1) (c .if1 .taken))
 
 shared-slice-read-small : tie.Need-shared-slice-read-small
 shared-slice-read-small c = search needs
@@ -60,12 +64,13 @@ small-requires-5 c κs = search needs
 
 returns-2 : tie.Need-returns-2
 returns-2 c =
-    ap (λ n. eqb n 117 && (eqb (c .before .before .before .before .before .before .small2 .result) 116 && (eqb (c .before .before .before .before .small3 .result) 102 && (eqb (c .before .before .small4 .result) 45 && eqb (c .small5 .result) 56)))) (c .before .before .before .before .before .before .before .before .small .ensures)
-    ∙ ap (λ n. eqb (lower (getD (c .before .before .before .before .before .before .before .before .before .before .before .before .args .text .now) (c .before .before .before .before .before .before .before .before .before .before .before .before .args .at) 0)) 117 && (eqb n 116 && (eqb (c .before .before .before .before .small3 .result) 102 && (eqb (c .before .before .small4 .result) 45 && eqb (c .small5 .result) 56)))) (c .before .before .before .before .before .before .small2 .ensures)
-    ∙ ap (λ n. eqb (lower (getD (c .before .before .before .before .before .before .before .before .before .before .before .before .args .text .now) (c .before .before .before .before .before .before .before .before .before .before .before .before .args .at) 0)) 117 && (eqb (lower (getD (c .before .before .before .before .before .before .before .before .before .before .before .before .args .text .now) ((c .before .before .before .before .before .before .before .before .before .before .before .before .args .at) + 1) 0)) 116 && (eqb n 102 && (eqb (c .before .before .small4 .result) 45 && eqb (c .small5 .result) 56)))) (c .before .before .before .before .small3 .ensures)
-    ∙ ap (λ n. eqb (lower (getD (c .before .before .before .before .before .before .before .before .before .before .before .before .args .text .now) (c .before .before .before .before .before .before .before .before .before .before .before .before .args .at) 0)) 117 && (eqb (lower (getD (c .before .before .before .before .before .before .before .before .before .before .before .before .args .text .now) ((c .before .before .before .before .before .before .before .before .before .before .before .before .args .at) + 1) 0)) 116 && (eqb (lower (getD (c .before .before .before .before .before .before .before .before .before .before .before .before .args .text .now) ((c .before .before .before .before .before .before .before .before .before .before .before .before .args .at) + 2) 0)) 102 && (eqb n 45 && eqb (c .small5 .result) 56)))) (c .before .before .small4 .ensures)
-    ∙ ap (λ n. eqb (lower (getD (c .before .before .before .before .before .before .before .before .before .before .before .before .args .text .now) (c .before .before .before .before .before .before .before .before .before .before .before .before .args .at) 0)) 117 && (eqb (lower (getD (c .before .before .before .before .before .before .before .before .before .before .before .before .args .text .now) ((c .before .before .before .before .before .before .before .before .before .before .before .before .args .at) + 1) 0)) 116 && (eqb (lower (getD (c .before .before .before .before .before .before .before .before .before .before .before .before .args .text .now) ((c .before .before .before .before .before .before .before .before .before .before .before .before .args .at) + 2) 0)) 102 && (eqb (lower (getD (c .before .before .before .before .before .before .before .before .before .before .before .before .args .text .now) ((c .before .before .before .before .before .before .before .before .before .before .before .before .args .at) + 3) 0)) 45 && eqb n 56)))) (c .small5 .ensures)
-    ∙ named-five (c .before .before .before .before .before .before .before .before .before .before .before .before .args .text .now) (c .before .before .before .before .before .before .before .before .before .before .before .before .args .at) (c .before .before .before .before .before .before .before .before .before .before .before .before .args .end) (c .before .before .before .before .before .before .before .before .before .before .before .before .pre .0) (c .before .before .before .before .before .before .before .before .before .before .before .before .pre .1) (c .before .before .before .before .before .before .before .before .before .before .if1 .left)
+    let eight = c in
+    let dash = eight .before .before in
+    let f = dash .before .before in
+    let t = f .before .before in
+    let u = t .before .before in
+    let s = begun (u .before .before) in
+    rw (u .small .ensures, t .small2 .ensures, f .small3 .ensures, dash .small4 .ensures, eight .small5 .ensures) (named-five (text s) (s .args .at) (s .args .end) (s .pre .0) (s .pre .1) (u .before .before .if1 .left))
 
 pub utf-8-named-spec : {M : Type 1} → statement M
 utf-8-named-spec =

@@ -1,17 +1,13 @@
 -- `xml::within` meets its contract: the text ends, a byte of the range comes, or another does. Assumes nothing.
-use Prim.Native.Nat.{_<_, _≤_}
 use native.Mathlib.Omega.{arith}
 use mathlib.Core.Path.{refl}
 use borrow.Author.Needs.{needs}
-use borrow.Author.Tests.{leb-true}
-use lib.Dec.{leb}
-use Rattle.paper.proofs.Tests.{and-true}
 use Rattle.xml.proofs.Rows.{reads-end, reads-taken, reads-other}
 use Rattle.xml.proofs.within.Statement.{statement}
 use Rattle.xml.proofs.within.Tie as tie
 
 returns : tie.Need-returns
-returns c = reads-end _ _ _ (c .before .before .pre .0) (omega arith)
+returns c = reads-end _ _ _ (omega arith)
 
 shared-slice-read-b : tie.Need-shared-slice-read-b
 shared-slice-read-b c = search needs
@@ -23,9 +19,7 @@ refuse-requires : tie.Need-refuse-requires
 refuse-requires c κs = search needs
 
 returns-2 : tie.Need-returns-2
-returns-2 c =
-    let low = leb-true (c .before .before .before .before .args .low) _ (and-true _ _ (c .if2 .taken) .0) in
-    reads-taken _ _ _ _ (omega arith) (c .if2 .taken) (record { no-tag = λ e. omega (arith, c .before .before .before .before .pre .1); no-reference = λ e. omega (arith, c .before .before .before .before .pre .1) }) refl
+returns-2 c = reads-taken _ _ _ _ (omega arith) (c .if2 .taken) refl
 
 returns-3 : tie.Need-returns-3
 returns-3 c = reads-other _ _ _ _ (omega arith) (c .before .if2 .left) (c .refuse .ensures)

@@ -1,7 +1,4 @@
 -- `xml::xml_start` meets its contract. Assumes nothing.
-use mathlib.Core.Path.{ap}
-use mathlib.Core.Bool.{_||_, _&&_}
-use lib.Dec.{eqb, leb}
 use borrow.Author.Needs.{needs}
 use Rattle.xml.proofs.xml_start.Statement.{statement}
 use Rattle.xml.proofs.xml_start.Tie as tie

@@ -1,0 +1,91 @@
+-- What judging keeps of the text so far, and what it promises.
+use Prim.Native.Nat.{ℕ, suc, _+_, _*_, _≤_, _<_}
+use mathlib.Core.Path.{_≡_}
+use mathlib.Core.List.{List, [], _∷_}
+use mathlib.Core.Option.{Option, none, some}
+use lib.ListN.{length, getD}
+use Rattle.paper.specs.Xml.{Nodes, Frame, Judged, wanted, unwanted, readXml, Row, table, unnamed}
+use Rattle.xml.specs.declared.Piece.{Piece}
+use Rattle.read_xml.specs.Open.{lines, Stand, past, openIn, soFar, Stands, Moves}
+use Rattle.read_xml.specs.declared.Progress.{Progress}
+use Rattle.read_xml.specs.declared.Step.{Step}
+use Rattle.read_xml.specs.declared.Step.the-variants.{On, Wrong, LeftOut}
+
+-- How many elements can be open at once in a text within the limit.
+abbrev pub openLimit : ℕ
+openLimit = 10922
+
+-- A place, 0 where there is none.
+abbrev pub placeOf : Option ℕ → ℕ
+placeOf none = 0
+placeOf (some place) = place
+
+-- The places where the open elements begin are kept, the outermost first.
+abbrev pub Kept : List ℕ → List Frame → Type 0
+Kept begins [] = Unit
+Kept begins (f ∷ fs) = (getD begins (length fs) 0 ≡ f .begin) × Kept begins fs
+
+-- What is counted at a place where these elements are open and these are the lines so far.
+pub record Counts (look : List ℕ → Option ℕ) (begins : List ℕ) (frames : List Frame) (rows : List Row) (p : Progress) : Type 0 where
+  pub long : length begins ≡ openLimit
+  pub depth : p .depth ≡ length frames
+  pub kept : Kept begins frames
+  pub nodes : p .nodes ≡ length rows
+  pub lacking : p .unnamed ≡ placeOf (unnamed look rows)
+  pub room : 3 * length frames ≤ p .at
+  pub few : length rows ≤ suc (p .at)
+
+-- Judging stands between two pieces.
+pub record Standing (text : List ℕ) (look : List ℕ → Option ℕ) (begins : List ℕ) (p : Progress) : Type 0 where
+  pub stand : Stand
+  pub stands : Stands text (p .at) stand
+  pub counts : Counts look begins (openIn stand) (soFar (length text) stand) p
+
+-- It stands before a piece.
+pub record Facing (text : List ℕ) (look : List ℕ → Option ℕ) (begins : List ℕ) (piece : Piece) (p : Progress) : Type 0 where
+  pub frames : List Frame
+  pub inside : p .at ≤ length text
+  pub moves : Moves text (p .at) frames piece
+  pub counts : Counts look begins frames (lines (length text) frames) p
+
+-- It has come further, or the text is refused.
+abbrev pub Comes : List ℕ → (List ℕ → Option ℕ) → List ℕ → Step → Type 0
+Comes text look begins (On p) = Standing text look begins p
+Comes text look begins (Wrong place) = readXml text ≡ unwanted 11 place
+Comes text look begins (LeftOut place) = readXml text ≡ unwanted 12 place
+
+-- Further than before.
+abbrev pub Rises : ℕ → Step → Type 0
+Rises at (On p) = at < p .at
+Rises at (Wrong place) = Unit
+Rises at (LeftOut place) = Unit
+
+-- Up to the end of the one element.
+pub record Element (text : List ℕ) (look : List ℕ → Option ℕ) (p : Progress) : Type 0 where
+  pub tree : Nodes
+  pub stands : Stands text (p .at) (past tree)
+  pub nodes : p .nodes ≡ length (table (length text) tree)
+  pub lacking : p .unnamed ≡ placeOf (unnamed look (table (length text) tree))
+
+abbrev pub Ends : List ℕ → (List ℕ → Option ℕ) → Step → Type 0
+Ends text look (On p) = Element text look p
+Ends text look (Wrong place) = readXml text ≡ unwanted 11 place
+Ends text look (LeftOut place) = readXml text ≡ unwanted 12 place
+
+-- Within the text.
+abbrev pub Inside : List ℕ → Step → Type 0
+Inside text (On p) = p .at ≤ length text
+Inside text (Wrong place) = Unit
+Inside text (LeftOut place) = Unit
+
+-- The whole text is judged.
+pub record Wanted (text : List ℕ) (look : List ℕ → Option ℕ) (p : Progress) : Type 0 where
+  pub tree : Nodes
+  pub is : readXml text ≡ wanted tree
+  pub nodes : p .nodes ≡ length (table (length text) tree)
+  pub lacking : p .unnamed ≡ placeOf (unnamed look (table (length text) tree))
+
+abbrev pub Judges : List ℕ → (List ℕ → Option ℕ) → Step → Type 0
+Judges text look (On p) = Wanted text look p
+Judges text look (Wrong place) = readXml text ≡ unwanted 11 place
+Judges text look (LeftOut place) = readXml text ≡ unwanted 12 place
