@@ -123,6 +123,8 @@ static uint64_t make_composed(struct dice *dice)
 {
     make_query(dice, &outer, (struct bounds){between(dice, 1, 12), (unsigned)below(dice, 3), 2, list.count});
     make_query(dice, &inner, (struct bounds){between(dice, 1, 12), (unsigned)below(dice, 3), 2, list.count});
+    if (chance(dice, 50))
+        mix_axes(dice, &outer);
     uint64_t answer = halyardfig_compose(outer.items, outer.count, inner.items, inner.count, composed.items, ITEM_ROOM);
     composed.count = halyardfig_value(answer);
     return halyardfig_refused(answer);
@@ -154,6 +156,6 @@ int main(void)
 {
     group_start("engine");
     try_cases("single query", 8000, single_query);
-    try_cases("composed query", 3000, composed_query);
+    try_cases("composed query", 5000, composed_query);
     return group_end();
 }

@@ -177,6 +177,15 @@ void make_query(struct dice *dice, struct query *query, struct bounds bounds)
         make_path(&making, bounds.nesting, chance(dice, 90));
 }
 
+void mix_axes(struct dice *dice, struct query *query)
+{
+    for (size_t i = 0; i < query->count; i++) {
+        uint32_t item = query->items[i], step = STEP_ITEM(0, 0, 0);
+        if ((item & 7) == step)
+            query->items[i] = (item & ~((uint32_t)7 << AXIS_BIT)) | (uint32_t)below(dice, AXES) << AXIS_BIT;
+    }
+}
+
 static void put_leaf(struct making *making)
 {
     put(making, PATH_ITEM(1));

@@ -60,6 +60,9 @@ void make_table(struct dice *dice, struct table *table, size_t nodes, unsigned n
 void make_marks(struct dice *dice, struct table *table, unsigned percent);
 void make_query(struct dice *dice, struct query *query, struct bounds bounds);
 
+/* Gives each step another axis, all axes alike probable. */
+void mix_axes(struct dice *dice, struct query *query);
+
 /* A query whose brackets are nested exactly so deep, of mixed kinds. */
 void make_deep_query(struct dice *dice, struct query *query, unsigned nesting, unsigned names);
 

@@ -126,6 +126,8 @@ static bool composes(struct dice *dice)
     size_t items = between(dice, 1, 40);
     make_query(dice, &outer, (struct bounds){items, (unsigned)below(dice, 4), 3, names});
     make_query(dice, &inner, (struct bounds){50 - items, (unsigned)below(dice, 4), 3, names});
+    if (chance(dice, 50))
+        mix_axes(dice, &outer);
     if (chance(dice, 10))
         damage_query(dice, chance(dice, 50) ? &outer : &inner);
     if (!twin_compose(dice, outer.items, outer.count, inner.items, inner.count, ITEM_ROOM + 1000))
@@ -135,8 +137,11 @@ static bool composes(struct dice *dice)
         return true;
     struct measures of_outer = measure(outer.items, outer.count), of_inner = measure(inner.items, inner.count);
     struct measures made = measure(twin_items(), need);
+    size_t guard = 2 + (of_inner.nesting > 2 ? of_inner.nesting : 2);
+    size_t deepest = of_outer.guard_nesting + guard;
     if (!made.is_query || made.paths != of_outer.paths ||
-        made.nesting != of_outer.nesting + 2 + (of_inner.nesting > 2 ? of_inner.nesting : 2))
+        made.nesting != (of_outer.nesting > deepest ? of_outer.nesting : deepest) ||
+        made.nesting > of_outer.nesting + guard)
         return complain("the composed query does not measure as it should");
     return twin_compose(dice, outer.items, outer.count, inner.items, inner.count, near(dice, need));
 }
@@ -147,6 +152,8 @@ static bool composes_at_the_edges(struct dice *dice)
     if (deep) {
         make_deep_query(dice, &outer, (unsigned)between(dice, 0, HALYARDFIG_NESTING), 2);
         make_deep_query(dice, &inner, (unsigned)between(dice, 0, HALYARDFIG_NESTING), 2);
+        if (chance(dice, 50))
+            mix_axes(dice, &outer);
     } else {
         make_long_query(dice, &outer, between(dice, 4, 300), 2);
         make_long_query(dice, &inner, between(dice, 4, chance(dice, 20) ? ITEM_ROOM : 30), 2);
@@ -226,6 +233,8 @@ static void make_composition(struct dice *dice, unsigned names)
     do {
         make_query(dice, &outer, (struct bounds){between(dice, 1, 15), (unsigned)below(dice, 4), 2, names});
         make_query(dice, &inner, (struct bounds){between(dice, 1, 12), (unsigned)below(dice, 3), 2, names});
+        if (chance(dice, 50))
+            mix_axes(dice, &outer);
         answer = halyardfig_compose(outer.items, outer.count, inner.items, inner.count, composed.items, ITEM_ROOM);
     } while (halyardfig_refused(answer) == HALYARDFIG_REFUSED_ROOM);
     composed.count = halyardfig_value(answer);

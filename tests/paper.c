@@ -727,32 +727,52 @@ static void print_query(struct pen *pen, const struct expr *path)
     }
 }
 
-/* Measures. Nesting is counted in the printed text, where only `node()` and `text()` have `()`. */
+/* Measures. Brackets are counted in the printed text, where only `node()` and `text()` have `()` and axes are words. */
 
-static size_t count_nesting(const uint8_t *text, size_t length)
+struct brackets {
+    size_t most;         /* open at once */
+    size_t most_guarded; /* open at once where a guarded step stands */
+};
+
+static bool begins_with(const uint8_t *text, size_t length, const char *word)
 {
-    size_t open = 0, most = 0;
+    return length >= strlen(word) && memcmp(text, word, strlen(word)) == 0;
+}
+
+static struct brackets count_brackets(const uint8_t *text, size_t length)
+{
+    size_t open = 0;
+    struct brackets found = {0, 0};
     for (size_t i = 0; i < length; i++) {
         bool empty_pair = text[i] == '(' && i + 1 < length && text[i + 1] == ')';
+        bool guarded = begins_with(text + i, length - i, "child::") ||
+                       begins_with(text + i, length - i, "descendant-or-self::");
         if (empty_pair)
             i++;
         else if (text[i] == '[' || text[i] == '(')
             open++;
         else if (text[i] == ']' || text[i] == ')')
             open--;
-        if (open > most)
-            most = open;
+        if (open > found.most)
+            found.most = open;
+        if (guarded && open > found.most_guarded)
+            found.most_guarded = open;
     }
-    return most;
+    return found;
 }
 
-static size_t nesting_of(const struct expr *query)
+static struct brackets brackets_of(const struct expr *query)
 {
     struct pen counting = {NULL, 0, 0, NULL};
     print_query(&counting, query);
     struct pen writing = {take_zeroed(counting.count), counting.count, 0, NULL};
     print_query(&writing, query);
-    return count_nesting(writing.out, writing.count);
+    return count_brackets(writing.out, writing.count);
+}
+
+static size_t nesting_of(const struct expr *query)
+{
+    return brackets_of(query).most;
 }
 
 static size_t larger(size_t a, size_t b)
@@ -781,24 +801,41 @@ static size_t query_height(const struct expr *path)
     return most;
 }
 
-static size_t steps_below(const struct expr *expr)
+/* Every axis has its own case, here, in `turned` and in `leads`, so that the compiler refuses one that is forgotten. */
+static bool guarded(enum axis axis)
+{
+    switch (axis) {
+    case AXIS_CHILD:
+    case AXIS_DESCENDANT_OR_SELF:
+        return true;
+    case AXIS_SELF:
+    case AXIS_PARENT:
+    case AXIS_ANCESTOR_OR_SELF:
+        return false;
+    }
+    abort();
+}
+
+static size_t guards_below(const struct expr *expr)
 {
     if (expr->form == FORM_NOT)
-        return steps_below(expr->left);
+        return guards_below(expr->left);
     if (expr->form != FORM_PATH)
-        return steps_below(expr->left) + steps_below(expr->right);
-    size_t count = count_steps(expr->steps);
-    for (const struct step *step = expr->steps; step != NULL; step = step->next)
+        return guards_below(expr->left) + guards_below(expr->right);
+    size_t count = 0;
+    for (const struct step *step = expr->steps; step != NULL; step = step->next) {
+        count += guarded(step->axis);
         for (const struct expr *predicate = step->predicates; predicate != NULL; predicate = predicate->next)
-            count += steps_below(predicate);
+            count += guards_below(predicate);
+    }
     return count;
 }
 
-static size_t query_steps(const struct expr *path)
+static size_t query_guards(const struct expr *path)
 {
     size_t count = 0;
     for (; path != NULL; path = path->next)
-        count += steps_below(path);
+        count += guards_below(path);
     return count;
 }
 
@@ -818,15 +855,15 @@ struct measures measure(const uint32_t *query, size_t query_len)
     if (tree == NULL)
         return found;
     found.paths = count_exprs(tree);
-    found.steps = query_steps(tree);
+    found.guards = query_guards(tree);
     found.nesting = nesting_of(tree);
+    found.guard_nesting = brackets_of(tree).most_guarded;
     found.height = query_height(tree);
     return found;
 }
 
 /* Composition. */
 
-/* Every axis has its own case, here and in `leads`, so that the compiler refuses one that is forgotten. */
 static enum axis turned(enum axis axis)
 {
     switch (axis) {
@@ -890,6 +927,8 @@ static void guard_steps(struct step *step, struct expr *selected)
     for (; step != NULL; step = step->next) {
         for (struct expr *predicate = step->predicates; predicate != NULL; predicate = predicate->next)
             guard(predicate, selected);
+        if (!guarded(step->axis))
+            continue;
         struct expr *first = visible(selected);
         first->next = step->predicates;
         step->predicates = first;
@@ -1155,10 +1194,11 @@ uint64_t model_compose(const uint32_t *outer, size_t outer_len, const uint32_t *
     struct expr *inner_tree = good_query(inner, inner_len);
     if (inner_tree == NULL)
         return REFUSED(6, 1);
-    size_t k = count_exprs(inner_tree), m = count_exprs(outer_tree), t = query_steps(outer_tree);
+    size_t k = count_exprs(inner_tree), m = count_exprs(outer_tree), t = query_guards(outer_tree);
     size_t s = inner_len + 5 * k - 1;
     size_t size = outer_len + t * (5 + 2 * s) + m * (3 + s);
-    size_t nesting = nesting_of(outer_tree) + 2 + larger(2, nesting_of(inner_tree));
+    struct brackets outer_brackets = brackets_of(outer_tree);
+    size_t nesting = larger(outer_brackets.most, outer_brackets.most_guarded + 2 + larger(2, nesting_of(inner_tree)));
     if (size <= BUILT_MOST) {
         struct items counted = {NULL, 0, 0};
         compose_trees(outer_tree, inner_tree);

@@ -29,8 +29,9 @@ uint64_t model_read_xml(const uint8_t *text, size_t text_len, const uint8_t *nam
 struct measures {
     bool is_query;
     size_t paths;
-    size_t steps;
+    size_t guards;        /* guarded steps of all depths */
     size_t nesting;
+    size_t guard_nesting; /* the most brackets open at a guarded step */
     size_t height;
 };
 

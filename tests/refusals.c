@@ -423,14 +423,19 @@ static void malformed_items(void)
         malformed_is_refused(bad[i].what, bad[i].items, bad[i].count);
 }
 
-/* `/node()[node()[...`, nested so deep. */
-static size_t nested(uint32_t *items, size_t nesting)
+/* `/node()[node()[...`, nested so deep, each step along the axis. */
+static size_t nested_along(uint32_t *items, size_t nesting, unsigned axis)
 {
     for (size_t i = 0; i <= nesting; i++) {
         items[2 * i] = PATH_ITEM(1);
-        items[2 * i + 1] = STEP_ITEM(CHILD, NODE_TEST, i < nesting);
+        items[2 * i + 1] = STEP_ITEM(axis, NODE_TEST, i < nesting);
     }
     return 2 * nesting + 2;
+}
+
+static size_t nested(uint32_t *items, size_t nesting)
+{
+    return nested_along(items, nesting, CHILD);
 }
 
 static void nested_items(void)
@@ -482,11 +487,56 @@ static void print_refusals(void)
     print_is("room just right", named, 2 + 1, "a\nb\nc\nd\ne\n", 18, 18);
 }
 
+/* How deep a query may be nested, and an inner and an outer query of child steps that is composed with `/b`;
+   and the items that `/b` brings to a guarded step and to a path. */
+enum {
+    MOST_NESTED = HALYARDFIG_NESTING,
+    OVER = MOST_NESTED + 1,
+    INNER_MOST = MOST_NESTED - 2,
+    OUTER_MOST = MOST_NESTED - 4,
+    GUARD_ITEMS = 17,
+    LAST_ITEMS = 9
+};
+
+/* The edges of 9, for each axis in the brackets: only a guarded step brings the brackets of V to where it stands. */
+static void nesting_by_axis(void)
+{
+    static const struct {
+        const char *what;
+        unsigned axis;
+        bool guarded;
+    } axes[] = {
+        {"self", SELF, false},
+        {"child", CHILD, true},
+        {"parent", PARENT, false},
+        {"descendant-or-self", DESCENDANT_OR_SELF, true},
+        {"ancestor-or-self", ANCESTOR_OR_SELF, false},
+    };
+    static uint32_t deep[ITEM_ROOM];
+    for (size_t i = 0; i < sizeof axes / sizeof axes[0]; i++) {
+        size_t count = nested_along(deep, OUTER_MOST, axes[i].axis);
+        size_t guards = axes[i].guarded ? OUTER_MOST + 1 : 0;
+        compose_is(axes[i].what, deep, count, good_inner, 2, ITEM_ROOM, count + guards * GUARD_ITEMS + LAST_ITEMS);
+        count = nested_along(deep, OUTER_MOST + 1, axes[i].axis);
+        compose_is(axes[i].what, deep, count, good_inner, 2, ITEM_ROOM,
+                   axes[i].guarded ? REFUSED(9, OVER) : count + LAST_ITEMS);
+        count = nested_along(deep, MOST_NESTED, axes[i].axis);
+        compose_is(axes[i].what, deep, count, good_inner, 2, ITEM_ROOM,
+                   axes[i].guarded ? REFUSED(9, MOST_NESTED + 4) : count + LAST_ITEMS);
+        /* One guarded step where only the first bracket is open, and one in the deepest. */
+        deep[3] = STEP_ITEM(CHILD, NODE_TEST, 1);
+        compose_is(axes[i].what, deep, count, good_inner, 2, ITEM_ROOM,
+                   axes[i].guarded ? REFUSED(9, MOST_NESTED + 4) : count + GUARD_ITEMS + LAST_ITEMS);
+        count = nested_along(deep, OUTER_MOST + 1, axes[i].axis);
+        deep[count - 1] = STEP_ITEM(DESCENDANT_OR_SELF, NODE_TEST, 0);
+        compose_is(axes[i].what, deep, count, good_inner, 2, ITEM_ROOM, REFUSED(9, OVER));
+    }
+}
+
 static void compose_refusals(void)
 {
     static uint32_t zeros[ITEM_ROOM + 1], deep[ITEM_ROOM];
     const uint32_t bad[] = {5};
-    enum { DEEPEST = HALYARDFIG_NESTING, OVER = DEEPEST + 1, INNER_MOST = DEEPEST - 2, OUTER_MOST = DEEPEST - 4 };
     compose_is("outer too long", zeros, ITEM_ROOM + 1, bad, 1, 0, REFUSED(1, 0));
     compose_is("inner too long", bad, 1, zeros, ITEM_ROOM + 1, 0, REFUSED(1, 0));
     compose_is("the most inner paths", root_query, 1, zeros, ITEM_ROOM, ITEM_ROOM, REFUSED(10, 3 + 6 * ITEM_ROOM));
@@ -501,9 +551,10 @@ static void compose_refusals(void)
     compose_is("inner too deep", good_inner, 2, deep, count, 0, REFUSED(9, OVER));
     compose_is("both too deep", deep, count, deep, count, 0, REFUSED(9, 2 * (INNER_MOST + 1) + 2));
     count = nested(deep, OUTER_MOST);
-    size_t size = count + (OUTER_MOST + 1) * 17 + 9;
+    size_t size = count + (OUTER_MOST + 1) * GUARD_ITEMS + LAST_ITEMS;
     compose_is("outer deepest", deep, count, good_inner, 2, ITEM_ROOM, size);
     compose_is("outer deepest, no room", deep, count, good_inner, 2, 0, REFUSED(10, size));
+    nesting_by_axis();
     compose_is("room one short", root_query, 1, root_query, 1, 8, REFUSED(10, 9));
     compose_is("room just right", root_query, 1, root_query, 1, 9, 9);
     compose_is("room over", root_query, 1, root_query, 1, 5000, 9);

@@ -88,6 +88,11 @@ static void composed_samples(void)
         {"P8", "/a[not(b/c)]", "/a/b/d", "1100011"},
         {"P9", "/", "/a/b/d", "1100011"},
         {"P10", "/", "/b", "0000000"},
+        {"the root of what keeps nothing", "/.", "/b", "0000000"},
+        {"the root of what is kept", "/.", "/a/b/d", "1100011"},
+        {"a hidden node above nothing", "//c/ancestor-or-self::b", "/a/b/d", "0000000"},
+        {"up from a visible node", "//d/../..", "/a/b/d", "1100011"},
+        {"a parent with a hidden child", "//d/parent::b[not(c)]/parent::a[not(b/c)]", "/a/b/d", "1100011"},
         {"docs/VIEWS.md, row 2", "/a[b/c]", "/a/b/d", "0000000"},
         {"docs/VIEWS.md, row 4", "//b", "/a/b/d", "1100011"},
         {"docs/VIEWS.md, row 5", "//text()", "/a/b/d", "0000000"},
@@ -134,7 +139,27 @@ static void size_samples(void)
     answer_is("P12", compose_texts(&made, "//a", "/b|/c"), 81);
     answer_is("227 steps", compose_texts(&made, repeated(&built, "", "/a", 227, "", ""), "/b"), 4096);
     answer_is("228 steps", compose_texts(&made, repeated(&built, "", "/a", 228, "", ""), "/b"), REFUSED(10, 4114));
+    answer_is("no guarded step", compose_texts(&made, "/./../ancestor-or-self::a", "/b"), 4 + 9);
+    answer_is("4086 steps up", compose_texts(&made, repeated(&built, "", "/..", 4086, "", ""), "/b"), 4096);
+    answer_is("4087 steps up", compose_texts(&made, repeated(&built, "", "/..", 4087, "", ""), "/b"),
+              REFUSED(10, 4097));
     answer_is("nesting 61", compose_texts(&made, repeated(&built, "/a", "[a", 61, "", "]"), "/b"), REFUSED(9, 65));
+    enum { DEEPEST = HALYARDFIG_NESTING, GUARDED = DEEPEST - 4, GUARD_ITEMS = 17, LAST_ITEMS = 9 };
+    answer_is("nesting 64, no guarded step",
+              compose_texts(&made, repeated(&built, "/.", "/self::a[.", DEEPEST, "", "]"), "/b"),
+              3 * DEEPEST + 2 + LAST_ITEMS);
+    answer_is("nesting 64, a guarded step outside",
+              compose_texts(&made, repeated(&built, "/a", "/self::a[.", DEEPEST, "", "]"), "/b"),
+              3 * DEEPEST + 2 + GUARD_ITEMS + LAST_ITEMS);
+    answer_is("nesting 60, a guarded step inside",
+              compose_texts(&made, repeated(&built, "/.", "/self::a[.", GUARDED, "/a", "]"), "/b"),
+              3 * GUARDED + 3 + GUARD_ITEMS + LAST_ITEMS);
+    answer_is("nesting 61, a guarded step inside",
+              compose_texts(&made, repeated(&built, "/.", "/self::a[.", GUARDED + 1, "/a", "]"), "/b"),
+              REFUSED(9, DEEPEST + 1));
+    answer_is("nesting 64, a guarded step inside",
+              compose_texts(&made, repeated(&built, "/.", "/self::a[.", DEEPEST, "/a", "]"), "/b"),
+              REFUSED(9, DEEPEST + 4));
     uint64_t sixty = compose_texts(&made, repeated(&built, "/a", "[a", 60, "", "]"), "/b");
     tally(halyardfig_refused(sixty) == 0, "nesting 60 on /b is refused: %u at %u", halyardfig_refused(sixty),
           halyardfig_place(sixty));

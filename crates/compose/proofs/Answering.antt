@@ -16,23 +16,22 @@ use Rattle.paper.specs.Query.{Steps, Query, paths}
 use Rattle.paper.specs.Items.{stepCount, encodeSteps, encodePaths, encode, decode, goodSteps, goodPaths, good, countBound}
 use Rattle.paper.specs.Measures.{size, nesting}
 use Rattle.paper.specs.Answers.{Answer, value, refusal, line, atExit, shortOfItems, composedGot, composeAnswer, composeOut}
-use Rattle.paper.specs.Composition.{composed, stepsInPaths, selectedSize, composedSize, composedNesting}
+use Rattle.paper.specs.Composition.{composed, guardsInPaths, guardDepth, selectedSize, composedSize, composedNesting}
 use Rattle.paper.proofs.Tests.{and-true}
 use Rattle.paper.proofs.Encoding.{encode-decode}
 use Rattle.paper.proofs.Sizes.{size-items, size-decoded}
 use Rattle.theorems.proofs.Sizes.{composed-size}
-use Rattle.theorems.proofs.Nesting.{composed-nesting}
-use Rattle.theorems.proofs.Forms.{good-proper}
+use Rattle.theorems.proofs.Nesting.{composed-nesting, guards-within}
 use Rattle.shape.specs.Walks.{shapeOf}
 use Rattle.shape.specs.declared.Shape.{Shape}
 use Rattle.shape.specs.declared.Shape.the-variants.{Query as Fine, Malformed}
 use Rattle.reverse.specs.Reverses.{IsQuery, pathsGot, selectedGot}
 use Rattle.reverse.proofs.Selected.{selected-length}
-use Rattle.compose.specs.Pieces.{stepItems, sizeGot}
+use Rattle.compose.specs.Pieces.{guardItems, sizeGot}
 use Rattle.compose.proofs.Items.{steps-steps, steps-append, count-path}
 
--- THE SIZE OF THE COMPOSITION, from the numbers of items, steps and paths. The steps are counted of all depths.
-paths-steps : (ps : List Steps) → goodPaths ps ≡ true → stepItems (encodePaths ps) ≡ stepsInPaths ps
+-- THE SIZE OF THE COMPOSITION, from the numbers of items, guarded steps and paths. The steps are counted of all depths.
+paths-steps : (ps : List Steps) → goodPaths ps ≡ true → guardItems (encodePaths ps) ≡ guardsInPaths ps
 paths-steps [] g = refl
 paths-steps (p ∷ ps) g =
     let h = and-true (ltb (stepCount p) countBound && goodSteps p) (goodPaths ps) g in
@@ -45,15 +44,15 @@ paths-steps (p ∷ ps) g =
       count-path (stepCount p) (ltb-true _ _ (k .0)),
     )
 
-pub size-got : (items : List ℕ) (steps count paths : ℕ) → IsQuery items → steps ≡ stepItems items → paths ≡ pathsGot (decode items)
-    → length items + steps * (5 + 2 * count) + paths * (3 + count) ≡ sizeGot (decode items) count
+pub size-got : (items : List ℕ) (guards count paths : ℕ) → IsQuery items → guards ≡ guardItems items → paths ≡ pathsGot (decode items)
+    → length items + guards * (5 + 2 * count) + paths * (3 + count) ≡ sizeGot (decode items) count
 unfolding encode good
-size-got items steps count ps q es ep =
+size-got items guards count ps q es ep =
     let d = encode-decode items (q .query) (q .decodes) in
-    let t : steps ≡ stepsInPaths (paths (q .query)) = es ∙ ap stepItems (d .items) ∙ paths-steps (paths (q .query)) (d .fine) in
+    let t : guards ≡ guardsInPaths (paths (q .query)) = es ∙ ap guardItems (d .items) ∙ paths-steps (paths (q .query)) (d .fine) in
     let m : ps ≡ length (paths (q .query)) = ep ∙ ap pathsGot (q .decodes) in
     ap₂ (λ (a b : ℕ). length items + a * (5 + 2 * count) + b * (3 + count)) t m ∙
-    ap (λ (n : ℕ). n + stepsInPaths (paths (q .query)) * (5 + 2 * count) + length (paths (q .query)) * (3 + count)) (sym (size-decoded items (q .query) (q .decodes))) ∙
+    ap (λ (n : ℕ). n + guardsInPaths (paths (q .query)) * (5 + 2 * count) + length (paths (q .query)) * (3 + count)) (sym (size-decoded items (q .query) (q .decodes))) ∙
     ap (λ (o : Option Query). sizeGot o count) (sym (q .decodes))
 
 -- A product of two numbers within limits.
@@ -68,23 +67,26 @@ shape-none items s e f = go (decode items) (sym e ∙ f)
     go none h = refl
     go (some q) h = absurd (let z : _≡_ {A = ℕ} 0 1 = cc in omega arith)
 
-pub record Shaped (items : List ℕ) (n : ℕ) : Type 0 where
+pub record Shaped (items : List ℕ) (n g : ℕ) : Type 0 where
   pub query : Query
   pub decodes : decode items ≡ some query
   pub nests : n ≡ nesting query
   pub shallow : n ≤ bracketLimit
+  pub guards : g ≡ guardDepth query
+  pub within : g ≤ n
 
-pub shape-some : (items : List ℕ) (s : Shape) (n h : ℕ) → s ≡ shapeOf (decode items) → s ≡ Fine n h → Shaped items n
-shape-some items s n h e f = go (decode items) refl (sym e ∙ f)
+pub shape-some : (items : List ℕ) (s : Shape) (n h g : ℕ) → s ≡ shapeOf (decode items) → s ≡ Fine n h g → Shaped items n g
+shape-some items s n h g e f = go (decode items) refl (sym e ∙ f)
   where
-    go : (o : Option Query) → decode items ≡ o → shapeOf o ≡ Fine n h → Shaped items n
+    go : (o : Option Query) → decode items ≡ o → shapeOf o ≡ Fine n h g → Shaped items n g
     go none d k = absurd (let z : _≡_ {A = ℕ} 0 1 = cc in omega arith)
     go (some q) d k =
         let m : nesting q ≡ n = cc in
-        record { query = q; decodes = d; nests = sym m; shallow = omega (arith, encode-decode items q d .nested) }
+        let b : guardDepth q ≡ g = cc in
+        record { query = q; decodes = d; nests = sym m; shallow = omega (arith, encode-decode items q d .nested); guards = sym b; within = omega (arith, guards-within q) }
 
-pub is-query : (items : List ℕ) (n : ℕ) → Shaped items n → IsQuery items
-is-query items n s = record { query = s .query; decodes = s .decodes }
+pub is-query : (items : List ℕ) (n g : ℕ) → Shaped items n g → IsQuery items
+is-query items n g s = record { query = s .query; decodes = s .decodes }
 
 -- A refused call leaves the output as it was; an accepted one writes the items.
 pub refused : (outer inner out : List ℕ) (number place : ℕ) → composeAnswer outer inner (length out) ≡ refusal number place
@@ -119,11 +121,11 @@ module _ (outer inner : List ℕ) (room : ℕ) where
     unfolding composeAnswer
     line-6-outer d = rw (le-ltb itemLimit (length outer) a, le-ltb itemLimit (length inner) b, d)
 
-    pub line-6-inner : (m : ℕ) → Shaped outer m → decode inner ≡ none → composeAnswer outer inner room ≡ refusal 6 1
+    pub line-6-inner : (m g : ℕ) → Shaped outer m g → decode inner ≡ none → composeAnswer outer inner room ≡ refusal 6 1
     unfolding composeAnswer
-    line-6-inner m o d = rw (le-ltb itemLimit (length outer) a, le-ltb itemLimit (length inner) b, o .decodes, d)
+    line-6-inner m g o d = rw (le-ltb itemLimit (length outer) a, le-ltb itemLimit (length inner) b, o .decodes, d)
 
-    module _ (m n : ℕ) (o : Shaped outer m) (i : Shaped inner n) where
+    module _ (m n g h : ℕ) (o : Shaped outer m g) (i : Shaped inner n h) where
       abbrev whole : Query
       whole = composed (o .query) (i .query)
 
@@ -132,14 +134,15 @@ module _ (outer inner : List ℕ) (room : ℕ) where
       unfolding composeAnswer
       later = rw (le-ltb itemLimit (length outer) a, le-ltb itemLimit (length inner) b, o .decodes, i .decodes)
 
-      module _ (r deep : ℕ) (er : r ≡ max 2 n) (ed : deep ≡ m + 2 + r) where
+      module _ (r deep : ℕ) (er : r ≡ max 2 n) (ed : deep ≡ max m (g + 2 + r)) where
         deep-is : deep ≡ nesting whole
         unfolding composedNesting
         deep-is =
             omega (
               arith,
-              composed-nesting (o .query) (i .query) (good-proper (o .query) (encode-decode outer (o .query) (o .decodes) .fine)),
+              composed-nesting (o .query) (i .query),
               o .nests,
+              o .guards,
               i .nests,
             )
 

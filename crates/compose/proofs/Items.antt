@@ -1,33 +1,34 @@
--- How many items of a query are steps, that each count can be raised, and what guarding makes of them: laws of `stepItems`, `Raisable` and `guardedItems` on encoded queries.
+-- How many items of a query are guarded steps, that each count can be raised, and what guarding makes of them: laws of `guardItems`, `Raisable` and `guardedItems` on encoded queries.
 -- Each by induction over the query. Assumes nothing.
 use Prim.Native.Nat.{ℕ, suc, _+_, _≤_, _<_}
 use native.Mathlib.Omega.{arith}
 use native.Mathlib.Numerals.{add-one}
 use mathlib.Core.Path.{_≡_, refl, sym, _∙_, ap, ap₂}
-use mathlib.Core.Bool.{true}
+use mathlib.Core.Bool.{Bool, true, false, cond}
 use mathlib.Core.List.{List, [], _∷_, _++_, append-assoc}
 use lib.ListN.{length, length-append}
 use Rattle.paper.specs.Limits.{itemLimit}
 use Rattle.paper.specs.Query.{Axis, Test, Expr, path, both, either, negated, Steps, stop, step, Preds, bare, pred}
 use Rattle.paper.specs.Items.{packPath, packStep, pathAt, stepAt, andItem, orItem, notItem, stepCount, predCount, encodeExpr, encodeSteps, encodePreds, goodTest, goodExpr, goodSteps, goodPreds, countBound}
-use Rattle.paper.specs.Composition.{guardExpr, guardSteps, guardPreds, stepsInExpr, stepsInSteps, stepsInPreds}
+use Rattle.paper.specs.Composition.{guarded, guardExpr, guardSteps, guardPreds, guardsInExpr, guardsInSteps, guardsInPreds}
 use Rattle.paper.proofs.Tests.{and-true}
 use Rattle.item.specs.Unpacked.{unpacked}
 use Rattle.item.proofs.Saying.{unpack-path, unpack-step}
+use Rattle.item.proofs.GuardedAxes.{guarded-number}
 use Rattle.reverse.proofs.Owing.{good-step, good-path, owing-path, owing-step, owing-operators, count-length}
-use Rattle.compose.specs.Pieces.{isStep, stepItem, stepItems, visibleItems, guardedAs, guardedItem, guardedItems, Raisable}
+use Rattle.compose.specs.Pieces.{isGuard, guardItem, guardItems, visibleItems, guardedAs, guardedItem, guardedItems, Raisable}
 
--- Whether an item is a step, and what guarding makes of it.
-pub count-path : (n : ℕ) → n < countBound → stepItem (packPath n) ≡ 0
-unfolding stepItem
-count-path n l = ap isStep (unpack-path n l)
+-- Whether an item is a guarded step, and what guarding makes of it.
+pub count-path : (n : ℕ) → n < countBound → guardItem (packPath n) ≡ 0
+unfolding guardItem
+count-path n l = ap isGuard (unpack-path n l)
 
-count-step : (a : Axis) (t : Test) (n : ℕ) → goodTest t ≡ true → n < countBound → stepItem (packStep a t n) ≡ 1
-unfolding stepItem
-count-step a t n g l = ap isStep (unpack-step a t n g l)
+count-step : (a : Axis) (t : Test) (n : ℕ) → goodTest t ≡ true → n < countBound → guardItem (packStep a t n) ≡ cond (guarded a) 1 0
+unfolding guardItem
+count-step a t n g l = ap isGuard (unpack-step a t n g l) ∙ ap (λ b. cond b 1 0) (sym (guarded-number a _ refl))
 
-count-operators : (stepItem andItem ≡ 0) × (stepItem orItem ≡ 0) × (stepItem notItem ≡ 0)
-unfolding stepItem unpacked pathAt stepAt
+count-operators : (guardItem andItem ≡ 0) × (guardItem orItem ≡ 0) × (guardItem notItem ≡ 0)
+unfolding guardItem unpacked pathAt stepAt
 count-operators = (refl, refl, refl)
 
 module _ (chosen : List ℕ) where
@@ -35,22 +36,24 @@ module _ (chosen : List ℕ) where
   unfolding guardedItem
   guarded-path n l = ap (guardedAs chosen (packPath n)) (unpack-path n l)
 
-  guarded-step : (a : Axis) (t : Test) (n : ℕ) → goodTest t ≡ true → n < countBound → guardedItem chosen (packStep a t n) ≡ packStep a t (suc n) ∷ visibleItems chosen
+  guarded-step : (a : Axis) (t : Test) (n : ℕ) → goodTest t ≡ true → n < countBound
+      → guardedItem chosen (packStep a t n) ≡ cond (guarded a) (packStep a t (suc n) ∷ visibleItems chosen) (packStep a t n ∷ [])
   unfolding guardedItem
   guarded-step a t n g l =
-      ap (guardedAs chosen (packStep a t n)) (unpack-step a t n g l) ∙ ap (λ (k : ℕ). packStep a t k ∷ visibleItems chosen) (add-one n)
+      ap (guardedAs chosen (packStep a t n)) (unpack-step a t n g l) ∙
+      ap₂ (λ (b : Bool) (k : ℕ). cond b (packStep a t k ∷ visibleItems chosen) (packStep a t n ∷ [])) (sym (guarded-number a _ refl)) (add-one n)
 
   guarded-operators : (guardedItem chosen andItem ≡ andItem ∷ []) × (guardedItem chosen orItem ≡ orItem ∷ []) × (guardedItem chosen notItem ≡ notItem ∷ [])
   unfolding guardedItem unpacked pathAt stepAt
   guarded-operators = (refl, refl, refl)
 
--- HOW MANY ITEMS ARE STEPS.
-pub steps-append : (xs ys : List ℕ) → stepItems (xs ++ ys) ≡ stepItems xs + stepItems ys
+-- HOW MANY ITEMS ARE GUARDED STEPS.
+pub steps-append : (xs ys : List ℕ) → guardItems (xs ++ ys) ≡ guardItems xs + guardItems ys
 steps-append [] ys = omega arith
 steps-append (x ∷ xs) ys = omega (arith, steps-append xs ys)
 
 mutual
-  expr-steps : (e : Expr) → goodExpr e ≡ true → stepItems (encodeExpr e) ≡ stepsInExpr e
+  expr-steps : (e : Expr) → goodExpr e ≡ true → guardItems (encodeExpr e) ≡ guardsInExpr e
   expr-steps (path s) g = let h = good-path s g in omega (arith, count-path (stepCount s) (h .0), steps-steps s (h .1))
   expr-steps (both a b) g =
       let h = and-true (goodExpr a) (goodExpr b) g in
@@ -60,13 +63,13 @@ mutual
       omega (arith, count-operators .1, steps-append (encodeExpr a) (encodeExpr b), expr-steps a (h .0), expr-steps b (h .1))
   expr-steps (negated a) g = omega (arith, count-operators .2, expr-steps a g)
 
-  pub steps-steps : (s : Steps) → goodSteps s ≡ true → stepItems (encodeSteps s) ≡ stepsInSteps s
+  pub steps-steps : (s : Steps) → goodSteps s ≡ true → guardItems (encodeSteps s) ≡ guardsInSteps s
   steps-steps stop g = refl
   steps-steps (step a t ps r) g =
       let h = good-step a t ps r g in
       omega (arith, count-step a t (predCount ps) (h .test) (h .few), steps-append (encodePreds ps) (encodeSteps r), preds-steps ps (h .preds), steps-steps r (h .later))
 
-  preds-steps : (ps : Preds) → goodPreds ps ≡ true → stepItems (encodePreds ps) ≡ stepsInPreds ps
+  preds-steps : (ps : Preds) → goodPreds ps ≡ true → guardItems (encodePreds ps) ≡ guardsInPreds ps
   preds-steps bare g = refl
   preds-steps (pred x ps) g =
       let h = and-true (goodExpr x) (goodPreds ps) g in
@@ -137,6 +140,15 @@ module _ (chosen : List ℕ) (v : Expr) (is-v : visibleItems chosen ≡ encodeEx
   two : (w : ℕ) → guardedItem chosen w ≡ w ∷ [] → (xs ys fs gs : List ℕ) → guardedItems chosen xs ≡ fs → guardedItems chosen ys ≡ gs → guardedItems chosen (w ∷ (xs ++ ys)) ≡ w ∷ (fs ++ gs)
   two w e xs ys fs gs ea eb = ap₂ (λ (a b : List ℕ). a ++ b) e (guarded-append xs ys ∙ ap₂ (λ (a b : List ℕ). a ++ b) ea eb)
 
+  -- A step's item and V, where it gets V, and then its predicates.
+  on-guard : (g : Bool) (a : Axis) (t : Test) (ps : Preds) (rest : List ℕ)
+      → cond g (packStep a t (suc (predCount ps)) ∷ visibleItems chosen) (packStep a t (predCount ps) ∷ []) ++ (encodePreds ps ++ rest)
+      ≡ packStep a t (predCount (cond g (pred v ps) ps)) ∷ (encodePreds (cond g (pred v ps) ps) ++ rest)
+  on-guard true a t ps rest =
+      ap (λ (x : List ℕ). packStep a t (suc (predCount ps)) ∷ (x ++ (encodePreds ps ++ rest))) is-v ∙
+      ap (λ (x : List ℕ). packStep a t (suc (predCount ps)) ∷ x) (sym (append-assoc (encodeExpr v) (encodePreds ps) rest))
+  on-guard false a t ps rest = refl
+
   mutual
     expr-guarded : (e : Expr) → goodExpr e ≡ true → guardedItems chosen (encodeExpr e) ≡ encodeExpr (guardExpr e v)
     expr-guarded (path s) g =
@@ -157,8 +169,8 @@ module _ (chosen : List ℕ) (v : Expr) (is-v : visibleItems chosen ≡ encodeEx
         let h = good-step a t ps r g in
         ap₂ (λ (x y : List ℕ). x ++ y) (guarded-step chosen a t (predCount ps) (h .test) (h .few))
         (guarded-append (encodePreds ps) (encodeSteps r) ∙ ap₂ (λ (x y : List ℕ). x ++ y) (preds-guarded ps (h .preds)) (steps-guarded r (h .later))) ∙
-        ap₂ (λ (n : ℕ) (x : List ℕ). packStep a t (suc n) ∷ (x ++ (encodePreds (guardPreds ps v) ++ encodeSteps (guardSteps r v)))) (sym (guarded-preds ps)) is-v ∙
-        ap (λ (x : List ℕ). packStep a t (suc (predCount (guardPreds ps v))) ∷ x) (sym (append-assoc (encodeExpr v) (encodePreds (guardPreds ps v)) (encodeSteps (guardSteps r v))))
+        ap (λ (n : ℕ). cond (guarded a) (packStep a t (suc n) ∷ visibleItems chosen) (packStep a t n ∷ []) ++ (encodePreds (guardPreds ps v) ++ encodeSteps (guardSteps r v))) (sym (guarded-preds ps)) ∙
+        on-guard (guarded a) a t (guardPreds ps v) (encodeSteps (guardSteps r v))
 
     preds-guarded : (ps : Preds) → goodPreds ps ≡ true → guardedItems chosen (encodePreds ps) ≡ encodePreds (guardPreds ps v)
     preds-guarded bare g = refl

@@ -2,13 +2,14 @@
 use Prim.Native.Nat.{ℕ, _+_, _≤_, _<_}
 use native.Mathlib.Omega.{arith}
 use mathlib.Core.Path.{_≡_, refl, sym, _∙_, ap}
+use mathlib.Core.Bool.{Bool, true, false, cond}
 use mathlib.Core.List.{List, [], _∷_}
 use lib.ListN.{length, getD, drop, drop-of-length-le, length-append}
 use Rattle.paper.specs.Query.{descendantOrSelf, ancestorOrSelf}
 use Rattle.paper.specs.Items.{axisBound, testBound, axisNumber}
 use Rattle.paper.proofs.Axes.{axis-small}
 use Rattle.paper.proofs.Fields.{test-small}
-use Rattle.item.specs.Unpacked.{unpacked}
+use Rattle.item.specs.Unpacked.{unpacked, guardedNumber}
 use Rattle.item.specs.declared.Step.{Step}
 use Rattle.item.specs.declared.Item.{Item}
 use Rattle.item.specs.declared.Item.the-variants.{Path, Step as StepItem, And, Or, Not, Bad}
@@ -17,18 +18,18 @@ use denote.Enum.Declared.{tagOf}
 use types.Run.{OneOf, miss}
 use Rattle.reverse.specs.Reverses.{owing}
 use Rattle.reverse.proofs.Reading.{owes-as, said-step, at-place}
-use Rattle.compose.specs.Pieces.{isStep, stepItem, stepItems, someNodeItems, guardedAs, guardedStep, guardedItem}
+use Rattle.compose.specs.Pieces.{isGuard, guardItem, guardItems, someNodeItems, guardedAs, guardedStep, guardedItem}
 
--- A step counts as one, another item as none.
-pub step-as : (w : ℕ) (i j : Item) → i ≡ unpacked w → i ≡ j → isStep j ≡ stepItem w
-unfolding stepItem
-step-as w i j e f = ap isStep (sym f ∙ e)
+-- A guarded step counts as one, another item as none.
+pub step-counted : (w : ℕ) (i : Item) (s : Step) (g : Bool) → i ≡ unpacked w → i ≡ StepItem s → g ≡ guardedNumber (s .axis) → cond g 1 0 ≡ guardItem w
+unfolding guardItem
+step-counted w i s g e f h = ap (λ b. cond b 1 0) h ∙ ap isGuard (sym f ∙ e)
 
-pub no-step-counted : (w : ℕ) (i : Item) → i ≡ unpacked w → OneOf (0 ∷ 2 ∷ 3 ∷ 4 ∷ 5 ∷ []) (tagOf the-type i) → 0 ≡ stepItem w
-unfolding stepItem
-no-step-counted w i e k = go i k ∙ ap isStep e
+pub no-step-counted : (w : ℕ) (i : Item) → i ≡ unpacked w → OneOf (0 ∷ 2 ∷ 3 ∷ 4 ∷ 5 ∷ []) (tagOf the-type i) → 0 ≡ guardItem w
+unfolding guardItem
+no-step-counted w i e k = go i k ∙ ap isGuard e
   where
-    go : (i : Item) → OneOf (0 ∷ 2 ∷ 3 ∷ 4 ∷ 5 ∷ []) (tagOf the-type i) → 0 ≡ isStep i
+    go : (i : Item) → OneOf (0 ∷ 2 ∷ 3 ∷ 4 ∷ 5 ∷ []) (tagOf the-type i) → 0 ≡ isGuard i
     go (Path count) k = refl
     go (StepItem s) k = absurd (miss (0 ∷ 2 ∷ 3 ∷ 4 ∷ 5 ∷ []) 1 tt k)
     go And k = refl
@@ -36,16 +37,20 @@ no-step-counted w i e k = go i k ∙ ap isStep e
     go Not k = refl
     go Bad k = refl
 
-step-most : (i : Item) → isStep i ≤ 1
+once : (g : Bool) → cond g 1 0 ≤ 1
+once true = omega arith
+once false = omega arith
+
+step-most : (i : Item) → isGuard i ≤ 1
 step-most (Path count) = omega arith
-step-most (StepItem s) = omega arith
+step-most (StepItem s) = once (guardedNumber (s .axis))
 step-most And = omega arith
 step-most Or = omega arith
 step-most Not = omega arith
 step-most Bad = omega arith
 
-pub step-item-most : (w : ℕ) → stepItem w ≤ 1
-unfolding stepItem
+pub step-item-most : (w : ℕ) → guardItem w ≤ 1
+unfolding guardItem
 step-item-most w = step-most (unpacked w)
 
 -- An item that is no step is guarded as it is.
@@ -61,16 +66,26 @@ no-step-guarded chosen w i e k = ap (guardedAs chosen w) (sym e) ∙ go i k
     go Not k = refl
     go Bad k = refl
 
-pub step-guarded : (chosen : List ℕ) (w : ℕ) (i : Item) (s : Step) → i ≡ unpacked w → i ≡ StepItem s → guardedItem chosen w ≡ guardedStep chosen s
+-- A step is guarded by its axis.
+step-by-axis : (chosen : List ℕ) (w : ℕ) (i : Item) (s : Step) (g : Bool) → i ≡ unpacked w → i ≡ StepItem s → g ≡ guardedNumber (s .axis)
+    → guardedItem chosen w ≡ cond g (guardedStep chosen s) (w ∷ [])
 unfolding guardedItem
-step-guarded chosen w i s e f = ap (guardedAs chosen w) (sym e ∙ f)
+step-by-axis chosen w i s g e f h = ap (guardedAs chosen w) (sym e ∙ f) ∙ ap (λ b. cond b (guardedStep chosen s) (w ∷ [])) (sym h)
+
+pub step-guarded : (chosen : List ℕ) (w : ℕ) (i : Item) (s : Step) (g : Bool) → i ≡ unpacked w → i ≡ StepItem s → g ≡ guardedNumber (s .axis) → g ≡ true
+    → guardedItem chosen w ≡ guardedStep chosen s
+step-guarded chosen w i s g e f h k = step-by-axis chosen w i s g e f h ∙ ap (λ b. cond b (guardedStep chosen s) (w ∷ [])) k
+
+pub step-kept : (chosen : List ℕ) (w : ℕ) (i : Item) (s : Step) (g : Bool) → i ≡ unpacked w → i ≡ StepItem s → g ≡ guardedNumber (s .axis) → g ≡ false
+    → guardedItem chosen w ≡ w ∷ []
+step-kept chosen w i s g e f h k = step-by-axis chosen w i s g e f h ∙ ap (λ b. cond b (guardedStep chosen s) (w ∷ [])) k
 
 -- One item more is counted.
-pub counted-more : (items : List ℕ) (place : ℕ) → place < length items → stepItems (drop place items) ≡ stepItem (getD items place 0) + stepItems (drop (place + 1) items)
-counted-more items place l = ap stepItems (at-place items place l)
+pub counted-more : (items : List ℕ) (place : ℕ) → place < length items → guardItems (drop place items) ≡ guardItem (getD items place 0) + guardItems (drop (place + 1) items)
+counted-more items place l = ap guardItems (at-place items place l)
 
-pub counted-end : (items : List ℕ) (place : ℕ) → length items ≤ place → stepItems (drop place items) ≡ 0
-counted-end items place l = ap stepItems (drop-of-length-le items l)
+pub counted-end : (items : List ℕ) (place : ℕ) → length items ≤ place → guardItems (drop place items) ≡ 0
+counted-end items place l = ap guardItems (drop-of-length-le items l)
 
 -- What is needed of a step before it is guarded, and how long it is then.
 pub step-fields : (w : ℕ) (i : Item) (s : Step) → i ≡ unpacked w → i ≡ StepItem s → (s .axis < axisBound) × (s .test < testBound) × (s .count ≡ owing w)
@@ -78,6 +93,6 @@ step-fields w i s e f =
     let h = said-step w i s e f in
     (omega (arith, h .axis-is, axis-small (h .axis)), omega (arith, h .test-is, test-small (h .test) (h .fine)), owes-as w i (StepItem s) e f .0)
 
-pub guarded-room : (chosen : List ℕ) (w : ℕ) (i : Item) (s : Step) → i ≡ unpacked w → i ≡ StepItem s → length (guardedItem chosen w) ≡ 6 + length chosen + length chosen
-guarded-room chosen w i s e f =
-    ap length (step-guarded chosen w i s e f) ∙ omega (arith, length-append (someNodeItems (axisNumber descendantOrSelf) chosen) (someNodeItems (axisNumber ancestorOrSelf) chosen))
+pub guarded-room : (chosen : List ℕ) (w : ℕ) (s : Step) → guardedItem chosen w ≡ guardedStep chosen s → length (guardedItem chosen w) ≡ 6 + length chosen + length chosen
+guarded-room chosen w s same =
+    ap length same ∙ omega (arith, length-append (someNodeItems (axisNumber descendantOrSelf) chosen) (someNodeItems (axisNumber ancestorOrSelf) chosen))

@@ -1,33 +1,34 @@
 -- What each function of this crate writes or counts, as lists of items.
 use Prim.Native.Nat.{ℕ, _+_, _*_, _<_}
+use mathlib.Core.Bool.{cond}
 use mathlib.Core.List.{List, [], _∷_, _++_}
 use mathlib.Core.Option.{Option, none, some}
 use lib.ListN.{length}
 use Rattle.paper.specs.Query.{Steps, Query, paths, descendantOrSelf, ancestorOrSelf, anyNode}
 use Rattle.paper.specs.Items.{packPath, orItem, stepCount, encodeSteps, axisNumber, testNumber, countLimit}
 use Rattle.paper.specs.Measures.{size}
-use Rattle.paper.specs.Composition.{stepsInPaths}
-use Rattle.item.specs.Unpacked.{unpacked, packed}
+use Rattle.paper.specs.Composition.{guardsInPaths}
+use Rattle.item.specs.Unpacked.{unpacked, packed, guardedNumber}
 use Rattle.item.specs.declared.Step.{Step}
 use Rattle.item.specs.declared.Item.{Item}
 use Rattle.item.specs.declared.Item.the-variants.{Path, Step as StepItem, And, Or, Not, Bad}
 use Rattle.reverse.specs.Reverses.{owing}
 
--- How many of the items are steps.
-abbrev pub isStep : Item → ℕ
-isStep (Path count) = 0
-isStep (StepItem s) = 1
-isStep And = 0
-isStep Or = 0
-isStep Not = 0
-isStep Bad = 0
+-- How many of the items are guarded steps.
+abbrev pub isGuard : Item → ℕ
+isGuard (Path count) = 0
+isGuard (StepItem s) = cond (guardedNumber (s .axis)) 1 0
+isGuard And = 0
+isGuard Or = 0
+isGuard Not = 0
+isGuard Bad = 0
 
-unfoldable pub stepItem : ℕ → ℕ
-stepItem w = isStep (unpacked w)
+unfoldable pub guardItem : ℕ → ℕ
+guardItem w = isGuard (unpacked w)
 
-abbrev pub stepItems : List ℕ → ℕ
-stepItems [] = 0
-stepItems (w ∷ ws) = stepItem w + stepItems ws
+abbrev pub guardItems : List ℕ → ℕ
+guardItems [] = 0
+guardItems (w ∷ ws) = guardItem w + guardItems ws
 
 -- `axis::node()[..]`, the items of the predicate being given.
 abbrev pub someNodeItems : ℕ → List ℕ → List ℕ
@@ -44,10 +45,10 @@ lastItems chosen = packed (record { axis = axisNumber descendantOrSelf; test = t
 abbrev pub guardedStep : List ℕ → Step → List ℕ
 guardedStep chosen s = packed (record { axis = s .axis; test = s .test; count = s .count + 1 }) ∷ visibleItems chosen
 
--- An item of a guarded path: V comes after each step.
+-- An item of a guarded path: V comes after each step along a guarded axis.
 abbrev pub guardedAs : List ℕ → ℕ → Item → List ℕ
 guardedAs chosen w (Path count) = w ∷ []
-guardedAs chosen w (StepItem s) = guardedStep chosen s
+guardedAs chosen w (StepItem s) = cond (guardedNumber (s .axis)) (guardedStep chosen s) (w ∷ [])
 guardedAs chosen w And = w ∷ []
 guardedAs chosen w Or = w ∷ []
 guardedAs chosen w Not = w ∷ []
@@ -72,4 +73,4 @@ guardedPath chosen p = packPath (stepCount p + 1) ∷ (guardedItems chosen (enco
 -- The size of the composition, from the size of S.
 abbrev pub sizeGot : Option Query → ℕ → ℕ
 sizeGot none count = 0
-sizeGot (some q) count = size q + stepsInPaths (paths q) * (5 + 2 * count) + length (paths q) * (3 + count)
+sizeGot (some q) count = size q + guardsInPaths (paths q) * (5 + 2 * count) + length (paths q) * (3 + count)

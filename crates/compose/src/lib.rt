@@ -4,6 +4,7 @@ use item::Step;
 use paper::Answer;
 use shape::Shape;
 ghost use mathlib.Core.Path.{_≡_};
+ghost use mathlib.Core.List.{[], _∷_};
 ghost use Prim.Native.Nat.{_+_, _*_, _≤_, _<_};
 ghost use lib.ListN.{length, take, drop};
 ghost use Rattle.paper.specs.Limits.{itemLimit};
@@ -13,28 +14,31 @@ ghost use Rattle.paper.specs.Answers.{composedGot, composeAnswer, composeOut};
 ghost use Rattle.paper.specs.Told.{told};
 ghost use Rattle.item.specs.Placed.{placed};
 ghost use Rattle.reverse.specs.Reverses.{owing, IsQuery, pathsGot, eachGot, selectedGot};
-ghost use Rattle.compose.specs.Pieces.{stepItem, stepItems, someNodeItems, visibleItems, lastItems, guardedStep, guardedItem, guardedItems, Raisable, guardedPath, sizeGot};
+ghost use Rattle.compose.specs.Pieces.{guardItem, guardItems, someNodeItems, visibleItems, lastItems, guardedStep, guardedItem, guardedItems, Raisable, guardedPath, sizeGot};
 
-// One for a step, nothing for another item.
-fn one_step(w: u32) -> usize
-    ensures { λ r. ⌜ r ≡ stepItem w ⌝ }
+// One for a guarded step, nothing for another item.
+fn one_guard(w: u32) -> usize
+    ensures { λ r. ⌜ r ≡ guardItem w ⌝ }
 {
     let item = item::unpack(w);
-    if let Item::Step(_) = item { 1 } else { 0 }
+    let Item::Step(step) = item else {
+        return 0;
+    };
+    if item::guarded(step.axis) { 1 } else { 0 }
 }
 
-// How many of the items are steps.
-fn count_steps(items: &[u32]) -> usize
+// How many of the items are guarded steps.
+fn count_guards(items: &[u32]) -> usize
     requires { ⌜ length (now items) ≤ itemLimit ⌝ }
-    ensures { λ r. ⌜ (r ≡ stepItems (now (items .entry))) × (r ≤ length (now (items .entry))) ⌝ }
+    ensures { λ r. ⌜ (r ≡ guardItems (now (items .entry))) × (r ≤ length (now (items .entry))) ⌝ }
 {
     let mut place = 0;
-    let mut steps = 0;
+    let mut guards = 0;
     while place < items.len() {
-        steps += one_step(items[place]);
+        guards += one_guard(items[place]);
         place += 1;
     }
-    steps
+    guards
 }
 
 // Copies items that stand further on in the output.
@@ -87,7 +91,7 @@ fn put_last(out: &mut [u32], at: usize, from: usize, count: usize) -> usize
     put_some_node(item::ANCESTOR_OR_SELF, out, at + 1, from, count)
 }
 
-// A step gets V as its first predicate, whatever its axis.
+// A guarded step: it gets V as its first predicate.
 fn guard_step(step: Step, out: &mut [u32], at: usize, from: usize, count: usize) -> usize
     requires { ⌜ (step .axis < axisBound) × (step .test < testBound) × (step .count < countLimit) × (at + 6 + count + count ≤ from) × (from + count ≤ length (now out)) ⌝ }
     ensures { λ r. ⌜ (now (out .exit) ≡ placed (guardedStep (take count (drop from (now (out .entry)))) step) at (now (out .entry))) × (r ≡ at + 6 + count + count) ⌝ }
@@ -100,18 +104,30 @@ fn guard_step(step: Step, out: &mut [u32], at: usize, from: usize, count: usize)
     put_visible(out, at + 1, from, count)
 }
 
-// One item of a guarded path.
+// An item that stays as it is.
+fn keep_item(w: u32, out: &mut [u32], at: usize) -> usize
+    requires { ⌜ at < length (now out) ⌝ }
+    ensures { λ r. ⌜ (now (out .exit) ≡ placed (w ∷ []) at (now (out .entry))) × (r ≡ at + 1) ⌝ }
+{
+    out[at] = w;
+    at + 1
+}
+
+// One item of a guarded path: a step along a guarded axis gets V, another item stays as it is.
 fn guard_item(w: u32, out: &mut [u32], at: usize, from: usize, count: usize) -> usize
     requires { ⌜ (owing w < countLimit) × (at + length (guardedItem (take count (drop from (now out))) w) ≤ from) × (from + count ≤ length (now out)) ⌝ }
     ensures { λ r. ⌜ (now (out .exit) ≡ placed (guardedItem (take count (drop from (now (out .entry)))) w) at (now (out .entry)))
         × (r ≡ at + length (guardedItem (take count (drop from (now (out .entry)))) w)) ⌝ }
 {
     let said = item::unpack(w);
-    if let Item::Step(step) = said {
-        return guard_step(step, out, at, from, count);
+    let Item::Step(step) = said else {
+        return keep_item(w, out, at);
+    };
+    if item::guarded(step.axis) {
+        guard_step(step, out, at, from, count)
+    } else {
+        keep_item(w, out, at)
     }
-    out[at] = w;
-    at + 1
 }
 
 // The items of a path's steps, guarded.
@@ -165,14 +181,14 @@ fn put_composed(
     guard_paths(outer, out, from, count);
 }
 
-// The size of the composition: 01's w(outer) + t(5 + 2s) + m(3 + s).
+// The size of the composition: w(outer) + t(5 + 2s) + m(3 + s), with t the guarded steps.
 fn composed_size(outer: &[u32], count: usize) -> usize
     requires { ⌜ (IsQuery (now outer)) × (length (now outer) ≤ itemLimit) × (count ≤ 6 * itemLimit) ⌝ }
     ensures { λ r. ⌜ r ≡ sizeGot (decode (now (outer .entry))) count ⌝ }
 {
-    let steps = count_steps(outer);
+    let guards = count_guards(outer);
     let paths = reverse::count_paths(outer);
-    outer.len() + steps * (5 + 2 * count) + paths * (3 + count)
+    outer.len() + guards * (5 + 2 * count) + paths * (3 + count)
 }
 
 // Writes the composition, and answers the number of its items.
@@ -190,6 +206,7 @@ pub fn compose(outer: &[u32], inner: &[u32], out: &mut [u32]) -> Answer
     let Shape::Query {
         nesting: outer_nesting,
         height: _,
+        guards: outer_guards,
     } = outer_shape
     else {
         return Answer::BadQuery(0);
@@ -198,11 +215,13 @@ pub fn compose(outer: &[u32], inner: &[u32], out: &mut [u32]) -> Answer
     let Shape::Query {
         nesting: inner_nesting,
         height: _,
+        guards: _,
     } = inner_shape
     else {
         return Answer::BadQuery(1);
     };
-    let nesting = outer_nesting + 2 + shape::larger(2, inner_nesting);
+    let guard_nesting = outer_guards + 2 + shape::larger(2, inner_nesting);
+    let nesting = shape::larger(outer_nesting, guard_nesting);
     if paper::BRACKET_LIMIT < nesting {
         return Answer::TooNested(nesting);
     }

@@ -6,3 +6,5 @@ pub mod Meeting
 pub mod Saying
 -- Writing in place: `placed-after`, `placed-before`, `drop-placed`, `placed-cut`.
 pub mod Placing
+-- Guarded axes by their numbers: `guarded-number`, `guarded-none`.
+pub mod GuardedAxes

@@ -1,9 +1,11 @@
 -- What a number says as an item, and the number of a step, by the layout of docs/SCOPE.md, "The query in memory".
 use Prim.Native.Nat.{ℕ, _+_, _*_}
-use mathlib.Core.Bool.{cond}
+use mathlib.Core.Bool.{Bool, false, cond}
 use mathlib.Core.Option.{Option, none, some}
 use lib.Dec.{eqb}
-use Rattle.paper.specs.Items.{axisNumber, testNumber, pathAt, Head, stepAt, andItem, orItem, notItem}
+use Rattle.paper.specs.Query.{Axis}
+use Rattle.paper.specs.Composition.{guarded}
+use Rattle.paper.specs.Items.{axisNumber, axisOf, testNumber, pathAt, Head, stepAt, andItem, orItem, notItem}
 use Rattle.item.specs.declared.Step.{Step}
 use Rattle.item.specs.declared.Item.{Item}
 use Rattle.item.specs.declared.Item.the-variants.{Path, Step as StepItem, And, Or, Not, Bad}
@@ -28,3 +30,11 @@ unpacked w = pathOf w (pathAt w)
 -- The number of a step item, from the numbers of its fields.
 abbrev pub packed : Step → ℕ
 packed s = 1 + s .axis * 8 + s .test * 64 + s .count * 32768
+
+-- Is a step along the axis of this number guarded in a composition? Along what is no axis it is not.
+abbrev pub guardedAxis : Option Axis → Bool
+guardedAxis none = false
+guardedAxis (some a) = guarded a
+
+unfoldable pub guardedNumber : ℕ → Bool
+guardedNumber axis = guardedAxis (axisOf axis)

@@ -5,7 +5,7 @@ ghost use lib.ListN.{length, replicate};
 ghost use Rattle.paper.specs.Query.{Axis};
 ghost use Rattle.paper.specs.Items.{axisNumber, axisBound, testBound, countBound, packPath};
 ghost use Rattle.paper.specs.Composition.{turned};
-ghost use Rattle.item.specs.Unpacked.{unpacked, packed};
+ghost use Rattle.item.specs.Unpacked.{unpacked, packed, guardedNumber};
 ghost use Rattle.item.specs.Placed.{placed};
 
 // The item of `and`, that of `or` and that of `not`.
@@ -144,6 +144,20 @@ pub fn turn(axis: u32) -> u32
         DESCENDANT_OR_SELF => ANCESTOR_OR_SELF,
         ANCESTOR_OR_SELF => DESCENDANT_OR_SELF,
         _ => AXES,
+    }
+}
+
+// Is a step along the axis guarded in a composition? Child and descendant-or-self lead from a visible node to hidden ones, the other axes and what is no axis do not.
+pub fn guarded(axis: u32) -> bool
+    ensures { λ r. ⌜ r ≡ guardedNumber axis ⌝ }
+{
+    match axis {
+        SELF => false,
+        CHILD => true,
+        PARENT => false,
+        DESCENDANT_OR_SELF => true,
+        ANCESTOR_OR_SELF => false,
+        _ => false,
     }
 }
 

@@ -27,6 +27,7 @@ fn past_steps(items: &[u32], at: usize, count: usize, depth: usize) -> usize
         next,
         nesting: _,
         height: _,
+        guards: _,
     } = walked
     else {
         return at;

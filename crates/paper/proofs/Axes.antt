@@ -1,12 +1,12 @@
 -- The laws of the axes: their numbers, their words, and that a turned axis is the converse.
 -- What tells one axis from another stands here as far as it can. A new axis touches
 --   definitions: `Axis` in Query; `axisNumber`, `axes` and `axisOf` in Items, with `axisBound` and the layout where a number needs more bits; `axisNamed` in Reading;
---     `axisText` in Printing; `leads` in Selection; `turned` in Composition; `rises` in theorems/specs/Demands;
---   code: the constants, `AXES` and `turn` of item; `axis_of` of ahead; `put_axis` of pen; `along` of sets, with a pass for it;
---   proofs: this file; theorems/proofs/Axes (it stays inside marks if it rises, and renumbering keeps it); ahead/proofs/Words and axis_of (its word);
---     an arm in each of item/proofs/turn, pen/proofs/put_axis and sets/proofs/along; the proof of its pass in sets;
+--     `axisText` in Printing; `leads` in Selection; `turned` and `guarded` in Composition; `rises` in theorems/specs/Demands;
+--   code: the constants, `AXES`, `turn` and `guarded` of item; `axis_of` of ahead; `put_axis` of pen; `along` of sets, with a pass for it;
+--   proofs: this file; theorems/proofs/Axes (it stays inside marks if it rises, it is guarded if it does not, and renumbering keeps it); ahead/proofs/Words and axis_of (its word);
+--     an arm in each of item/proofs/turn, item/proofs/guarded, pen/proofs/put_axis and sets/proofs/along; the proof of its pass in sets;
 --   edits: theorems/must-fail/descendant_turned_into_itself, which writes `turned` out;
---   tests in C: the axes, their words, `turned` and `leads` in tests/paper.c; those that tests/making.c makes; the numbers of no axis in tests/refusals.c;
+--   tests in C: the axes, their words, `turned`, `guarded` and `leads` in tests/paper.c; those that tests/making.c makes; the numbers of no axis in tests/refusals.c;
 --   pages: docs/VIEWS.md, and what else lists the axes.
 -- No other proof splits on an axis. Assumes nothing.
 use Prim.Native.Nat.{ℕ, zero, suc, _≤_, _<_}

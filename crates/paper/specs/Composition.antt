@@ -1,11 +1,12 @@
 -- docs/SCOPE.md, "Composition": one query for an outer query run inside what an inner query keeps.
 use Prim.Native.Nat.{ℕ, _+_, _*_, _-_, max}
+use mathlib.Core.Bool.{Bool, true, false, cond}
 use mathlib.Core.List.{List, [], _∷_, map}
 use lib.ListN.{length}
 use Rattle.paper.specs.Query.{Axis, self, child, parent, descendantOrSelf, ancestorOrSelf}
 use Rattle.paper.specs.Query.{Test, anyNode}
 use Rattle.paper.specs.Query.{Expr, path, both, either, negated, Steps, stop, step, Preds, bare, pred, Query, paths}
-use Rattle.paper.specs.Measures.{size, nesting}
+use Rattle.paper.specs.Measures.{roundLeftOfAnd, roundRightOfAnd, roundRightOfOr, inBrackets, size, nesting}
 
 -- Child turns into parent, parent into child, descendant-or-self and ancestor-or-self into each other; self stays.
 abbrev pub turned : Axis → Axis
@@ -45,11 +46,19 @@ someNode a e = path (step a anyNode (pred e bare) stop)
 unfoldable pub visible : Query → Expr
 visible inner = either (someNode descendantOrSelf (selectedBy inner)) (someNode ancestorOrSelf (selectedBy inner))
 
--- Which predicates a step gets in front: V for every axis.
-abbrev pub guardOn : Axis → Expr → Preds → Preds
-guardOn a v ps = pred v ps
+-- Is a step along the axis guarded? Self, parent and ancestor-or-self lead from a visible node only to visible nodes, so child and descendant-or-self alone are.
+abbrev pub guarded : Axis → Bool
+guarded self = false
+guarded child = true
+guarded parent = false
+guarded descendantOrSelf = true
+guarded ancestorOrSelf = false
 
--- Every step, those in predicates included, gets V as its first predicate.
+-- The predicates of a step, with V in front where its axis is guarded.
+abbrev pub guardOn : Axis → Expr → Preds → Preds
+guardOn a v ps = cond (guarded a) (pred v ps) ps
+
+-- Every step along a guarded axis, those in predicates included, gets V as its first predicate.
 abbrev mutual
   pub guardExpr : Expr → Expr → Expr
   guardExpr (path steps) v = path (guardSteps steps v)
@@ -82,35 +91,60 @@ unfoldable pub composed : Query → Query → Query
 composed outer inner =
     record { first = composedPath inner (outer .first); others = map (composedPath inner) (outer .others) }
 
--- The steps of a query, of all depths.
+-- The guarded steps of a query, of all depths.
 abbrev mutual
-  pub stepsInExpr : Expr → ℕ
-  stepsInExpr (path steps) = stepsInSteps steps
-  stepsInExpr (both a b) = stepsInExpr a + stepsInExpr b
-  stepsInExpr (either a b) = stepsInExpr a + stepsInExpr b
-  stepsInExpr (negated a) = stepsInExpr a
+  pub guardsInExpr : Expr → ℕ
+  guardsInExpr (path steps) = guardsInSteps steps
+  guardsInExpr (both a b) = guardsInExpr a + guardsInExpr b
+  guardsInExpr (either a b) = guardsInExpr a + guardsInExpr b
+  guardsInExpr (negated a) = guardsInExpr a
 
-  pub stepsInSteps : Steps → ℕ
-  stepsInSteps stop = 0
-  stepsInSteps (step a t ps rest) = 1 + (stepsInPreds ps + stepsInSteps rest)
+  pub guardsInSteps : Steps → ℕ
+  guardsInSteps stop = 0
+  guardsInSteps (step a t ps rest) = cond (guarded a) 1 0 + (guardsInPreds ps + guardsInSteps rest)
 
-  pub stepsInPreds : Preds → ℕ
-  stepsInPreds bare = 0
-  stepsInPreds (pred e ps) = stepsInExpr e + stepsInPreds ps
+  pub guardsInPreds : Preds → ℕ
+  guardsInPreds bare = 0
+  guardsInPreds (pred e ps) = guardsInExpr e + guardsInPreds ps
 
-abbrev pub stepsInPaths : List Steps → ℕ
-stepsInPaths [] = 0
-stepsInPaths (p ∷ ps) = stepsInSteps p + stepsInPaths ps
+abbrev pub guardsInPaths : List Steps → ℕ
+guardsInPaths [] = 0
+guardsInPaths (p ∷ ps) = guardsInSteps p + guardsInPaths ps
 
 -- The size of S: s = w(inner) + 5k - 1.
 unfoldable pub selectedSize : Query → ℕ
 selectedSize inner = size inner + 5 * length (paths inner) - 1
 
--- The size of the composition: w(outer) + t(5 + 2s) + m(3 + s).
+-- The size of the composition: w(outer) + t(5 + 2s) + m(3 + s), with t the guarded steps of the outer query.
 unfoldable pub composedSize : Query → Query → ℕ
 composedSize outer inner =
-    size outer + stepsInPaths (paths outer) * (5 + 2 * selectedSize inner) + length (paths outer) * (3 + selectedSize inner)
+    size outer + guardsInPaths (paths outer) * (5 + 2 * selectedSize inner) + length (paths outer) * (3 + selectedSize inner)
 
--- Its nesting: N(outer) + 2 + the larger of 2 and N(inner).
+-- The greatest number of brackets open at a guarded step, where so many are open around what is looked at; 0 where no step is guarded.
+abbrev mutual
+  pub guardDepthExpr : Expr → ℕ → ℕ
+  guardDepthExpr (path steps) opened = guardDepthSteps steps opened
+  guardDepthExpr (both a b) opened =
+      max (guardDepthExpr a (inBrackets (roundLeftOfAnd a) opened)) (guardDepthExpr b (inBrackets (roundRightOfAnd b) opened))
+  guardDepthExpr (either a b) opened = max (guardDepthExpr a opened) (guardDepthExpr b (inBrackets (roundRightOfOr b) opened))
+  guardDepthExpr (negated a) opened = guardDepthExpr a (1 + opened)
+
+  pub guardDepthSteps : Steps → ℕ → ℕ
+  guardDepthSteps stop opened = 0
+  guardDepthSteps (step a t ps rest) opened = max (max (cond (guarded a) opened 0) (guardDepthPreds ps opened)) (guardDepthSteps rest opened)
+
+  pub guardDepthPreds : Preds → ℕ → ℕ
+  guardDepthPreds bare opened = 0
+  guardDepthPreds (pred e ps) opened = max (guardDepthExpr e (1 + opened)) (guardDepthPreds ps opened)
+
+abbrev pub guardDepthPaths : List Steps → ℕ
+guardDepthPaths [] = 0
+guardDepthPaths (p ∷ ps) = max (guardDepthSteps p 0) (guardDepthPaths ps)
+
+-- d: the greatest number of brackets open at a guarded step of a query, and 0 at least.
+unfoldable pub guardDepth : Query → ℕ
+guardDepth q = guardDepthPaths (paths q)
+
+-- The nesting of the composition: that of the outer query or, if greater, d + 2 + the larger of 2 and N(inner).
 unfoldable pub composedNesting : Query → Query → ℕ
-composedNesting outer inner = nesting outer + 2 + max 2 (nesting inner)
+composedNesting outer inner = max (nesting outer) (guardDepth outer + 2 + max 2 (nesting inner))

@@ -165,10 +165,48 @@ pub textsHold : T (textsRead && textPrinted && allRows starRows)
 unfolding height over goodNode tableFault goodMark marksFault reaches selects keeps kept runAnswer runMarks readAnswer readOut readItems composeAnswer composeOut printAnswer printOut printed pieces namesFault namesOf badLine tokens tokenAt readText readTail readTested readStep readOperand readTerm readExpr readPath pathAt stepAt encode decode takeOperand takeTerm takeExpr size nesting reversed selectedBy visible lastStep composedPath composed
 textsHold = tt
 
--- So many `not(` around b.
+-- Steps along self, parent and ancestor-or-self lead from visible nodes to visible nodes, and get no V: what such compositions keep, and how many items they have.
+abbrev pub guardRows : List Row
+guardRows =
+    row through "/." "/b" (marks "0000000") ∷
+    row through "/." "/a/b/d" (marks "1100011") ∷
+    row through "//d/ancestor-or-self::b" "/a/b/c" (marks "0000000") ∷
+    row through "//text()/../.." "/a/b/c" (marks "1111100") ∷
+    row through "/a/b[not(d)]/ancestor-or-self::a" "/a/b/c" (marks "1111100") ∷
+    row sized "/." "/b" (11 ∷ []) ∷
+    row sized "/.." "/b" (11 ∷ []) ∷
+    row sized "/ancestor-or-self::a" "/b" (11 ∷ []) ∷
+    row sized "/a" "/b" (28 ∷ []) ∷
+    row sized "//." "/b" (29 ∷ []) ∷
+    row sized "/a[../b]" "/b" (48 ∷ []) ∷
+    []
+
+-- So many `not(` around a text.
+abbrev pub deniedTimes : ℕ → List ℕ → List ℕ
+deniedTimes zero text = text
+deniedTimes (suc n) text = ascii "not(" ++ deniedTimes n text ++ ascii ")"
+
 abbrev pub denied : ℕ → List ℕ
-denied zero = ascii "b"
-denied (suc n) = ascii "not(" ++ denied n ++ ascii ")"
+denied n = deniedTimes n (ascii "b")
+
+-- What composing an outer text with `/b` answers.
+abbrev pub onB : List ℕ → List ℕ
+onB outer = numbers (composeAnswer (counted (readAnswer outer names 100) (readOut outer names blank)) (itemsOf "/b") 200)
+
+-- Nesting 64 by steps that get no guard is accepted, and 61 is refused where a guarded step stands in the deepest bracket; a guarded step further out counts where it stands.
+abbrev pub nestings : Bool
+nestings =
+    same (onB (ascii "/self::a[" ++ deniedTimes 63 (ascii ".") ++ ascii "]")) (76 ∷ []) &&
+    same (onB (ascii "/self::a[" ++ deniedTimes 59 (ascii "b") ++ ascii "]")) (89 ∷ []) &&
+    same (onB (ascii "/self::a[" ++ deniedTimes 60 (ascii "b") ++ ascii "]")) (9 ∷ 65 ∷ []) &&
+    same (onB (ascii "/self::a[" ++ deniedTimes 63 (ascii "b") ++ ascii "]")) (9 ∷ 68 ∷ []) &&
+    same (onB (ascii "/a[" ++ deniedTimes 63 (ascii "..") ++ ascii "]")) (93 ∷ []) &&
+    same (onB (ascii "/self::a[" ++ deniedTimes 60 (ascii "self::a[.]/b") ++ ascii "]")) (9 ∷ 65 ∷ [])
+
+-- All of this holds, by computation.
+pub guardsHold : T (allRows guardRows && nestings)
+unfolding height over goodNode tableFault goodMark marksFault reaches selects keeps kept runAnswer runMarks readAnswer readOut readItems composeAnswer composeOut namesFault namesOf badLine tokens tokenAt readText readTail readTested readStep readOperand readTerm readExpr readPath pathAt stepAt encode decode takeOperand takeTerm takeExpr size nesting reversed selectedBy visible lastStep composedPath composed
+guardsHold = tt
 
 -- Does the program print this of the input?
 abbrev pub printsOf : List ℕ → String → Bool

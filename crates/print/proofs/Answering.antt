@@ -33,9 +33,9 @@ pub shape-none : (o : Option Query) → NoQuery ≡ shapeOf o → o ≡ none
 shape-none none h = refl
 shape-none (some q) h = absurd (let z : _≡_ {A = ℕ} 0 1 = cc in omega arith)
 
-pub shape-some : (o : Option Query) (nest high : ℕ) → IsQuery nest high ≡ shapeOf o → (q : Query) × (o ≡ some q)
-shape-some none nest high h = absurd (let z : _≡_ {A = ℕ} 0 1 = cc in omega arith)
-shape-some (some q) nest high h = (q, refl)
+pub shape-some : (o : Option Query) (nest high guards : ℕ) → IsQuery nest high guards ≡ shapeOf o → (q : Query) × (o ≡ some q)
+shape-some none nest high guards h = absurd (let z : _≡_ {A = ℕ} 0 1 = cc in omega arith)
+shape-some (some q) nest high guards h = (q, refl)
 
 -- What has been found of a query and a list before the names are looked at.
 pub record Ready (query list starts : List ℕ) (count : ℕ) : Type 0 where

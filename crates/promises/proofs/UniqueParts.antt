@@ -21,7 +21,7 @@ use Rattle.pen.specs.Putting.{Puts}
 use Rattle.table.specs.declared.Fault.{Fault}
 use Rattle.table.specs.declared.Fault.the-variants.{Nothing, At}
 use Rattle.table.specs.Faults.{faultOf}
-use Rattle.promises.specs.UniqueParts.{UnpackUnique, PackPathUnique, PackStepUnique, TurnUnique, PutItemsUnique, PutSameUnique}
+use Rattle.promises.specs.UniqueParts.{UnpackUnique, PackPathUnique, PackStepUnique, TurnUnique, GuardedUnique, PutItemsUnique, PutSameUnique}
 use Rattle.promises.specs.UniqueParts.{NameStartUnique, NamePartUnique, IndexUnique, FindUnique, LinkUnique, FindInitialUnique, SpellUnique, WhiteSpaceUnique, TakeUnique}
 use Rattle.promises.specs.UniqueParts.{SkipSpaceUnique, RunEndUnique, TakePieceUnique, RootPieceUnique, FinishUnique, LeadUnique}
 use Rattle.promises.specs.UniqueParts.{MarkUnique, WordAheadUnique, JoinedUnique, PathLeadUnique, OpeningUnique, AxisAheadUnique, TestCallUnique}
@@ -44,6 +44,9 @@ pack-step-unique κs a u v x y g p q = same p q
 
 pub turn-unique : TurnUnique
 turn-unique κs a u v x y g p q = same (p (g .0) (g .1)) (q (g .0) (g .1))
+
+pub guarded-unique : GuardedUnique
+guarded-unique κs a u v x y g p q = same p q
 
 pub put-items-unique : PutItemsUnique
 put-items-unique κs a u v x y g p q = (refl, same-slice p q)
@@ -127,17 +130,18 @@ place-left : (list : List ℕ) (m n : ℕ) → m ≤ length list → n ≤ lengt
 place-left list m n a b h = omega (arith, length-drop m list, length-drop n list, ap length h)
 
 -- Two walks that took the same end at one place with the same measures.
-module _ {A : Type 0} (items : List ℕ) (at depth : ℕ) (taken : Taken A) (nestOf heightOf : A → ℕ) where
-  walk-unique : (r s : Walked) → Walks items at depth taken nestOf heightOf r → Walks items at depth taken nestOf heightOf s → r ≡ s
-  walk-unique (Done m nest high) (Done n nest′ high′) p q =
+module _ {A : Type 0} (items : List ℕ) (at depth : ℕ) (taken : Taken A) (nestOf heightOf guardOf : A → ℕ) where
+  walk-unique : (r s : Walked) → Walks items at depth taken nestOf heightOf guardOf r → Walks items at depth taken nestOf heightOf guardOf s → r ≡ s
+  walk-unique (Done m nest high guard) (Done n nest′ high′ guard′) p q =
       let e = some-inj (same (sym (p .reads)) (sym (q .reads))) in
       let what = ap (λ w. w .0) e in
       let place : m ≡ n = place-left items m n (p .inside) (q .inside) (ap (λ w. w .1) e) in
       let nests : nest ≡ nest′ = p .nests ∙ ap nestOf what ∙ sym (q .nests) in
       let heights : high ≡ high′ = p .heights ∙ ap heightOf what ∙ sym (q .heights) in
+      let guards : guard ≡ guard′ = p .guards ∙ ap guardOf what ∙ sym (q .guards) in
       cc
-  walk-unique (Done m nest high) Malformed p q = none-some (same (sym q) (sym (p .reads)))
-  walk-unique Malformed (Done n nest high) p q = none-some (same (sym p) (sym (q .reads)))
+  walk-unique (Done m nest high guard) Malformed p q = none-some (same (sym q) (sym (p .reads)))
+  walk-unique Malformed (Done n nest high guard) p q = none-some (same (sym p) (sym (q .reads)))
   walk-unique Malformed Malformed p q = refl
 
 pub larger-unique : LargerUnique
@@ -147,7 +151,7 @@ pub run-of-unique : RunOfUnique
 run-of-unique κs a u v x y g p q = same (p .0) (q .0)
 
 pub steps-unique : StepsUnique
-steps-unique κs a u v x y g p q = walk-unique (now (a .0)) _ _ _ _ _ u v p q
+steps-unique κs a u v x y g p q = walk-unique (now (a .0)) _ _ _ _ _ _ u v p q
 
 pub measure-unique : MeasureUnique
 measure-unique κs a u v x y g p q = same p q

@@ -13,6 +13,7 @@ use Rattle.item.proofs.unpack
 use Rattle.item.proofs.pack_path
 use Rattle.item.proofs.pack_step
 use Rattle.item.proofs.turn
+use Rattle.item.proofs.guarded
 use Rattle.item.proofs.put_items
 use Rattle.item.proofs.put_same
 use Rattle.names.proofs.name_start
@@ -99,6 +100,9 @@ PackStepUnique = UniqueAnswer pack_step.Kinds.ps pack_step.Kinds.r pack_step.Rea
 
 abbrev pub TurnUnique : Type 0
 TurnUnique = UniqueAnswer turn.Kinds.ps turn.Kinds.r (λ κs a. IsAxis (a .0)) turn.Reads.Post
+
+abbrev pub GuardedUnique : Type 0
+GuardedUnique = UniqueAnswer guarded.Kinds.ps guarded.Kinds.r guarded.Reads.Pre guarded.Reads.Post
 
 abbrev pub PutItemsUnique : Type 0
 PutItemsUnique = Unique put_items.Kinds.ps put_items.Kinds.r put_items.Reads.Pre put_items.Reads.Post (λ κs x. now (x .1 .0) ∷ [])

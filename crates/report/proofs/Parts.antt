@@ -40,9 +40,9 @@ pub input-taken : (input : List ℕ) → length input ≤ inputLimit → value (
 input-taken input l = rw (le-ltb inputLimit (length input) l)
 
 -- The nesting that the shape of items says.
-pub shape-nesting : (o : Option Query) (nest high : ℕ) → IsQuery nest high ≡ shapeOf o → nest ≡ nestingGot o
-shape-nesting none nest high h = absurd (let z : _≡_ {A = ℕ} 0 1 = cc in omega arith)
-shape-nesting (some q) nest high h = cc
+pub shape-nesting : (o : Option Query) (nest high guards : ℕ) → IsQuery nest high guards ≡ shapeOf o → nest ≡ nestingGot o
+shape-nesting none nest high guards h = absurd (let z : _≡_ {A = ℕ} 0 1 = cc in omega arith)
+shape-nesting (some q) nest high guards h = cc
 
 pub shape-nothing : (o : Option Query) → Malformed ≡ shapeOf o → _≡_ {A = ℕ} 0 (nestingGot o)
 shape-nothing none h = refl

@@ -19,7 +19,12 @@ fn nesting_of(query: &[u32]) -> usize
     ensures { λ r. ⌜ r ≡ nestingGot (decode (now (query .entry))) ⌝ }
 {
     let shape = shape::measure(query);
-    let Shape::Query { nesting, height: _ } = shape else {
+    let Shape::Query {
+        nesting,
+        height: _,
+        guards: _,
+    } = shape
+    else {
         return 0;
     };
     nesting

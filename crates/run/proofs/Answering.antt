@@ -39,9 +39,9 @@ pub shaped-none : (o : Option Query) → NoQuery ≡ shapeOf o → o ≡ none
 shaped-none none h = refl
 shaped-none (some q) h = absurd (let z : _≡_ {A = ℕ} 0 1 = cc in omega arith)
 
-pub shaped-some {ℓ} : {C : Type ℓ} (o : Option Query) (n h : ℕ) → IsQuery n h ≡ shapeOf o → ((q : Query) → o ≡ some q → h ≡ height q → C) → C
-shaped-some none n h e k = absurd (let z : _≡_ {A = ℕ} 0 1 = cc in omega arith)
-shaped-some (some q) n h e k = k q refl (cc)
+pub shaped-some {ℓ} : {C : Type ℓ} (o : Option Query) (n h g : ℕ) → IsQuery n h g ≡ shapeOf o → ((q : Query) → o ≡ some q → h ≡ height q → C) → C
+shaped-some none n h g e k = absurd (let z : _≡_ {A = ℕ} 0 1 = cc in omega arith)
+shaped-some (some q) n h g e k = k q refl (cc)
 
 module _ (query : List ℕ) (t : Table) (given : List ℕ) (marksRoom scratchRoom : ℕ) where
   -- Does line 1 hold?

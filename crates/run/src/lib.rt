@@ -37,7 +37,12 @@ fn judge(
         return Answer::TooLong;
     }
     let shaped = shape::measure(query);
-    let Shape::Query { nesting: _, height } = shaped else {
+    let Shape::Query {
+        nesting: _,
+        height,
+        guards: _,
+    } = shaped
+    else {
         return Answer::BadQuery(0);
     };
     if let Fault::At(i) = table::table_fault(parent, kind) {

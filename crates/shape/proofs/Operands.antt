@@ -15,6 +15,7 @@ use Rattle.paper.specs.Tools.{found, begins}
 use Rattle.paper.specs.Query.{Expr, path, negated}
 use Rattle.paper.specs.Items.{andItem, orItem, notItem, pathAt, Head, stepAt, Taken, takeSteps, takeOperand, takeExpr, takeWithin}
 use Rattle.paper.specs.Measures.{isAnd, isOr, nestExpr, nestSteps, heightExpr, heightSteps}
+use Rattle.paper.specs.Composition.{guardDepthExpr}
 use Rattle.paper.proofs.Tests.{or-right}
 use Rattle.paper.proofs.Fields.{path-found, step-found}
 use Rattle.paper.proofs.Encoding.{from-operand, from-within}
@@ -27,7 +28,7 @@ use denote.Enum.Declared.{tagOf}
 use types.Run.{OneOf, miss}
 use Rattle.shape.specs.declared.Walked.{Walked}
 use Rattle.shape.specs.declared.Walked.the-variants.{Done, Malformed}
-use Rattle.shape.specs.Walks.{nestOperand, operators, Walks, raisedBy, Small}
+use Rattle.shape.specs.Walks.{nestOperand, opened, openInExpr, openInOperand, openInSteps, operators, Walks, raisedBy, Small}
 use Rattle.shape.proofs.Operators.{Operator, isJoined, each, run, operators-some}
 
 -- A number that is a path's is no operator's and not `not`.
@@ -104,17 +105,23 @@ at-place items at l = drop-cons items at 0 l ∙ ap (λ (k : ℕ). getD items at
 pub in-bracket : (operator : ℕ) → Operator operator → (e : Expr) → isJoined operator e ≡ true → (isOr e || isAnd e) ≡ true
 in-bracket = each (λ operator. (e : Expr) → isJoined operator e ≡ true → (isOr e || isAnd e) ≡ true) (λ e h. or-right (isOr e) h) (λ e h. rw h)
 
+-- A bracket more is open where one less may be opened.
+pub one-opened : (depth : ℕ) → suc depth ≤ bracketLimit → opened depth ≡ 1 + opened (suc depth)
+unfolding opened
+one-opened depth few = omega arith
+
 -- The walks of an operand, from those of what it holds.
 module _ (items : List ℕ) (at depth : ℕ) (l : at < length items) where
   pub walk-path : (count : ℕ) → pathAt (getD items at 0) ≡ some count → 1 ≤ count → (r : Walked)
-      → Walks items (at + 1) depth (takeSteps (takeWithin depth) count (drop (at + 1) items)) nestSteps heightSteps r
-      → Walks items at depth (takeOperand (takeWithin depth) (drop at items)) nestOperand heightExpr (raisedBy r 0 1)
-  walk-path count p some-step (Done next nest high) w =
+      → Walks items (at + 1) depth (takeSteps (takeWithin depth) count (drop (at + 1) items)) nestSteps heightSteps (openInSteps depth) r
+      → Walks items at depth (takeOperand (takeWithin depth) (drop at items)) nestOperand heightExpr (openInOperand depth) (raisedBy r 0 1)
+  walk-path count p some-step (Done next nest high guard) w =
       record {
         what = path (w .what);
         reads = rw (at-place items at l, operand-path (takeWithin depth) (getD items at 0) count (drop (at + 1) items) p some-step, w .reads);
         nests = omega (arith, w .nests);
         heights = omega (arith, w .heights);
+        guards = w .guards;
         onward = omega (arith, w .onward);
         inside = w .inside;
         shallow = omega (arith, w .shallow);
@@ -123,21 +130,22 @@ module _ (items : List ℕ) (at depth : ℕ) (l : at < length items) where
   walk-path count p some-step Malformed w =
       rw (at-place items at l, operand-path (takeWithin depth) (getD items at 0) count (drop (at + 1) items) p some-step, w)
 
-  pub walk-not : getD items at 0 ≡ notItem → (r : Walked)
-      → Walks items (at + 1) depth (takeExpr (takeWithin depth) (drop (at + 1) items)) nestExpr heightExpr r
-      → Walks items at (suc depth) (takeOperand (takeWithin (suc depth)) (drop at items)) nestOperand heightExpr (raisedBy r 1 1)
-  walk-not e (Done next nest high) w =
+  pub walk-not : suc depth ≤ bracketLimit → getD items at 0 ≡ notItem → (r : Walked)
+      → Walks items (at + 1) depth (takeExpr (takeWithin depth) (drop (at + 1) items)) nestExpr heightExpr (openInExpr depth) r
+      → Walks items at (suc depth) (takeOperand (takeWithin (suc depth)) (drop at items)) nestOperand heightExpr (openInOperand (suc depth)) (raisedBy r 1 1)
+  walk-not few e (Done next nest high guard) w =
       record {
         what = negated (w .what);
         reads = rw (at-place items at l, e, operand-denied (takeWithin (suc depth)) (drop (at + 1) items), w .reads);
         nests = omega (arith, w .nests);
         heights = omega (arith, w .heights);
+        guards = w .guards ∙ ap (guardDepthExpr (w .what)) (one-opened depth few);
         onward = omega (arith, w .onward);
         inside = w .inside;
         shallow = omega (arith, w .shallow);
         low = omega (arith, w .low);
       }
-  walk-not e Malformed w = rw (at-place items at l, e, operand-denied (takeWithin (suc depth)) (drop (at + 1) items), w)
+  walk-not few e Malformed w = rw (at-place items at l, e, operand-denied (takeWithin (suc depth)) (drop (at + 1) items), w)
 
   -- A bracket of an operator holds the expression that begins with its item, which is joined by it.
   pub operand-same : Operator (getD items at 0) → takeOperand (takeWithin (suc depth)) (drop at items) ≡ takeExpr (takeWithin depth) (drop at items)
@@ -151,21 +159,24 @@ module _ (items : List ℕ) (at depth : ℕ) (l : at < length items) where
       let f = from-operand (suc depth) (takeWithin (suc depth)) (from-within (suc depth)) (drop at items) (e, drop next items) h in
       sym (run depth w o .begins-with e (drop next items)) ∙ ap (begins w) (sym (f .items) ∙ at-place items at l) ∙ eq-eqb w w refl
 
-  pub walk-joined : Operator (getD items at 0) → (r : Walked) → Walks items at depth (takeExpr (takeWithin depth) (drop at items)) nestExpr heightExpr r
-      → Walks items at (suc depth) (takeOperand (takeWithin (suc depth)) (drop at items)) nestOperand heightExpr (raisedBy r 1 0)
-  walk-joined o (Done next nest high) w =
+  pub walk-joined : suc depth ≤ bracketLimit → Operator (getD items at 0) → (r : Walked) → Walks items at depth (takeExpr (takeWithin depth) (drop at items)) nestExpr heightExpr (openInExpr depth) r
+      → Walks items at (suc depth) (takeOperand (takeWithin (suc depth)) (drop at items)) nestOperand heightExpr (openInOperand (suc depth)) (raisedBy r 1 0)
+  walk-joined few o (Done next nest high guard) w =
       let read : takeOperand (takeWithin (suc depth)) (drop at items) ≡ some (w .what, drop next items) = operand-same o ∙ w .reads in
       record {
         what = w .what;
         reads = read;
         nests = rw (in-bracket (getD items at 0) o (w .what) (joined-there o (w .what) next read)) (omega (arith, w .nests));
         heights = omega (arith, w .heights);
+        guards =
+            w .guards ∙ ap (guardDepthExpr (w .what)) (one-opened depth few) ∙
+            rw (in-bracket (getD items at 0) o (w .what) (joined-there o (w .what) next read));
         onward = w .onward;
         inside = w .inside;
         shallow = omega (arith, w .shallow);
         low = omega (arith, w .low);
       }
-  walk-joined o Malformed w = operand-same o ∙ w
+  walk-joined few o Malformed w = operand-same o ∙ w
 
   -- The operators that an expression begins with, where an item of one stands.
   pub operators-there : Operator (getD items at 0) → 1 ≤ operators (drop at items)
@@ -181,32 +192,35 @@ unfolding takeOperand
 operand-past within items at l = rw (drop-of-length-le items l)
 
 -- What can be raised: walks are no deeper than brackets may be, and no higher than the items.
-pub small : {A : Type 0} (items : List ℕ) (at depth : ℕ) (taken : Taken A) (nestOf heightOf : A → ℕ) (r : Walked) → depth ≤ bracketLimit → length items * 4 < 2 ^ 63
-    → Walks items at depth taken nestOf heightOf r → Small r
-small items at depth taken nestOf heightOf (Done next nest high) d l w = (omega (arith, w .shallow), omega (arith, w .low, w .inside))
-small items at depth taken nestOf heightOf Malformed d l w = tt
+pub small : {A : Type 0} (items : List ℕ) (at depth : ℕ) (taken : Taken A) (nestOf heightOf guardOf : A → ℕ) (r : Walked) → depth ≤ bracketLimit → length items * 4 < 2 ^ 63
+    → Walks items at depth taken nestOf heightOf guardOf r → Small r
+small items at depth taken nestOf heightOf guardOf (Done next nest high guard) d l w = (omega (arith, w .shallow), omega (arith, w .low, w .inside))
+small items at depth taken nestOf heightOf guardOf Malformed d l w = tt
 
 -- What holds of each number and the next one holds of any number but 0 and the one before it.
 pub deeper : (P : ℕ → ℕ → Type 0) → ((d : ℕ) → P d (suc d)) → (depth : ℕ) → (depth ≡ 0 → ⊥) → P (depth - 1) depth
 deeper P next zero z = absurd (z refl)
 deeper P next (suc d) z = subst (λ (k : ℕ). P k (suc d)) (let e : d ≡ suc d - 1 = omega arith in e) (next d)
 
+pub less-opened : (depth : ℕ) → (depth ≡ 0 → ⊥) → depth ≤ bracketLimit → opened (depth - 1) ≡ 1 + opened depth
+less-opened depth z few = deeper (λ less d. d ≤ bracketLimit → opened less ≡ 1 + opened d) one-opened depth z few
+
 -- The brackets, where d brackets may be opened and d is not 0.
-module _ (items : List ℕ) (at depth : ℕ) (l : at < length items) (z : depth ≡ 0 → ⊥) (r : Walked) where
-  pub opens-joined : Operator (getD items at 0) → Walks items at (depth - 1) (takeExpr (takeWithin (depth - 1)) (drop at items)) nestExpr heightExpr r
-      → Walks items at depth (takeOperand (takeWithin depth) (drop at items)) nestOperand heightExpr (raisedBy r 1 0)
+module _ (items : List ℕ) (at depth : ℕ) (l : at < length items) (z : depth ≡ 0 → ⊥) (few : depth ≤ bracketLimit) (r : Walked) where
+  pub opens-joined : Operator (getD items at 0) → Walks items at (depth - 1) (takeExpr (takeWithin (depth - 1)) (drop at items)) nestExpr heightExpr (openInExpr (depth - 1)) r
+      → Walks items at depth (takeOperand (takeWithin depth) (drop at items)) nestOperand heightExpr (openInOperand depth) (raisedBy r 1 0)
   opens-joined o =
       deeper
       (λ less d.
-      Walks items at less (takeExpr (takeWithin less) (drop at items)) nestExpr heightExpr r
-      → Walks items at d (takeOperand (takeWithin d) (drop at items)) nestOperand heightExpr (raisedBy r 1 0))
-      (λ d. walk-joined items at d l o r) depth z
+      d ≤ bracketLimit → Walks items at less (takeExpr (takeWithin less) (drop at items)) nestExpr heightExpr (openInExpr less) r
+      → Walks items at d (takeOperand (takeWithin d) (drop at items)) nestOperand heightExpr (openInOperand d) (raisedBy r 1 0))
+      (λ d few. walk-joined items at d l few o r) depth z few
 
-  pub opens-not : getD items at 0 ≡ notItem → Walks items (at + 1) (depth - 1) (takeExpr (takeWithin (depth - 1)) (drop (at + 1) items)) nestExpr heightExpr r
-      → Walks items at depth (takeOperand (takeWithin depth) (drop at items)) nestOperand heightExpr (raisedBy r 1 1)
+  pub opens-not : getD items at 0 ≡ notItem → Walks items (at + 1) (depth - 1) (takeExpr (takeWithin (depth - 1)) (drop (at + 1) items)) nestExpr heightExpr (openInExpr (depth - 1)) r
+      → Walks items at depth (takeOperand (takeWithin depth) (drop at items)) nestOperand heightExpr (openInOperand depth) (raisedBy r 1 1)
   opens-not e =
       deeper
       (λ less d.
-      Walks items (at + 1) less (takeExpr (takeWithin less) (drop (at + 1) items)) nestExpr heightExpr r
-      → Walks items at d (takeOperand (takeWithin d) (drop at items)) nestOperand heightExpr (raisedBy r 1 1))
-      (λ d. walk-not items at d l e r) depth z
+      d ≤ bracketLimit → Walks items (at + 1) less (takeExpr (takeWithin less) (drop (at + 1) items)) nestExpr heightExpr (openInExpr less) r
+      → Walks items at d (takeOperand (takeWithin d) (drop at items)) nestOperand heightExpr (openInOperand d) (raisedBy r 1 1))
+      (λ d few. walk-not items at d l few e r) depth z few

@@ -18,7 +18,8 @@ use Rattle.paper.specs.Items.{andItem, orItem, stepCount, encodeExpr, leading, 
 use Rattle.paper.specs.Measures.{isAnd, isOr, inBrackets, nestExpr, heightExpr}
 use Rattle.paper.proofs.Tests.{decide}
 use Rattle.paper.proofs.Encoding.{from-operand, from-term, from-within}
-use Rattle.shape.specs.Walks.{nestTerm, nestOperand, operators}
+use Rattle.paper.specs.Composition.{guardDepthExpr}
+use Rattle.shape.specs.Walks.{nestTerm, nestOperand, opened, openInExpr, openInTerm, openInOperand, operators}
 
 -- One of the two, by its item.
 abbrev pub Operator : ℕ → Type 0
@@ -52,6 +53,13 @@ nestRun operator = byOperator operator nestExpr nestTerm
 abbrev pub nestPart : ℕ → Expr → ℕ
 nestPart operator = byOperator operator nestTerm nestOperand
 
+-- How deep the guarded steps of an expression stand, as a run and as a part of one.
+abbrev pub openInRun : ℕ → ℕ → Expr → ℕ
+openInRun operator depth = byOperator operator (openInExpr depth) (openInTerm depth)
+
+abbrev pub openInPart : ℕ → ℕ → Expr → ℕ
+openInPart operator depth = byOperator operator (openInTerm depth) (openInOperand depth)
+
 -- An encoded expression begins with an operator's item exactly if it is joined by that operator.
 begins-and : (e : Expr) (rest : List ℕ) → begins andItem (encodeExpr e ++ rest) ≡ isAnd e
 begins-and (path s) rest = ne-eqb 2 (stepCount s * 8) (λ e. omega arith)
@@ -77,6 +85,8 @@ pub record Run (depth operator : ℕ) : Type 0 where
   pub nest-join : (a b : Expr) → nestRun operator (joinBy operator a b) ≡ max (nestRun operator a) (nestPart operator b)
   pub nest-alone : (e : Expr) → isJoined operator e ≡ false → nestPart operator e ≡ nestRun operator e
   pub height-join : (a b : Expr) → heightExpr (joinBy operator a b) ≡ 1 + max (heightExpr a) (heightExpr b)
+  pub guard-join : (a b : Expr) → openInRun operator depth (joinBy operator a b) ≡ max (openInRun operator depth a) (openInPart operator depth b)
+  pub guard-alone : (e : Expr) → isJoined operator e ≡ false → openInPart operator depth e ≡ openInRun operator depth e
 
 pub ands : (depth : ℕ) → Run depth andItem
 unfolding takeTerm
@@ -90,6 +100,8 @@ ands depth =
       nest-join = λ a b. refl;
       nest-alone = λ e h. rw h (plain (isOr e) (nestExpr e));
       height-join = λ a b. refl;
+      guard-join = λ a b. refl;
+      guard-alone = λ e h. rw h (ap (guardDepthExpr e) (plain (isOr e) (opened depth)));
     }
   where
     plain : (b : Bool) (n : ℕ) → inBrackets (b || false) n ≡ inBrackets b n
@@ -108,6 +120,8 @@ ors depth =
       nest-join = λ a b. refl;
       nest-alone = λ e h. rw h;
       height-join = λ a b. refl;
+      guard-join = λ a b. refl;
+      guard-alone = λ e h. rw h;
     }
 
 -- What holds of both operators holds of each.

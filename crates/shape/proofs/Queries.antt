@@ -2,7 +2,7 @@
 use Prim.Native.Nat.{ℕ, zero, suc, _+_, _≤_, _<_, max}
 use native.Mathlib.Omega.{arith}
 use native.Mathlib.Numerals.{add-one}
-use mathlib.Core.Path.{_≡_, refl, sym, _∙_, ap, ap₂}
+use mathlib.Core.Path.{_≡_, refl, sym, _∙_, ap}
 use mathlib.Core.List.{List, [], _∷_, _++_, append-assoc, append-nil}
 use mathlib.Core.Option.{Option, none, some}
 use lib.Dec.{leb}
@@ -13,23 +13,25 @@ use Rattle.paper.specs.Limits.{bracketLimit}
 use Rattle.paper.specs.Query.{Steps}
 use Rattle.paper.specs.Items.{pathAt, takeSteps, takeWithin, takePaths, asQuery, decode}
 use Rattle.paper.specs.Measures.{nestSteps, nestPaths, nesting, heightSteps, heightPaths, height}
+use Rattle.paper.specs.Composition.{guardDepthSteps, guardDepthPaths, guardDepth}
 use Rattle.paper.proofs.Tests.{or-right}
-use Rattle.shape.specs.Walks.{Walk, shapeOf}
+use Rattle.shape.specs.Walks.{opened, openInSteps, Walk, shapeOf}
 use Rattle.shape.specs.declared.Shape.the-variants.{Query as IsQuery, Malformed as NoQuery}
 
 -- What has been read: these paths, and as many more as the items that are left hold.
-pub record PathsLeft (items : List ℕ) (place deep high : ℕ) : Type 0 where
+pub record PathsLeft (items : List ℕ) (place deep high guard : ℕ) : Type 0 where
   pub so-far : List Steps
   pub fuel : ℕ
   pub goes-on : takePaths (length items) items ≡ found (takePaths fuel (drop place items)) (λ ps. some (so-far ++ ps))
   pub enough : length items ≤ place + fuel
   pub nests : deep ≡ nestPaths so-far
   pub heights : high ≡ heightPaths so-far
+  pub guards : guard ≡ guardDepthPaths so-far
   pub inside : place ≤ length items
   pub low : high ≤ place
   pub begun : so-far ≡ [] → place ≡ 0
 
-pub paths-start : (items : List ℕ) → PathsLeft items 0 0 0
+pub paths-start : (items : List ℕ) → PathsLeft items 0 0 0 0
 paths-start items =
     record {
       so-far = [];
@@ -38,6 +40,7 @@ paths-start items =
       enough = omega arith;
       nests = refl;
       heights = refl;
+      guards = refl;
       inside = omega arith;
       low = omega arith;
       begun = λ e. refl;
@@ -56,6 +59,15 @@ height-paths : (ps qs : List Steps) → heightPaths (ps ++ qs) ≡ max (heightPa
 height-paths [] qs = omega arith
 height-paths (p ∷ ps) qs = omega (arith, height-paths ps qs)
 
+guard-paths : (ps qs : List Steps) → guardDepthPaths (ps ++ qs) ≡ max (guardDepthPaths ps) (guardDepthPaths qs)
+guard-paths [] qs = omega arith
+guard-paths (p ∷ ps) qs = omega (arith, guard-paths ps qs)
+
+-- At the top no bracket is open.
+none-opened : opened bracketLimit ≡ 0
+unfolding opened
+none-opened = refl
+
 -- What reading one path more comes to.
 one-path : (items : List ℕ) (place count fuel : ℕ) → place < length items → pathAt (getD items place 0) ≡ some count
     → takePaths (suc fuel) (drop place items)
@@ -67,11 +79,11 @@ some-fuel {ℓ} : {C : Type ℓ} (fuel : ℕ) → 0 < fuel → ((f : ℕ) → fu
 some-fuel zero z k = absurd (omega arith)
 some-fuel (suc f) z k = k f refl
 
-pub paths-more : (items : List ℕ) (place deep high count next nesting height′ deep′ high′ : ℕ) → place < length items → PathsLeft items place deep high
+pub paths-more : (items : List ℕ) (place deep high guard count next nesting height′ guards deep′ high′ guard′ : ℕ) → place < length items → PathsLeft items place deep high guard
     → pathAt (getD items place 0) ≡ some count
-    → Walk items (place + 1) bracketLimit (takeSteps (takeWithin bracketLimit) count (drop (place + 1) items)) nestSteps heightSteps next nesting height′
-    → deep′ ≡ max deep nesting → high′ ≡ max high (height′ + 1) → PathsLeft items next deep′ high′
-paths-more items place deep high count next nesting height′ deep′ high′ l p e w ed eh =
+    → Walk items (place + 1) bracketLimit (takeSteps (takeWithin bracketLimit) count (drop (place + 1) items)) nestSteps heightSteps (openInSteps bracketLimit) next nesting height′ guards
+    → deep′ ≡ max deep nesting → high′ ≡ max high (height′ + 1) → guard′ ≡ max guard guards → PathsLeft items next deep′ high′ guard′
+paths-more items place deep high guard count next nesting height′ guards deep′ high′ guard′ l p e w ed eh eg =
     some-fuel (p .fuel) (omega (arith, p .enough))
     (λ f ef.
     record {
@@ -83,6 +95,7 @@ paths-more items place deep high count next nesting height′ deep′ high′ l 
       enough = omega (arith, p .enough, w .onward);
       nests = omega (arith, ed, p .nests, w .nests, nest-paths (p .so-far) (w .what ∷ []));
       heights = omega (arith, eh, p .heights, w .heights, height-paths (p .so-far) (w .what ∷ []));
+      guards = omega (arith, eg, p .guards, w .guards ∙ ap (guardDepthSteps (w .what)) none-opened, guard-paths (p .so-far) (w .what ∷ []));
       inside = w .inside;
       low = omega (arith, p .low, w .low, w .onward);
       begun = λ nil. absurd (ends (p .so-far) (w .what) nil);
@@ -97,23 +110,23 @@ paths-more items place deep high count next nesting height′ deep′ high′ l 
     ends (q ∷ ps) s h = let z : _≡_ {A = ℕ} (suc (length (ps ++ (s ∷ [])))) 0 = ap length h in omega arith
 
 -- A path that is none, or is malformed.
-pub paths-none : (items : List ℕ) (place deep high : ℕ) → place < length items → PathsLeft items place deep high → pathAt (getD items place 0) ≡ none → NoQuery ≡ shapeOf (decode items)
+pub paths-none : (items : List ℕ) (place deep high guard : ℕ) → place < length items → PathsLeft items place deep high guard → pathAt (getD items place 0) ≡ none → NoQuery ≡ shapeOf (decode items)
 unfolding decode
-paths-none items place deep high l p e =
+paths-none items place deep high guard l p e =
     some-fuel (p .fuel) (omega (arith, p .enough))
     (λ f ef. let h : takePaths (length items) items ≡ none = p .goes-on ∙ rw (ef, drop-cons items place 0 l, e) in rw h)
 
-pub paths-bad : (items : List ℕ) (place deep high count : ℕ) → place < length items → PathsLeft items place deep high → pathAt (getD items place 0) ≡ some count
+pub paths-bad : (items : List ℕ) (place deep high guard count : ℕ) → place < length items → PathsLeft items place deep high guard → pathAt (getD items place 0) ≡ some count
     → takeSteps (takeWithin bracketLimit) count (drop (place + 1) items) ≡ none → NoQuery ≡ shapeOf (decode items)
 unfolding decode
-paths-bad items place deep high count l p e s =
+paths-bad items place deep high guard count l p e s =
     some-fuel (p .fuel) (omega (arith, p .enough))
     (λ f ef. let h : takePaths (length items) items ≡ none = p .goes-on ∙ rw (ef, one-path items place count f l e, s) in rw h)
 
 -- The end of the items.
-pub paths-done : (items : List ℕ) (place deep high : ℕ) → 0 < length items → length items ≤ place → PathsLeft items place deep high → IsQuery deep high ≡ shapeOf (decode items)
-unfolding decode nesting height
-paths-done items place deep high some-item l p =
+pub paths-done : (items : List ℕ) (place deep high guard : ℕ) → 0 < length items → length items ≤ place → PathsLeft items place deep high guard → IsQuery deep high guard ≡ shapeOf (decode items)
+unfolding decode nesting height guardDepth
+paths-done items place deep high guard some-item l p =
     let h : takePaths (length items) items ≡ some (p .so-far) = p .goes-on ∙ rw (drop-of-length-le items l) (nothing-more (p .fuel)) in
     go (p .so-far) refl h
   where
@@ -121,9 +134,9 @@ paths-done items place deep high some-item l p =
     nothing-more zero = ap some (append-nil (p .so-far))
     nothing-more (suc f) = ap some (append-nil (p .so-far))
 
-    go : (ps : List Steps) → p .so-far ≡ ps → takePaths (length items) items ≡ some (p .so-far) → IsQuery deep high ≡ shapeOf (found (takePaths (length items) items) asQuery)
+    go : (ps : List Steps) → p .so-far ≡ ps → takePaths (length items) items ≡ some (p .so-far) → IsQuery deep high guard ≡ shapeOf (found (takePaths (length items) items) asQuery)
     go [] e h = absurd (omega (arith, p .begun e))
-    go (q ∷ qs) e h = rw (h, e) (ap₂ IsQuery (p .nests ∙ ap nestPaths e) (p .heights ∙ ap heightPaths e))
+    go (q ∷ qs) e h = rw (h, p .nests, p .heights, p .guards, e)
 
 -- No items are no query.
 pub no-items : (items : List ℕ) → length items ≡ 0 → NoQuery ≡ shapeOf (decode items)

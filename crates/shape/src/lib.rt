@@ -1,26 +1,33 @@
-// A query in memory: is it one, and then its nesting and height. Recursion opens a bracket each time, so it is at most one deeper than brackets may be.
+// A query in memory: is it one, and then its nesting and height, and how deep its guarded steps stand. Recursion opens a bracket each time, so it is at most one deeper than brackets may be.
 use item::Item;
 ghost use mathlib.Core.Path.{_≡_};
+ghost use mathlib.Core.Bool.{cond};
 ghost use Prim.Native.Nat.{_+_, _^_, _≤_, _<_, max};
 ghost use lib.ListN.{length, drop};
 ghost use Rattle.paper.specs.Limits.{bracketLimit};
 ghost use Rattle.paper.specs.Items.{leading, takePreds, takeSteps, takeOperand, takeExpr, takeWithin, decode};
 ghost use Rattle.paper.specs.Measures.{nestExpr, nestSteps, nestPreds, heightExpr, heightSteps, heightPreds};
-ghost use Rattle.shape.specs.Walks.{Small, raisedBy, joinedHeight, Walks, nestOperand, shapeOf};
+ghost use Rattle.item.specs.Unpacked.{guardedNumber};
+ghost use Rattle.shape.specs.Walks.{Small, raisedBy, joinedHeight, Walks, nestOperand, opened, openInExpr, openInOperand, openInSteps, openInPreds, shapeOf};
 
-// What a walk over items finds: where it ends, with nesting and height, or that the items are malformed.
+// What a walk over items finds: where it ends, with nesting, height and the most brackets open at a guarded step (0 where there is none), or that the items are malformed.
 pub enum Walked {
     Done {
         next: usize,
         nesting: usize,
         height: usize,
+        guards: usize,
     },
     Malformed,
 }
 
-// What a slice is: a query with its nesting and height, or none.
+// What a slice is: a query with its nesting, its height and the most brackets open at a guarded step, or none.
 pub enum Shape {
-    Query { nesting: usize, height: usize },
+    Query {
+        nesting: usize,
+        height: usize,
+        guards: usize,
+    },
     Malformed,
 }
 
@@ -41,10 +48,12 @@ fn raised(walked: Walked, nesting: usize, height: usize) -> Walked
             next,
             nesting: deep,
             height: high,
+            guards,
         } => Walked::Done {
             next,
             nesting: deep + nesting,
             height: high + height,
+            guards,
         },
         Walked::Malformed => Walked::Malformed,
     }
@@ -77,16 +86,29 @@ fn joined(high: usize, height: usize) -> usize
     }
 }
 
+// How many brackets are open at a step, where so many more may be opened and the step is guarded; 0 where it is not.
+fn own_depth(axis: u32, depth: usize) -> usize
+    requires { ⌜ depth ≤ bracketLimit ⌝ }
+    ensures { λ r. ⌜ r ≡ cond (guardedNumber axis) (opened depth) 0 ⌝ }
+{
+    if item::guarded(axis) {
+        paper::BRACKET_LIMIT - depth
+    } else {
+        0
+    }
+}
+
 // An expression: terms of `or`, each of them operands of `and`.
 fn expression(items: &[u32], at: usize, depth: usize) -> Walked
     requires { ⌜ (at ≤ length (now items)) × (depth ≤ bracketLimit) ⌝ }
-    ensures { λ r. ⌜ Walks (now (items .entry)) at depth (takeExpr (takeWithin depth) (drop at (now (items .entry)))) nestExpr heightExpr r ⌝ }
+    ensures { λ r. ⌜ Walks (now (items .entry)) at depth (takeExpr (takeWithin depth) (drop at (now (items .entry)))) nestExpr heightExpr (openInExpr depth) r ⌝ }
 {
     let mut ors = run_of(items, at, item::OR);
     let mut ands = run_of(items, at + ors, item::AND);
     let mut place = at + ors + ands;
     let mut deep = 0;
     let mut high = 0;
+    let mut guarded = 0;
     let mut term = 0;
     loop {
         let one = operand(items, place, depth);
@@ -94,12 +116,14 @@ fn expression(items: &[u32], at: usize, depth: usize) -> Walked
             next,
             nesting,
             height,
+            guards,
         } = one
         else {
             return Walked::Malformed;
         };
         place = next;
         deep = larger(deep, nesting);
+        guarded = larger(guarded, guards);
         term = joined(term, height);
         if 0 < ands {
             ands -= 1;
@@ -110,6 +134,7 @@ fn expression(items: &[u32], at: usize, depth: usize) -> Walked
                     next: place,
                     nesting: deep,
                     height: high,
+                    guards: guarded,
                 };
             }
             ors -= 1;
@@ -123,7 +148,7 @@ fn expression(items: &[u32], at: usize, depth: usize) -> Walked
 // An operand of `and`: a path, or what stands in a bracket of `not`, `and` or `or`.
 fn operand(items: &[u32], at: usize, depth: usize) -> Walked
     requires { ⌜ (at ≤ length (now items)) × (depth ≤ bracketLimit) ⌝ }
-    ensures { λ r. ⌜ Walks (now (items .entry)) at depth (takeOperand (takeWithin depth) (drop at (now (items .entry)))) nestOperand heightExpr r ⌝ }
+    ensures { λ r. ⌜ Walks (now (items .entry)) at depth (takeOperand (takeWithin depth) (drop at (now (items .entry)))) nestOperand heightExpr (openInOperand depth) r ⌝ }
 {
     if items.len() <= at {
         return Walked::Malformed;
@@ -148,11 +173,12 @@ fn operand(items: &[u32], at: usize, depth: usize) -> Walked
 // So many steps of a path, each with its predicates.
 pub fn steps(items: &[u32], at: usize, count: usize, depth: usize) -> Walked
     requires { ⌜ (at ≤ length (now items)) × (depth ≤ bracketLimit) ⌝ }
-    ensures { λ r. ⌜ Walks (now (items .entry)) at depth (takeSteps (takeWithin depth) count (drop at (now (items .entry)))) nestSteps heightSteps r ⌝ }
+    ensures { λ r. ⌜ Walks (now (items .entry)) at depth (takeSteps (takeWithin depth) count (drop at (now (items .entry)))) nestSteps heightSteps (openInSteps depth) r ⌝ }
 {
     let mut place = at;
     let mut deep = 0;
     let mut high = 0;
+    let mut guarded = 0;
     let mut owed = count;
     while 0 < owed {
         if items.len() <= place {
@@ -162,11 +188,13 @@ pub fn steps(items: &[u32], at: usize, count: usize, depth: usize) -> Walked
         let Item::Step(step) = item else {
             return Walked::Malformed;
         };
+        guarded = larger(guarded, own_depth(step.axis, depth));
         let more = predicates(items, place + 1, step.count, depth);
         let Walked::Done {
             next,
             nesting,
             height,
+            guards,
         } = more
         else {
             return Walked::Malformed;
@@ -174,23 +202,26 @@ pub fn steps(items: &[u32], at: usize, count: usize, depth: usize) -> Walked
         place = next;
         deep = larger(deep, nesting);
         high = larger(high, height);
+        guarded = larger(guarded, guards);
         owed -= 1;
     }
     Walked::Done {
         next: place,
         nesting: deep,
         height: high,
+        guards: guarded,
     }
 }
 
 // So many predicates, each an expression in its bracket.
 fn predicates(items: &[u32], at: usize, count: usize, depth: usize) -> Walked
     requires { ⌜ (at ≤ length (now items)) × (depth ≤ bracketLimit) ⌝ }
-    ensures { λ r. ⌜ Walks (now (items .entry)) at depth (takePreds (takeWithin depth) count (drop at (now (items .entry)))) nestPreds heightPreds r ⌝ }
+    ensures { λ r. ⌜ Walks (now (items .entry)) at depth (takePreds (takeWithin depth) count (drop at (now (items .entry)))) nestPreds heightPreds (openInPreds depth) r ⌝ }
 {
     let mut place = at;
     let mut deep = 0;
     let mut high = 0;
+    let mut guarded = 0;
     let mut owed = count;
     while 0 < owed {
         if depth == 0 {
@@ -201,6 +232,7 @@ fn predicates(items: &[u32], at: usize, count: usize, depth: usize) -> Walked
             next,
             nesting,
             height,
+            guards,
         } = more
         else {
             return Walked::Malformed;
@@ -208,12 +240,14 @@ fn predicates(items: &[u32], at: usize, count: usize, depth: usize) -> Walked
         place = next;
         deep = larger(deep, nesting + 1);
         high = larger(high, height);
+        guarded = larger(guarded, guards);
         owed -= 1;
     }
     Walked::Done {
         next: place,
         nesting: deep,
         height: high,
+        guards: guarded,
     }
 }
 
@@ -227,6 +261,7 @@ pub fn measure(items: &[u32]) -> Shape
     let mut place = 0;
     let mut deep = 0;
     let mut high = 0;
+    let mut guarded = 0;
     while place < items.len() {
         let item = item::unpack(items[place]);
         let Item::Path(count) = item else {
@@ -237,6 +272,7 @@ pub fn measure(items: &[u32]) -> Shape
             next,
             nesting,
             height,
+            guards,
         } = more
         else {
             return Shape::Malformed;
@@ -244,9 +280,11 @@ pub fn measure(items: &[u32]) -> Shape
         place = next;
         deep = larger(deep, nesting);
         high = larger(high, height + 1);
+        guarded = larger(guarded, guards);
     }
     Shape::Query {
         nesting: deep,
         height: high,
+        guards: guarded,
     }
 }

@@ -1,6 +1,6 @@
--- The laws of an axis that the theorems use, beside those of `paper`: it stays inside closed marks if it rises, and renumbering keeps it. Assumes nothing.
+-- The laws of an axis that the theorems use, beside those of `paper`: it stays inside closed marks if it rises, it rises if it is not guarded, and renumbering keeps it. Assumes nothing.
 use Prim.Native.Nat.{ℕ, _<_}
-use mathlib.Core.Path.{_≡_, subst}
+use mathlib.Core.Path.{_≡_, refl, subst}
 use mathlib.Core.Bool.{true, not, false≢true}
 use mathlib.Core.List.{List}
 use lib.Dec.{eqb}
@@ -12,7 +12,7 @@ use Rattle.paper.specs.Extraction.{rank, extracted}
 use Rattle.paper.proofs.Tests.{and-true}
 use Rattle.paper.proofs.Axes as axes
 use Rattle.paper.proofs.Trees.{Tree, Closed, over-marked, tree, closed}
-use Rattle.theorems.specs.Demands.{Converse, rises, StaysInside, Renumbered}
+use Rattle.theorems.specs.Demands.{Converse, rises, StaysInside, Unguarded, Renumbered}
 use Rattle.theorems.proofs.Renumber.{rank-same, over-renumbered, child-renumbered, marks-root}
 
 -- THE TURNED AXIS IS THE CONVERSE.
@@ -30,6 +30,14 @@ leads-inside t w m c ancestorOrSelf r i j l h d = over-marked t w m c j i l h d
 
 pub stays-inside : StaysInside
 stays-inside t m a i j ft fm r l h d = leads-inside t (tree t ft) m (closed t m fm) a r i j l h d
+
+-- THE AXES THAT RISE ARE THOSE THAT ARE NOT GUARDED.
+pub unguarded : Unguarded
+unguarded self = refl
+unguarded child = refl
+unguarded parent = refl
+unguarded descendantOrSelf = refl
+unguarded ancestorOrSelf = refl
 
 -- RENUMBERING KEEPS THE AXIS: it leads from a marked node to a marked node exactly if it leads from the one's new number to the other's.
 pub leads-renumbered : (t : Table) → Tree t → (m : List ℕ) → Closed t m → marked m 0 ≡ true → (a : Axis) (i j : ℕ) → i < nodes t → j < nodes t

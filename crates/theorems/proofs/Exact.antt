@@ -1,4 +1,5 @@
 -- Composition is exact: the composed query selects the nodes that are below both a node selected by the outer query, inside what the inner query keeps, and a node selected by the inner query; what is kept is the same.
+-- Where the root is kept, guarded steps from it are plain ones inside what is kept; where it is not, the inner query selects nothing and the last step leads nowhere.
 -- A kept node and both selected ones lie on one way up to the root, so the lowest of them is selected by the composed query. Assumes nothing.
 use Prim.Native.Nat.{ℕ, _<_}
 use native.Mathlib.Omega.{arith}
@@ -71,7 +72,7 @@ module _ (t : Table) (m : List ℕ) (inner : Query) (ft : tableFault t ≡ none)
       true-and (kept-marked t m inner 0 (tree t ft .rooted) (b .0))
       (some-map (λ q. arrives t m q 0 k) (composedPath inner) (paths outer) ∙
       back (λ q. arrives t m (composedPath inner q) 0 k)
-      (arrives-on t m (guardSteps q (visible inner)) (lastStep inner) 0 j k (guarded-steps t m inner q 0 j ft fm ∙ e) (last-to j k s lk ls h o u p))))
+      (arrives-on t m (guardSteps q (visible inner)) (lastStep inner) 0 j k (guarded-steps t m inner q 0 j ft fm (tree t ft .rooted) (b .0) ∙ e) (last-to j k s lk ls h o u p))))
 
   selects-from {ℓ} : {C : Type ℓ} (outer : Query) (k : ℕ) → selects t m (composed outer inner) k ≡ true
       → ((j s : ℕ) → j < nodes t → s < nodes t → selects t (kept t m inner) outer j ≡ true → over t k j ≡ true → over t k s ≡ true → selects t m inner s ≡ true → C) → C
@@ -87,7 +88,7 @@ module _ (t : Table) (m : List ℕ) (inner : Query) (ft : tableFault t ≡ none)
       last-from j k r
       (λ o s ls u d.
       let root = root-shown s ls d in
-      let a = sym (guarded-steps t m inner q 0 j ft fm) ∙ p in
+      let a = sym (guarded-steps t m inner q 0 j ft fm (w .rooted) root) ∙ p in
       next j s (arrives-marked t n q 0 j (w .rooted) root a .0) ls (true-and root (back (λ q. arrives t n q 0 j) a)) o u d)))
 
   -- What the composed query keeps, the outer query keeps inside what the inner keeps.

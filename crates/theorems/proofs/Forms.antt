@@ -2,7 +2,7 @@
 use Prim.Native.Nat.{suc, _≤_, _<_}
 use native.Mathlib.Omega.{arith}
 use mathlib.Core.Path.{_≡_, refl, ap}
-use mathlib.Core.Bool.{true, _&&_}
+use mathlib.Core.Bool.{Bool, true, false, cond, _&&_}
 use mathlib.Core.List.{List, [], _∷_, map}
 use Rattle.paper.specs.Query.{Axis, Test, anyNode, Expr, path, both, either, negated, Steps, stop, step, Preds, bare, pred, Query, paths}
 use lib.Dec.{leb, ltb}
@@ -11,7 +11,7 @@ use Rattle.paper.specs.Query.{ancestorOrSelf}
 use Rattle.paper.specs.Limits.{itemLimit}
 use Rattle.paper.specs.Items.{stepCount, predCount, goodTest, goodExpr, goodSteps, goodPreds, goodPaths, good, countBound}
 use Rattle.paper.specs.Measures.{sizeExpr, sizeSteps, sizePreds, sizePaths, size}
-use Rattle.paper.specs.Composition.{turned, atRoot, wayBack, reversed, joined, selectedBy, someNode, visible, guardExpr, guardSteps, guardPreds, append, lastStep, composedPath, composed}
+use Rattle.paper.specs.Composition.{turned, atRoot, wayBack, reversed, joined, selectedBy, someNode, visible, guarded, guardExpr, guardSteps, guardPreds, append, lastStep, composedPath, composed}
 use Rattle.paper.proofs.Tests.{and-true, true-and}
 use Rattle.paper.proofs.Decoding.{decode-encode}
 use Rattle.theorems.specs.Demands.{ProperExpr, ProperSteps, ProperPreds, ProperPaths, Proper, ProperComposed, WellFormed, ReadBack}
@@ -54,6 +54,10 @@ module _ (v : Expr) (hv : ProperExpr v) where
   guard-count stop = refl
   guard-count (step a x ps rest) = ap suc (guard-count rest)
 
+  on-proper : (g : Bool) (ps : Preds) → ProperPreds ps → ProperPreds (cond g (pred v ps) ps)
+  on-proper true ps h = (hv, h)
+  on-proper false ps h = h
+
   mutual
     expr-guarded : (e : Expr) → ProperExpr e → ProperExpr (guardExpr e v)
     expr-guarded (path s) h = (omega (arith, guard-count s, h .0), steps-guarded s (h .1))
@@ -63,7 +67,7 @@ module _ (v : Expr) (hv : ProperExpr v) where
 
     steps-guarded : (s : Steps) → ProperSteps s → ProperSteps (guardSteps s v)
     steps-guarded stop h = tt
-    steps-guarded (step a x ps rest) h = (h .0, ((hv, preds-guarded ps (h .1 .0)), steps-guarded rest (h .1 .1)))
+    steps-guarded (step a x ps rest) h = (h .0, (on-proper (guarded a) (guardPreds ps v) (preds-guarded ps (h .1 .0)), steps-guarded rest (h .1 .1)))
 
     preds-guarded : (ps : Preds) → ProperPreds ps → ProperPreds (guardPreds ps v)
     preds-guarded bare h = tt

@@ -2,11 +2,12 @@
 use Prim.Native.Nat.{ℕ, suc, _+_, _≤_, max}
 use native.Mathlib.Omega.{arith}
 use mathlib.Core.Path.{_≡_}
+use mathlib.Core.Bool.{Bool, true, false, cond}
 use mathlib.Core.List.{List, [], _∷_, map}
 use lib.ListN.{length}
 use Rattle.paper.specs.Query.{Test, anyNode, Expr, path, both, either, negated, Steps, stop, step, Preds, bare, pred, Query, paths}
 use Rattle.paper.specs.Measures.{heightExpr, heightSteps, heightPreds, heightPaths, height}
-use Rattle.paper.specs.Composition.{turned, atRoot, wayBack, reversed, joined, selectedBy, visible, guardExpr, guardSteps, guardPreds, append, lastStep, composedPath, composed}
+use Rattle.paper.specs.Composition.{turned, atRoot, wayBack, reversed, joined, selectedBy, visible, guarded, guardExpr, guardSteps, guardPreds, append, lastStep, composedPath, composed}
 use Rattle.theorems.specs.Demands.{Height}
 
 way-height : (x : Test) (ps : Preds) (back s : Steps) → heightSteps (wayBack x ps back s) ≡ max (max (heightPreds ps) (heightSteps back)) (heightSteps s)
@@ -48,6 +49,10 @@ append-height stop last = omega arith
 append-height (step a x ps rest) last = omega (arith, append-height rest last)
 
 module _ (v : Expr) (d : ℕ) (low : heightExpr v ≤ d) where
+  on-height : (g : Bool) (ps : Preds) → heightPreds (cond g (pred v ps) ps) ≤ max d (heightPreds ps)
+  on-height true ps = omega arith
+  on-height false ps = omega arith
+
   mutual
     expr-height : (e : Expr) → heightExpr (guardExpr e v) ≤ heightExpr e + d
     expr-height (path s) = omega (arith, steps-height s)
@@ -57,7 +62,7 @@ module _ (v : Expr) (d : ℕ) (low : heightExpr v ≤ d) where
 
     steps-height : (s : Steps) → heightSteps (guardSteps s v) ≤ heightSteps s + d
     steps-height stop = omega arith
-    steps-height (step a x ps rest) = omega (arith, preds-height ps, steps-height rest)
+    steps-height (step a x ps rest) = omega (arith, on-height (guarded a) (guardPreds ps v), preds-height ps, steps-height rest)
 
     preds-height : (ps : Preds) → heightPreds (guardPreds ps v) ≤ heightPreds ps + d
     preds-height bare = omega arith

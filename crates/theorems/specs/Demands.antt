@@ -1,7 +1,7 @@
 -- docs/SCOPE.md, demand 3: what composition owes, in full, for every document and every pair of queries. The proofs are in proofs/, one file a concept.
 use Prim.Native.Nat.{ℕ, _+_, _≤_, _<_, max}
 use mathlib.Core.Path.{_≡_}
-use mathlib.Core.Bool.{Bool, true, false, _&&_}
+use mathlib.Core.Bool.{Bool, true, false, not, _&&_}
 use mathlib.Core.List.{List, [], _∷_}
 use mathlib.Core.Option.{none, some}
 use lib.ListN.{length, replicate}
@@ -13,7 +13,7 @@ use Rattle.paper.specs.Selection.{leads, holds, arrives, keeps, kept}
 use Rattle.paper.specs.Extraction.{rank, extracted}
 use Rattle.paper.specs.Items.{encode, decode, stepCount, goodTest, good}
 use Rattle.paper.specs.Measures.{size, nesting, height}
-use Rattle.paper.specs.Composition.{turned, reversed, visible, guardExpr, guardSteps, composed, composedSize, composedNesting}
+use Rattle.paper.specs.Composition.{turned, reversed, visible, guarded, guardExpr, guardSteps, composed, composedSize, composedNesting}
 
 -- Every node marked.
 abbrev pub allMarked : Table → List ℕ
@@ -65,6 +65,10 @@ StaysInside =
     (t : Table) (marks : List ℕ) (a : Axis) (i j : ℕ) → tableFault t ≡ none → marksFault t marks ≡ none → rises a ≡ true → i < nodes t → marked marks i ≡ true
     → leads t a i j ≡ true → marked marks j ≡ true
 
+-- UNGUARDED: a step is left without V exactly where its axis rises.
+abbrev pub Unguarded : Type 0
+Unguarded = (a : Axis) → rises a ≡ not (guarded a)
+
 -- RENUMBERED: an axis leads from a marked node to a marked node exactly if it leads, in the extracted table, from the one's new number to the other's.
 abbrev pub Renumbered : Type 0
 Renumbered =
@@ -83,17 +87,17 @@ Visible =
     (t : Table) (marks : List ℕ) (inner : Query) (i : ℕ) → tableFault t ≡ none → marksFault t marks ≡ none → i < nodes t → marked marks i ≡ true
     → holds t marks (visible inner) i ≡ keeps t marks inner i
 
--- GUARD: a guarded expression holds inside the given marks exactly where the plain one holds inside what the inner query keeps.
+-- GUARD: at a node that the inner query keeps, a guarded expression holds inside the given marks exactly if the plain one holds inside what the inner query keeps.
 abbrev pub GuardedExpr : Type 0
 GuardedExpr =
     (t : Table) (marks : List ℕ) (inner : Query) (e : Expr) (i : ℕ) → tableFault t ≡ none → marksFault t marks ≡ none
-    → holds t marks (guardExpr e (visible inner)) i ≡ holds t (kept t marks inner) e i
+    → i < nodes t → marked (kept t marks inner) i ≡ true → holds t marks (guardExpr e (visible inner)) i ≡ holds t (kept t marks inner) e i
 
--- Guarded steps lead, inside the given marks, where the plain ones lead inside what the inner query keeps.
+-- From such a node guarded steps lead, inside the given marks, where the plain ones lead inside what the inner query keeps.
 abbrev pub GuardedSteps : Type 0
 GuardedSteps =
     (t : Table) (marks : List ℕ) (inner : Query) (p : Steps) (i k : ℕ) → tableFault t ≡ none → marksFault t marks ≡ none
-    → arrives t marks (guardSteps p (visible inner)) i k ≡ arrives t (kept t marks inner) p i k
+    → i < nodes t → marked (kept t marks inner) i ≡ true → arrives t marks (guardSteps p (visible inner)) i k ≡ arrives t (kept t marks inner) p i k
 
 -- 01's rules on a query of any size: names are below 256, and each path of a predicate has a step; only top-level paths may have none.
 abbrev mutual
@@ -118,12 +122,15 @@ ProperPaths (p ∷ ps) = ProperSteps p × ProperPaths ps
 abbrev pub Proper : Query → Type 0
 Proper q = ProperPaths (paths q)
 
--- SIZE, NESTING, HEIGHT: size and nesting of a composition are 01's formulas, and its height has a bound.
+-- SIZE, NESTING, HEIGHT: size and nesting of a composition are their formulas, 01's nesting bounds the latter, and the height has a bound.
 abbrev pub Size : Type 0
 Size = (outer inner : Query) → size (composed outer inner) ≡ composedSize outer inner
 
 abbrev pub Nesting : Type 0
-Nesting = (outer inner : Query) → Proper outer → nesting (composed outer inner) ≡ composedNesting outer inner
+Nesting = (outer inner : Query) → nesting (composed outer inner) ≡ composedNesting outer inner
+
+abbrev pub NestingBound : Type 0
+NestingBound = (outer inner : Query) → nesting (composed outer inner) ≤ nesting outer + 2 + max 2 (nesting inner)
 
 abbrev pub Height : Type 0
 Height = (outer inner : Query) → height (composed outer inner) ≤ height outer + max 3 (height inner) + length (paths inner) + 1

@@ -1,7 +1,7 @@
 -- `compose::compose` meets its contract: each return is the first line of the table that holds. Assumes nothing.
-use Prim.Native.Nat.{ℕ, _+_, _≤_}
+use Prim.Native.Nat.{ℕ, _+_, _≤_, max}
 use native.Mathlib.Omega.{arith}
-use mathlib.Core.Path.{refl}
+use mathlib.Core.Path.{_≡_}
 use mathlib.Core.List.{List}
 use denote.Ref.{now}
 use lib.ListN.{length}
@@ -39,8 +39,11 @@ outer-read c = c .before .before .before
 abbrev outer-nesting : tie.After-outer-shape → ℕ
 outer-nesting c = c .outer-shape .given .0 .0
 
-outer-shaped : (c : tie.After-outer-shape) → Shaped (outer (begun (outer-read c))) (outer-nesting c)
-outer-shaped c = shape-some _ (c .before .before .measure .result) (outer-nesting c) _ (c .before .before .measure .ensures) (c .outer-shape .given .1)
+abbrev outer-guards : tie.After-outer-shape → ℕ
+outer-guards c = c .outer-shape .given .0 .1 .1 .0
+
+outer-shaped : (c : tie.After-outer-shape) → Shaped (outer (begun (outer-read c))) (outer-nesting c) (outer-guards c)
+outer-shaped c = shape-some _ (c .before .before .measure .result) (outer-nesting c) _ (outer-guards c) (c .before .before .measure .ensures) (c .outer-shape .given .1)
 
 -- Past line 6 the inner items are one too.
 abbrev inner-read : tie.After-inner-shape → tie.After-outer-shape
@@ -52,28 +55,32 @@ past-1 c = outer-read (inner-read c)
 abbrev inner-nesting : tie.After-inner-shape → ℕ
 inner-nesting c = c .inner-shape .given .0 .0
 
-inner-shaped : (c : tie.After-inner-shape) → Shaped (inner (begun (past-1 c))) (inner-nesting c)
-inner-shaped c = shape-some _ (c .before .before .measure2 .result) (inner-nesting c) _ (c .before .before .measure2 .ensures) (c .inner-shape .given .1)
+abbrev inner-guards : tie.After-inner-shape → ℕ
+inner-guards c = c .inner-shape .given .0 .1 .1 .0
+
+inner-shaped : (c : tie.After-inner-shape) → Shaped (inner (begun (past-1 c))) (inner-nesting c) (inner-guards c)
+inner-shaped c = shape-some _ (c .before .before .measure2 .result) (inner-nesting c) _ (inner-guards c) (c .before .before .measure2 .ensures) (c .inner-shape .given .1)
 
 -- With the brackets counted line 9 is judged.
 abbrev past-6 : tie.After-larger → tie.After-inner-shape
 past-6 c = c .before .before
 
-abbrev deep : tie.After-larger → ℕ
-deep c = outer-nesting (inner-read (past-6 c)) + 2 + c .larger .result
+deep : (c : tie.After-larger2)
+    → c .larger2 .result ≡ max (outer-nesting (inner-read (past-6 (c .before)))) (outer-guards (inner-read (past-6 (c .before))) + 2 + c .before .larger .result)
+deep c = omega (arith, c .larger2 .ensures)
 
 -- With the items counted only line 10 is left.
 abbrev past-9 : tie.After-composed-size → tie.Else3
 past-9 c = c .before .before .before
 
 abbrev start-of : tie.After-composed-size → tie.Start
-start-of c = begun (past-1 (past-6 (past-9 c .before)))
+start-of c = begun (past-1 (past-6 (past-9 c .before .before)))
 
 left : (c : tie.After-composed-size) → Ending (outer (start-of c)) (inner (start-of c)) (length (old (start-of c))) (c .composed-size .result)
 left c =
     let nested = past-9 c .before in
-    let both = past-6 nested in
-    ending _ _ _ (outer-few (past-1 both)) (inner-few (past-1 both)) _ _ (outer-shaped (inner-read both)) (inner-shaped both) (nested .larger .result) (deep nested) (nested .larger .ensures) refl
+    let both = past-6 (nested .before) in
+    ending _ _ _ (outer-few (past-1 both)) (inner-few (past-1 both)) _ _ _ _ (outer-shaped (inner-read both)) (inner-shaped both) (nested .before .larger .result) (nested .larger2 .result) (nested .before .larger .ensures) (deep nested)
     (omega (arith, past-9 c .if3 .left)) (c .before .selected-size .result) (c .composed-size .result) (c .before .selected-size .ensures .0) (c .composed-size .ensures)
 
 returns : tie.Need-returns
@@ -118,40 +125,47 @@ returns-4 c =
     let one = outer-read half in
     let start = begun one in
     refused (outer start) (inner start) (old start) 6 1
-    (line-6-inner _ _ _ (outer-few one) (inner-few one) _ (outer-shaped half) (shape-none _ (measured .measure2 .result) (measured .measure2 .ensures) (c .enum-told2 .given .1)))
+    (line-6-inner _ _ _ (outer-few one) (inner-few one) _ _ (outer-shaped half) (shape-none _ (measured .measure2 .result) (measured .measure2 .ensures) (c .enum-told2 .given .1)))
 
-add-nesting : tie.Need-add-nesting
-add-nesting c = omega (arith, outer-shaped (inner-read (c .before)) .shallow)
+add-guard-nesting : tie.Need-add-guard-nesting
+add-guard-nesting c =
+    let o = outer-shaped (inner-read (c .before)) in
+    omega (arith, o .within, o .shallow)
 
 larger-requires : tie.Need-larger-requires
 larger-requires c κs = search needs
 
-add-nesting-2 : tie.Need-add-nesting-2
-add-nesting-2 c = omega (arith, outer-shaped (inner-read (past-6 c)) .shallow, inner-shaped (past-6 c) .shallow, c .larger .ensures)
+add-guard-nesting-2 : tie.Need-add-guard-nesting-2
+add-guard-nesting-2 c =
+    let o = outer-shaped (inner-read (past-6 c)) in
+    omega (arith, o .within, o .shallow, inner-shaped (past-6 c) .shallow, c .larger .ensures)
+
+larger-requires-2 : tie.Need-larger-requires-2
+larger-requires-2 c κs = search needs
 
 returns-5 : tie.Need-returns-5
 returns-5 c =
     let nested = c .before in
-    let both = past-6 nested in
+    let both = past-6 (nested .before) in
     let one = past-1 both in
     let start = begun one in
     refused (outer start) (inner start) (old start) 9 _
-    (line-9 _ _ _ (outer-few one) (inner-few one) _ _ (outer-shaped (inner-read both)) (inner-shaped both) (nested .larger .result) (deep nested) (nested .larger .ensures) refl (c .if3 .taken))
+    (line-9 _ _ _ (outer-few one) (inner-few one) _ _ _ _ (outer-shaped (inner-read both)) (inner-shaped both) (nested .before .larger .result) (nested .larger2 .result) (nested .before .larger .ensures) (deep nested) (c .if3 .taken))
 
 count-paths-requires : tie.Need-count-paths-requires
 count-paths-requires c κs =
-    let both = past-6 (c .before) in
-    (is-query _ _ (inner-shaped both), inner-few (past-1 both))
+    let both = past-6 (c .before .before) in
+    (is-query _ _ _ (inner-shaped both), inner-few (past-1 both))
 
 selected-size-requires : tie.Need-selected-size-requires
 selected-size-requires c κs =
-    let both = past-6 (c .before .before) in
-    (is-query _ _ (inner-shaped both), inner-few (past-1 both), c .count-paths .ensures)
+    let both = past-6 (c .before .before .before) in
+    (is-query _ _ _ (inner-shaped both), inner-few (past-1 both), c .count-paths .ensures)
 
 composed-size-requires : tie.Need-composed-size-requires
 composed-size-requires c κs =
-    let both = past-6 (c .before .before .before) in
-    (is-query _ _ (outer-shaped (inner-read both)), outer-few (past-1 both), c .selected-size .ensures .1)
+    let both = past-6 (c .before .before .before .before) in
+    (is-query _ _ _ (outer-shaped (inner-read both)), outer-few (past-1 both), c .selected-size .ensures .1)
 
 returns-6 : tie.Need-returns-6
 returns-6 c =
@@ -166,10 +180,10 @@ returns-7 c =
 put-composed-requires : tie.Need-put-composed-requires
 put-composed-requires c κs =
     let sized = c .before .before .before in
-    let both = past-6 (past-9 sized .before) in (
-      is-query _ _ (outer-shaped (inner-read both)),
+    let both = past-6 (past-9 sized .before .before) in (
+      is-query _ _ _ (outer-shaped (inner-read both)),
       outer-few (past-1 both),
-      is-query _ _ (inner-shaped both),
+      is-query _ _ _ (inner-shaped both),
       inner-few (past-1 both),
       sized .before .before .count-paths .ensures,
       sized .before .selected-size .ensures .0,
@@ -202,9 +216,10 @@ compose-spec =
     enum-known-inner-shape
     enum-told-2
     returns-4
-    add-nesting
+    add-guard-nesting
     larger-requires
-    add-nesting-2
+    add-guard-nesting-2
+    larger-requires-2
     returns-5
     count-paths-requires
     selected-size-requires

@@ -8,8 +8,8 @@ use borrow.Author.Needs.{needs}
 use Rattle.compose.proofs.composed_size.Statement.{statement}
 use Rattle.compose.proofs.composed_size.Tie as tie
 
-count-steps-requires : tie.Need-count-steps-requires
-count-steps-requires c κs = search needs
+count-guards-requires : tie.Need-count-guards-requires
+count-guards-requires c κs = search needs
 
 count-paths-requires : tie.Need-count-paths-requires
 count-paths-requires c κs = search needs
@@ -22,21 +22,21 @@ add-result c = search needs
 
 mul-result-2 : tie.Need-mul-result-2
 mul-result-2 c =
-    let steps = c .before .count-steps .result in
+    let guards = c .before .count-guards .result in
     let ps = c .count-paths .result in
     let count = c .before .before .before .args .count in
     let few = paths-got (now (c .before .before .before .args .outer)) (c .before .before .before .pre .0) in
-    let one = product steps (5 + 2 * count) (omega (arith, c .before .count-steps .ensures .1, c .before .before .before .pre .1)) (omega (arith, c .before .before .before .pre .2)) in
+    let one = product guards (5 + 2 * count) (omega (arith, c .before .count-guards .ensures .1, c .before .before .before .pre .1)) (omega (arith, c .before .before .before .pre .2)) in
     let two = product ps (3 + count) (omega (arith, c .count-paths .ensures, c .before .before .before .pre .1)) (omega (arith, c .before .before .before .pre .2)) in
     omega arith
 
 add-result-2 : tie.Need-add-result-2
 add-result-2 c =
-    let steps = c .before .count-steps .result in
+    let guards = c .before .count-guards .result in
     let ps = c .count-paths .result in
     let count = c .before .before .before .args .count in
     let few = paths-got (now (c .before .before .before .args .outer)) (c .before .before .before .pre .0) in
-    let one = product steps (5 + 2 * count) (omega (arith, c .before .count-steps .ensures .1, c .before .before .before .pre .1)) (omega (arith, c .before .before .before .pre .2)) in
+    let one = product guards (5 + 2 * count) (omega (arith, c .before .count-guards .ensures .1, c .before .before .before .pre .1)) (omega (arith, c .before .before .before .pre .2)) in
     let two = product ps (3 + count) (omega (arith, c .count-paths .ensures, c .before .before .before .pre .1)) (omega (arith, c .before .before .before .pre .2)) in
     omega (arith, c .before .before .before .pre .1)
 
@@ -45,32 +45,32 @@ add-result-3 c = search needs
 
 mul-result-3 : tie.Need-mul-result-3
 mul-result-3 c =
-    let steps = c .before .count-steps .result in
+    let guards = c .before .count-guards .result in
     let ps = c .count-paths .result in
     let count = c .before .before .before .args .count in
     let few = paths-got (now (c .before .before .before .args .outer)) (c .before .before .before .pre .0) in
-    let one = product steps (5 + 2 * count) (omega (arith, c .before .count-steps .ensures .1, c .before .before .before .pre .1)) (omega (arith, c .before .before .before .pre .2)) in
+    let one = product guards (5 + 2 * count) (omega (arith, c .before .count-guards .ensures .1, c .before .before .before .pre .1)) (omega (arith, c .before .before .before .pre .2)) in
     let two = product ps (3 + count) (omega (arith, c .count-paths .ensures, c .before .before .before .pre .1)) (omega (arith, c .before .before .before .pre .2)) in
     omega arith
 
 add-result-4 : tie.Need-add-result-4
 add-result-4 c =
-    let steps = c .before .count-steps .result in
+    let guards = c .before .count-guards .result in
     let ps = c .count-paths .result in
     let count = c .before .before .before .args .count in
     let few = paths-got (now (c .before .before .before .args .outer)) (c .before .before .before .pre .0) in
-    let one = product steps (5 + 2 * count) (omega (arith, c .before .count-steps .ensures .1, c .before .before .before .pre .1)) (omega (arith, c .before .before .before .pre .2)) in
+    let one = product guards (5 + 2 * count) (omega (arith, c .before .count-guards .ensures .1, c .before .before .before .pre .1)) (omega (arith, c .before .before .before .pre .2)) in
     let two = product ps (3 + count) (omega (arith, c .count-paths .ensures, c .before .before .before .pre .1)) (omega (arith, c .before .before .before .pre .2)) in
     omega (arith, c .before .before .before .pre .1)
 
 returns : tie.Need-returns
-returns c = size-got (now (c .before .before .before .args .outer)) (c .before .count-steps .result) (c .before .before .before .args .count) (c .count-paths .result) (c .before .before .before .pre .0) (c .before .count-steps .ensures .0) (c .count-paths .ensures)
+returns c = size-got (now (c .before .before .before .args .outer)) (c .before .count-guards .result) (c .before .before .before .args .count) (c .count-paths .result) (c .before .before .before .pre .0) (c .before .count-guards .ensures .0) (c .count-paths .ensures)
 
 pub composed-size-spec : {M : Type 1} → statement M
 composed-size-spec =
     tie.close
     (tie.spec
-    count-steps-requires
+    count-guards-requires
     count-paths-requires
     mul-result
     add-result

@@ -67,7 +67,7 @@ ready : (c : tie.After-first-unknown) →
     Ready (now (a .query)) (now (a .list)) (c .before .before .before .before .before .before .before .index .last .1 .0) (c .before .before .before .before .before .listed2 .given .0 .0)
 ready c =
     let a = c .before .before .before .before .before .before .before .before .before .before .before .before .before .before .args in
-    let s = shape-some (decode (now (a .query))) _ _ (sym (c .before .enum-told .given .1) ∙ c .before .before .before .measure .ensures) in
+    let s = shape-some (decode (now (a .query))) _ _ _ (sym (c .before .enum-told .given .1) ∙ c .before .before .before .measure .ensures) in
     record {
       few-items = c .before .before .before .before .before .before .before .before .before .before .if1 .left;
       few-bytes = c .before .before .before .before .before .before .before .before .before .if2 .left;

@@ -20,7 +20,7 @@ returns : tie.Need-returns
 returns c = shape-nothing (decode (now (c .before .before .before .before .args .query))) (sym (c .enum-told .given .1) ∙ c .before .before .measure .ensures)
 
 returns-2 : tie.Need-returns-2
-returns-2 c = shape-nesting (decode (now (c .before .before .before .before .before .args .query))) _ _ (sym (c .before .shape .given .1) ∙ c .before .before .before .measure .ensures)
+returns-2 c = shape-nesting (decode (now (c .before .before .before .before .before .args .query))) _ _ _ (sym (c .before .shape .given .1) ∙ c .before .before .before .measure .ensures)
 
 pub nesting-of-spec : {M : Type 1} → statement M
 nesting-of-spec =

@@ -50,7 +50,7 @@ abbrev tall : tie.After-shaped → ℕ
 tall c = c .shaped .given .0 .1 .0
 
 is-query : (c : tie.After-shaped) → (q : Query) × (decode (query (begun (past-1 c))) ≡ some q) × (tall c ≡ height q)
-is-query c = shaped-some (decode (query (begun (past-1 c)))) _ _ (sym (c .shaped .given .1) ∙ c .before .before .measure .ensures) (λ q d h. (q, d, h))
+is-query c = shaped-some (decode (query (begun (past-1 c)))) _ _ _ (sym (c .shaped .given .1) ∙ c .before .before .measure .ensures) (λ q d h. (q, d, h))
 
 -- Past line 7 the table is good.
 abbrev past-6 : tie.After-enum-told2 → tie.After-shaped

@@ -1,20 +1,23 @@
 -- The functions of `shape` that call each other meet their contracts: path, step and expression, with falling remaining items.
 -- Each loop's invariant is that what is left to read gives the answer of the whole (`Turn` of an expression, `Row` of steps and of predicates).
 -- The measure of a call is the number of items left, an expression's after the operators that it begins with, then the order predicates, expression, operand, steps. Assumes nothing.
-use Prim.Native.Nat.{_+_, _-_, _*_}
-use mathlib.Core.Path.{ap}
+use Prim.Native.Nat.{_+_, _-_, _*_, max}
+use mathlib.Core.Path.{_≡_, sym, _∙_, ap}
+use mathlib.Core.Bool.{cond}
 use native.Mathlib.Omega.{arith}
 use borrow.Author.Needs.{needs}
 use denote.Ref.{now}
 use lib.ListN.{length, getD, drop}
 use Rattle.paper.specs.Items.{takePreds, takeSteps, takeWithin}
 use Rattle.paper.specs.Query.{stop, step, bare, pred}
+use Rattle.paper.specs.Composition.{guarded, guardDepthExpr}
 use Rattle.item.proofs.Saying.{said, not-step}
-use Rattle.shape.specs.Walks.{operators}
+use Rattle.item.proofs.GuardedAxes.{guarded-number}
+use Rattle.shape.specs.Walks.{opened, operators}
 use Rattle.shape.proofs.Walking.{Turn, turn-start, turn-stuck, turn-onward, term-low, turn-and, turn-or, turn-done}
 use Rattle.shape.proofs.Walking.{Row, row-start, row-more, row-stuck, row-done, stepRows, step-row, no-step-row, bad-step-row, past-step-row}
 use Rattle.shape.proofs.Walking.{predRows, pred-next, bad-pred-row}
-use Rattle.shape.proofs.Operands.{operand-past, operand-deep, operand-rest, operator-item, operators-there, walk-path, opens-joined, opens-not, walk-none, operand-bare, small}
+use Rattle.shape.proofs.Operands.{operand-past, operand-deep, operand-rest, operator-item, operators-there, walk-path, less-opened, opens-joined, opens-not, walk-none, operand-bare, small}
 use Prim.Native.Nat.{ℕ, _<_}
 use borrow.Fn.Kinds.{In}
 use borrow.Fn.PlainCycle.{Measures, is, falls, and}
@@ -33,6 +36,7 @@ use Rattle.shape.proofs.+expression+operand+predicates+steps.Lts-steps 
 use Rattle.item.proofs.unpack.Reads as unpack-reads
 use Rattle.shape.proofs.joined.Reads as joined-reads
 use Rattle.shape.proofs.larger.Reads as larger-reads
+use Rattle.shape.proofs.own_depth.Reads as own-depth-reads
 use Rattle.shape.proofs.raised.Reads as raised-reads
 use Rattle.shape.proofs.run_of.Reads as run-of-reads
 use Rattle.shape.proofs.+expression+operand+predicates+steps.{statement}
@@ -89,14 +93,14 @@ abbrev predicates-claims : ℕ → predicates-lts.Claims
 predicates-claims t = (expression-below t, expression.Post, larger-reads.Asked, larger-reads.Learnt)
 
 abbrev steps-claims : ℕ → steps-lts.Claims
-steps-claims t = (unpack-reads.Asked, unpack-reads.Learnt, predicates-below t, predicates.Post, larger-reads.Asked, larger-reads.Learnt)
+steps-claims t = (unpack-reads.Asked, unpack-reads.Learnt, own-depth-reads.Asked, own-depth-reads.Learnt, larger-reads.Asked, larger-reads.Learnt, predicates-below t, predicates.Post)
 
 abbrev expression-Inv-loop : expression-lts.InvT-loop
-expression-Inv-loop items at depth ors₀ ands₀ place₀ deep₀ high₀ term₀ ors ands place deep high term =
-    Turn depth items at place deep high term ands ors
+expression-Inv-loop items at depth ors₀ ands₀ place₀ deep₀ high₀ guarded₀ term₀ ors ands place deep high guarded term =
+    Turn depth items at place deep high guarded term ands ors
 
 abbrev expression-μ-loop : expression-lts.MeasureT-loop
-expression-μ-loop items at depth ors₀ ands₀ place₀ deep₀ high₀ term₀ ors ands place deep high term = length items - place
+expression-μ-loop items at depth ors₀ ands₀ place₀ deep₀ high₀ guarded₀ term₀ ors ands place deep high guarded term = length items - place
 
 expression-run-of-requires : (t : ℕ) → expression-lts.Need-run-of-requires (expression-claims t) (expression-at t) expression.Post expression-Inv-loop expression-μ-loop
 expression-run-of-requires t c κs = search needs
@@ -136,61 +140,64 @@ expression-returns t c =
 expression-larger-requires : (t : ℕ) → expression-lts.Need-larger-requires (expression-claims t) (expression-at t) expression.Post expression-Inv-loop expression-μ-loop
 expression-larger-requires t c κs = search needs
 
+expression-larger-requires-2 : (t : ℕ) → expression-lts.Need-larger-requires-2 (expression-claims t) (expression-at t) expression.Post expression-Inv-loop expression-μ-loop
+expression-larger-requires-2 t c κs = search needs
+
 expression-joined-requires : (t : ℕ) → expression-lts.Need-joined-requires (expression-claims t) (expression-at t) expression.Post expression-Inv-loop expression-μ-loop
 expression-joined-requires t c κs =
-    let i = c .before .before .before .before .before .loop .inv in
-    let w = rw (c .before .before .one .given .1) at (c .before .before .before .before .operand .ensures) in
-    let long = c .before .before .before .before .before .before .before .before .before .good .0 .1 in (omega (arith, long, i .inner .low, i .inner .inside), omega (arith, long, w .low, w .inside))
+    let i = c .before .before .before .before .before .before .loop .inv in
+    let w = rw (c .before .before .before .one .given .1) at (c .before .before .before .before .before .operand .ensures) in
+    let long = c .before .before .before .before .before .before .before .before .before .before .good .0 .1 in (omega (arith, long, i .inner .low, i .inner .inside), omega (arith, long, w .low, w .inside))
 
 expression-sub-ands : (t : ℕ) → expression-lts.Need-sub-ands (expression-claims t) (expression-at t) expression.Post expression-Inv-loop expression-μ-loop
 expression-sub-ands t c = omega (arith, c .if1 .taken)
 
 expression-loop-less : (t : ℕ) → expression-lts.Need-loop-less (expression-claims t) (expression-at t) expression.Post expression-Inv-loop expression-μ-loop
 expression-loop-less t c =
-    let l = c .before .before .before .before .before .before .before .loop in
-    let w = rw (c .before .before .before .before .one .given .1) at (c .before .before .before .before .before .before .operand .ensures) in
-    omega (arith, turn-onward (l .inv) w (c .before .before .larger .ensures) (c .before .joined .ensures), w .inside)
+    let l = c .before .before .before .before .before .before .before .before .loop in
+    let w = rw (c .before .before .before .before .before .one .given .1) at (c .before .before .before .before .before .before .before .operand .ensures) in
+    omega (arith, turn-onward (l .inv) w (c .before .before .before .larger .ensures) (c .before .before .larger2 .ensures) (c .before .joined .ensures), w .inside)
 
 expression-loop-again : (t : ℕ) → expression-lts.Need-loop-again (expression-claims t) (expression-at t) expression.Post expression-Inv-loop expression-μ-loop
 expression-loop-again t c =
-    let l = c .before .before .before .before .before .before .before .loop in
-    let w = rw (c .before .before .before .before .one .given .1) at (c .before .before .before .before .before .before .operand .ensures) in
-    turn-and (l .inv) w (c .before .before .larger .ensures) (c .before .joined .ensures) (c .if1 .taken)
+    let l = c .before .before .before .before .before .before .before .before .loop in
+    let w = rw (c .before .before .before .before .before .one .given .1) at (c .before .before .before .before .before .before .before .operand .ensures) in
+    turn-and (l .inv) w (c .before .before .before .larger .ensures) (c .before .before .larger2 .ensures) (c .before .joined .ensures) (c .if1 .taken)
 
 expression-joined-requires-2 : (t : ℕ) → expression-lts.Need-joined-requires-2 (expression-claims t) (expression-at t) expression.Post expression-Inv-loop expression-μ-loop
 expression-joined-requires-2 t c κs =
-    let l = c .before .before .before .before .before .before .before .loop in
-    let w = rw (c .before .before .before .before .one .given .1) at (c .before .before .before .before .before .before .operand .ensures) in
-    let long = c .before .before .before .before .before .before .before .before .before .before .before .good .0 .1 in (omega (arith, long, l .inv .outer .low, l .inv .inner .onward, l .inv .inner .inside), omega (arith, long, term-low (l .inv) w (c .before .before .larger .ensures) (c .before .joined .ensures), w .inside))
+    let l = c .before .before .before .before .before .before .before .before .loop in
+    let w = rw (c .before .before .before .before .before .one .given .1) at (c .before .before .before .before .before .before .before .operand .ensures) in
+    let long = c .before .before .before .before .before .before .before .before .before .before .before .before .good .0 .1 in (omega (arith, long, l .inv .outer .low, l .inv .inner .onward, l .inv .inner .inside), omega (arith, long, term-low (l .inv) w (c .before .before .before .larger .ensures) (c .before .before .larger2 .ensures) (c .before .joined .ensures), w .inside))
 
 expression-returns-2 : (t : ℕ) → expression-lts.Need-returns-2 (expression-claims t) (expression-at t) expression.Post expression-Inv-loop expression-μ-loop
 expression-returns-2 t c =
-    let l = c .before .before .before .before .before .before .before .before .before .loop in
-    let w = rw (c .before .before .before .before .before .before .one .given .1) at (c .before .before .before .before .before .before .before .before .operand .ensures) in
-    turn-done (l .inv) w (c .before .before .before .before .larger .ensures) (c .before .before .before .joined .ensures) (c .before .before .if1 .left) (c .before .joined2 .ensures) (omega (arith, c .if2 .taken))
+    let l = c .before .before .before .before .before .before .before .before .before .before .loop in
+    let w = rw (c .before .before .before .before .before .before .before .one .given .1) at (c .before .before .before .before .before .before .before .before .before .operand .ensures) in
+    turn-done (l .inv) w (c .before .before .before .before .before .larger .ensures) (c .before .before .before .before .larger2 .ensures) (c .before .before .before .joined .ensures) (c .before .before .if1 .left) (c .before .joined2 .ensures) (omega (arith, c .if2 .taken))
 
 expression-sub-ors : (t : ℕ) → expression-lts.Need-sub-ors (expression-claims t) (expression-at t) expression.Post expression-Inv-loop expression-μ-loop
 expression-sub-ors t c = omega (arith, c .if2 .left)
 
 expression-run-of-requires-3 : (t : ℕ) → expression-lts.Need-run-of-requires-3 (expression-claims t) (expression-at t) expression.Post expression-Inv-loop expression-μ-loop
 expression-run-of-requires-3 t c κs =
-    let w = rw (c .before .before .before .before .before .before .one .given .1) at (c .before .before .before .before .before .before .before .before .operand .ensures) in
+    let w = rw (c .before .before .before .before .before .before .before .one .given .1) at (c .before .before .before .before .before .before .before .before .before .operand .ensures) in
     w .inside
 
 expression-add-place-3 : (t : ℕ) → expression-lts.Need-add-place-3 (expression-claims t) (expression-at t) expression.Post expression-Inv-loop expression-μ-loop
-expression-add-place-3 t c = omega (arith, c .run-of3 .ensures .1, c .before .before .before .before .before .before .before .before .before .before .before .before .before .before .good .0 .1)
+expression-add-place-3 t c = omega (arith, c .run-of3 .ensures .1, c .before .before .before .before .before .before .before .before .before .before .before .before .before .before .before .good .0 .1)
 
 expression-loop-less-2 : (t : ℕ) → expression-lts.Need-loop-less-2 (expression-claims t) (expression-at t) expression.Post expression-Inv-loop expression-μ-loop
 expression-loop-less-2 t c =
-    let l = c .before .before .before .before .before .before .before .before .before .before .loop in
-    let w = rw (c .before .before .before .before .before .before .before .one .given .1) at (c .before .before .before .before .before .before .before .before .before .operand .ensures) in
-    omega (arith, turn-onward (l .inv) w (c .before .before .before .before .before .larger .ensures) (c .before .before .before .before .joined .ensures), c .run-of3 .ensures .1, w .inside)
+    let l = c .before .before .before .before .before .before .before .before .before .before .before .loop in
+    let w = rw (c .before .before .before .before .before .before .before .before .one .given .1) at (c .before .before .before .before .before .before .before .before .before .before .operand .ensures) in
+    omega (arith, turn-onward (l .inv) w (c .before .before .before .before .before .before .larger .ensures) (c .before .before .before .before .before .larger2 .ensures) (c .before .before .before .before .joined .ensures), c .run-of3 .ensures .1, w .inside)
 
 expression-loop-again-2 : (t : ℕ) → expression-lts.Need-loop-again-2 (expression-claims t) (expression-at t) expression.Post expression-Inv-loop expression-μ-loop
 expression-loop-again-2 t c =
-    let l = c .before .before .before .before .before .before .before .before .before .before .loop in
-    let w = rw (c .before .before .before .before .before .before .before .one .given .1) at (c .before .before .before .before .before .before .before .before .before .operand .ensures) in
-    turn-or (l .inv) w (c .before .before .before .before .before .larger .ensures) (c .before .before .before .before .joined .ensures) (c .before .before .before .if1 .left) (c .before .before .joined2 .ensures) (omega (arith, c .before .if2 .left)) (c .run-of3 .ensures .0) (c .run-of3 .ensures .1)
+    let l = c .before .before .before .before .before .before .before .before .before .before .before .loop in
+    let w = rw (c .before .before .before .before .before .before .before .before .one .given .1) at (c .before .before .before .before .before .before .before .before .before .before .operand .ensures) in
+    turn-or (l .inv) w (c .before .before .before .before .before .before .larger .ensures) (c .before .before .before .before .before .larger2 .ensures) (c .before .before .before .before .joined .ensures) (c .before .before .before .if1 .left) (c .before .before .joined2 .ensures) (omega (arith, c .before .if2 .left)) (c .run-of3 .ensures .0) (c .run-of3 .ensures .1)
 
 operand-returns : (t : ℕ) → operand-lts.Need-returns (operand-claims t) (operand-at t) operand.Post
 operand-returns t c =
@@ -226,7 +233,7 @@ operand-steps-requires t c κs = search needs
 operand-raised-requires : (t : ℕ) → operand-lts.Need-raised-requires (operand-claims t) (operand-at t) operand.Post
 operand-raised-requires t c κs =
     let start = c .before .before .before .before .before .before .before .before .before in
-    (small _ _ _ _ _ _ (c .steps .result) (start .pre .1 .1) (start .good .0 .1) (c .steps .ensures), omega arith, omega arith)
+    (small _ _ _ _ _ _ _ (c .steps .result) (start .pre .1 .1) (start .good .0 .1) (c .steps .ensures), omega arith, omega arith)
 
 operand-returns-3 : (t : ℕ) → operand-lts.Need-returns-3 (operand-claims t) (operand-at t) operand.Post
 operand-returns-3 t c =
@@ -258,7 +265,7 @@ operand-expression-requires t c κs =
 operand-raised-requires-2 : (t : ℕ) → operand-lts.Need-raised-requires-2 (operand-claims t) (operand-at t) operand.Post
 operand-raised-requires-2 t c κs =
     let start = c .before .before .before .before .before .before .before .before in
-    (small _ _ _ _ _ _ (c .expression .result) (omega (arith, start .pre .1)) (start .good .0 .1) (c .expression .ensures), omega arith, omega arith)
+    (small _ _ _ _ _ _ _ (c .expression .result) (omega (arith, start .pre .1)) (start .good .0 .1) (c .expression .ensures), omega arith, omega arith)
 
 operand-enum-told : (t : ℕ) → operand-lts.Need-enum-told (operand-claims t) (operand-at t) operand.Post
 operand-enum-told t c = search needs
@@ -276,7 +283,7 @@ operand-expression-requires-2 t c κs =
 operand-raised-requires-3 : (t : ℕ) → operand-lts.Need-raised-requires-3 (operand-claims t) (operand-at t) operand.Post
 operand-raised-requires-3 t c κs =
     let start = c .before .before .before .before .before .before .before .before .before in
-    (small _ _ _ _ _ _ (c .expression2 .result) (omega (arith, start .pre .1)) (start .good .0 .1) (c .expression2 .ensures), omega arith, omega arith)
+    (small _ _ _ _ _ _ _ (c .expression2 .result) (omega (arith, start .pre .1)) (start .good .0 .1) (c .expression2 .ensures), omega arith, omega arith)
 
 operand-returns-5 : (t : ℕ) → operand-lts.Need-returns-5 (operand-claims t) (operand-at t) operand.Post
 operand-returns-5 t c =
@@ -284,7 +291,7 @@ operand-returns-5 t c =
     let u = c .before .before .before .before .before .unpack in
     let o = operator-item (getD (now (a .items)) (a .at) 0) (u .result) (said _ (u .result) (u .ensures)) (c .before .before .match2 .keys1) in
     rw (c .raised2 .ensures)
-    (opens-joined (now (a .items)) (a .at) (a .depth) (c .before .before .before .before .before .before .before .if1 .left) (c .before .before .before .if3 .left) (c .before .expression .result) o (c .before .expression .ensures))
+    (opens-joined (now (a .items)) (a .at) (a .depth) (c .before .before .before .before .before .before .before .if1 .left) (c .before .before .before .if3 .left) (c .before .before .before .before .before .before .before .before .before .pre .1 .1) (c .before .expression .result) o (c .before .expression .ensures))
 
 operand-returns-6 : (t : ℕ) → operand-lts.Need-returns-6 (operand-claims t) (operand-at t) operand.Post
 operand-returns-6 t c =
@@ -293,7 +300,7 @@ operand-returns-6 t c =
     let w = getD (now (a .items)) (a .at) 0 in
     let s = rw (c .before .before .enum-told .given .1) at (said w (u .result) (u .ensures)) in
     rw (c .raised3 .ensures)
-    (opens-not (now (a .items)) (a .at) (a .depth) (c .before .before .before .before .before .before .before .before .if1 .left) (c .before .before .before .before .if3 .left) (c .before .expression2 .result) s (c .before .expression2 .ensures))
+    (opens-not (now (a .items)) (a .at) (a .depth) (c .before .before .before .before .before .before .before .before .if1 .left) (c .before .before .before .before .if3 .left) (c .before .before .before .before .before .before .before .before .before .before .pre .1 .1) (c .before .expression2 .result) s (c .before .expression2 .ensures))
 
 operand-returns-7 : (t : ℕ) → operand-lts.Need-returns-7 (operand-claims t) (operand-at t) operand.Post
 operand-returns-7 t c =
@@ -304,11 +311,11 @@ operand-returns-7 t c =
     (operand-rest (takeWithin (a .depth)) w (u .result) _ (said w (u .result) (u .ensures)) (c .before .before .match .keys2) (c .match2 .keys3))
 
 abbrev predicates-Inv-loop : predicates-lts.InvT-loop
-predicates-Inv-loop items at count depth place₀ deep₀ high₀ owed₀ place deep high owed =
-    Row (predRows depth) items at depth (takePreds (takeWithin depth) count (drop at items)) place deep high owed
+predicates-Inv-loop items at count depth place₀ deep₀ high₀ guarded₀ owed₀ place deep high guarded owed =
+    Row (predRows depth) items at depth (takePreds (takeWithin depth) count (drop at items)) place deep high guarded owed
 
 abbrev predicates-μ-loop : predicates-lts.MeasureT-loop
-predicates-μ-loop items at count depth place₀ deep₀ high₀ owed₀ place deep high owed = owed
+predicates-μ-loop items at count depth place₀ deep₀ high₀ guarded₀ owed₀ place deep high guarded owed = owed
 
 predicates-loop-holds : (t : ℕ) → predicates-lts.Need-loop-holds (predicates-claims t) (predicates-at t) predicates.Post predicates-Inv-loop predicates-μ-loop
 predicates-loop-holds t c =
@@ -319,7 +326,7 @@ predicates-returns : (t : ℕ) → predicates-lts.Need-returns (predicates-claim
 predicates-returns t c =
     let a = c .before .before .before .before .args in
     let l = c .before .before .loop in
-    row-stuck (predRows (a .depth)) _ _ _ _ (l .place) (l .deep) (l .high) (l .owed) (c .before .loop-test .taken) (l .inv) (λ n. rw (c .if1 .taken))
+    row-stuck (predRows (a .depth)) _ _ _ _ (l .place) (l .deep) (l .high) (l .guarded) (l .owed) (c .before .loop-test .taken) (l .inv) (λ n. rw (c .if1 .taken))
 
 predicates-sub-expression : (t : ℕ) → predicates-lts.Need-sub-expression (predicates-claims t) (predicates-at t) predicates.Post predicates-Inv-loop predicates-μ-loop
 predicates-sub-expression t c = search needs
@@ -337,7 +344,7 @@ predicates-returns-2 : (t : ℕ) → predicates-lts.Need-returns-2 (predicates-c
 predicates-returns-2 t c =
     let a = c .before .before .before .before .before .before .before .args in
     let l = c .before .before .before .before .before .loop in
-    row-stuck (predRows (a .depth)) _ _ _ _ (l .place) (l .deep) (l .high) (l .owed) (c .before .before .before .before .loop-test .taken) (l .inv)
+    row-stuck (predRows (a .depth)) _ _ _ _ (l .place) (l .deep) (l .high) (l .guarded) (l .owed) (c .before .before .before .before .loop-test .taken) (l .inv)
     (bad-pred-row (a .depth) (now (a .items)) (l .place) (c .before .before .before .if1 .left) (rw (c .enum-told .given .1) at (c .before .before .expression .ensures)))
 
 predicates-add-larger : (t : ℕ) → predicates-lts.Need-add-larger (predicates-claims t) (predicates-at t) predicates.Post predicates-Inv-loop predicates-μ-loop
@@ -351,6 +358,9 @@ predicates-larger-requires t c κs = search needs
 predicates-larger-requires-2 : (t : ℕ) → predicates-lts.Need-larger-requires-2 (predicates-claims t) (predicates-at t) predicates.Post predicates-Inv-loop predicates-μ-loop
 predicates-larger-requires-2 t c κs = search needs
 
+predicates-larger-requires-3 : (t : ℕ) → predicates-lts.Need-larger-requires-3 (predicates-claims t) (predicates-at t) predicates.Post predicates-Inv-loop predicates-μ-loop
+predicates-larger-requires-3 t c κs = search needs
+
 predicates-sub-owed : (t : ℕ) → predicates-lts.Need-sub-owed (predicates-claims t) (predicates-at t) predicates.Post predicates-Inv-loop predicates-μ-loop
 predicates-sub-owed t c = search needs
 
@@ -359,25 +369,27 @@ predicates-loop-less t c = search needs
 
 predicates-loop-again : (t : ℕ) → predicates-lts.Need-loop-again (predicates-claims t) (predicates-at t) predicates.Post predicates-Inv-loop predicates-μ-loop
 predicates-loop-again t c =
-    let a = c .before .before .before .before .before .before .before .before .before .before .args in
-    let l = c .before .before .before .before .before .before .before .before .loop in
-    let m = c .before .before .before .more .given in
-    let w = rw (m .1) at (c .before .before .before .before .before .expression .ensures) in
-    row-more (predRows (a .depth)) (now (a .items)) (a .at) (a .depth) _ (l .place) (l .deep) (l .high) (l .owed) (m .0 .0) (m .0 .1 .0 + 1) (m .0 .1 .1 .0) _ _ (pred (w .what) bare)
-    (c .before .before .before .before .before .before .before .loop-test .taken) (l .inv) (pred-next (a .depth) (now (a .items)) (l .place) (w .what) (m .0 .0) (c .before .before .before .before .before .before .if1 .left) (w .reads)) (w .onward) (w .inside)
-    (omega (arith, w .nests)) (omega (arith, w .heights)) (omega (arith, w .shallow, c .before .before .before .before .before .before .if1 .left)) (omega (arith, w .low)) (c .before .larger .ensures) (c .larger2 .ensures)
+    let a = c .before .before .before .before .before .before .before .before .before .before .before .args in
+    let l = c .before .before .before .before .before .before .before .before .before .loop in
+    let m = c .before .before .before .before .more .given in
+    let w = rw (m .1) at (c .before .before .before .before .before .before .expression .ensures) in
+    row-more (predRows (a .depth)) (now (a .items)) (a .at) (a .depth) _ (l .place) (l .deep) (l .high) (l .guarded) (l .owed) (m .0 .0) (m .0 .1 .0 + 1) (m .0 .1 .1 .0) (m .0 .1 .1 .1 .0) _ _ _ (pred (w .what) bare)
+    (c .before .before .before .before .before .before .before .before .loop-test .taken) (l .inv) (pred-next (a .depth) (now (a .items)) (l .place) (w .what) (m .0 .0) (c .before .before .before .before .before .before .before .if1 .left) (w .reads)) (w .onward) (w .inside)
+    (omega (arith, w .nests)) (omega (arith, w .heights))
+    (omega (arith, w .guards ∙ ap (guardDepthExpr (w .what)) (less-opened (a .depth) (c .before .before .before .before .before .before .before .if1 .left) (c .before .before .before .before .before .before .before .before .before .before .before .pre .1 .1))))
+    (omega (arith, w .shallow, c .before .before .before .before .before .before .before .if1 .left)) (omega (arith, w .low)) (c .before .before .larger .ensures) (c .before .larger2 .ensures) (c .larger3 .ensures)
 
 predicates-returns-3 : (t : ℕ) → predicates-lts.Need-returns-3 (predicates-claims t) (predicates-at t) predicates.Post predicates-Inv-loop predicates-μ-loop
 predicates-returns-3 t c =
     let l = c .before .loop in
-    row-done (predRows (c .before .before .before .args .depth)) _ _ _ _ (l .place) (l .deep) (l .high) (l .owed) (c .loop-test .left) (l .inv)
+    row-done (predRows (c .before .before .before .args .depth)) _ _ _ _ (l .place) (l .deep) (l .high) (l .guarded) (l .owed) (c .loop-test .left) (l .inv)
 
 abbrev steps-Inv-loop : steps-lts.InvT-loop
-steps-Inv-loop items at count depth place₀ deep₀ high₀ owed₀ place deep high owed =
-    Row (stepRows depth) items at depth (takeSteps (takeWithin depth) count (drop at items)) place deep high owed
+steps-Inv-loop items at count depth place₀ deep₀ high₀ guarded₀ owed₀ place deep high guarded owed =
+    Row (stepRows depth) items at depth (takeSteps (takeWithin depth) count (drop at items)) place deep high guarded owed
 
 abbrev steps-μ-loop : steps-lts.MeasureT-loop
-steps-μ-loop items at count depth place₀ deep₀ high₀ owed₀ place deep high owed = owed
+steps-μ-loop items at count depth place₀ deep₀ high₀ guarded₀ owed₀ place deep high guarded owed = owed
 
 steps-loop-holds : (t : ℕ) → steps-lts.Need-loop-holds (steps-claims t) (steps-at t) steps.Post steps-Inv-loop steps-μ-loop
 steps-loop-holds t c =
@@ -388,7 +400,7 @@ steps-returns : (t : ℕ) → steps-lts.Need-returns (steps-claims t) (steps-at 
 steps-returns t c =
     let a = c .before .before .before .before .args in
     let l = c .before .before .loop in
-    row-stuck (stepRows (a .depth)) _ _ _ _ (l .place) (l .deep) (l .high) (l .owed) (c .before .loop-test .taken) (l .inv) (past-step-row (a .depth) (now (a .items)) (l .place) (c .if1 .taken))
+    row-stuck (stepRows (a .depth)) _ _ _ _ (l .place) (l .deep) (l .high) (l .guarded) (l .owed) (c .before .loop-test .taken) (l .inv) (past-step-row (a .depth) (now (a .items)) (l .place) (c .if1 .taken))
 
 steps-mul-unpack : (t : ℕ) → steps-lts.Need-mul-unpack (steps-claims t) (steps-at t) steps.Post steps-Inv-loop steps-μ-loop
 steps-mul-unpack t c = search needs
@@ -408,8 +420,14 @@ steps-returns-2 t c =
     let l = c .before .before .before .before .before .loop in
     let u = c .before .unpack in
     let w = getD (now (a .items)) (l .place) 0 in
-    row-stuck (stepRows (a .depth)) _ _ _ _ (l .place) (l .deep) (l .high) (l .owed) (c .before .before .before .before .loop-test .taken) (l .inv)
+    row-stuck (stepRows (a .depth)) _ _ _ _ (l .place) (l .deep) (l .high) (l .guarded) (l .owed) (c .before .before .before .before .loop-test .taken) (l .inv)
     (no-step-row (a .depth) (now (a .items)) (l .place) (c .before .before .before .if1 .left) (not-step w (u .result) (said w (u .result) (u .ensures)) (c .match .keys2)))
+
+steps-own-depth-requires : (t : ℕ) → steps-lts.Need-own-depth-requires (steps-claims t) (steps-at t) steps.Post steps-Inv-loop steps-μ-loop
+steps-own-depth-requires t c κs = search needs
+
+steps-larger-requires : (t : ℕ) → steps-lts.Need-larger-requires (steps-claims t) (steps-at t) steps.Post steps-Inv-loop steps-μ-loop
+steps-larger-requires t c κs = search needs
 
 steps-add-predicates : (t : ℕ) → steps-lts.Need-add-predicates (steps-claims t) (steps-at t) steps.Post steps-Inv-loop steps-μ-loop
 steps-add-predicates t c = search needs
@@ -425,19 +443,22 @@ steps-enum-told t c = search needs
 
 steps-returns-3 : (t : ℕ) → steps-lts.Need-returns-3 (steps-claims t) (steps-at t) steps.Post steps-Inv-loop steps-μ-loop
 steps-returns-3 t c =
-    let a = c .before .before .before .before .before .before .before .before .before .before .before .before .args in
-    let l = c .before .before .before .before .before .before .before .before .before .before .loop in
-    let u = c .before .before .before .before .before .before .unpack in
+    let a = c .before .before .before .before .before .before .before .before .before .before .before .before .before .before .args in
+    let l = c .before .before .before .before .before .before .before .before .before .before .before .before .loop in
+    let u = c .before .before .before .before .before .before .before .before .unpack in
     let w = getD (now (a .items)) (l .place) 0 in
-    let s = rw (c .before .before .before .before .item .given .1) at (said w (u .result) (u .ensures)) in
-    row-stuck (stepRows (a .depth)) _ _ _ _ (l .place) (l .deep) (l .high) (l .owed) (c .before .before .before .before .before .before .before .before .before .loop-test .taken) (l .inv)
-    (bad-step-row (a .depth) (now (a .items)) (l .place) (s .0) _ (c .before .before .before .before .before .before .before .before .if1 .left) (s .1) (ap (λ x. x .count) (s .2)) (rw (c .enum-told .given .1) at (c .before .before .predicates .ensures)))
-
-steps-larger-requires : (t : ℕ) → steps-lts.Need-larger-requires (steps-claims t) (steps-at t) steps.Post steps-Inv-loop steps-μ-loop
-steps-larger-requires t c κs = search needs
+    let s = rw (c .before .before .before .before .before .before .item .given .1) at (said w (u .result) (u .ensures)) in
+    row-stuck (stepRows (a .depth)) _ _ _ _ (l .place) (l .deep) (l .high) (l .guarded) (l .owed) (c .before .before .before .before .before .before .before .before .before .before .before .loop-test .taken) (l .inv)
+    (bad-step-row (a .depth) (now (a .items)) (l .place) (s .0) _ (c .before .before .before .before .before .before .before .before .before .before .if1 .left) (s .1) (ap (λ x. x .count) (s .2)) (rw (c .enum-told .given .1) at (c .before .before .predicates .ensures)))
 
 steps-larger-requires-2 : (t : ℕ) → steps-lts.Need-larger-requires-2 (steps-claims t) (steps-at t) steps.Post steps-Inv-loop steps-μ-loop
 steps-larger-requires-2 t c κs = search needs
+
+steps-larger-requires-3 : (t : ℕ) → steps-lts.Need-larger-requires-3 (steps-claims t) (steps-at t) steps.Post steps-Inv-loop steps-μ-loop
+steps-larger-requires-3 t c κs = search needs
+
+steps-larger-requires-4 : (t : ℕ) → steps-lts.Need-larger-requires-4 (steps-claims t) (steps-at t) steps.Post steps-Inv-loop steps-μ-loop
+steps-larger-requires-4 t c κs = search needs
 
 steps-sub-owed : (t : ℕ) → steps-lts.Need-sub-owed (steps-claims t) (steps-at t) steps.Post steps-Inv-loop steps-μ-loop
 steps-sub-owed t c = search needs
@@ -447,22 +468,27 @@ steps-loop-less t c = search needs
 
 steps-loop-again : (t : ℕ) → steps-lts.Need-loop-again (steps-claims t) (steps-at t) steps.Post steps-Inv-loop steps-μ-loop
 steps-loop-again t c =
-    let a = c .before .before .before .before .before .before .before .before .before .before .before .before .before .before .before .args in
-    let l = c .before .before .before .before .before .before .before .before .before .before .before .before .before .loop in
-    let u = c .before .before .before .before .before .before .before .before .before .unpack in
+    let a = c .before .before .before .before .before .before .before .before .before .before .before .before .before .before .before .before .before .before .args in
+    let l = c .before .before .before .before .before .before .before .before .before .before .before .before .before .before .before .before .loop in
+    let u = c .before .before .before .before .before .before .before .before .before .before .before .before .unpack in
     let w = getD (now (a .items)) (l .place) 0 in
-    let s = rw (c .before .before .before .before .before .before .before .item .given .1) at (said w (u .result) (u .ensures)) in
-    let m = c .before .before .before .more .given in
-    let p = rw (m .1) at (c .before .before .before .before .before .predicates .ensures) in
-    row-more (stepRows (a .depth)) (now (a .items)) (a .at) (a .depth) _ (l .place) (l .deep) (l .high) (l .owed) (m .0 .0) (m .0 .1 .0) (m .0 .1 .1 .0) _ _ (step (s .0 .axis) (s .0 .test) (p .what) stop)
-    (c .before .before .before .before .before .before .before .before .before .before .before .before .loop-test .taken) (l .inv)
-    (step-row (a .depth) (now (a .items)) (l .place) (s .0) _ (p .what) (m .0 .0) (c .before .before .before .before .before .before .before .before .before .before .before .if1 .left) (s .1) (ap (λ x. x .count) (s .2)) (p .reads)) (omega (arith, p .onward)) (p .inside)
-    (omega (arith, p .nests)) (omega (arith, p .heights)) (p .shallow) (omega (arith, p .low)) (c .before .larger .ensures) (c .larger2 .ensures)
+    let s = rw (c .before .before .before .before .before .before .before .before .before .before .item .given .1) at (said w (u .result) (u .ensures)) in
+    let m = c .before .before .before .before .more .given in
+    let p = rw (m .1) at (c .before .before .before .before .before .before .predicates .ensures) in
+    let own = c .before .before .before .before .before .before .before .before .own-depth .result in
+    let own-is : own ≡ cond (guarded (s .0 .axis)) (opened (a .depth)) 0 =
+    c .before .before .before .before .before .before .before .before .own-depth .ensures ∙
+    ap (λ g. cond g (opened (a .depth)) 0) (sym (guarded-number (s .0 .axis) _ (ap (λ x. x .axis) (s .2)))) in
+    row-more (stepRows (a .depth)) (now (a .items)) (a .at) (a .depth) _ (l .place) (l .deep) (l .high) (l .guarded) (l .owed) (m .0 .0) (m .0 .1 .0) (m .0 .1 .1 .0) (max own (m .0 .1 .1 .1 .0)) _ _ _ (step (s .0 .axis) (s .0 .test) (p .what) stop)
+    (c .before .before .before .before .before .before .before .before .before .before .before .before .before .before .before .loop-test .taken) (l .inv)
+    (step-row (a .depth) (now (a .items)) (l .place) (s .0) _ (p .what) (m .0 .0) (c .before .before .before .before .before .before .before .before .before .before .before .before .before .before .if1 .left) (s .1) (ap (λ x. x .count) (s .2)) (p .reads)) (omega (arith, p .onward)) (p .inside)
+    (omega (arith, p .nests)) (omega (arith, p .heights)) (omega (arith, own-is, p .guards)) (p .shallow) (omega (arith, p .low)) (c .before .before .larger2 .ensures) (c .before .larger3 .ensures)
+    (omega (arith, c .larger4 .ensures, c .before .before .before .before .before .before .before .larger .ensures))
 
 steps-returns-4 : (t : ℕ) → steps-lts.Need-returns-4 (steps-claims t) (steps-at t) steps.Post steps-Inv-loop steps-μ-loop
 steps-returns-4 t c =
     let l = c .before .loop in
-    row-done (stepRows (c .before .before .before .args .depth)) _ _ _ _ (l .place) (l .deep) (l .high) (l .owed) (c .loop-test .left) (l .inv)
+    row-done (stepRows (c .before .before .before .args .depth)) _ _ _ _ (l .place) (l .deep) (l .high) (l .guarded) (l .owed) (c .loop-test .left) (l .inv)
 
 pub +expression+operand+predicates+steps-spec : {M : Type 1} → statement M
 +expression+operand+predicates+steps-spec =
@@ -482,6 +508,7 @@ pub +expression+operand+predicates+steps-spec : {M : Type 1} → statement M
     (expression-enum-told t)
     (expression-returns t)
     (expression-larger-requires t)
+    (expression-larger-requires-2 t)
     (expression-joined-requires t)
     (expression-sub-ands t)
     (expression-loop-less t)
@@ -533,6 +560,7 @@ pub +expression+operand+predicates+steps-spec : {M : Type 1} → statement M
     (predicates-add-larger t)
     (predicates-larger-requires t)
     (predicates-larger-requires-2 t)
+    (predicates-larger-requires-3 t)
     (predicates-sub-owed t)
     (predicates-loop-less t)
     (predicates-loop-again t)
@@ -549,13 +577,16 @@ pub +expression+operand+predicates+steps-spec : {M : Type 1} → statement M
     (steps-unpack-requires t)
     (steps-enum-known-item t)
     (steps-returns-2 t)
+    (steps-own-depth-requires t)
+    (steps-larger-requires t)
     (steps-add-predicates t)
     (steps-predicates-requires t)
     (steps-enum-known-more t)
     (steps-enum-told t)
     (steps-returns-3 t)
-    (steps-larger-requires t)
     (steps-larger-requires-2 t)
+    (steps-larger-requires-3 t)
+    (steps-larger-requires-4 t)
     (steps-sub-owed t)
     (steps-loop-less t)
     (steps-loop-again t)

@@ -10,10 +10,10 @@ use Rattle.shape.proofs.measure.Statement.{statement}
 use Rattle.shape.proofs.measure.Tie as tie
 
 abbrev Inv-loop : tie.InvT-loop
-Inv-loop items place₀ deep₀ high₀ place deep high = PathsLeft items place deep high
+Inv-loop items place₀ deep₀ high₀ guarded₀ place deep high guarded = PathsLeft items place deep high guarded
 
 abbrev μ-loop : tie.MeasureT-loop
-μ-loop items place₀ deep₀ high₀ place deep high = length items - place
+μ-loop items place₀ deep₀ high₀ guarded₀ place deep high guarded = length items - place
 
 returns : tie.Need-returns Inv-loop μ-loop
 returns c = no-items (now (c .before .before .args .items)) (c .if1 .taken)
@@ -39,7 +39,7 @@ returns-2 c =
     let l = c .before .before .before .before .loop in
     let u = c .before .unpack in
     let w = getD (now (a .items)) (l .place) 0 in
-    paths-none (now (a .items)) (l .place) (l .deep) (l .high) (c .before .before .before .loop-test .taken) (l .inv) (not-path w (u .result) (said w (u .result) (u .ensures)) (c .match .keys2))
+    paths-none (now (a .items)) (l .place) (l .deep) (l .high) (l .guarded) (c .before .before .before .loop-test .taken) (l .inv) (not-path w (u .result) (said w (u .result) (u .ensures)) (c .match .keys2))
 
 add-steps : tie.Need-add-steps Inv-loop μ-loop
 add-steps c = search needs
@@ -60,7 +60,7 @@ returns-3 c =
     let u = c .before .before .before .before .before .before .unpack in
     let w = getD (now (a .items)) (l .place) 0 in
     let s = rw (c .before .before .before .before .item .given .1) at (said w (u .result) (u .ensures)) in
-    paths-bad (now (a .items)) (l .place) (l .deep) (l .high) _ (c .before .before .before .before .before .before .before .before .loop-test .taken) (l .inv) s (rw (c .enum-told .given .1) at (c .before .before .steps .ensures))
+    paths-bad (now (a .items)) (l .place) (l .deep) (l .high) (l .guarded) _ (c .before .before .before .before .before .before .before .before .loop-test .taken) (l .inv) s (rw (c .enum-told .given .1) at (c .before .before .steps .ensures))
 
 larger-requires : tie.Need-larger-requires Inv-loop μ-loop
 larger-requires c κs = search needs
@@ -73,27 +73,30 @@ add-larger c =
 larger-requires-2 : tie.Need-larger-requires-2 Inv-loop μ-loop
 larger-requires-2 c κs = search needs
 
+larger-requires-3 : tie.Need-larger-requires-3 Inv-loop μ-loop
+larger-requires-3 c κs = search needs
+
 loop-less : tie.Need-loop-less Inv-loop μ-loop
 loop-less c =
-    let w = rw (c .before .before .before .more .given .1) at (c .before .before .before .before .before .steps .ensures) in
-    omega (arith, w .onward, c .before .before .before .before .before .before .before .before .before .before .before .loop-test .taken)
+    let w = rw (c .before .before .before .before .more .given .1) at (c .before .before .before .before .before .before .steps .ensures) in
+    omega (arith, w .onward, c .before .before .before .before .before .before .before .before .before .before .before .before .loop-test .taken)
 
 loop-again : tie.Need-loop-again Inv-loop μ-loop
 loop-again c =
-    let a = c .before .before .before .before .before .before .before .before .before .before .before .before .before .before .before .args in
-    let l = c .before .before .before .before .before .before .before .before .before .before .before .before .loop in
-    let u = c .before .before .before .before .before .before .before .before .before .unpack in
+    let a = c .before .before .before .before .before .before .before .before .before .before .before .before .before .before .before .before .args in
+    let l = c .before .before .before .before .before .before .before .before .before .before .before .before .before .loop in
+    let u = c .before .before .before .before .before .before .before .before .before .before .unpack in
     let i = getD (now (a .items)) (l .place) 0 in
-    let s = rw (c .before .before .before .before .before .before .before .item .given .1) at (said i (u .result) (u .ensures)) in
-    let m = c .before .before .before .more .given in
-    let w = rw (m .1) at (c .before .before .before .before .before .steps .ensures) in
-    paths-more (now (a .items)) (l .place) (l .deep) (l .high) _ (m .0 .0) (m .0 .1 .0) (m .0 .1 .1 .0) _ _ (c .before .before .before .before .before .before .before .before .before .before .before .loop-test .taken) (l .inv) s w (c .before .larger .ensures) (c .larger2 .ensures)
+    let s = rw (c .before .before .before .before .before .before .before .before .item .given .1) at (said i (u .result) (u .ensures)) in
+    let m = c .before .before .before .before .more .given in
+    let w = rw (m .1) at (c .before .before .before .before .before .before .steps .ensures) in
+    paths-more (now (a .items)) (l .place) (l .deep) (l .high) (l .guarded) _ (m .0 .0) (m .0 .1 .0) (m .0 .1 .1 .0) (m .0 .1 .1 .1 .0) _ _ _ (c .before .before .before .before .before .before .before .before .before .before .before .before .loop-test .taken) (l .inv) s w (c .before .before .larger .ensures) (c .before .larger2 .ensures) (c .larger3 .ensures)
 
 returns-4 : tie.Need-returns-4 Inv-loop μ-loop
 returns-4 c =
     let l = c .before .loop in
     let items = now (c .before .before .before .before .args .items) in
-    paths-done items (l .place) (l .deep) (l .high) (omega (arith, c .before .before .if1 .left)) (c .loop-test .left) (l .inv)
+    paths-done items (l .place) (l .deep) (l .high) (l .guarded) (omega (arith, c .before .before .if1 .left)) (c .loop-test .left) (l .inv)
 
 pub measure-spec : {M : Type 1} → statement M
 measure-spec =
@@ -116,6 +119,7 @@ measure-spec =
     larger-requires
     add-larger
     larger-requires-2
+    larger-requires-3
     loop-less
     loop-again
     returns-4)

@@ -7,13 +7,13 @@ use Rattle.shape.proofs.raised.Tie as tie
 enum-known-walked : tie.Need-enum-known-walked
 enum-known-walked c = search needs
 
-add-t8 : tie.Need-add-t8
-add-t8 c =
+add-t9 : tie.Need-add-t9
+add-t9 c =
     let small = rw (c .before .walked .given .1) at (c .before .before .before .pre) in
     omega (arith, small)
 
-add-t9 : tie.Need-add-t9
-add-t9 c =
+add-t10 : tie.Need-add-t10
+add-t10 c =
     let small = rw (c .before .walked .given .1) at (c .before .before .before .pre) in
     omega (arith, small)
 
@@ -27,4 +27,4 @@ returns-2 : tie.Need-returns-2
 returns-2 c = search needs
 
 pub raised-spec : {M : Type 1} → statement M
-raised-spec = tie.close (tie.spec enum-known-walked add-t8 add-t9 enum-told returns returns-2)
+raised-spec = tie.close (tie.spec enum-known-walked add-t9 add-t10 enum-told returns returns-2)

@@ -1,38 +1,38 @@
--- `compose::count_steps` meets its contract. The invariant: what was counted and what is left make up the whole. The measure is what is left of the items. Assumes nothing.
+-- `compose::count_guards` meets its contract. The invariant: what was counted and what is left make up the whole. The measure is what is left of the items. Assumes nothing.
 use borrow.Author.Needs.{needs}
 use Prim.Native.Nat.{_+_, _-_, _≤_}
 use native.Mathlib.Omega.{arith}
 use mathlib.Core.Path.{_≡_}
 use denote.Ref.{now}
 use lib.ListN.{length, getD, drop}
-use Rattle.compose.specs.Pieces.{stepItems}
+use Rattle.compose.specs.Pieces.{guardItems}
 use Rattle.compose.proofs.Reading.{counted-more, counted-end, step-item-most}
-use Rattle.compose.proofs.count_steps.Statement.{statement}
-use Rattle.compose.proofs.count_steps.Tie as tie
+use Rattle.compose.proofs.count_guards.Statement.{statement}
+use Rattle.compose.proofs.count_guards.Tie as tie
 
 abbrev Inv-loop : tie.InvT-loop
-Inv-loop items place₀ steps₀ place steps = (place ≤ length items) × (steps ≤ place) × (stepItems items ≡ steps + stepItems (drop place items))
+Inv-loop items place₀ guards₀ place guards = (place ≤ length items) × (guards ≤ place) × (guardItems items ≡ guards + guardItems (drop place items))
 
 abbrev μ-loop : tie.MeasureT-loop
-μ-loop items place₀ steps₀ place steps = length items - place
+μ-loop items place₀ guards₀ place guards = length items - place
 
 loop-holds : tie.Need-loop-holds Inv-loop μ-loop
 loop-holds c = (omega arith, omega arith, omega arith)
 
-mul-one-step : tie.Need-mul-one-step Inv-loop μ-loop
-mul-one-step c = search needs
+mul-one-guard : tie.Need-mul-one-guard Inv-loop μ-loop
+mul-one-guard c = search needs
 
-shared-slice-read-one-step : tie.Need-shared-slice-read-one-step Inv-loop μ-loop
-shared-slice-read-one-step c = search needs
+shared-slice-read-one-guard : tie.Need-shared-slice-read-one-guard Inv-loop μ-loop
+shared-slice-read-one-guard c = search needs
 
-one-step-requires : tie.Need-one-step-requires Inv-loop μ-loop
-one-step-requires c κs = search needs
+one-guard-requires : tie.Need-one-guard-requires Inv-loop μ-loop
+one-guard-requires c κs = search needs
 
-add-steps : tie.Need-add-steps Inv-loop μ-loop
-add-steps c =
+add-guards : tie.Need-add-guards Inv-loop μ-loop
+add-guards c =
     let a = c .before .before .before .before .before .args in
     let l = c .before .before .before .loop in
-    omega (arith, c .one-step .ensures, step-item-most (getD (now (a .items)) (l .place) 0))
+    omega (arith, c .one-guard .ensures, step-item-most (getD (now (a .items)) (l .place) 0))
 
 add-place : tie.Need-add-place Inv-loop μ-loop
 add-place c = search needs
@@ -46,7 +46,7 @@ loop-again c =
     let l = c .before .before .before .loop in
     let most = step-item-most (getD (now (a .items)) (l .place) 0) in
     let more = counted-more (now (a .items)) (l .place) (c .before .before .loop-test .taken) in
-    (omega arith, omega (arith, c .one-step .ensures), omega (arith, c .one-step .ensures))
+    (omega arith, omega (arith, c .one-guard .ensures), omega (arith, c .one-guard .ensures))
 
 returns : tie.Need-returns Inv-loop μ-loop
 returns c =
@@ -54,17 +54,17 @@ returns c =
     let l = c .before .loop in
     (omega (arith, counted-end (now (a .items)) (l .place) (c .loop-test .left)), omega arith)
 
-pub count-steps-spec : {M : Type 1} → statement M
-count-steps-spec =
+pub count-guards-spec : {M : Type 1} → statement M
+count-guards-spec =
     tie.close
     (tie.spec
     Inv-loop
     μ-loop
     loop-holds
-    mul-one-step
-    shared-slice-read-one-step
-    one-step-requires
-    add-steps
+    mul-one-guard
+    shared-slice-read-one-guard
+    one-guard-requires
+    add-guards
     add-place
     loop-less
     loop-again
