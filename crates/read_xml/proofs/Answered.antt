@@ -7,7 +7,7 @@ use mathlib.Core.Bool.{Bool, true, false, not, _||_}
 use mathlib.Core.List.{List, map}
 use mathlib.Core.Option.{Option, none, some}
 use lib.Dec.{eqb, ltb}
-use lib.ListN.{length}
+use lib.ListN.{length, take}
 use Rattle.paper.specs.Tools.{when, written}
 use Rattle.paper.specs.Limits.{textLimit, listLimit, nodeLimit}
 use Rattle.paper.specs.Names.{namesFault, namesOf, numberOf}
@@ -17,11 +17,13 @@ use Rattle.paper.specs.Answers.{Answer as Told}
 use Rattle.paper.specs.Told.{told}
 use Rattle.paper.specs.declared.Answer.{Answer}
 use Rattle.paper.proofs.Refusing.{line-value, when-none, or-none, Refuses, refused-keeps}
-use Rattle.read_xml.specs.Judges.{Wanted}
-use Rattle.read_xml.specs.Writes.{Columns, columns, Filled, Fits, xmlAnswer, exitColumns}
+use Rattle.read_xml.specs.Kept.{Columns, columns, Filled, xmlAnswer, exitColumns}
+use Rattle.read_xml.specs.Judges.{Wanted, Judges}
 use Rattle.read_xml.specs.declared.Progress.{Progress}
+use Rattle.read_xml.specs.declared.Step.{Step}
+use Rattle.read_xml.specs.declared.Step.the-variants.{On, Wrong, LeftOut}
 use Rattle.read_xml.proofs.Lacking.{none-lacking, some-lacking}
-use Rattle.read_xml.proofs.Opened.{length-rows}
+use Rattle.read_xml.proofs.Filling.{copied-room, copied}
 
 module _ (text list : List ℕ) (room : ℕ) where
   -- 12 and 11.
@@ -29,19 +31,19 @@ module _ (text list : List ℕ) (room : ℕ) where
   refused-text number place e = sym (ap (λ j. lineXml j (λ tree. readXmlLast list room (table (length text) tree))) e)
 
   -- 5 and 10 of a wanted text.
-  module _ (p : Progress) (h : Wanted text (numberOf (namesOf list)) p) where
+  module _ (cols : Columns) (p : Progress) (h : Wanted text list cols p) where
     wanted-answer : readXmlLast list room (table (length text) (h .tree)) ≡ xmlAnswer text list room
     wanted-answer = sym (ap (λ j. lineXml j (λ tree. readXmlLast list room (table (length text) tree))) (h .is))
 
     pub name-lacking : (p .unnamed ≡ 0 → ⊥) → refusal 5 (p .unnamed) ≡ xmlAnswer text list room
     name-lacking some-place =
-        let e = some-lacking (numberOf (namesOf list)) (table (length text) (h .tree)) (p .unnamed) (h .lacking) some-place in
+        let e = some-lacking (numberOf (namesOf list)) (table (length text) (h .tree)) (p .unnamed) (h .counted .lacking) some-place in
         sym (ap (λ o. line 5 o (line 10 (shortOfNodes room (length (table (length text) (h .tree)))) (value (length (table (length text) (h .tree)))))) e) ∙ wanted-answer
 
     all-named : p .unnamed ≡ 0 → line 10 (shortOfNodes room (p .nodes)) (value (p .nodes)) ≡ xmlAnswer text list room
     all-named zero =
-        let e = none-lacking (numberOf (namesOf list)) (table (length text) (h .tree)) (sym zero ∙ h .lacking) in
-        ap (λ n. line 10 (shortOfNodes room n) (value n)) (h .nodes)
+        let e = none-lacking (numberOf (namesOf list)) (table (length text) (h .tree)) (sym zero ∙ h .counted .lacking) in
+        ap (λ n. line 10 (shortOfNodes room n) (value n)) (h .counted .nodes)
         ∙ sym (ap (λ o. line 5 o (line 10 (shortOfNodes room (length (table (length text) (h .tree)))) (value (length (table (length text) (h .tree)))))) e) ∙ wanted-answer
 
     pub too-short : p .unnamed ≡ 0 → (ltb room (p .nodes) || ltb nodeLimit (p .nodes)) ≡ true → refusal 10 (p .nodes) ≡ xmlAnswer text list room
@@ -50,40 +52,64 @@ module _ (text list : List ℕ) (room : ℕ) where
     pub enough : p .unnamed ≡ 0 → (ltb room (p .nodes) || ltb nodeLimit (p .nodes)) ≡ false → value (p .nodes) ≡ xmlAnswer text list room
     enough zero e = sym (ap (λ b. line 10 (when b (p .nodes)) (value (p .nodes))) e) ∙ all-named zero
 
--- What an accepted text has.
-pub accepted : (text list : List ℕ) (old : Columns) (n : ℕ) → xmlAnswer text list (length (old .parents)) ≡ value n → length (old .kinds) ≡ length (old .parents) → length (old .begins) ≡ length (old .parents)
-    → length (old .ends) ≡ length (old .parents) → Fits text old
-accepted text list old n h k b e = go (readXml text) refl h
-  where
-    go : (j : Judged) → readXml text ≡ j → lineXml j (λ tree. readXmlLast list (length (old .parents)) (table (length text) tree)) ≡ value n → Fits text old
-    go (unwanted number place) is a = absurd (let z : _≡_ {A = ℕ} 0 1 = cc in omega arith)
-    go (wanted tree) is a =
-        let lines = table (length text) tree in
-        let ten = line-value 10 n (shortOfNodes (length (old .parents)) (length lines)) (value (length lines)) (line-value 5 n (unnamed (numberOf (namesOf list)) lines) _ a .1) .0 in
-        let both = or-none (ltb (length (old .parents)) (length lines)) (ltb nodeLimit (length lines)) (when-none _ (length lines) ten) in
-        let room = ltb-false (length (old .parents)) (length lines) (both .0) in
-        let few = ltb-false nodeLimit (length lines) (both .1) in
-        let many = length-rows tree 0 1 in
-        record {
-          tree = tree;
-          is = is;
-          few = omega (arith, few, many);
-          parents = omega (arith, room, many);
-          kinds = omega (arith, room, many, k);
-          begins = omega (arith, room, many, b);
-          ends = omega (arith, room, many, e);
-        }
+-- What was kept of an accepted text.
+pub record Accepted (text list : List ℕ) (cols : Columns) (room n : ℕ) : Type 0 where
+  pub many : n ≡ length (rowsGot (length text) (readXml text))
+  pub few : n ≤ nodeLimit
+  pub fits : n ≤ room
+  pub filled : Filled list (rowsGot (length text) (readXml text)) cols
 
--- What is written, and that a refusal writes nothing.
-pub filled-exit : (text list : List ℕ) (old new : Columns) (n : ℕ) → Filled list (rowsGot (length text) (readXml text)) old new
-    → columns (new .parents) (new .kinds) (new .begins) (new .ends) ≡ exitColumns text list (value n) old
+refused-value : (number place n : ℕ) → refusal number place ≡ value n → ⊥
+refused-value number place n e = let z : _≡_ {A = ℕ} 0 1 = cc in absurd (omega arith)
+
+value-same : (m n : ℕ) → _≡_ {A = Told} (value m) (value n) → n ≡ m
+value-same m n e = cc
+
+pub accepted : (text list : List ℕ) (cols : Columns) (room n : ℕ) (judged : Step) → Judges text list cols judged → xmlAnswer text list room ≡ value n → Accepted text list cols room n
+accepted text list cols room n (Wrong place) h a = absurd (refused-value 11 place n (refused-text text list room 11 place h ∙ a))
+accepted text list cols room n (LeftOut place) h a = absurd (refused-value 12 place n (refused-text text list room 12 place h ∙ a))
+accepted text list cols room n (On p) h a =
+    let lines = table (length text) (h .tree) in
+    let e : readXmlLast list room lines ≡ value n = sym (ap (λ j. lineXml j (λ tree. readXmlLast list room (table (length text) tree))) (h .is)) ∙ a in
+    let last = line-value 5 n (unnamed (numberOf (namesOf list)) lines) _ e .1 in
+    let ten = line-value 10 n (shortOfNodes room (length lines)) (value (length lines)) last in
+    let both = or-none (ltb room (length lines)) (ltb nodeLimit (length lines)) (when-none _ (length lines) (ten .0)) in
+    let enough = ltb-false room (length lines) (both .0) in
+    let few = ltb-false nodeLimit (length lines) (both .1) in
+    let many : n ≡ length lines = value-same (length lines) n (ten .1) in
+    let same : rowsGot (length text) (readXml text) ≡ lines = ap (rowsGot (length text)) (h .is) in
+    record {
+      many = many ∙ ap length (sym same);
+      few = omega (arith, few, many);
+      fits = omega (arith, enough, many);
+      filled = subst (λ l. Filled list l cols) (sym same) (h .counted .filled (omega (arith, few)));
+    }
+
+-- So many lines are there to be copied.
+pub kept-room : {text list : List ℕ} {cols : Columns} {room n : ℕ} → Accepted text list cols room n
+    → (n ≤ length (cols .parents)) × (n ≤ length (cols .kinds)) × (n ≤ length (cols .begins)) × (n ≤ length (cols .ends))
+kept-room {text} {list} {cols} {room} {n} h =
+    let rows = rowsGot (length text) (readXml text) in (
+      copied-room parentField rows n (cols .parents) (h .many) (h .filled .parents),
+      copied-room (kindField list) rows n (cols .kinds) (h .many) (h .filled .kinds),
+      copied-room beginField rows n (cols .begins) (h .many) (h .filled .begins),
+      copied-room endField rows n (cols .ends) (h .many) (h .filled .ends),
+    )
+
+-- What is copied, and that a refusal writes nothing.
+pub copied-exit : (text list : List ℕ) (cols old : Columns) (room n : ℕ) (parents kinds begins ends : List ℕ) → Accepted text list cols room n → parents ≡ written (take n (cols .parents)) (old .parents)
+    → kinds ≡ written (take n (cols .kinds)) (old .kinds) → begins ≡ written (take n (cols .begins)) (old .begins) → ends ≡ written (take n (cols .ends)) (old .ends)
+    → columns parents kinds begins ends ≡ exitColumns text list (value n) old
 unfolding readXmlColumn
-filled-exit text list old new n h =
-    let p = h .parents in
-    let k = h .kinds in
-    let b = h .begins in
-    let e = h .ends in
-    rw (p, k, b, e) refl
+copied-exit text list cols old room n parents kinds begins ends h p k b e =
+    let rows = rowsGot (length text) (readXml text) in
+    rw (
+      p ∙ copied parentField rows n (cols .parents) (old .parents) (h .many) (h .filled .parents),
+      k ∙ copied (kindField list) rows n (cols .kinds) (old .kinds) (h .many) (h .filled .kinds),
+      b ∙ copied beginField rows n (cols .begins) (old .begins) (h .many) (h .filled .begins),
+      e ∙ copied endField rows n (cols .ends) (old .ends) (h .many) (h .filled .ends),
+    )
+    refl
 
 pub refused-exit : (text list : List ℕ) (old : Columns) (a : Answer) → Refuses a → columns (old .parents) (old .kinds) (old .begins) (old .ends) ≡ exitColumns text list (told a) old
 unfolding readXmlColumn

@@ -1,16 +1,17 @@
--- What a line more and an end more do to the columns. Assumes nothing.
+-- What a line more and an end more do to the kept columns, and what is copied of them. Assumes nothing.
 use Prim.Native.Nat.{ℕ, suc, _+_, _≤_, _<_}
 use native.Mathlib.Omega.{arith}
 use mathlib.Core.Path.{_≡_, refl, sym, _∙_, ap, subst}
 use mathlib.Core.List.{List, [], _∷_, _++_, map, append-assoc}
-use lib.ListN.{length, getD, set, drop, length-append, length-drop, length-map}
-use lib.Seq.{set-at, getD-at}
+use lib.ListN.{length, getD, set, take, drop, replicate, length-append, length-map, length-replicate}
+use lib.Seq.{set-at, getD-at, take-append-seam, take-suc, length-take-le}
 use Rattle.paper.specs.Tools.{written}
+use Rattle.paper.specs.Limits.{nodeLimit}
 use Rattle.paper.specs.Xml.{Frame, What, named, Row, row, rows}
 use Rattle.paper.specs.Answers.{parentField, kindField, beginField, endField}
 use Rattle.paper.proofs.Extracting.{write-next}
 use Rattle.read_xml.specs.Open.{begun, innermost, lines}
-use Rattle.read_xml.specs.Writes.{Columns, columns, Filled}
+use Rattle.read_xml.specs.Kept.{Columns, columns, empty, lineSet, Filled}
 use Rattle.read_xml.proofs.Opened.{length-lines, ending}
 
 map-append : (field : Row → ℕ) (xs ys : List Row) → map field (xs ++ ys) ≡ map field xs ++ map field ys
@@ -50,41 +51,55 @@ module _ (field : Row → ℕ) (lines : List Row) (old : List ℕ) where
   column-same r s more new e f =
       e ∙ ap (λ m. written m old) (map-append field lines (r ∷ more) ∙ ap (λ v. map field lines ++ (v ∷ map field more)) f ∙ sym (map-append field lines (s ∷ more)))
 
-  -- The column is as long as it was.
-  pub column-long : (new : List ℕ) → new ≡ written (map field lines) old → length lines ≤ length old → length new ≡ length old
-  column-long new e l =
-      let m = map field lines in
-      omega (arith, ap length e, length-append m (drop (length m) old), length-drop (length m) old, length-map lines field)
+-- The kept columns have room for every line of a table.
+empty-long : length empty ≡ nodeLimit
+unfolding empty
+empty-long = length-replicate {A = ℕ} nodeLimit 0
 
-module _ (list : List ℕ) (old new : Columns) where
+module _ (list : List ℕ) (cols : Columns) where
   -- A line more.
-  pub filled-more : (lines : List Row) → Filled list lines old new → (r : Row) (n p k b e : ℕ) → n ≡ length lines → p ≡ parentField r → k ≡ kindField list r → b ≡ beginField r → e ≡ endField r
-      → n < length (old .parents) → n < length (old .kinds) → n < length (old .begins) → n < length (old .ends)
-      → Filled list (lines ++ (r ∷ [])) old (columns (set (new .parents) n p) (set (new .kinds) n k) (set (new .begins) n b) (set (new .ends) n e))
-  filled-more lines h r n p k b e l hp hk hb he rp rk rb re =
+  pub filled-more : (lines : List Row) → Filled list lines cols → (r : Row) (n p k b e : ℕ) → n ≡ length lines → n < nodeLimit → p ≡ parentField r → k ≡ kindField list r → b ≡ beginField r → e ≡ endField r
+      → Filled list (lines ++ (r ∷ [])) (lineSet n p k b e cols)
+  filled-more lines h r n p k b e l few hp hk hb he =
+      let room : n < length empty = omega (arith, empty-long) in
       record {
-        parents = column-more parentField lines (old .parents) r (new .parents) n p (h .parents) l hp rp;
-        kinds = column-more (kindField list) lines (old .kinds) r (new .kinds) n k (h .kinds) l hk rk;
-        begins = column-more beginField lines (old .begins) r (new .begins) n b (h .begins) l hb rb;
-        ends = column-more endField lines (old .ends) r (new .ends) n e (h .ends) l he re;
+        parents = column-more parentField lines empty r (cols .parents) n p (h .parents) l hp room;
+        kinds = column-more (kindField list) lines empty r (cols .kinds) n k (h .kinds) l hk room;
+        begins = column-more beginField lines empty r (cols .begins) n b (h .begins) l hb room;
+        ends = column-more endField lines empty r (cols .ends) n e (h .ends) l he room;
       }
 
   module _ (long : ℕ) (f : Frame) (fs : List Frame) where
-    -- What an open element's line says of its parent and its place.
-    pub parent-there : Filled list (ending long f fs 0) old new → getD (new .parents) (begun fs) 0 ≡ innermost fs
-    parent-there h = column-at parentField (lines long fs) (old .parents) (row (innermost fs) (named (f .name)) (f .begin) 0) _ (new .parents) (begun fs) (h .parents) (sym (length-lines long fs))
-
-    pub begin-there : Filled list (ending long f fs 0) old new → getD (new .begins) (begun fs) 0 ≡ f .begin
-    begin-there h = column-at beginField (lines long fs) (old .begins) (row (innermost fs) (named (f .name)) (f .begin) 0) _ (new .begins) (begun fs) (h .begins) (sym (length-lines long fs))
+    -- What an open element's line says of its parent.
+    pub parent-there : Filled list (ending long f fs 0) cols → getD (cols .parents) (begun fs) 0 ≡ innermost fs
+    parent-there h = column-at parentField (lines long fs) empty (row (innermost fs) (named (f .name)) (f .begin) 0) _ (cols .parents) (begun fs) (h .parents) (sym (length-lines long fs))
 
     -- Its end is told.
-    pub filled-end : Filled list (ending long f fs 0) old new → (n e end : ℕ) → n ≡ begun fs → e ≡ end → Filled list (ending long f fs end) old (columns (new .parents) (new .kinds) (new .begins) (set (new .ends) n e))
-    filled-end h n e end l he =
+    pub filled-end : Filled list (ending long f fs 0) cols → (n end : ℕ) (told : List ℕ) → n ≡ begun fs → told ≡ set (cols .ends) n end
+        → Filled list (ending long f fs end) (columns (cols .parents) (cols .kinds) (cols .begins) told)
+    filled-end h n end told l e =
         let own = row (innermost fs) (named (f .name)) (f .begin) in
         let inside = rows (begun fs) (suc (begun fs)) (f .inside) in
         record {
-          parents = column-same parentField (lines long fs) (old .parents) (own 0) (own end) inside (new .parents) (h .parents) refl;
-          kinds = column-same (kindField list) (lines long fs) (old .kinds) (own 0) (own end) inside (new .kinds) (h .kinds) refl;
-          begins = column-same beginField (lines long fs) (old .begins) (own 0) (own end) inside (new .begins) (h .begins) refl;
-          ends = column-set endField (lines long fs) (old .ends) (own 0) (own end) inside (new .ends) n e (h .ends) (l ∙ sym (length-lines long fs)) he;
+          parents = column-same parentField (lines long fs) empty (own 0) (own end) inside (cols .parents) (h .parents) refl;
+          kinds = column-same (kindField list) (lines long fs) empty (own 0) (own end) inside (cols .kinds) (h .kinds) refl;
+          begins = column-same beginField (lines long fs) empty (own 0) (own end) inside (cols .begins) (h .begins) refl;
+          ends = e ∙ column-set endField (lines long fs) empty (own 0) (own end) inside (cols .ends) n end (h .ends) (l ∙ sym (length-lines long fs)) refl;
         }
+
+-- COPYING. A kept column has its lines,
+pub copied-room : (field : Row → ℕ) (lines : List Row) (n : ℕ) (column : List ℕ) → n ≡ length lines → column ≡ written (map field lines) empty → n ≤ length column
+copied-room field lines n column l e = omega (arith, ap length e, length-append (map field lines) (drop (length (map field lines)) empty), length-map lines field)
+
+-- and they are what is copied of it.
+pub copied : (field : Row → ℕ) (lines : List Row) (n : ℕ) (column old : List ℕ) → n ≡ length lines → column ≡ written (map field lines) empty → written (take n column) old ≡ written (map field lines) old
+copied field lines n column old l e =
+    ap (λ c. written c old)
+    (ap (take n) e ∙ ap (λ k. take k (written (map field lines) empty)) (l ∙ sym (length-map lines field)) ∙ take-append-seam (map field lines) (drop (length (map field lines)) empty))
+
+-- One more is copied.
+pub one-copied : (from old : List ℕ) (i : ℕ) → i < length from → i < length old → set (written (take i from) old) i (getD from i 0) ≡ written (take (i + 1) from) old
+one-copied from old i l room =
+    let next : suc i ≡ i + 1 = omega arith in
+    write-next (take i from) old i (getD from i 0) (length-take-le i from (omega arith)) room
+    ∙ ap (λ c. written c old) (sym (take-suc from i 0 l) ∙ ap (λ k. take k from) next)

@@ -1,3 +1,3 @@
 pub mod Open
+pub mod Kept
 pub mod Judges
-pub mod Writes

@@ -1,4 +1,4 @@
-// XML text into the table. The text is judged piece by piece, with the places kept at which the open elements begin; then its lines are written in the same way, and the table itself says which elements are open.
+// XML text into the table. The text is gone through once, piece by piece: the places at which the open elements begin are kept, and beside them the lines of the table; where the text is accepted, the lines are copied into the columns.
 use names::Found;
 use names::Listed;
 use paper::Answer;
@@ -8,29 +8,33 @@ use xml::Reach;
 ghost use Prim.Native.Nat.{ℕ, suc, _+_, _≤_, _<_};
 ghost use mathlib.Core.Path.{_≡_};
 ghost use mathlib.Core.List.{List, [], _∷_, _++_};
-ghost use mathlib.Core.Option.{Option};
-ghost use lib.ListN.{length, set, drop};
-ghost use Rattle.paper.specs.Tools.{runOf};
-ghost use Rattle.paper.specs.Limits.{textLimit};
-ghost use Rattle.paper.specs.Names.{namePart, namesOf, numberOf};
-ghost use Rattle.paper.specs.Xml.{Row, row, named, kindBy, unnamed, readXml};
-ghost use Rattle.paper.specs.Answers.{rowsGot, readXmlAnswer, readXmlColumn, parentField, kindField, beginField, endField};
+ghost use mathlib.Core.Option.{Option, some};
+ghost use lib.ListN.{length, getD, set, take};
+ghost use Rattle.paper.specs.Tools.{written};
+ghost use Rattle.paper.specs.Limits.{textLimit, nodeLimit, namesLimit};
+ghost use Rattle.paper.specs.Names.{namesOf, numberOf};
+ghost use Rattle.paper.specs.Xml.{Row, row, named, nameKind, unnamed};
+ghost use Rattle.paper.specs.Answers.{readXmlAnswer, readXmlColumn, parentField, kindField, beginField, endField};
 ghost use Rattle.paper.specs.Told.{told};
 ghost use Rattle.names.specs.Listing.{foundAt};
 ghost use Rattle.xml.specs.Pieces.{nameAt};
 ghost use Rattle.xml.specs.Heading.{Leads};
 ghost use Rattle.xml.specs.declared.Reach.the-variants.{At};
 ghost use Rattle.read_xml.specs.Open.{Looks, NameEnds};
+ghost use Rattle.read_xml.specs.Kept.{Columns, columns, blank, lineSet, xmlAnswer, exitColumns};
 ghost use Rattle.read_xml.specs.Judges.{openLimit, placeOf, Standing, Facing, Comes, Rises, Ends, Inside, Judges};
-ghost use Rattle.read_xml.specs.Writes.{Columns, columns, lineSet, Filled, Fits, Writing, Before, Writes, Written, xmlAnswer, exitColumns};
 
 // How many elements can be open at once: a start tag has three bytes at least.
 const OPEN: usize = paper::TEXT_LIMIT / 3;
 
-// How far judging has come: the place, how many elements are open, how many nodes there are, and where the first name stands that the list lacks, 0 where it lacks none.
+// How many lines are kept: no text with more nodes is accepted.
+const LINES: usize = paper::NODE_LIMIT;
+
+// How far reading has come: the place, how many elements are open, the innermost of them by its number, 0 where none is open, how many nodes there are, and where the first name stands that the list lacks, 0 where it lacks none.
 struct Progress {
     at: usize,
     depth: usize,
+    inner: u16,
     nodes: usize,
     unnamed: usize,
 }
@@ -42,11 +46,12 @@ enum Step {
     LeftOut(usize),
 }
 
-// How far writing has come: the place, the innermost open element, 0 where none is open, and the number of the next node.
-struct Pen {
-    at: usize,
-    inner: usize,
-    nodes: usize,
+// A number below 65,536 as an entry of a column.
+fn narrow(x: usize) -> u16
+    requires { ⌜ x < 65536 ⌝ }
+    ensures { λ r. ⌜ r ≡ x ⌝ }
+{
+    x as u16
 }
 
 // An entry of a column as an index.
@@ -54,14 +59,6 @@ fn wide(x: u16) -> usize
     ensures { λ r. ⌜ r ≡ x ⌝ }
 {
     x as usize
-}
-
-// A number below 65,536 as an entry of a column.
-fn narrow(x: usize) -> u16
-    requires { ⌜ x < 65536 ⌝ }
-    ensures { λ r. ⌜ r ≡ x ⌝ }
-{
-    x as u16
 }
 
 // NAMES.
@@ -91,126 +88,185 @@ fn find_name(
     )
 }
 
-// Where the first name stands that the list lacks, with one start tag more.
-fn first_unnamed(
-    list: &[u8],
-    starts: &[u16; names::STARTS],
-    count: usize,
-    chains: &[u16; initials::CHAINS],
-    text: &[u8],
-    begin: usize,
-    name_end: usize,
-    before: usize,
-) -> usize
-    requires { ⌜ Looks (now list) (now starts) count (now chains) ⌝ }
-    requires { ⌜ NameEnds (now text) begin «name_end» ⌝ }
-    ensures { λ r. ⌜ ((rows : List Row) (up end : ℕ) → before ≡ placeOf (unnamed (numberOf (namesOf (now (list .entry)))) rows) → r ≡ placeOf (unnamed (numberOf (namesOf (now (list .entry)))) (rows ++ (row up (named (nameAt (now (text .entry)) (suc begin))) begin end ∷ [])))) ⌝ }
+// Where the first name stands that the list lacks, with one start tag more, whose name was looked for.
+fn first_unnamed(found: Found, begin: usize, before: usize) -> usize
+    requires { ⌜ begin < 65536 ⌝ }
+    ensures { λ r. ⌜ ((look : List ℕ → Option ℕ) (rows : List Row) (name : List ℕ) (up end : ℕ) → foundAt found ≡ look name → before ≡ placeOf (unnamed look rows) → r ≡ placeOf (unnamed look (rows ++ (row up (named name) begin end ∷ [])))) ⌝ }
 {
     if before != 0 {
         return before;
     }
-    match find_name(list, starts, count, chains, text, begin, name_end) {
+    match found {
         Found::At(_) => 0,
         Found::Nothing => begin + 1,
     }
 }
 
-// The kind of the element whose start tag begins there.
-fn kind_of(
-    list: &[u8],
-    starts: &[u16; names::STARTS],
-    count: usize,
-    chains: &[u16; initials::CHAINS],
-    text: &[u8],
-    begin: usize,
-    name_end: usize,
-) -> u16
-    requires { ⌜ Looks (now list) (now starts) count (now chains) ⌝ }
-    requires { ⌜ NameEnds (now text) begin «name_end» ⌝ }
-    ensures { λ r. ⌜ r ≡ kindBy (numberOf (namesOf (now (list .entry)))) (named (nameAt (now (text .entry)) (suc begin))) ⌝ }
+// The kind of an element by its name.
+fn kind_of(found: Found) -> u16
+    requires { ⌜ ((v : ℕ) → foundAt found ≡ some v → v < namesLimit) ⌝ }
+    ensures { λ r. ⌜ r ≡ nameKind (foundAt found) ⌝ }
 {
-    match find_name(list, starts, count, chains, text, begin, name_end) {
+    match found {
         Found::At(v) => paper::ELEMENT_KIND + narrow(v),
         Found::Nothing => paper::ELEMENT_KIND,
     }
 }
 
-// JUDGING.
+// LINES.
 
-// Counts a piece.
-fn count_piece(
+// Keeps a line of the table, as far as there are any; where its element ends may be told later.
+fn keep_line(
+    parents: &mut [u16; LINES],
+    kinds: &mut [u16; LINES],
+    begins: &mut [u16; LINES],
+    ends: &mut [u16; LINES],
+    n: usize,
+    up: u16,
+    what: u16,
+    first: usize,
+    last: usize,
+)
+    requires { ⌜ (first < 65536) × (last < 65536) ⌝ }
+    ensures { λ _. ⌜ (n < nodeLimit → columns (now (parents .exit)) (now (kinds .exit)) (now (begins .exit)) (now (ends .exit)) ≡ lineSet n up what first last (columns (now (parents .entry)) (now (kinds .entry)) (now (begins .entry)) (now (ends .entry)))) ⌝ }
+{
+    if n < LINES {
+        parents[n] = up;
+        kinds[n] = what;
+        begins[n] = narrow(first);
+        ends[n] = narrow(last);
+    }
+}
+
+// Tells where an element ends, and answers its parent.
+fn keep_end(parents: &[u16; LINES], ends: &mut [u16; LINES], inner: u16, last: usize) -> u16
+    requires { ⌜ last < 65536 ⌝ }
+    ensures { λ r. ⌜ (inner < nodeLimit → (now (ends .exit) ≡ set (now (ends .entry)) inner last) × (r ≡ getD (now (parents .entry)) inner 0)) ⌝ }
+{
+    let n = wide(inner);
+    if LINES <= n {
+        return 0;
+    }
+    ends[n] = narrow(last);
+    parents[n]
+}
+
+// Copies the first lines of a column.
+fn copy_lines(from: &[u16; LINES], count: usize, to: &mut [u16])
+    requires { ⌜ (count ≤ nodeLimit) × (count ≤ length (now from)) × (count ≤ length (now to)) ⌝ }
+    ensures { λ _. ⌜ now (to .exit) ≡ written (take count (now (from .entry))) (now (to .entry)) ⌝ }
+{
+    let mut i = 0;
+    while i < count {
+        to[i] = from[i];
+        i += 1;
+    }
+}
+
+// PIECES.
+
+// Counts a piece and keeps its line.
+fn keep_piece(
     text: &[u8],
     list: &[u8],
     starts: &[u16; names::STARTS],
     count: usize,
     chains: &[u16; initials::CHAINS],
     open: &mut [u16; OPEN],
+    parents: &mut [u16; LINES],
+    kinds: &mut [u16; LINES],
+    begins: &mut [u16; LINES],
+    ends: &mut [u16; LINES],
     piece: Piece,
     so_far: Progress,
 ) -> Step
     requires { ⌜ Looks (now list) (now starts) count (now chains) ⌝ }
     requires { ⌜ length (now text) ≤ textLimit ⌝ }
-    requires { ⌜ Facing (now text) (numberOf (namesOf (now list))) (now «open») piece «so_far» ⌝ }
-    ensures { λ r. ⌜ Comes (now (text .entry)) (numberOf (namesOf (now (list .entry)))) (now («open» .exit)) r ⌝ }
+    requires { ⌜ Facing (now text) (now list) (now «open») (columns (now parents) (now kinds) (now begins) (now ends)) piece «so_far» ⌝ }
+    ensures { λ r. ⌜ Comes (now (text .entry)) (now (list .entry)) (now («open» .exit)) (columns (now (parents .exit)) (now (kinds .exit)) (now (begins .exit)) (now (ends .exit))) r ⌝ }
     ensures { λ r. ⌜ Rises («so_far» .at) r ⌝ }
 {
     let at = so_far.at;
     let depth = so_far.depth;
+    let inner = so_far.inner;
+    let n = so_far.nodes;
     match piece {
         Piece::Start { name_end, next } => {
-            let unnamed = first_unnamed(
-                list,
-                starts,
-                count,
-                chains,
-                text,
-                at,
-                name_end,
-                so_far.unnamed,
-            );
+            let found = find_name(list, starts, count, chains, text, at, name_end);
+            let unnamed = first_unnamed(found, at, so_far.unnamed);
             open[depth] = narrow(at);
+            keep_line(
+                parents,
+                kinds,
+                begins,
+                ends,
+                n,
+                inner,
+                kind_of(found),
+                at,
+                0,
+            );
             let deeper = depth + 1;
-            let nodes = so_far.nodes + 1;
+            let nodes = n + 1;
             Step::On(Progress {
                 at: next.at,
                 depth: deeper,
+                inner: narrow(n),
                 nodes,
                 unnamed,
             })
         }
         Piece::Empty { name_end, next } => {
-            let unnamed = first_unnamed(
-                list,
-                starts,
-                count,
-                chains,
-                text,
+            let found = find_name(list, starts, count, chains, text, at, name_end);
+            let unnamed = first_unnamed(found, at, so_far.unnamed);
+            keep_line(
+                parents,
+                kinds,
+                begins,
+                ends,
+                n,
+                inner,
+                kind_of(found),
                 at,
-                name_end,
-                so_far.unnamed,
+                next.at,
             );
-            let nodes = so_far.nodes + 1;
+            let nodes = n + 1;
             Step::On(Progress {
                 at: next.at,
                 depth,
+                inner,
                 nodes,
                 unnamed,
             })
         }
         Piece::End(next) => {
+            let up = keep_end(parents, ends, inner, next.at);
             let shallower = depth - 1;
             Step::On(Progress {
                 at: next.at,
                 depth: shallower,
-                nodes: so_far.nodes,
+                inner: up,
+                nodes: n,
                 unnamed: so_far.unnamed,
             })
         }
         Piece::Text(next) => {
-            let nodes = so_far.nodes + 1;
+            keep_line(
+                parents,
+                kinds,
+                begins,
+                ends,
+                n,
+                inner,
+                paper::TEXT_KIND,
+                at,
+                next.at,
+            );
+            let nodes = n + 1;
             Step::On(Progress {
                 at: next.at,
                 depth,
+                inner,
                 nodes,
                 unnamed: so_far.unnamed,
             })
@@ -220,46 +276,79 @@ fn count_piece(
     }
 }
 
-// Judges the next piece inside an element.
-fn judge_piece(
+// Takes the next piece inside an element.
+fn read_piece(
     text: &[u8],
     list: &[u8],
     starts: &[u16; names::STARTS],
     count: usize,
     chains: &[u16; initials::CHAINS],
     open: &mut [u16; OPEN],
+    parents: &mut [u16; LINES],
+    kinds: &mut [u16; LINES],
+    begins: &mut [u16; LINES],
+    ends: &mut [u16; LINES],
     so_far: Progress,
 ) -> Step
     requires { ⌜ Looks (now list) (now starts) count (now chains) ⌝ }
     requires { ⌜ length (now text) ≤ textLimit ⌝ }
-    requires { ⌜ Standing (now text) (numberOf (namesOf (now list))) (now «open») «so_far» × (0 < «so_far» .depth) ⌝ }
-    ensures { λ r. ⌜ Comes (now (text .entry)) (numberOf (namesOf (now (list .entry)))) (now («open» .exit)) r ⌝ }
+    requires { ⌜ Standing (now text) (now list) (now «open») (columns (now parents) (now kinds) (now begins) (now ends)) «so_far» × (0 < «so_far» .depth) ⌝ }
+    ensures { λ r. ⌜ Comes (now (text .entry)) (now (list .entry)) (now («open» .exit)) (columns (now (parents .exit)) (now (kinds .exit)) (now (begins .exit)) (now (ends .exit))) r ⌝ }
     ensures { λ r. ⌜ Rises («so_far» .at) r ⌝ }
 {
     let inner = wide(open[so_far.depth - 1]);
     let cursor = Cursor { at: so_far.at };
     let piece = cursor.take(text, inner);
-    count_piece(text, list, starts, count, chains, open, piece, so_far)
+    keep_piece(
+        text,
+        list,
+        starts,
+        count,
+        chains,
+        open,
+        parents,
+        kinds,
+        begins,
+        ends,
+        piece,
+        so_far,
+    )
 }
 
-// Judges all pieces up to the end of the one element.
-fn judge_inside(
+// Takes all pieces up to the end of the one element.
+fn read_inside(
     text: &[u8],
     list: &[u8],
     starts: &[u16; names::STARTS],
     count: usize,
     chains: &[u16; initials::CHAINS],
     open: &mut [u16; OPEN],
+    parents: &mut [u16; LINES],
+    kinds: &mut [u16; LINES],
+    begins: &mut [u16; LINES],
+    ends: &mut [u16; LINES],
     first: Progress,
 ) -> Step
     requires { ⌜ Looks (now list) (now starts) count (now chains) ⌝ }
     requires { ⌜ length (now text) ≤ textLimit ⌝ }
-    requires { ⌜ Standing (now text) (numberOf (namesOf (now list))) (now «open») first ⌝ }
-    ensures { λ r. ⌜ Ends (now (text .entry)) (numberOf (namesOf (now (list .entry)))) r ⌝ }
+    requires { ⌜ Standing (now text) (now list) (now «open») (columns (now parents) (now kinds) (now begins) (now ends)) first ⌝ }
+    ensures { λ r. ⌜ Ends (now (text .entry)) (now (list .entry)) (columns (now (parents .exit)) (now (kinds .exit)) (now (begins .exit)) (now (ends .exit))) r ⌝ }
 {
     let mut so_far = first;
     while 0 < so_far.depth {
-        let step = judge_piece(text, list, starts, count, chains, open, so_far);
+        let step = read_piece(
+            text,
+            list,
+            starts,
+            count,
+            chains,
+            open,
+            parents,
+            kinds,
+            begins,
+            ends,
+            so_far,
+        );
         let Step::On(next) = step else {
             return step;
         };
@@ -268,40 +357,72 @@ fn judge_inside(
     Step::On(so_far)
 }
 
-// Judges the one element, which begins there.
-fn judge_element(
+// Takes the one element, which begins there.
+fn read_element(
     text: &[u8],
     list: &[u8],
     starts: &[u16; names::STARTS],
     count: usize,
     chains: &[u16; initials::CHAINS],
+    parents: &mut [u16; LINES],
+    kinds: &mut [u16; LINES],
+    begins: &mut [u16; LINES],
+    ends: &mut [u16; LINES],
     at: usize,
 ) -> Step
     requires { ⌜ Looks (now list) (now starts) count (now chains) ⌝ }
     requires { ⌜ length (now text) ≤ textLimit ⌝ }
     requires { ⌜ Leads (now text) (At at) ⌝ }
-    ensures { λ r. ⌜ Ends (now (text .entry)) (numberOf (namesOf (now (list .entry)))) r ⌝ }
+    requires { ⌜ columns (now parents) (now kinds) (now begins) (now ends) ≡ blank ⌝ }
+    ensures { λ r. ⌜ Ends (now (text .entry)) (now (list .entry)) (columns (now (parents .exit)) (now (kinds .exit)) (now (begins .exit)) (now (ends .exit))) r ⌝ }
 {
     let mut open = [0u16; OPEN];
+    keep_line(parents, kinds, begins, ends, 0, 0, 0, 0, text.len());
     let cursor = Cursor { at };
     let root = cursor.root(text);
     let before = Progress {
         at,
         depth: 0,
+        inner: 0,
         nodes: 1,
         unnamed: 0,
     };
-    let begun = count_piece(text, list, starts, count, chains, &mut open, root, before);
+    let begun = keep_piece(
+        text,
+        list,
+        starts,
+        count,
+        chains,
+        &mut open,
+        parents,
+        kinds,
+        begins,
+        ends,
+        root,
+        before,
+    );
     let Step::On(first) = begun else {
         return begun;
     };
-    judge_inside(text, list, starts, count, chains, &mut open, first)
+    read_inside(
+        text,
+        list,
+        starts,
+        count,
+        chains,
+        &mut open,
+        parents,
+        kinds,
+        begins,
+        ends,
+        first,
+    )
 }
 
 // Behind the one element the text must end.
 fn finished(text: &[u8], element: Step) -> Step
     requires { ⌜ Inside (now text) element ⌝ }
-    ensures { λ r. ⌜ ((look : List ℕ → Option ℕ) → Ends (now (text .entry)) look element → Judges (now (text .entry)) look r) ⌝ }
+    ensures { λ r. ⌜ ((list : List ℕ) (cols : Columns) → Ends (now (text .entry)) list cols element → Judges (now (text .entry)) list cols r) ⌝ }
 {
     let Step::On(read) = element else {
         return element;
@@ -313,233 +434,51 @@ fn finished(text: &[u8], element: Step) -> Step
     }
 }
 
-// Judges the text, and counts its nodes.
+// Judges the text, counts its nodes and keeps its lines.
 fn judge(
     text: &[u8],
     list: &[u8],
     starts: &[u16; names::STARTS],
     count: usize,
     chains: &[u16; initials::CHAINS],
+    parents: &mut [u16; LINES],
+    kinds: &mut [u16; LINES],
+    begins: &mut [u16; LINES],
+    ends: &mut [u16; LINES],
 ) -> Step
     requires { ⌜ Looks (now list) (now starts) count (now chains) ⌝ }
     requires { ⌜ length (now text) ≤ textLimit ⌝ }
-    ensures { λ r. ⌜ Judges (now (text .entry)) (numberOf (namesOf (now (list .entry)))) r ⌝ }
+    requires { ⌜ columns (now parents) (now kinds) (now begins) (now ends) ≡ blank ⌝ }
+    ensures { λ r. ⌜ Judges (now (text .entry)) (now (list .entry)) (columns (now (parents .exit)) (now (kinds .exit)) (now (begins .exit)) (now (ends .exit))) r ⌝ }
 {
     match xml::lead(text) {
-        Reach::At(at) => finished(text, judge_element(text, list, starts, count, chains, at)),
+        Reach::At(at) => finished(
+            text,
+            read_element(
+                text,
+                list,
+                starts,
+                count,
+                chains,
+                parents,
+                kinds,
+                begins,
+                ends,
+                at,
+            ),
+        ),
         Reach::Wrong(place) => Step::Wrong(place),
         Reach::LeftOut(place) => Step::LeftOut(place),
     }
 }
 
-// WRITING.
+// THE ANSWER.
 
-// Writes a line of the table; where its element ends may be told later.
-fn write_line(
-    parent: &mut [u16],
-    kind: &mut [u16],
-    begin: &mut [u16],
-    end: &mut [u16],
-    n: usize,
-    up: usize,
-    what: u16,
-    first: usize,
-    last: usize,
-)
-    requires { ⌜ (n < length (now parent)) × (n < length (now kind)) × (n < length (now begin)) × (n < length (now end)) ⌝ }
-    requires { ⌜ (up < 65536) × (first < 65536) × (last < 65536) ⌝ }
-    ensures { λ _. ⌜ columns (now (parent .exit)) (now (kind .exit)) (now (begin .exit)) (now (end .exit)) ≡ lineSet n up what first last (columns (now (parent .entry)) (now (kind .entry)) (now (begin .entry)) (now (end .entry))) ⌝ }
+// What is answered where the list is good and the text was judged.
+fn answer(judged: Step, room: usize) -> Answer
+    ensures { λ r. ⌜ ((text list : List ℕ) (cols : Columns) → Judges text list cols judged → told r ≡ xmlAnswer text list room) ⌝ }
 {
-    parent[n] = narrow(up);
-    kind[n] = what;
-    begin[n] = narrow(first);
-    end[n] = narrow(last);
-}
-
-// Writes a piece.
-fn write_piece(
-    text: &[u8],
-    list: &[u8],
-    starts: &[u16; names::STARTS],
-    count: usize,
-    chains: &[u16; initials::CHAINS],
-    parent: &mut [u16],
-    kind: &mut [u16],
-    begin: &mut [u16],
-    end: &mut [u16],
-    piece: Piece,
-    pen: Pen,
-) -> Pen
-    requires { ⌜ Looks (now list) (now starts) count (now chains) ⌝ }
-    requires { ⌜ length (now text) ≤ textLimit ⌝ }
-    requires { ⌜ Writes (now text) (now list) piece (columns (now parent) (now kind) (now begin) (now end)) pen ⌝ }
-    ensures { λ r. ⌜ ((old : Columns) → Fits (now (text .entry)) old → Before (now (text .entry)) (now (list .entry)) piece old (columns (now (parent .entry)) (now (kind .entry)) (now (begin .entry)) (now (end .entry))) pen → Writing (now (text .entry)) (now (list .entry)) old (columns (now (parent .exit)) (now (kind .exit)) (now (begin .exit)) (now (end .exit))) r) ⌝ }
-    ensures { λ r. ⌜ pen .at < r .at ⌝ }
-{
-    let at = pen.at;
-    let inner = pen.inner;
-    let n = pen.nodes;
-    match piece {
-        Piece::Start { name_end, next } => {
-            let named = kind_of(list, starts, count, chains, text, at, name_end);
-            write_line(parent, kind, begin, end, n, inner, named, at, 0);
-            let nodes = n + 1;
-            Pen {
-                at: next.at,
-                inner: n,
-                nodes,
-            }
-        }
-        Piece::Empty { name_end, next } => {
-            let named = kind_of(list, starts, count, chains, text, at, name_end);
-            write_line(parent, kind, begin, end, n, inner, named, at, next.at);
-            let nodes = n + 1;
-            Pen {
-                at: next.at,
-                inner,
-                nodes,
-            }
-        }
-        Piece::End(next) => {
-            end[inner] = narrow(next.at);
-            Pen {
-                at: next.at,
-                inner: wide(parent[inner]),
-                nodes: n,
-            }
-        }
-        Piece::Text(next) => {
-            write_line(
-                parent,
-                kind,
-                begin,
-                end,
-                n,
-                inner,
-                paper::TEXT_KIND,
-                at,
-                next.at,
-            );
-            let nodes = n + 1;
-            Pen {
-                at: next.at,
-                inner,
-                nodes,
-            }
-        }
-        // No piece of a wanted text is refused.
-        Piece::Wrong(_) => pen,
-        Piece::LeftOut(_) => pen,
-    }
-}
-
-// Writes all pieces up to the end of the one element.
-fn write_inside(
-    text: &[u8],
-    list: &[u8],
-    starts: &[u16; names::STARTS],
-    count: usize,
-    chains: &[u16; initials::CHAINS],
-    parent: &mut [u16],
-    kind: &mut [u16],
-    begin: &mut [u16],
-    end: &mut [u16],
-    first: Pen,
-)
-    requires { ⌜ Looks (now list) (now starts) count (now chains) ⌝ }
-    requires { ⌜ length (now text) ≤ textLimit ⌝ }
-    requires { ⌜ Written (now text) (now list) (columns (now parent) (now kind) (now begin) (now end)) first ⌝ }
-    ensures { λ _. ⌜ ((old : Columns) → Fits (now (text .entry)) old → Writing (now (text .entry)) (now (list .entry)) old (columns (now (parent .entry)) (now (kind .entry)) (now (begin .entry)) (now (end .entry))) first → Filled (now (list .entry)) (rowsGot (length (now (text .entry))) (readXml (now (text .entry)))) old (columns (now (parent .exit)) (now (kind .exit)) (now (begin .exit)) (now (end .exit)))) ⌝ }
-{
-    let mut pen = first;
-    while pen.inner != 0 {
-        let inner = pen.inner;
-        let cursor = Cursor { at: pen.at };
-        let piece = cursor.take(text, wide(begin[inner]));
-        pen = write_piece(
-            text,
-            list,
-            starts,
-            count,
-            chains,
-            parent,
-            kind,
-            begin,
-            end,
-            piece,
-            pen,
-        );
-    }
-}
-
-// Writes the table of a wanted text.
-fn write(
-    text: &[u8],
-    list: &[u8],
-    starts: &[u16; names::STARTS],
-    count: usize,
-    chains: &[u16; initials::CHAINS],
-    parent: &mut [u16],
-    kind: &mut [u16],
-    begin: &mut [u16],
-    end: &mut [u16],
-)
-    requires { ⌜ Looks (now list) (now starts) count (now chains) ⌝ }
-    requires { ⌜ length (now text) ≤ textLimit ⌝ }
-    requires { ⌜ Fits (now text) (columns (now parent) (now kind) (now begin) (now end)) ⌝ }
-    ensures { λ _. ⌜ Filled (now (list .entry)) (rowsGot (length (now (text .entry))) (readXml (now (text .entry)))) (columns (now (parent .entry)) (now (kind .entry)) (now (begin .entry)) (now (end .entry))) (columns (now (parent .exit)) (now (kind .exit)) (now (begin .exit)) (now (end .exit))) ⌝ }
-{
-    if let Reach::At(at) = xml::lead(text) {
-        write_line(parent, kind, begin, end, 0, 0, 0, 0, text.len());
-        let cursor = Cursor { at };
-        let root = cursor.root(text);
-        let before = Pen {
-            at,
-            inner: 0,
-            nodes: 1,
-        };
-        let first = write_piece(
-            text,
-            list,
-            starts,
-            count,
-            chains,
-            parent,
-            kind,
-            begin,
-            end,
-            root,
-            before,
-        );
-        write_inside(
-            text,
-            list,
-            starts,
-            count,
-            chains,
-            parent,
-            kind,
-            begin,
-            end,
-            first,
-        );
-    }
-}
-
-// What is answered where the list is good, before anything is written.
-fn answer(
-    text: &[u8],
-    list: &[u8],
-    starts: &[u16; names::STARTS],
-    count: usize,
-    chains: &[u16; initials::CHAINS],
-    room: usize,
-) -> Answer
-    requires { ⌜ Looks (now list) (now starts) count (now chains) ⌝ }
-    requires { ⌜ length (now text) ≤ textLimit ⌝ }
-    ensures { λ r. ⌜ told r ≡ xmlAnswer (now (text .entry)) (now (list .entry)) room ⌝ }
-{
-    match judge(text, list, starts, count, chains) {
+    match judged {
         Step::On(read) => {
             if read.unnamed != 0 {
                 return Answer::UnknownName(read.unnamed);
@@ -573,9 +512,27 @@ fn fill(
     ensures { λ r. ⌜ told r ≡ xmlAnswer (now (text .entry)) (now (list .entry)) (length (now (parent .entry))) ⌝ }
     ensures { λ r. ⌜ columns (now (parent .exit)) (now (kind .exit)) (now (begin .exit)) (now (end .exit)) ≡ exitColumns (now (text .entry)) (now (list .entry)) (told r) (columns (now (parent .entry)) (now (kind .entry)) (now (begin .entry)) (now (end .entry))) ⌝ }
 {
-    let said = answer(text, list, starts, count, chains, parent.len());
-    if let Answer::Value(_) = said {
-        write(text, list, starts, count, chains, parent, kind, begin, end);
+    let mut parents = [0u16; LINES];
+    let mut kinds = [0u16; LINES];
+    let mut begins = [0u16; LINES];
+    let mut ends = [0u16; LINES];
+    let judged = judge(
+        text,
+        list,
+        starts,
+        count,
+        chains,
+        &mut parents,
+        &mut kinds,
+        &mut begins,
+        &mut ends,
+    );
+    let said = answer(judged, parent.len());
+    if let Answer::Value(n) = said {
+        copy_lines(&parents, n, parent);
+        copy_lines(&kinds, n, kind);
+        copy_lines(&begins, n, begin);
+        copy_lines(&ends, n, end);
     }
     said
 }

@@ -12,7 +12,7 @@ enum-known-element : tie.Need-enum-known-element
 enum-known-element c = search needs
 
 returns : tie.Need-returns
-returns c = λ look h. ends-judges (now (c .before .before .args .text)) look (c .before .before .args .element) (c .match .keys2) h
+returns c = λ list cols h. ends-judges (now (c .before .before .args .text)) list cols (c .before .before .args .element) (c .match .keys2) h
 
 finish-requires : tie.Need-finish-requires
 finish-requires c κs = subst (Inside _) (c .before .element .given .1) (c .before .before .before .before .pre)
@@ -27,13 +27,13 @@ enum-known-place-2 : tie.Need-enum-known-place-2
 enum-known-place-2 c = search needs
 
 returns-2 : tie.Need-returns-2
-returns-2 c = λ look h. ends-wanted _ look _ (subst (Ends _ look) (c .before .before .before .before .element .given .1) h) _ (subst (Finishes _ _) (c .enum-told .given .1) (c .before .before .finish .ensures))
+returns-2 c = λ list cols h. ends-wanted _ list cols _ (subst (Ends _ list cols) (c .before .before .before .before .element .given .1) h) _ (subst (Finishes _ _) (c .enum-told .given .1) (c .before .before .finish .ensures))
 
 returns-3 : tie.Need-returns-3
-returns-3 c = λ look h. ends-refused _ look _ (subst (Ends _ look) (c .before .before .before .before .before .element .given .1) h) _ 11 _ refl (subst (Finishes _ _) (c .before .place .given .1) (c .before .before .before .finish .ensures))
+returns-3 c = λ list cols h. ends-refused _ list cols _ (subst (Ends _ list cols) (c .before .before .before .before .before .element .given .1) h) _ 11 _ refl (subst (Finishes _ _) (c .before .place .given .1) (c .before .before .before .finish .ensures))
 
 returns-4 : tie.Need-returns-4
-returns-4 c = λ look h. ends-refused _ look _ (subst (Ends _ look) (c .before .before .before .before .before .element .given .1) h) _ 12 _ refl (subst (Finishes _ _) (c .before .place2 .given .1) (c .before .before .before .finish .ensures))
+returns-4 c = λ list cols h. ends-refused _ list cols _ (subst (Ends _ list cols) (c .before .before .before .before .before .element .given .1) h) _ 12 _ refl (subst (Finishes _ _) (c .before .place2 .given .1) (c .before .before .before .finish .ensures))
 
 pub finished-spec : {M : Type 1} → statement M
 finished-spec =

@@ -1,12 +1,10 @@
 -- `read_xml::judge` meets its contract: the place of the one element, the element, and what follows it. Assumes nothing.
-use Rattle.paper.specs.Names.{namesOf, numberOf}
 use Rattle.read_xml.proofs.Judged.{ends-inside}
 use Rattle.read_xml.proofs.Moved.{lead-wrong, lead-left-out}
 use Rattle.read_xml.proofs.judge.Statement.{statement}
 use Rattle.read_xml.proofs.judge.Tie as tie
 use Rattle.xml.specs.Heading.{Leads}
 use borrow.Author.Needs.{needs}
-use denote.Ref.{now}
 use mathlib.Core.Path.{refl, sym, _∙_, ap, subst}
 
 lead-requires : tie.Need-lead-requires
@@ -15,15 +13,15 @@ lead-requires c κs = search needs
 enum-known-at : tie.Need-enum-known-at
 enum-known-at c = search needs
 
-judge-element-requires : tie.Need-judge-element-requires
-judge-element-requires c κs =
-    let start = c .before .before .before .before .before .before in
-    (start .pre .0, (start .pre .1, subst (Leads _) (c .before .at .given .1) (c .before .before .before .lead .ensures)))
+read-element-requires : tie.Need-read-element-requires
+read-element-requires c κs =
+    let place = c .before .before .before .before .before in
+    let lead = place .before .before in
+    let start = lead .before .before .before in
+    (start .pre .0, (start .pre .1 .0, (subst (Leads _) (place .at .given .1) (lead .lead .ensures), start .pre .1 .1)))
 
 finished-requires : tie.Need-finished-requires
-finished-requires c κs =
-    let start = c .before .before .before .before .before .before .before in
-    ends-inside (now (start .args .text)) (numberOf (namesOf (now (start .args .list)))) (c .judge-element .result) (c .judge-element .ensures)
+finished-requires c κs = ends-inside _ _ _ (c .read-element .result) (c .read-element .ensures)
 
 enum-known-place : tie.Need-enum-known-place
 enum-known-place c = search needs
@@ -32,7 +30,7 @@ enum-known-place-2 : tie.Need-enum-known-place-2
 enum-known-place-2 c = search needs
 
 returns : tie.Need-returns
-returns c = c .finished .ensures _ (c .before .judge-element .ensures)
+returns c = c .finished .ensures _ _ (c .before .read-element .ensures)
 
 returns-2 : tie.Need-returns-2
 returns-2 c = lead-wrong _ _ (subst (Leads _) (c .before .place .given .1) (c .before .before .before .lead .ensures))
@@ -46,7 +44,7 @@ judge-spec =
     (tie.spec
     lead-requires
     enum-known-at
-    judge-element-requires
+    read-element-requires
     finished-requires
     enum-known-place
     enum-known-place-2

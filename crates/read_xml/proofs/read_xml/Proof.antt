@@ -4,7 +4,7 @@ use Rattle.paper.specs.Answers.{readXmlColumn}
 use Rattle.read_xml.proofs.Answered.{too-long, bad-list, good-list, Agree, agree}
 use Rattle.read_xml.proofs.read_xml.Statement.{statement}
 use Rattle.read_xml.proofs.read_xml.Tie as tie
-use Rattle.read_xml.specs.Writes.{Columns}
+use Rattle.read_xml.specs.Kept.{Columns}
 use borrow.Author.Needs.{needs}
 use denote.Ref.{now}
 use lib.ListN.{length}
