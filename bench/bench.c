@@ -150,7 +150,8 @@ struct growing {
     size_t begin_items, part_items;
 };
 
-static void rows_of_growing(const struct document *document, const struct growing *growing)
+static void rows_of_growing(const struct document *document, const struct growing *growing,
+                            double (*time)(const struct document *, const struct query *))
 {
     static struct query query;
     static char text[TEXT_ROOM + 1];
@@ -158,7 +159,7 @@ static void rows_of_growing(const struct document *document, const struct growin
     for (size_t items = LEAST_ITEMS; items <= ITEM_ROOM; items *= 2) {
         repeat(text, growing->begin, growing->part, (items - growing->begin_items) / growing->part_items, growing->end);
         read_query(document, text, &query);
-        double micros = time_own_run(document, &query);
+        double micros = time(document, &query);
         printf("| %s | %zu | %zu | %.0f | ", growing->name, query.count, document->nodes, micros);
         if (before > 0)
             printf("%.2f", micros / before);
@@ -168,19 +169,34 @@ static void rows_of_growing(const struct document *document, const struct growin
     fflush(stdout);
 }
 
+static const struct growing growths[] = {
+    {"steps of a path, `/*/..`", "/site", "/*/..", "", 2, 2},
+    {"predicates, `[*]`", "/site", "[*]", "", 2, 2},
+    {"operands, ` or *`", "/site[*", " or *", "]", 4, 3},
+    {"steps of a path in a predicate, `/*/..`", "/site[.", "/*/..", "]", 4, 2},
+};
+enum { GROWTHS = sizeof growths / sizeof growths[0] };
+
+static void head_of_growing(const char *title)
+{
+    printf("\n### %s\n\n", title);
+    printf("| what grows | items | nodes | us | times the row before |\n|---|---|---|---|---|\n");
+}
+
 static void doubled_items(const struct document *document, const struct document *small)
 {
-    static const struct growing all[] = {
-        {"steps of a path, `/*/..`", "/site", "/*/..", "", 2, 2},
-        {"predicates, `[*]`", "/site", "[*]", "", 2, 2},
-        {"operands, ` or *`", "/site[*", " or *", "]", 4, 3},
-        {"steps of a path in a predicate, `/*/..`", "/site[.", "/*/..", "]", 4, 2},
-    };
-    printf("\n### Items doubled, ours alone\n\n");
-    printf("| what grows | items | nodes | us | times the row before |\n|---|---|---|---|---|\n");
-    for (size_t g = 0; g < sizeof all / sizeof all[0]; g++)
-        rows_of_growing(document, &all[g]);
-    rows_of_growing(small, &all[sizeof all / sizeof all[0] - 1]);
+    head_of_growing("Items doubled, ours alone");
+    for (size_t g = 0; g < GROWTHS; g++)
+        rows_of_growing(document, &growths[g], time_own_run);
+    rows_of_growing(small, &growths[GROWTHS - 1], time_own_run);
+}
+
+/* The walks that tell how much scratch to lend. */
+static void doubled_measures(const struct document *document)
+{
+    head_of_growing("Height and path count, items doubled");
+    for (size_t g = 0; g < GROWTHS; g++)
+        rows_of_growing(document, &growths[g], time_own_measures);
 }
 
 /* Reading. */
@@ -283,6 +299,7 @@ int main(void)
     compositions(&document);
     doubled_nodes();
     doubled_items(&document, &small);
+    doubled_measures(&document);
     readings(&document);
     loadings();
     chains();

@@ -128,6 +128,23 @@ double time_own_run(const struct document *document, const struct query *query)
     return micros;
 }
 
+static void measure_own(void *with)
+{
+    const struct side *side = with;
+    accepted(halyardfig_height(side->query->items, side->query->count), "a height");
+    accepted(halyardfig_paths(side->query->items, side->query->count), "a path count");
+}
+
+double time_own_measures(const struct document *document, const struct query *query)
+{
+    double micros;
+    struct work work = {measure_own, &sides[OURS]};
+    set_up(document, query);
+    time_first(&work, 1, &micros);
+    time_side_by_side(&work, 1, &micros);
+    return micros;
+}
+
 /* Reading. */
 
 static void read_own(void *with)

@@ -14,6 +14,9 @@ size_t time_run(const struct document *document, const struct query *query, doub
 /* Times a query on a document for the library alone. */
 double time_own_run(const struct document *document, const struct query *query);
 
+/* Times the height and the path count of a query. */
+double time_own_measures(const struct document *document, const struct query *query);
+
 /* Times the reading of a query's text. */
 void time_reading(const struct document *document, const struct query *query, double micros[SIDES]);
 

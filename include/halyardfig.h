@@ -23,7 +23,8 @@
  * An answer below 2^32 is the call's value. Any other answer is a refusal:
  * its number times 2^32, plus its place.
  *
- *   1   a length is over its limit, or two lengths that must agree do not    place 0
+ *   1   a length is over its limit, two lengths that must agree do not,
+ *       or a number that tells the scratch is 0 or over 4,096                place 0
  *   2   name list: a line is no name, is over 64 bytes, has no LF,
  *       is the 257th, or repeats an earlier line                             start of that line
  *   3   text: no query begins like this, or the text ends too early          the token, the byte, or the length
@@ -171,6 +172,28 @@ uint64_t halyardfig_extract(const uint16_t *parent, size_t parent_len, const uin
 uint64_t halyardfig_read_xml(const uint8_t *text, size_t text_len, const uint8_t *names, size_t names_len,
                              uint16_t *parent, size_t parent_len, uint16_t *kind, size_t kind_len, uint16_t *begin,
                              size_t begin_len, uint16_t *end, size_t end_len);
+
+/*
+ * The height of a query, by which halyardfig_run reckons its scratch. Value: the height, from 1 on.
+ * Refuses, in this order: 1 (query over 4,096 items), 6 (place 0).
+ */
+uint64_t halyardfig_height(const uint32_t *query, size_t query_len);
+
+/*
+ * The number of a query's paths, those that `|` joins. Value: the number, from 1 on.
+ * Refuses, in this order: 1 (query over 4,096 items), 6 (place 0).
+ */
+uint64_t halyardfig_paths(const uint32_t *query, size_t query_len);
+
+/*
+ * How much scratch to lend for a run of a composition, told before composing: with so many bytes, a run of an accepted
+ * composition of two queries of these heights and path counts on a table of so many nodes is never refused 10.
+ * Value: nodes x 2 x (outer_height + the larger of 3 and inner_height + inner_paths + 1 + 1) bytes, 100,679,680 at
+ * most; the composed query's height is at most the bracket without its last 1.
+ * Refuses 1 where any of the five numbers is 0 or over 4,096; an answer that is a refusal is over 4,096 too.
+ */
+uint64_t halyardfig_scratch(size_t nodes, size_t outer_height, size_t outer_paths, size_t inner_height,
+                            size_t inner_paths);
 
 #ifdef __cplusplus
 }

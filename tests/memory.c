@@ -212,6 +212,35 @@ static bool read_any_xml(struct dice *dice)
            in_range("read_xml", first, room, HALYARDFIG_REFUSED_LEFT_OUT);
 }
 
+static bool height_of_anything(struct dice *dice)
+{
+    any_query(dice, &query);
+    if (!twin_height(query.items, query.count))
+        return false;
+    uint64_t first = twin_answer;
+    return twin_height(query.items, query.count) && in_range("height", first, ITEM_ROOM, HALYARDFIG_REFUSED_QUERY);
+}
+
+static bool paths_of_anything(struct dice *dice)
+{
+    any_query(dice, &query);
+    if (!twin_paths(query.items, query.count))
+        return false;
+    uint64_t first = twin_answer;
+    return twin_paths(query.items, query.count) && in_range("paths", first, ITEM_ROOM, HALYARDFIG_REFUSED_QUERY);
+}
+
+static bool scratch_of_anything(struct dice *dice)
+{
+    size_t numbers[SCRATCH_NUMBERS];
+    for (size_t i = 0; i < SCRATCH_NUMBERS; i++)
+        numbers[i] = chance(dice, 80) ? between(dice, 0, 4097) : (size_t)roll(dice);
+    if (!twin_scratch(numbers))
+        return false;
+    uint64_t first = twin_answer;
+    return twin_scratch(numbers) && in_range("scratch", first, 100679680, HALYARDFIG_REFUSED_LENGTH);
+}
+
 int main(void)
 {
     group_start("memory");
@@ -221,5 +250,8 @@ int main(void)
     try_cases("run", 15000, run_anything);
     try_cases("extract", 10000, extract_anything);
     try_cases("read_xml", 15000, read_any_xml);
+    try_cases("height", 6000, height_of_anything);
+    try_cases("paths", 6000, paths_of_anything);
+    try_cases("scratch", 5000, scratch_of_anything);
     return group_end();
 }

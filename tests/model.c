@@ -352,6 +352,66 @@ static bool composition_keeps_secrets(struct dice *dice)
     return show_composition(&table);
 }
 
+/* Heights and path counts of good and damaged queries. */
+static bool measures_queries(struct dice *dice)
+{
+    make_any_query(dice, &query, 4);
+    if (chance(dice, 40))
+        damage_query(dice, &query);
+    return twin_height(query.items, query.count) && twin_paths(query.items, query.count);
+}
+
+/* Scratch by numbers that are often at their limits. */
+static bool tells_scratch(struct dice *dice)
+{
+    size_t numbers[SCRATCH_NUMBERS];
+    for (size_t i = 0; i < SCRATCH_NUMBERS; i++) {
+        size_t throw = below(dice, 12);
+        numbers[i] = throw == 0 ? below(dice, 2) : throw == 1 ? between(dice, 4095, 4097) : between(dice, 1, 4096);
+    }
+    if (chance(dice, 5))
+        numbers[below(dice, SCRATCH_NUMBERS)] = (size_t)roll(dice);
+    return twin_scratch(numbers);
+}
+
+/* The bytes told for the two queries and the table before they were composed; 0 if a call refuses. */
+static size_t told_scratch(void)
+{
+    uint64_t answer = halyardfig_scratch(
+        table.nodes, halyardfig_height(outer.items, outer.count), halyardfig_paths(outer.items, outer.count),
+        halyardfig_height(inner.items, inner.count), halyardfig_paths(inner.items, inner.count));
+    return halyardfig_refused(answer) == 0 ? halyardfig_value(answer) : 0;
+}
+
+/* A run of a composition with exactly the scratch that was told before composing; the memory ends there. */
+static bool scratch_is_enough(struct dice *dice)
+{
+    unsigned names = (unsigned)between(dice, 1, 3);
+    do {
+        make_any_query(dice, &outer, names);
+        make_any_query(dice, &inner, names);
+        if (chance(dice, 50))
+            mix_axes(dice, &outer);
+        composed.count = 0;
+        uint64_t made =
+            halyardfig_compose(outer.items, outer.count, inner.items, inner.count, composed.items, ITEM_ROOM);
+        if (halyardfig_refused(made) == 0)
+            composed.count = halyardfig_value(made);
+    } while (composed.count == 0);
+    make_table(dice, &table, chance(dice, 2) ? NODE_ROOM : between(dice, 1, 40), names);
+    make_marks(dice, &table, (unsigned)between(dice, 60, 100));
+    size_t bytes = told_scratch();
+    if (bytes == 0)
+        return complain("no scratch is told for a good composition");
+    uint8_t *marks = lend(0, table.nodes), *scratch = lend(1, bytes);
+    uint64_t answer = halyardfig_run(composed.items, composed.count, table.parent, table.nodes, table.kind, table.nodes,
+                                     table.marks, table.nodes, marks, table.nodes, scratch, bytes);
+    if (halyardfig_refused(answer) == 0 && guards_whole())
+        return true;
+    complain("with the %zu bytes told a run answers %u with %u", bytes, (unsigned)(answer >> 32), (unsigned)answer);
+    return show_composition(&table);
+}
+
 int main(void)
 {
     group_start("model");
@@ -369,5 +429,8 @@ int main(void)
     try_cases("composition is exact", 3000, composition_is_exact);
     try_cases("marks are a document", 2000, marks_are_a_document);
     try_cases("composition keeps secrets", 2000, composition_keeps_secrets);
+    try_cases("height and paths", 3000, measures_queries);
+    try_cases("scratch", 5000, tells_scratch);
+    try_cases("scratch is enough", 3000, scratch_is_enough);
     return group_end();
 }

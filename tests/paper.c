@@ -1265,3 +1265,31 @@ uint64_t model_extract(const uint16_t *parent, size_t parent_len, const uint16_t
     }
     return count;
 }
+
+/* How much scratch to lend. */
+
+uint64_t model_height(const uint32_t *query, size_t query_len)
+{
+    if (query_len > HALYARDFIG_QUERY_ITEMS)
+        return REFUSED(1, 0);
+    struct measures found = measure(query, query_len);
+    return found.is_query ? found.height : REFUSED(6, 0);
+}
+
+uint64_t model_paths(const uint32_t *query, size_t query_len)
+{
+    if (query_len > HALYARDFIG_QUERY_ITEMS)
+        return REFUSED(1, 0);
+    struct measures found = measure(query, query_len);
+    return found.is_query ? found.paths : REFUSED(6, 0);
+}
+
+uint64_t model_scratch(size_t nodes, size_t outer_height, size_t outer_paths, size_t inner_height, size_t inner_paths)
+{
+    const size_t numbers[] = {nodes, outer_height, outer_paths, inner_height, inner_paths};
+    for (size_t i = 0; i < sizeof numbers / sizeof numbers[0]; i++)
+        if (numbers[i] < 1 || numbers[i] > 4096)
+            return REFUSED(1, 0);
+    size_t height = outer_height + larger(3, inner_height) + inner_paths + 1;
+    return nodes * 2 * (height + 1);
+}

@@ -1,5 +1,5 @@
 /*
- * docs/SCOPE.md in plain C, as an independent model of the six calls.
+ * docs/SCOPE.md in plain C, as an independent model of the calls.
  * Each model call takes what the library's call takes, answers alike and writes alike.
  */
 #ifndef PAPER_H
@@ -24,6 +24,10 @@ uint64_t model_extract(const uint16_t *parent, size_t parent_len, const uint16_t
 uint64_t model_read_xml(const uint8_t *text, size_t text_len, const uint8_t *names, size_t names_len, uint16_t *parent,
                         size_t parent_len, uint16_t *kind, size_t kind_len, uint16_t *begin, size_t begin_len,
                         uint16_t *end, size_t end_len);
+
+uint64_t model_height(const uint32_t *query, size_t query_len);
+uint64_t model_paths(const uint32_t *query, size_t query_len);
+uint64_t model_scratch(size_t nodes, size_t outer_height, size_t outer_paths, size_t inner_height, size_t inner_paths);
 
 /* What can be measured of a query in memory. */
 struct measures {

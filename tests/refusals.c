@@ -354,6 +354,18 @@ static void extract_is(const char *what, const struct table *table, struct lengt
     expect(what, answer, expected, (size_t[]){0, 0, 0, written, written});
 }
 
+static void height_is(const char *what, const uint32_t *query, size_t count, uint64_t expected)
+{
+    const uint32_t *our_query = offer(query, count * sizeof *query);
+    expect(what, halyardfig_height(our_query, count), expected, (size_t[]){0});
+}
+
+static void paths_are(const char *what, const uint32_t *query, size_t count, uint64_t expected)
+{
+    const uint32_t *our_query = offer(query, count * sizeof *query);
+    expect(what, halyardfig_paths(our_query, count), expected, (size_t[]){0});
+}
+
 static const uint32_t root_query[] = {0};
 static const uint32_t good_inner[] = {PATH_ITEM(1), STEP_ITEM(CHILD, FIRST_NAME + 1, 0)};
 
@@ -372,6 +384,8 @@ static void malformed_is_refused(const char *what, const uint32_t *query, size_t
     compose_is(what, good_inner, 2, query, count, ITEM_ROOM, REFUSED(6, 1));
     compose_is(what, query, count, query, count, ITEM_ROOM, REFUSED(6, 0));
     run_is(what, query, count, &table, (struct lengths){1, 1, 1, 1, 20000}, REFUSED(6, 0), 0);
+    height_is(what, query, count, REFUSED(6, 0));
+    paths_are(what, query, count, REFUSED(6, 0));
 }
 
 static void malformed_items(void)
@@ -707,6 +721,68 @@ static void rooms(void)
     run_is("nothing marked", root_query, 1, &table, (struct lengths){7, 7, 7, 7, 29}, 0, 28);
 }
 
+/* Heights and path counts at the limit of items: paths of no step, and `not` in `not`. */
+static void measured_queries(void)
+{
+    static uint32_t items[ITEM_ROOM + 1];
+    const uint32_t path = PATH_ITEM(1), step = STEP_ITEM(CHILD, NODE_TEST, 0), guarded = STEP_ITEM(CHILD, NODE_TEST, 1);
+    height_is("the most paths", items, ITEM_ROOM, 1);
+    paths_are("the most paths", items, ITEM_ROOM, ITEM_ROOM);
+    height_is("one path too many", items, ITEM_ROOM + 1, REFUSED(1, 0));
+    paths_are("one path too many", items, ITEM_ROOM + 1, REFUSED(1, 0));
+    items[0] = 5;
+    height_is("too long before malformed", items, ITEM_ROOM + 1, REFUSED(1, 0));
+    paths_are("too long before malformed", items, ITEM_ROOM + 1, REFUSED(1, 0));
+    for (unsigned nots = HALYARDFIG_NESTING - 2; nots <= HALYARDFIG_NESTING; nots++) {
+        items[0] = path;
+        items[1] = guarded;
+        for (unsigned i = 0; i < nots; i++)
+            items[2 + i] = NOT_ITEM;
+        items[2 + nots] = path;
+        items[3 + nots] = step;
+        bool deep = nots == HALYARDFIG_NESTING;
+        height_is("not in not", items, 4 + nots, deep ? REFUSED(6, 0) : 2 + nots);
+        paths_are("not in not", items, 4 + nots, deep ? REFUSED(6, 0) : 1);
+    }
+    enum { ORS = (ITEM_ROOM - 4) / 3 };
+    _Static_assert(4 + 3 * ORS == ITEM_ROOM, "the longest run of or fills the query");
+    for (size_t i = 0; i < ORS; i++)
+        items[2 + i] = OR_ITEM;
+    for (size_t i = 2 + ORS; i < ITEM_ROOM; i += 2) {
+        items[i] = path;
+        items[i + 1] = step;
+    }
+    height_is("the longest run of or", items, ITEM_ROOM, 2 + ORS);
+    paths_are("the longest run of or", items, ITEM_ROOM, 1);
+}
+
+/* Each of the five numbers of scratch at its edges, in every combination. */
+static void scratch_numbers(void)
+{
+    static const size_t edges[] = {0, 1, 4096, 4097, SIZE_MAX};
+    enum { EDGES = sizeof edges / sizeof edges[0], NUMBERS = 5 };
+    for (unsigned choice = 0; choice < EDGES * EDGES * EDGES * EDGES * EDGES; choice++) {
+        size_t numbers[NUMBERS];
+        bool right = true;
+        unsigned left = choice;
+        for (size_t i = 0; i < NUMBERS; i++, left /= EDGES) {
+            numbers[i] = edges[left % EDGES];
+            right = right && numbers[i] >= 1 && numbers[i] <= 4096;
+        }
+        uint64_t answer = halyardfig_scratch(numbers[0], numbers[1], numbers[2], numbers[3], numbers[4]);
+        size_t inner = numbers[3] < 3 ? 3 : numbers[3];
+        uint64_t expected = right ? numbers[0] * 2 * (numbers[1] + inner + numbers[4] + 2) : REFUSED(1, 0);
+        tally(answer == expected, "scratch of %zu %zu %zu %zu %zu: %llx", numbers[0], numbers[1], numbers[2],
+              numbers[3], numbers[4], (unsigned long long)answer);
+    }
+    answer_is("the most scratch", halyardfig_scratch(4096, 4096, 4096, 4096, 4096), 100679680);
+    answer_is("the least scratch", halyardfig_scratch(1, 1, 1, 1, 1), 14);
+    answer_is("a refusal passed on", halyardfig_scratch(1, halyardfig_height(root_query, 0), 1, 1, 1), REFUSED(1, 0));
+    for (size_t inner = 1; inner <= 5; inner++)
+        answer_is("the larger of 3 and the inner height", halyardfig_scratch(1, 1, 1, inner, 1),
+                  2 * ((inner < 3 ? 3 : inner) + 4));
+}
+
 /* Memory lent twice for reading is read twice. */
 static void lent_twice(void)
 {
@@ -760,6 +836,8 @@ static void huge_lengths(void)
               REFUSED(1, 0));
     answer_is("huge output column", halyardfig_extract(zero, 1, zero, 1, one, 1, memory, huge, kinds, 1),
               REFUSED(1, 0));
+    answer_is("huge query's height", halyardfig_height(memory, huge), REFUSED(1, 0));
+    answer_is("huge query's paths", halyardfig_paths(memory, huge), REFUSED(1, 0));
     answer_is("huge XML text", halyardfig_read_xml(memory, huge, slash, 0, parents, 1, kinds, 1, begins, 1, ends, 1),
               REFUSED(1, 0));
     answer_is("huge list of XML", halyardfig_read_xml(slash, 1, memory, huge, parents, 1, kinds, 1, begins, 1, ends, 1),
@@ -790,6 +868,8 @@ int main(void)
     bad_tables();
     bad_marks();
     rooms();
+    measured_queries();
+    scratch_numbers();
     lent_twice();
     huge_lengths();
     return group_end();

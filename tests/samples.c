@@ -330,6 +330,41 @@ static void refused_document_samples(void)
                   REFUSED(samples[i].number, samples[i].place));
 }
 
+/* 2026-10: what is told of two texts before composing, and how much scratch the run of their composition needs. */
+static void scratch_samples(void)
+{
+    static const struct {
+        const char *outer, *inner;
+        unsigned outer_height, outer_paths, inner_height, inner_paths, told, needed;
+    } samples[] = {
+        {"/a", "/b", 1, 1, 1, 1, 98, 98},
+        {"/a", "/b|/c", 1, 1, 1, 2, 112, 112},
+        {"/", "/", 1, 1, 1, 1, 98, 84},
+        {"/a[not(b)]|/c", "/a/b/d", 3, 2, 1, 1, 126, 126},
+        {"/a[not(b/c)]", "/a[b[c]]|/|/d", 3, 1, 3, 3, 154, 154},
+    };
+    static struct query outer, inner, made;
+    const uint8_t given[SAMPLE_NODES] = {1, 1, 1, 1, 1, 1, 1};
+    uint8_t marks[SAMPLE_NODES], scratch[1];
+    for (size_t i = 0; i < sizeof samples / sizeof samples[0]; i++) {
+        compose_texts(&made, samples[i].outer, samples[i].inner);
+        read_good(&outer, samples[i].outer);
+        read_good(&inner, samples[i].inner);
+        answer_is(samples[i].outer, halyardfig_height(outer.items, outer.count), samples[i].outer_height);
+        answer_is(samples[i].outer, halyardfig_paths(outer.items, outer.count), samples[i].outer_paths);
+        answer_is(samples[i].inner, halyardfig_height(inner.items, inner.count), samples[i].inner_height);
+        answer_is(samples[i].inner, halyardfig_paths(inner.items, inner.count), samples[i].inner_paths);
+        answer_is("scratch told",
+                  halyardfig_scratch(SAMPLE_NODES, samples[i].outer_height, samples[i].outer_paths,
+                                     samples[i].inner_height, samples[i].inner_paths),
+                  samples[i].told);
+        answer_is("scratch needed",
+                  halyardfig_run(made.items, made.count, sample_parent, SAMPLE_NODES, sample_kind, SAMPLE_NODES, given,
+                                 SAMPLE_NODES, marks, SAMPLE_NODES, scratch, 0),
+                  REFUSED(10, samples[i].needed));
+    }
+}
+
 int main(void)
 {
     group_start("samples");
@@ -341,5 +376,6 @@ int main(void)
     printed_sample();
     document_samples();
     refused_document_samples();
+    scratch_samples();
     return group_end();
 }

@@ -13,8 +13,9 @@
 enum { STACK_BYTES = 1 << 18, PAINT = 0xC7 };
 enum { SCRATCH_ROOM = 1 << 25, PRINT_ROOM = 1 << 19, MIXED_TEXTS = 60, NAMED_MOST = 100 };
 
-enum call { READ, PRINT, COMPOSE, RUN, EXTRACT, READ_XML, CALLS };
-static const char *const call_names[CALLS] = {"read", "print", "compose", "run", "extract", "read_xml"};
+enum call { READ, PRINT, COMPOSE, RUN, EXTRACT, READ_XML, HEIGHT, PATHS, SCRATCH, CALLS };
+static const char *const call_names[CALLS] = {"read",     "print",  "compose", "run",    "extract",
+                                              "read_xml", "height", "paths",   "scratch"};
 
 static struct {
     size_t bytes;
@@ -72,6 +73,21 @@ static void call_read_xml(void)
                                  columns[END_COLUMN], NODE_ROOM);
 }
 
+static void call_height(void)
+{
+    answer = halyardfig_height(query.items, query.count);
+}
+
+static void call_paths(void)
+{
+    answer = halyardfig_paths(query.items, query.count);
+}
+
+static void call_scratch(void)
+{
+    answer = halyardfig_scratch(table.nodes, query.count, 1, query.count, 1);
+}
+
 /* A painted stack; below it is a page that cannot be touched. */
 static uint8_t *stack_memory(void)
 {
@@ -118,8 +134,8 @@ static size_t painted_over(void (*call)(void))
 
 static void measure_call(enum call which, const char *input)
 {
-    static void (*const calls[CALLS])(void) = {call_read, call_print,   call_compose,
-                                               call_run,  call_extract, call_read_xml};
+    static void (*const calls[CALLS])(void) = {call_read,     call_print,  call_compose, call_run,    call_extract,
+                                               call_read_xml, call_height, call_paths,   call_scratch};
     static char trying[2 * NAMED_MOST];
     static size_t empty;
     if (empty == 0)
@@ -141,6 +157,9 @@ static void measure_query(const char *input)
     static const uint32_t simple[] = {PATH_ITEM(1), STEP_ITEM(CHILD, FIRST_NAME, 0)};
     measure_call(PRINT, input);
     measure_call(RUN, input);
+    measure_call(HEIGHT, input);
+    measure_call(PATHS, input);
+    measure_call(SCRATCH, input);
     outer = query;
     memcpy(inner.items, simple, sizeof simple);
     inner.count = 2;

@@ -206,3 +206,32 @@ bool twin_read_xml(struct dice *dice, const uint8_t *text, size_t text_len, cons
     show_text("names", names, names_len);
     return false;
 }
+
+bool twin_height(const uint32_t *query, size_t query_len)
+{
+    piece_count = 0;
+    const uint32_t *our_query = lend_read(query, query_len * sizeof *query);
+    if (compare("height", halyardfig_height(our_query, query_len), model_height(model_piece(0), query_len)))
+        return true;
+    show_items("query", query, query_len);
+    return false;
+}
+
+bool twin_paths(const uint32_t *query, size_t query_len)
+{
+    piece_count = 0;
+    const uint32_t *our_query = lend_read(query, query_len * sizeof *query);
+    if (compare("paths", halyardfig_paths(our_query, query_len), model_paths(model_piece(0), query_len)))
+        return true;
+    show_items("query", query, query_len);
+    return false;
+}
+
+bool twin_scratch(const size_t numbers[SCRATCH_NUMBERS])
+{
+    piece_count = 0;
+    uint64_t ours = halyardfig_scratch(numbers[0], numbers[1], numbers[2], numbers[3], numbers[4]);
+    uint64_t models = model_scratch(numbers[0], numbers[1], numbers[2], numbers[3], numbers[4]);
+    return compare("scratch", ours, models) ||
+           complain("of %zu %zu %zu %zu %zu", numbers[0], numbers[1], numbers[2], numbers[3], numbers[4]);
+}

@@ -8,6 +8,9 @@
 
 #include "xml_making.h"
 
+/* The numbers by which scratch is told, in the order of the call. */
+enum { SCRATCH_NUMBERS = 5 };
+
 extern uint64_t twin_answer;
 
 bool twin_read(struct dice *dice, const uint8_t *text, size_t text_len, const uint8_t *names, size_t names_len,
@@ -24,6 +27,10 @@ bool twin_extract(struct dice *dice, const uint16_t *parent, size_t parent_len, 
 
 bool twin_read_xml(struct dice *dice, const uint8_t *text, size_t text_len, const uint8_t *names, size_t names_len,
                    const size_t rooms[COLUMNS]);
+
+bool twin_height(const uint32_t *query, size_t query_len);
+bool twin_paths(const uint32_t *query, size_t query_len);
+bool twin_scratch(const size_t numbers[SCRATCH_NUMBERS]);
 
 /* What the last accepted read, compose or print wrote. */
 const uint32_t *twin_items(void);

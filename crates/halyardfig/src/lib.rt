@@ -5,6 +5,7 @@ ghost use mathlib.Core.Path.{_≡_};
 ghost use lib.ListN.{length};
 ghost use Rattle.paper.specs.Document.{tableOf};
 ghost use Rattle.paper.specs.Answers.{readAnswer, readOut, printAnswer, printOut, composeAnswer, composeOut, runAnswer, runMarks, runScratch, extractAnswer, extractParents, extractKinds, readXmlAnswer, readXmlColumn, parentField, kindField, beginField, endField};
+ghost use Rattle.paper.specs.Room.{heightAnswer, pathsAnswer, scratchAnswer};
 ghost use Rattle.paper.specs.Told.{told};
 ghost use Rattle.theorems.specs.Bounds.{Small};
 ghost use Rattle.halyardfig.specs.Codes.{high, codeOf};
@@ -118,4 +119,34 @@ pub extern "C" fn halyardfig_read_xml(
     ensures { λ _. ⌜ now (end .exit) ≡ readXmlColumn endField (now (text .entry)) (readXmlAnswer (now (text .entry)) (now (names .entry)) (length (now (parent .entry))) (length (now (kind .entry))) (length (now (begin .entry))) (length (now (end .entry)))) (now (end .entry)) ⌝ }
 {
     code(read_xml::read_xml(text, names, parent, kind, begin, end))
+}
+
+// The height of a query: `room::height` for C.
+#[no_mangle]
+pub extern "C" fn halyardfig_height(query: &[u32]) -> u64
+    ensures { λ r. ⌜ r ≡ codeOf (heightAnswer (now (query .entry))) ⌝ }
+{
+    code(room::height(query))
+}
+
+// The number of a query's paths: `room::paths` for C.
+#[no_mangle]
+pub extern "C" fn halyardfig_paths(query: &[u32]) -> u64
+    ensures { λ r. ⌜ r ≡ codeOf (pathsAnswer (now (query .entry))) ⌝ }
+{
+    code(room::paths(query))
+}
+
+// The scratch to lend for a run of a composition: `room::scratch` for C.
+#[no_mangle]
+pub extern "C" fn halyardfig_scratch(
+    nodes: usize,
+    outer_height: usize,
+    outer_paths: usize,
+    inner_height: usize,
+    inner_paths: usize,
+) -> u64
+    ensures { λ r. ⌜ r ≡ codeOf (scratchAnswer nodes «outer_height» «outer_paths» «inner_height» «inner_paths») ⌝ }
+{
+    code(room::scratch(nodes, outer_height, outer_paths, inner_height, inner_paths))
 }

@@ -26,3 +26,5 @@ pub mod Lexing
 pub mod Same
 -- Lines of a list and numbers of names: `first-line`, `bad-name` .. `bad-repeat`, `number-found`, `number-none`.
 pub mod Lines
+-- Scratch told before composing: `Wrong`, `all-inside`, `bytes-few`, `paths-size`, `let-all-pass`.
+pub mod Lending

@@ -14,6 +14,7 @@ pub mod Measures
 pub mod Printing
 pub mod Composition
 pub mod Answers
+pub mod Room
 pub mod Program
 pub mod Samples
 pub mod XmlSamples

@@ -18,6 +18,7 @@ use Rattle.paper.specs.Selection.{reaches, selects, keeps, kept}
 use Rattle.paper.specs.Composition.{reversed, selectedBy, visible, lastStep, composedPath, composed}
 use Rattle.paper.specs.Program.{decimal, queryPrints, queriesPrint, textsPrint, programPrints}
 use Rattle.paper.specs.Answers.{Answer, value, refusal, readAnswer, readOut, readItems, composeAnswer, composeOut, runAnswer, runMarks, printAnswer, printOut}
+use Rattle.paper.specs.Room.{measureAnswer, heightAnswer, pathsAnswer, scratchAnswer}
 
 -- The names a b c d, and the table.
 abbrev pub names : List ℕ
@@ -230,3 +231,32 @@ inputsPrinted =
 pub inputsHold : T inputsPrinted
 unfolding decimal queryPrints queriesPrint textsPrint programPrints readAnswer readItems composeAnswer printAnswer printed pieces namesFault namesOf badLine tokens tokenAt readText readTail readTested readStep readOperand readTerm readExpr readPath pathAt stepAt encode decode takeOperand takeTerm takeExpr size nesting reversed selectedBy visible lastStep composedPath composed
 inputsHold = tt
+
+-- 02, 2026-10: what a run of a composition on the table answers, lent so many bytes of scratch.
+abbrev pub runWith : String → String → ℕ → List ℕ
+runWith outer inner room = numbers (runAnswer (joinedItems (itemsOf outer) (itemsOf inner)) table (replicate 7 1) 7 room)
+
+-- Heights, path counts and the scratch told by them; the bound is reached, so that a byte less is refused, and the five numbers are judged at their edges.
+abbrev pub scratchTold : Bool
+scratchTold =
+    same (numbers (heightAnswer (itemsOf "/a[not(b)]|/c"))) (3 ∷ []) &&
+    same (numbers (pathsAnswer (itemsOf "/a[not(b)]|/c"))) (2 ∷ []) &&
+    same (numbers (heightAnswer [])) (6 ∷ 0 ∷ []) &&
+    same (numbers (pathsAnswer (1 ∷ []))) (6 ∷ 0 ∷ []) &&
+    same (numbers (scratchAnswer 7 1 1 1 1)) (98 ∷ []) &&
+    same (runWith "/a" "/b" 98) (0 ∷ []) &&
+    same (runWith "/a" "/b" 97) (10 ∷ 98 ∷ []) &&
+    same (numbers (scratchAnswer 7 1 1 1 2)) (112 ∷ []) &&
+    same (runWith "/a" "/b|/c" 112) (0 ∷ []) &&
+    same (runWith "/a" "/b|/c" 111) (10 ∷ 112 ∷ []) &&
+    same (numbers (scratchAnswer 4096 4096 4096 4096 4096)) (100679680 ∷ []) &&
+    same (numbers (scratchAnswer 4097 1 1 1 1)) (1 ∷ 0 ∷ []) &&
+    same (numbers (scratchAnswer 1 0 1 1 1)) (1 ∷ 0 ∷ []) &&
+    same (numbers (scratchAnswer 1 1 4097 1 1)) (1 ∷ 0 ∷ []) &&
+    same (numbers (scratchAnswer 1 1 1 0 1)) (1 ∷ 0 ∷ []) &&
+    same (numbers (scratchAnswer 1 1 1 1 4097)) (1 ∷ 0 ∷ [])
+
+-- All of this holds, by computation.
+pub scratchHolds : T scratchTold
+unfolding measureAnswer scratchAnswer height over goodNode tableFault goodMark marksFault reaches selects keeps kept runAnswer readAnswer readOut readItems composeAnswer composeOut namesFault namesOf badLine tokens tokenAt readText readTail readTested readStep readOperand readTerm readExpr readPath pathAt stepAt encode decode takeOperand takeTerm takeExpr size nesting reversed selectedBy visible lastStep composedPath composed
+scratchHolds = tt

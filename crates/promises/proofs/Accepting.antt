@@ -20,12 +20,14 @@ use Rattle.paper.specs.Extraction.{rank, extracted}
 use Rattle.paper.specs.Composition.{composed}
 use Rattle.paper.specs.Answers.{value, refusal, line, lineQuery, tooLong, short, shortOfItems, scratchOf, markedCount, composeAnswer, composeOut, runAnswer, runMarks, extractAnswer}
 use Rattle.paper.specs.Answers.{Answer as Told}
+use Rattle.paper.specs.Room.{measureAnswer, scratchBytes, scratchAnswer}
 use Rattle.paper.proofs.Tests.{some-inj}
 use Rattle.paper.proofs.Refusing.{line-value, when-none, or-none}
 use Rattle.paper.proofs.Sizes.{size-items}
 use Rattle.paper.proofs.Encoding.{encode-decode}
 use Rattle.paper.proofs.Keeping.{length-kept}
 use Rattle.paper.proofs.Extracting.{length-pick}
+use Rattle.paper.proofs.Lending.{Wrong}
 use Rattle.run.specs.Judging.{judgement}
 use Rattle.run.proofs.Answering as run
 use Rattle.extract.proofs.Lines as extract
@@ -70,9 +72,9 @@ module _ (outer inner out : List ℕ) (n : ℕ) (h : composeAnswer outer inner (
   unfolding composeOut
   items-left o i d e l = rw (h, d, e) (first-written (encode (composed o i)) out n (sym (size-items (composed o i) ∙ l)))
 
-  is-composition : length outer ≤ itemLimit → (o i : Query) → decode outer ≡ some o → decode inner ≡ some i → rest (length out) (composed o i) ≡ value n
+  is-composition : length outer ≤ itemLimit → length inner ≤ itemLimit → (o i : Query) → decode outer ≡ some o → decode inner ≡ some i → rest (length out) (composed o i) ≡ value n
       → IsComposition outer inner (take n (composeOut outer inner out)) × (length (take n (composeOut outer inner out)) ≡ n)
-  is-composition few o i d e k =
+  is-composition few few₁ o i d e k =
       let f = fits (length out) n (composed o i) k in
       let left = items-left o i d e (f .0) in
       let long : length (take n (composeOut outer inner out)) ≡ n = ap length left ∙ size-items (composed o i) ∙ f .0 in (
@@ -80,6 +82,7 @@ module _ (outer inner out : List ℕ) (n : ℕ) (h : composeAnswer outer inner (
           outer-is = o;
           inner-is = i;
           outer-few = few;
+          inner-few = few₁;
           outer-decodes = d;
           inner-decodes = e;
           decodes = ap decode left ∙ read-back o i (encode-decode outer o d .fine) (encode-decode inner i e .fine) (f .1) (f .2);
@@ -93,9 +96,9 @@ module _ (outer inner out : List ℕ) (n : ℕ) (h : composeAnswer outer inner (
   composition =
       let later : Query → Query → Told = λ o i. rest (length out) (composed o i) in
       let one = line-value 1 n (when (tooLong outer itemLimit || tooLong inner itemLimit) 0) (lineQuery 6 0 (decode outer) (λ o. lineQuery 6 1 (decode inner) (later o))) h in
-      let few = or-none (tooLong outer itemLimit) (tooLong inner itemLimit) (when-none (tooLong outer itemLimit || tooLong inner itemLimit) 0 (one .0)) .0 in
+      let few = or-none (tooLong outer itemLimit) (tooLong inner itemLimit) (when-none (tooLong outer itemLimit || tooLong inner itemLimit) 0 (one .0)) in
       query-value n 6 0 (decode outer) (λ o. lineQuery 6 1 (decode inner) (later o)) (one .1)
-      (λ o d g. query-value n 6 1 (decode inner) (later o) g (λ i e k. is-composition (ltb-false itemLimit (length outer) few) o i d e k))
+      (λ o d g. query-value n 6 1 (decode inner) (later o) g (λ i e k. is-composition (ltb-false itemLimit (length outer) (few .0)) (ltb-false itemLimit (length inner) (few .1)) o i d e k))
 
 -- RUN. What an accepted run has, and what it leaves.
 pub record Ran (query : List ℕ) (t : Table) (given marks : List ℕ) (room a : ℕ) : Type 0 where
@@ -220,3 +223,14 @@ shown-alike s s′ same =
     let all = s .view ∙ same ∙ sym (s′ .view) in
     let columns = ap (λ v. v .parents) all in
     (s .ran-all ∙ ap length columns ∙ sym (s′ .ran-all), s .took-all ∙ ap length columns ∙ sym (s′ .took-all), columns, ap (λ v. v .kinds) all)
+
+-- MEASURES AND SCRATCH. What is told of a query, and by what is told of two.
+pub measure-is : (measure : Query → ℕ) (query : List ℕ) (q : Query) (n : ℕ) → decode query ≡ some q → measureAnswer measure query ≡ value n → n ≡ measure q
+unfolding measureAnswer
+measure-is measure query q n d h =
+    let long = when (tooLong query itemLimit) 0 in
+    sym (value-same (line-value 1 n long (value (measure q)) (rw d at h) .1))
+
+pub scratch-is : (count oh op ih ip bytes : ℕ) → scratchAnswer count oh op ih ip ≡ value bytes → bytes ≡ scratchBytes count oh ih ip
+unfolding scratchAnswer
+scratch-is count oh op ih ip bytes h = sym (value-same (line-value 1 bytes (when (Wrong count oh op ih ip) 0) (value (scratchBytes count oh ih ip)) h .1))

@@ -5,10 +5,11 @@ use mathlib.Core.List.{List}
 use lib.ListN.{length, take}
 use denote.Ref.{now}
 use Rattle.paper.specs.Document.{tableOf}
-use Rattle.paper.specs.Answers.{value, readAnswer, readOut, printAnswer, printOut, composeAnswer, composeOut, runAnswer, runMarks, extractAnswer, extractParents, extractKinds}
+use Rattle.paper.specs.Room.{heightAnswer, pathsAnswer, scratchAnswer}
+use Rattle.paper.specs.Answers.{value, refusal, readAnswer, readOut, printAnswer, printOut, composeAnswer, composeOut, runAnswer, runMarks, extractAnswer, extractParents, extractKinds}
 use Rattle.paper.specs.Told.{told}
 use Rattle.paper.specs.declared.Answer.the-variants.{Value}
-use Rattle.promises.specs.Calls.{ComposeCall, RunCall, ExtractCall, Exactness, View, Secrecy, Extraction, RoundTrip}
+use Rattle.promises.specs.Calls.{ComposeCall, RunCall, ExtractCall, Exactness, View, Secrecy, Extraction, RoundTrip, HeightCall, PathsCall, ScratchCall, scratchLent, ScratchEnough}
 use Rattle.promises.specs.Entries.{Shows}
 use Rattle.promises.proofs.Telling.{told-same}
 use Rattle.promises.proofs.Entries as entries
@@ -112,3 +113,22 @@ round-trip query list text old out n answer p most room r =
       told-same answer (Value (length query)) (read-said ∙ ap (λ ws. readAnswer (take n ws) list (length old)) print-left ∙ back .0),
       ap (take (length query)) (read-left ∙ ap (λ ws. readOut (take n ws) list old) print-left) ∙ back .1,
     )
+
+-- SCRATCH.
+height-value : {query : List ℕ} {n : ℕ} → HeightCall query (Value n) → heightAnswer query ≡ value n
+height-value c = rw (c .query-lent) at (sym (c .met))
+
+paths-value : {query : List ℕ} {n : ℕ} → PathsCall query (Value n) → pathsAnswer query ≡ value n
+paths-value c = rw (c .query-lent) at (sym (c .met))
+
+scratch-value : {count oh op ih ip n : ℕ} → ScratchCall count oh op ih ip (Value n) → scratchAnswer count oh op ih ip ≡ value n
+scratch-value c = rw (c .count-given, c .outer-height-given, c .outer-paths-given, c .inner-height-given, c .inner-paths-given) at (sym (c .met))
+
+pub scratch-enough : ScratchEnough
+scratch-enough outer inner both parents kinds given marks n oh op ih ip bytes place composing outer-high outer-many inner-high inner-many told-bytes run enough =
+    let t = tableOf parents kinds in
+    let lent = length (now (run .args .1 .1 .1 .1 .0)) in
+    let said : runAnswer (take n both) t given lent (scratchLent run) ≡ refusal 10 place = rw (run .query-lent, run .parents-lent, run .kinds-lent, run .given-lent) at (sym (run .met .0)) in
+    entries.scratch-enough outer inner (old-items composing) t given n oh op ih ip bytes lent (scratchLent run) place (composed-value composing)
+    (height-value outer-high) (paths-value outer-many) (height-value inner-high) (paths-value inner-many) (scratch-value told-bytes) enough
+    (rw (composed-left composing) at said)

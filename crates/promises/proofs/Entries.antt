@@ -1,51 +1,59 @@
 -- The demands over the entry points: what accepted calls left is what the definitions give (`Accepting`), and of the definitions the demands are theorems. Assumes nothing.
-use Prim.Native.Nat.{ℕ}
+use Prim.Native.Nat.{ℕ, _≤_}
 use native.Mathlib.Omega.{arith}
 use mathlib.Core.Path.{_≡_, refl, sym, _∙_, ap, ap₂}
 use mathlib.Core.Bool.{cond}
 use mathlib.Core.List.{List}
 use mathlib.Core.Option.{Option, none, some}
 use lib.ListN.{length, getD, take}
+use borrow.Author.Tests.{le-ltb}
 use Rattle.paper.specs.Tools.{when}
+use Rattle.paper.specs.Limits.{itemLimit}
 use Rattle.paper.specs.Query.{Query}
 use Rattle.paper.specs.Items.{decode}
-use Rattle.paper.specs.Document.{Table, tableFault, marksFault, tableOf}
+use Rattle.paper.specs.Measures.{size, height}
+use Rattle.paper.specs.Document.{Table, nodes, tableFault, marksFault, tableOf}
 use Rattle.paper.specs.Selection.{kept}
 use Rattle.paper.specs.Extraction.{rank, extracted}
 use Rattle.paper.specs.Composition.{composed}
 use Rattle.paper.specs.Answers.{value, refusal, line, short, scratchOf, markedCount, composeOut, runAnswer, readOut}
 use Rattle.paper.specs.Answers.{Answer as Told}
+use Rattle.paper.specs.Room.{heightAnswer, pathCount, pathsAnswer, scratchBytes, scratchAnswer}
 use Rattle.paper.proofs.Tests.{some-inj}
 use Rattle.paper.proofs.Keeping.{length-kept, kept-at, kept-good}
+use Rattle.paper.proofs.Sizes.{size-decoded}
+use Rattle.paper.proofs.Lending.{lends, let-all-pass}
 use Rattle.run.proofs.Answering.{Long}
+use Rattle.room.proofs.Answering.{measured}
 use Rattle.theorems.specs.Demands.{allMarked}
 use Rattle.theorems.proofs.Renumber.{extracted-inside}
 use Rattle.theorems.proofs.Exact as exact
 use Rattle.theorems.proofs.Extract as extract
 use Rattle.theorems.proofs.Secrecy as secret
 use Rattle.theorems.proofs.RoundTrip as trip
-use Rattle.promises.specs.Entries.{Acceptance, NeverMalformed, Exactness, Together, Secrecy, Extraction, SameNodes, RoundTrip}
-use Rattle.promises.proofs.Accepting.{first-written, composition, ran, left-by, runs, took, shown, shown-alike}
+use Rattle.theorems.proofs.Height as demands
+use Rattle.promises.specs.Entries.{Acceptance, NeverMalformed, Exactness, Together, Secrecy, Extraction, SameNodes, RoundTrip, ScratchEnough, ScratchTold}
+use Rattle.promises.proofs.Accepting.{first-written, composition, ran, left-by, runs, took, shown, shown-alike, measure-is, scratch-is}
 
 -- AN ACCEPTED COMPOSITION LEAVES A QUERY,
 pub acceptance : Acceptance
 acceptance outer inner out n h = composition outer inner out n h
 
--- A line of another number gives no refusal 6,
-not-six : (number place : ℕ) (o : Option ℕ) (later : Told) → (number ≡ 6 → ⊥) → (later ≡ refusal 6 place → ⊥) → line number o later ≡ refusal 6 place → ⊥
-not-six number place none later other more h = more h
-not-six number place (some p) later other more h = other (cc)
+-- A line of another number gives no refusal of this one,
+other-line : (asked number place : ℕ) (o : Option ℕ) (later : Told) → (number ≡ asked → ⊥) → (later ≡ refusal asked place → ⊥) → line number o later ≡ refusal asked place → ⊥
+other-line asked number place none later other more h = more h
+other-line asked number place (some p) later other more h = other (cc)
 
--- so a run of items that are a query does not,
+-- so a run of items that are a query gives no 6,
 well-formed : (query : List ℕ) (q : Query) (t : Table) (given : List ℕ) (marksRoom scratchRoom place : ℕ) → decode query ≡ some q
     → runAnswer query t given marksRoom scratchRoom ≡ refusal 6 place → ⊥
 unfolding runAnswer
 well-formed query q t given marksRoom scratchRoom place d r =
     let none-left : value (markedCount t (kept t given q)) ≡ refusal 6 place → ⊥ = λ e. let z : _≡_ {A = ℕ} 0 1 = cc in omega arith in
-    let ten = not-six 10 place (short scratchRoom (scratchOf t q)) _ (λ e. omega arith) none-left in
-    let eight = not-six 8 place (marksFault t given) _ (λ e. omega arith) ten in
-    let seven = not-six 7 place (tableFault t) _ (λ e. omega arith) eight in
-    not-six 1 place (when (Long query t given marksRoom scratchRoom) 0) _ (λ e. omega arith) seven (rw d at r)
+    let ten = other-line 6 10 place (short scratchRoom (scratchOf t q)) _ (λ e. omega arith) none-left in
+    let eight = other-line 6 8 place (marksFault t given) _ (λ e. omega arith) ten in
+    let seven = other-line 6 7 place (tableFault t) _ (λ e. omega arith) eight in
+    other-line 6 1 place (when (Long query t given marksRoom scratchRoom) 0) _ (λ e. omega arith) seven (rw d at r)
 
 -- and a composition is a query.
 pub never-malformed : NeverMalformed
@@ -126,3 +134,47 @@ unfolding readOut
 round-trip query list out again n h most room =
     let back = trip.round-trip query list out n (length again) h most room in
     (back .0, rw (back .0, back .1) (first-written query again (length query) refl))
+
+-- SCRATCH. A run with scratch enough gives no 10,
+room-enough : (query : List ℕ) (q : Query) (t : Table) (given : List ℕ) (marksRoom scratchRoom place : ℕ) → decode query ≡ some q → scratchOf t q ≤ scratchRoom
+    → runAnswer query t given marksRoom scratchRoom ≡ refusal 10 place → ⊥
+unfolding runAnswer
+room-enough query q t given marksRoom scratchRoom place d enough r =
+    let none-left : value (markedCount t (kept t given q)) ≡ refusal 10 place → ⊥ = λ e. let z : _≡_ {A = ℕ} 0 1 = cc in omega arith in
+    let ten : line 10 (short scratchRoom (scratchOf t q)) (value (markedCount t (kept t given q))) ≡ refusal 10 place → ⊥ = λ e. none-left (rw (le-ltb scratchRoom (scratchOf t q) enough) at e) in
+    let eight = other-line 10 8 place (marksFault t given) _ (λ e. omega arith) ten in
+    let seven = other-line 10 7 place (tableFault t) _ (λ e. omega arith) eight in
+    other-line 10 1 place (when (Long query t given marksRoom scratchRoom) 0) _ (λ e. omega arith) seven (rw d at r)
+
+-- and what is told before composing is enough,
+pub scratch-enough : ScratchEnough
+scratch-enough outer inner out t given n oh op ih ip bytes marksRoom scratchRoom place h oh-told op-told ih-told ip-told bytes-told enough =
+    let w = composition outer inner out n h .0 in
+    let o = w .outer-is in
+    let i = w .inner-is in
+    let outer-high = measure-is height outer o oh (w .outer-decodes) oh-told in
+    let inner-high = measure-is height inner i ih (w .inner-decodes) ih-told in
+    let inner-paths = measure-is pathCount inner i ip (w .inner-decodes) ip-told in
+    let most : bytes ≡ scratchBytes (nodes t) (height o) (height i) (pathCount i) =
+    scratch-is (nodes t) oh op ih ip bytes bytes-told ∙ rw (outer-high, inner-high, inner-paths) in
+    room-enough _ (composed o i) t given marksRoom scratchRoom place (w .decodes) (omega (arith, demands.scratch-enough t o i, most))
+
+-- and can be told.
+pub scratch-told : ScratchTold
+scratch-told outer inner out n count h some-node few =
+    let w = composition outer inner out n h .0 in
+    let o = w .outer-is in
+    let i = w .inner-is in
+    let outer-few : size o ≤ itemLimit = omega (arith, size-decoded outer o (w .outer-decodes), w .outer-few) in
+    let inner-few : size i ≤ itemLimit = omega (arith, size-decoded inner i (w .inner-decodes), w .inner-few) in (
+      height o,
+      pathCount o,
+      height i,
+      pathCount i,
+      scratchBytes count (height o) (height i) (pathCount i),
+      sym (measured height outer (w .outer-few) o (w .outer-decodes)),
+      sym (measured pathCount outer (w .outer-few) o (w .outer-decodes)),
+      sym (measured height inner (w .inner-few) i (w .inner-decodes)),
+      sym (measured pathCount inner (w .inner-few) i (w .inner-decodes)),
+      sym (lends count (height o) (pathCount o) (height i) (pathCount i) (let-all-pass count o i some-node few outer-few inner-few)),
+    )

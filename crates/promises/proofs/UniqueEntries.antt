@@ -3,6 +3,7 @@ use mathlib.Core.Path.{subst}
 use Rattle.read_xml.proofs.read_xml
 use Rattle.promises.specs.UniqueEntries.{ReadUnique, PrintUnique, ComposeUnique, RunUnique, ExtractUnique, ReadXmlUnique}
 use Rattle.promises.specs.UniqueEntries.{ReadForCUnique, PrintForCUnique, ComposeForCUnique, RunForCUnique, ExtractForCUnique, ReadXmlForCUnique, ReportUnique}
+use Rattle.promises.specs.UniqueEntries.{HeightUnique, PathsUnique, ScratchUnique, HeightForCUnique, PathsForCUnique, ScratchForCUnique}
 use Rattle.promises.proofs.Telling.{same, same-told, same-slice, same-slices, same-more}
 
 pub read-unique : ReadUnique
@@ -47,3 +48,21 @@ read-xml-for-c-unique κs a u v x y g p q =
 
 pub report-unique : ReportUnique
 report-unique κs a u v x y g p q = (same (p .puts .moved) (q .puts .moved), same-slice (p .puts .wrote) (q .puts .wrote))
+
+pub height-unique : HeightUnique
+height-unique κs a u v x y g p q = same-told p q
+
+pub paths-unique : PathsUnique
+paths-unique κs a u v x y g p q = same-told p q
+
+pub scratch-unique : ScratchUnique
+scratch-unique κs a u v x y g p q = same-told p q
+
+pub height-for-c-unique : HeightForCUnique
+height-for-c-unique κs a u v x y g p q = same p q
+
+pub paths-for-c-unique : PathsForCUnique
+paths-for-c-unique κs a u v x y g p q = same p q
+
+pub scratch-for-c-unique : ScratchForCUnique
+scratch-for-c-unique κs a u v x y g p q = same p q

@@ -9,12 +9,15 @@ use denote.Triple.Clauses.{AtExit}
 use borrow.Fn.Kinds.{Dens, endedOf}
 use Rattle.paper.specs.Limits.{textLimit}
 use Rattle.paper.specs.declared.Answer.{Answer}
-use Rattle.paper.specs.declared.Answer.the-variants.{Value}
+use Rattle.paper.specs.declared.Answer.the-variants.{Value, Short}
 use Rattle.read.proofs.read
 use Rattle.print.proofs.print
 use Rattle.compose.proofs.compose
 use Rattle.run.proofs.run
 use Rattle.extract.proofs.extract
+use Rattle.room.proofs.height
+use Rattle.room.proofs.paths
+use Rattle.room.proofs.scratch
 
 -- A call of `read::read`, which held `old` in the slice for items.
 pub record ReadCall (text list old : List ℕ) (answer : Answer) (out : List ℕ) : Type 0 where
@@ -115,3 +118,42 @@ RoundTrip =
     (query list text old out : List ℕ) (n : ℕ) (answer : Answer) → PrintCall query list (Value n) text → n ≤ textLimit → length query ≤ length old
     → ReadCall (take n text) list old answer out
     → (answer ≡ Value (length query)) × (take (length query) out ≡ query)
+
+-- A call of `room::height` and one of `room::paths`.
+pub record HeightCall (query : List ℕ) (answer : Answer) : Type 0 where
+  pub κs : Lfts 1
+  pub args : Dens κs height.Kinds.ps
+  pub exit : AtExit (endedOf 1 height.Kinds.ps height.Kinds.r) κs
+  pub met : height.Reads.Post κs args answer exit
+  pub query-lent : now (args .0) ≡ query
+
+pub record PathsCall (query : List ℕ) (answer : Answer) : Type 0 where
+  pub κs : Lfts 1
+  pub args : Dens κs paths.Kinds.ps
+  pub exit : AtExit (endedOf 1 paths.Kinds.ps paths.Kinds.r) κs
+  pub met : paths.Reads.Post κs args answer exit
+  pub query-lent : now (args .0) ≡ query
+
+-- A call of `room::scratch`, with these five numbers.
+pub record ScratchCall (count oh op ih ip : ℕ) (answer : Answer) : Type 0 where
+  pub κs : Lfts 0
+  pub args : Dens κs scratch.Kinds.ps
+  pub exit : AtExit (endedOf 0 scratch.Kinds.ps scratch.Kinds.r) κs
+  pub met : scratch.Reads.Post κs args answer exit
+  pub count-given : args .0 ≡ count
+  pub outer-height-given : args .1 .0 ≡ oh
+  pub outer-paths-given : args .1 .1 .0 ≡ op
+  pub inner-height-given : args .1 .1 .1 .0 ≡ ih
+  pub inner-paths-given : args .1 .1 .1 .1 .0 ≡ ip
+
+-- The bytes of scratch lent to a run.
+abbrev pub scratchLent : {query parents kinds given : List ℕ} {answer : Answer} {marks : List ℕ} → RunCall query parents kinds given answer marks → ℕ
+scratchLent c = length (now (c .args .1 .1 .1 .1 .1 .0))
+
+-- SCRATCH (02, 2026-10): lent the bytes that are told by the nodes of the table and by the heights and path counts of two queries, a run of their accepted composition never gets 10.
+abbrev pub ScratchEnough : Type 0
+ScratchEnough =
+    (outer inner both parents kinds given marks : List ℕ) (n oh op ih ip bytes place : ℕ) → ComposeCall outer inner (Value n) both
+    → HeightCall outer (Value oh) → PathsCall outer (Value op) → HeightCall inner (Value ih) → PathsCall inner (Value ip)
+    → ScratchCall (length parents) oh op ih ip (Value bytes)
+    → (run : RunCall (take n both) parents kinds given (Short place) marks) → bytes ≤ scratchLent run → ⊥

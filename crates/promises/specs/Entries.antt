@@ -5,13 +5,14 @@ use mathlib.Core.Bool.{true}
 use mathlib.Core.List.{List}
 use mathlib.Core.Option.{some}
 use lib.ListN.{length, getD, take}
-use Rattle.paper.specs.Limits.{textLimit, itemLimit}
+use Rattle.paper.specs.Limits.{textLimit, itemLimit, nodeLimit}
 use Rattle.paper.specs.Query.{Query}
 use Rattle.paper.specs.Items.{decode}
 use Rattle.paper.specs.Document.{Table, nodes, marked, tableOf}
 use Rattle.paper.specs.Extraction.{rank}
 use Rattle.paper.specs.Composition.{composed}
 use Rattle.paper.specs.Answers.{value, refusal, scratchOf, readAnswer, readOut, printAnswer, printOut, composeAnswer, composeOut, runAnswer, runMarks, extractAnswer, extractParents, extractKinds}
+use Rattle.paper.specs.Room.{heightAnswer, pathsAnswer, scratchAnswer}
 use Rattle.theorems.specs.Demands.{allMarked}
 
 -- ACCEPTANCE. The items are those of the composition of two queries in memory, and can stand in memory themselves.
@@ -19,6 +20,7 @@ pub record IsComposition (outer inner both : List ℕ) : Type 0 where
   pub outer-is : Query
   pub inner-is : Query
   pub outer-few : length outer ≤ itemLimit
+  pub inner-few : length inner ≤ itemLimit
   pub outer-decodes : decode outer ≡ some outer-is
   pub inner-decodes : decode inner ≡ some inner-is
   pub decodes : decode both ≡ some (composed outer-is inner-is)
@@ -106,3 +108,18 @@ RoundTrip =
     (query list out again : List ℕ) (n : ℕ) → printAnswer query list (length out) ≡ value n → n ≤ textLimit → length query ≤ length again →
     let text = take n (printOut query list out) in
     (readAnswer text list (length again) ≡ value (length query)) × (take (length query) (readOut text list again) ≡ query)
+
+-- SCRATCH (02, 2026-10): lent the bytes that are told by the nodes of the table and by the heights and path counts of two queries, a run of their accepted composition never gets 10.
+abbrev pub ScratchEnough : Type 0
+ScratchEnough =
+    (outer inner out : List ℕ) (t : Table) (given : List ℕ) (n oh op ih ip bytes marksRoom scratchRoom place : ℕ) → composeAnswer outer inner (length out) ≡ value n
+    → heightAnswer outer ≡ value oh → pathsAnswer outer ≡ value op → heightAnswer inner ≡ value ih → pathsAnswer inner ≡ value ip
+    → scratchAnswer (nodes t) oh op ih ip ≡ value bytes → bytes ≤ scratchRoom
+    → runAnswer (take n (composeOut outer inner out)) t given marksRoom scratchRoom ≡ refusal 10 place → ⊥
+
+-- The premises can be met: of the queries of an accepted composition heights and path counts are told, and by them the bytes for every number of nodes from 1 to 4,096.
+abbrev pub ScratchTold : Type 0
+ScratchTold =
+    (outer inner out : List ℕ) (n count : ℕ) → composeAnswer outer inner (length out) ≡ value n → 1 ≤ count → count ≤ nodeLimit
+    → (oh op ih ip bytes : ℕ) × (heightAnswer outer ≡ value oh) × (pathsAnswer outer ≡ value op) × (heightAnswer inner ≡ value ih) × (pathsAnswer inner ≡ value ip)
+    × (scratchAnswer count oh op ih ip ≡ value bytes)

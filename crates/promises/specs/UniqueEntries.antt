@@ -7,6 +7,9 @@ use Rattle.compose.proofs.compose
 use Rattle.run.proofs.run
 use Rattle.extract.proofs.extract
 use Rattle.read_xml.proofs.read_xml
+use Rattle.room.proofs.height
+use Rattle.room.proofs.paths
+use Rattle.room.proofs.scratch
 use Rattle.report.proofs.report
 use Rattle.halyardfig.proofs.halyardfig_read
 use Rattle.halyardfig.proofs.halyardfig_print
@@ -14,7 +17,10 @@ use Rattle.halyardfig.proofs.halyardfig_compose
 use Rattle.halyardfig.proofs.halyardfig_run
 use Rattle.halyardfig.proofs.halyardfig_extract
 use Rattle.halyardfig.proofs.halyardfig_read_xml
-use Rattle.promises.specs.Uniqueness.{Unique}
+use Rattle.halyardfig.proofs.halyardfig_height
+use Rattle.halyardfig.proofs.halyardfig_paths
+use Rattle.halyardfig.proofs.halyardfig_scratch
+use Rattle.promises.specs.Uniqueness.{Unique, UniqueAnswer}
 
 abbrev pub ReadUnique : Type 0
 ReadUnique = Unique read.Kinds.ps read.Kinds.r read.Reads.Pre read.Reads.Post (λ κs x. now (x .1 .1 .0) ∷ [])
@@ -63,3 +69,21 @@ ReadXmlForCUnique =
 
 abbrev pub ReportUnique : Type 0
 ReportUnique = Unique report.Kinds.ps report.Kinds.r report.Reads.Pre report.Reads.Post (λ κs x. now (x .1 .0) ∷ [])
+
+abbrev pub HeightUnique : Type 0
+HeightUnique = UniqueAnswer height.Kinds.ps height.Kinds.r height.Reads.Pre height.Reads.Post
+
+abbrev pub PathsUnique : Type 0
+PathsUnique = UniqueAnswer paths.Kinds.ps paths.Kinds.r paths.Reads.Pre paths.Reads.Post
+
+abbrev pub ScratchUnique : Type 0
+ScratchUnique = UniqueAnswer scratch.Kinds.ps scratch.Kinds.r scratch.Reads.Pre scratch.Reads.Post
+
+abbrev pub HeightForCUnique : Type 0
+HeightForCUnique = UniqueAnswer halyardfig_height.Kinds.ps halyardfig_height.Kinds.r halyardfig_height.Reads.Pre halyardfig_height.Reads.Post
+
+abbrev pub PathsForCUnique : Type 0
+PathsForCUnique = UniqueAnswer halyardfig_paths.Kinds.ps halyardfig_paths.Kinds.r halyardfig_paths.Reads.Pre halyardfig_paths.Reads.Post
+
+abbrev pub ScratchForCUnique : Type 0
+ScratchForCUnique = UniqueAnswer halyardfig_scratch.Kinds.ps halyardfig_scratch.Kinds.r halyardfig_scratch.Reads.Pre halyardfig_scratch.Reads.Post

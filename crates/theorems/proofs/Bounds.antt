@@ -21,10 +21,12 @@ use Rattle.paper.specs.Selection.{kept}
 use Rattle.paper.specs.Reading.{Got, got, refused, readText}
 use Rattle.paper.specs.Composition.{composed}
 use Rattle.paper.specs.Answers.{Answer, value, line, lineQuery, lineGot, tooLong, anyName, readAnswer, unknownFrom, printAnswer, composeAnswer, scratchOf, markedCount, runAnswer, extractAnswer}
+use Rattle.paper.specs.Room.{measureAnswer, heightAnswer, pathCount, pathsAnswer, scratchAnswer}
 use Rattle.paper.proofs.Tests.{none-some, some-inj}
 use Rattle.paper.proofs.Refusing.{or-none}
 use Rattle.paper.proofs.Sizes.{size-decoded, height-size}
 use Rattle.paper.proofs.Extracting.{rank-le}
+use Rattle.paper.proofs.Lending.{Wrong, all-inside, bytes-few, paths-size}
 use Rattle.theorems.specs.Bounds.{Small}
 use Rattle.theorems.proofs.Seeing.{chosen}
 use Rattle.theorems.proofs.NameBounds.{fault-within, name-short}
@@ -159,3 +161,25 @@ read-small text list room =
     (λ q b.
     let sized : size q < 4294967296 = omega arith in
     small-room (size q) (ltb room (size q) || ltb itemLimit (size q)) sized))))
+
+-- HEIGHT AND PATHS.
+measure-small : (measure : Query → ℕ) (query : List ℕ) → ((q : Query) → measure q ≤ size q) → Small (measureAnswer measure query)
+unfolding measureAnswer
+measure-small measure query low =
+    small-when 1 0 (tooLong query itemLimit) _ (omega arith)
+    (λ h.
+    let few : length query ≤ itemLimit = ltb-false itemLimit (length query) h in
+    small-query 6 0 (decode query) _ (omega arith) (λ q d. omega (arith, low q, size-decoded query q d)))
+
+pub height-small : (query : List ℕ) → Small (heightAnswer query)
+height-small query = measure-small height query height-size
+
+pub paths-small : (query : List ℕ) → Small (pathsAnswer query)
+paths-small query = measure-small pathCount query paths-size
+
+-- SCRATCH.
+pub scratch-small : (count outerHeight outerPaths innerHeight innerPaths : ℕ) → Small (scratchAnswer count outerHeight outerPaths innerHeight innerPaths)
+unfolding scratchAnswer
+scratch-small count outerHeight outerPaths innerHeight innerPaths =
+    small-when 1 0 (Wrong count outerHeight outerPaths innerHeight innerPaths) _ (omega arith)
+    (λ h. omega (arith, bytes-few count outerHeight outerPaths innerHeight innerPaths (all-inside count outerHeight outerPaths innerHeight innerPaths h)))

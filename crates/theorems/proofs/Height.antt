@@ -1,6 +1,7 @@
 -- The height of a composition is at most that of the outer query and of V, which is that of S and two more; S has the reverses' height and one more for each `or`. Each by induction over the query. Assumes nothing.
-use Prim.Native.Nat.{ℕ, suc, _+_, _≤_, max}
+use Prim.Native.Nat.{ℕ, suc, _+_, _*_, _≤_, max}
 use native.Mathlib.Omega.{arith}
+use native.Mathlib.Nat.{mul-le-mul}
 use mathlib.Core.Path.{_≡_}
 use mathlib.Core.Bool.{Bool, true, false, cond}
 use mathlib.Core.List.{List, [], _∷_, map}
@@ -8,7 +9,9 @@ use lib.ListN.{length}
 use Rattle.paper.specs.Query.{Test, anyNode, Expr, path, both, either, negated, Steps, stop, step, Preds, bare, pred, Query, paths}
 use Rattle.paper.specs.Measures.{heightExpr, heightSteps, heightPreds, heightPaths, height}
 use Rattle.paper.specs.Composition.{turned, atRoot, wayBack, reversed, joined, selectedBy, visible, guarded, guardExpr, guardSteps, guardPreds, append, lastStep, composedPath, composed}
-use Rattle.theorems.specs.Demands.{Height}
+use Rattle.paper.specs.Document.{nodes}
+use Rattle.paper.specs.Room.{pathCount, heightBound}
+use Rattle.theorems.specs.Demands.{Height, ScratchEnough}
 
 way-height : (x : Test) (ps : Preds) (back s : Steps) → heightSteps (wayBack x ps back s) ≡ max (max (heightPreds ps) (heightSteps back)) (heightSteps s)
 way-height x ps back stop = omega arith
@@ -82,3 +85,10 @@ paths-height q (p ∷ ps) = omega (arith, path-height q p, paths-height q ps)
 pub composed-height : Height
 unfolding height composed guardHeight
 composed-height outer inner = omega (arith, paths-height inner (paths outer))
+
+-- SO THE SCRATCH TOLD BEFORE COMPOSING IS ENOUGH.
+pub scratch-enough : ScratchEnough
+scratch-enough t outer inner =
+    let low : height (composed outer inner) + 1 ≤ heightBound (height outer) (height inner) (pathCount inner) + 1 = omega (arith, composed-height outer inner) in
+    let twice : nodes t * 2 ≤ nodes t * 2 = omega arith in
+    mul-le-mul twice low

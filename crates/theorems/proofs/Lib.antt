@@ -20,7 +20,7 @@ pub mod Secrecy
 pub mod Sizes
 -- `composed-nesting`.
 pub mod Nesting
--- `composed-height`.
+-- `composed-height`, `scratch-enough`.
 pub mod Height
 -- Well-formed queries by type and by test: `good-proper`, `proper-good`, `well-formed`.
 pub mod Forms
@@ -68,5 +68,5 @@ pub mod PrintBounds
 pub mod ReadBounds
 -- `nesting-size`, `composed-small`.
 pub mod ComposeBounds
--- Every answer is below 2^32: `read-small`, `print-small`, `compose-small`, `run-small`, `extract-small`; `halyardfig` hands them to `coded`.
+-- Every answer is below 2^32: `read-small`, `print-small`, `compose-small`, `run-small`, `extract-small`, `height-small`, `paths-small`, `scratch-small`; `halyardfig` hands them to `coded`.
 pub mod Bounds

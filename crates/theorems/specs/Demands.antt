@@ -13,6 +13,8 @@ use Rattle.paper.specs.Selection.{leads, holds, arrives, keeps, kept}
 use Rattle.paper.specs.Extraction.{rank, extracted}
 use Rattle.paper.specs.Items.{encode, decode, stepCount, goodTest, good}
 use Rattle.paper.specs.Measures.{size, nesting, height}
+use Rattle.paper.specs.Answers.{scratchOf}
+use Rattle.paper.specs.Room.{pathCount, scratchBytes}
 use Rattle.paper.specs.Composition.{turned, reversed, visible, guarded, guardExpr, guardSteps, composed, composedSize, composedNesting}
 
 -- Every node marked.
@@ -134,6 +136,11 @@ NestingBound = (outer inner : Query) → nesting (composed outer inner) ≤ nest
 
 abbrev pub Height : Type 0
 Height = (outer inner : Query) → height (composed outer inner) ≤ height outer + max 3 (height inner) + length (paths inner) + 1
+
+-- SCRATCH: a run of the composition needs no more than the bytes that 2026-10 tells of the two queries before composing.
+abbrev pub ScratchEnough : Type 0
+ScratchEnough =
+    (t : Table) (outer inner : Query) → scratchOf t (composed outer inner) ≤ scratchBytes (nodes t) (height outer) (height inner) (pathCount inner)
 
 -- WELL FORMED: the composition of queries that keep 01's rules keeps them;
 abbrev pub ProperComposed : Type 0

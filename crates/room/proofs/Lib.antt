@@ -1,0 +1,2 @@
+-- The lines of a measure: `too-long`, `no-query`, `measured`.
+pub mod Answering
