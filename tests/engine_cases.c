@@ -152,10 +152,37 @@ static bool composed_query(struct dice *dice)
     return printed;
 }
 
+/* Three views in both groupings, and in turn. */
+static bool three_views(struct dice *dice)
+{
+    static struct views views;
+    make_document(dice, 15);
+    for (unsigned throws = 0; throws < 4; throws++) {
+        make_views(dice, &views, (struct bounds){6, 1, 2, list.count});
+        if (!run_query(&views.last_two))
+            return false;
+        if (kept_some())
+            break;
+    }
+    write_document("A on (B on C)");
+    bool printed = write_printed(&views.last_two);
+    write_marks('E', kept);
+    if (!run_query(&views.first_two))
+        return false;
+    write_document("(A on B) on C");
+    printed = write_printed(&views.first_two) && printed;
+    write_marks('E', kept);
+    write_document("C, B and A in turn");
+    printed = write_printed(&views.inner) && write_printed(&views.middle) && write_printed(&views.outer) && printed;
+    write_marks('E', kept);
+    return printed;
+}
+
 int main(void)
 {
     group_start("engine");
     try_cases("single query", 8000, single_query);
     try_cases("composed query", 5000, composed_query);
+    try_cases("three views", 1500, three_views);
     return group_end();
 }

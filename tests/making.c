@@ -290,6 +290,31 @@ void make_long_query(struct dice *dice, struct query *query, size_t most_items, 
     makers[below(dice, sizeof makers / sizeof makers[0])](&making);
 }
 
+/* Composes two queries; false where that is refused. */
+static bool compose_two(const struct query *outer, const struct query *inner, struct query *made)
+{
+    uint64_t answer =
+        halyardfig_compose(outer->items, outer->count, inner->items, inner->count, made->items, ITEM_ROOM);
+    made->count = halyardfig_value(answer);
+    return halyardfig_refused(answer) == 0;
+}
+
+void make_views(struct dice *dice, struct views *views, struct bounds bounds)
+{
+    static struct query upper, lower;
+    struct query *const each[] = {&views->outer, &views->middle, &views->inner};
+    do
+        for (size_t i = 0; i < 3; i++) {
+            size_t items = between(dice, 1, bounds.items);
+            unsigned nesting = (unsigned)between(dice, 0, bounds.nesting);
+            make_query(dice, each[i], (struct bounds){items, nesting, bounds.paths, bounds.names});
+            if (chance(dice, 50))
+                mix_axes(dice, each[i]);
+        }
+    while (!compose_two(each[1], each[2], &lower) || !compose_two(each[0], &lower, &views->last_two) ||
+           !compose_two(each[0], each[1], &upper) || !compose_two(&upper, each[2], &views->first_two));
+}
+
 /* Texts. */
 
 void clear_text(struct text *text)

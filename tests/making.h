@@ -69,6 +69,14 @@ void make_deep_query(struct dice *dice, struct query *query, unsigned nesting, u
 /* A query that is one long run of some kind: steps, predicates, paths, or left-grouped operands. */
 void make_long_query(struct dice *dice, struct query *query, size_t most_items, unsigned names);
 
+/* Three views in a row, and both their groupings: outer on (middle on inner), and (outer on middle) on inner. */
+struct views {
+    struct query outer, middle, inner, last_two, first_two;
+};
+
+/* Makes three queries within the bounds of which neither grouping is refused; half of them have every axis alike. */
+void make_views(struct dice *dice, struct views *views, struct bounds bounds);
+
 /* Writing a text: what is past its room is left out, and the text says so. */
 void clear_text(struct text *text);
 void put_byte(struct text *text, uint8_t byte);

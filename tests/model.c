@@ -10,6 +10,7 @@ enum { SCRATCH_ROOM = 1 << 18, SECRET_THROWS = 1000 };
 static struct list list;
 static struct text text;
 static struct query query, outer, inner, composed;
+static struct views views;
 static struct table table, other;
 
 /* A good query of any sort: small mostly, sometimes deep or long. */
@@ -240,6 +241,14 @@ static void make_composition(struct dice *dice, unsigned names)
     composed.count = halyardfig_value(answer);
 }
 
+/* Makes three views in a row, of which outer and inner are the first and the last. */
+static void make_chain(struct dice *dice, unsigned names)
+{
+    make_views(dice, &views, (struct bounds){8, 2, 2, names});
+    outer = views.outer;
+    inner = views.inner;
+}
+
 static bool show_composition(const struct table *on)
 {
     show_items("outer", outer.items, outer.count);
@@ -320,11 +329,11 @@ static void change_hidden(struct dice *dice, const struct table *from, const uin
 }
 
 /* Makes two different documents of which inner keeps the same part, and not nothing; false if this throw fails. */
-static bool make_secret(struct dice *dice, unsigned names)
+static bool make_secret(struct dice *dice, unsigned names, void (*make_queries)(struct dice *, unsigned))
 {
     static struct table seen_one, seen_two;
     static uint8_t one[NODE_ROOM], two[NODE_ROOM];
-    make_composition(dice, names);
+    make_queries(dice, names);
     make_table(dice, &table, between(dice, 2, 40), names);
     if (!run_on(&inner, &table, table.marks, one))
         return false;
@@ -334,22 +343,72 @@ static bool make_secret(struct dice *dice, unsigned names)
            !same_tables(&table, &other);
 }
 
-/* On documents of which inner keeps the same, the composed query keeps the same. */
-static bool composition_keeps_secrets(struct dice *dice)
+/* Does the query show the same of both documents? */
+static bool shows_alike(const struct query *running)
 {
     static struct table kept_one, kept_two;
     static uint8_t one[NODE_ROOM], two[NODE_ROOM];
+    return run_on(running, &table, table.marks, one) && run_on(running, &other, other.marks, two) &&
+           extract_from(&table, one, &kept_one) && extract_from(&other, two, &kept_two) &&
+           same_tables(&kept_one, &kept_two);
+}
+
+/* On documents of which inner keeps the same, the composed query keeps the same. */
+static bool composition_keeps_secrets(struct dice *dice)
+{
     unsigned throws = 0;
-    while (!make_secret(dice, (unsigned)between(dice, 2, 3)))
+    while (!make_secret(dice, (unsigned)between(dice, 2, 3), make_composition))
         if (++throws == SECRET_THROWS)
             return complain("no two documents were found");
-    if (!run_on(&composed, &table, table.marks, one) || !run_on(&composed, &other, other.marks, two) ||
-        !extract_from(&table, one, &kept_one) || !extract_from(&other, two, &kept_two))
-        return false;
-    if (same_tables(&kept_one, &kept_two))
+    if (shows_alike(&composed))
         return true;
     complain("the composed query shows what inner hides");
     return show_composition(&table);
+}
+
+static bool show_chain(const struct table *on)
+{
+    show_items("middle", views.middle.items, views.middle.count);
+    return show_composition(on);
+}
+
+/* Both groupings of three views keep what inner, then middle, then outer keep. */
+static bool chain_is_exact(struct dice *dice)
+{
+    static uint8_t in_turn[NODE_ROOM], grouped[NODE_ROOM];
+    unsigned names = (unsigned)between(dice, 1, 3);
+    bool telling = false;
+    for (unsigned throws = 0; throws < 4 && !telling; throws++) {
+        make_chain(dice, names);
+        make_table(dice, &table, between(dice, 1, 60), names);
+        make_marks(dice, &table, (unsigned)between(dice, 60, 100));
+        if (!run_on(&inner, &table, table.marks, in_turn) || !run_on(&views.middle, &table, in_turn, in_turn) ||
+            !run_on(&outer, &table, in_turn, in_turn))
+            return show_chain(&table);
+        telling = keeps_some(&table, in_turn);
+    }
+    if (!run_on(&views.last_two, &table, table.marks, grouped))
+        return show_chain(&table);
+    bool last_right = memcmp(grouped, in_turn, table.nodes) == 0;
+    if (!run_on(&views.first_two, &table, table.marks, grouped))
+        return show_chain(&table);
+    if (last_right && memcmp(grouped, in_turn, table.nodes) == 0)
+        return true;
+    complain("with its %s two grouped the chain keeps other nodes than in turn", last_right ? "first" : "last");
+    return show_chain(&table);
+}
+
+/* On documents of which inner keeps the same, both groupings of the chain keep the same. */
+static bool chain_keeps_secrets(struct dice *dice)
+{
+    unsigned throws = 0;
+    while (!make_secret(dice, (unsigned)between(dice, 2, 3), make_chain))
+        if (++throws == SECRET_THROWS)
+            return complain("no two documents were found");
+    if (shows_alike(&views.last_two) && shows_alike(&views.first_two))
+        return true;
+    complain("the chain shows what inner hides");
+    return show_chain(&table);
 }
 
 /* Heights and path counts of good and damaged queries. */
@@ -432,5 +491,7 @@ int main(void)
     try_cases("height and paths", 3000, measures_queries);
     try_cases("scratch", 5000, tells_scratch);
     try_cases("scratch is enough", 3000, scratch_is_enough);
+    try_cases("chain is exact", 2000, chain_is_exact);
+    try_cases("chain keeps secrets", 1000, chain_keeps_secrets);
     return group_end();
 }

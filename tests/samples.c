@@ -365,6 +365,34 @@ static void scratch_samples(void)
     }
 }
 
+/* 2026-09: the paper's queries in a row, A on (B on C) and (A on B) on C; and a middle view without guarded steps. */
+static void chain_samples(void)
+{
+    static const char names[] = "site\nregions\neurope\nitem\nquantity\nlocation\ndesc\na\nb\n";
+    static const struct {
+        const char *texts[3];
+        unsigned last_two, first_two;
+    } samples[] = {
+        {{"//item[location or desc]", "//item[not(quantity)]|//item/location", "/site/regions/europe"}, 1534, 591},
+        {{"/a", "/", "/b"}, 52, 85},
+    };
+    static struct query a, b, c, half, whole;
+    struct query *const queries[] = {&a, &b, &c};
+    for (size_t i = 0; i < sizeof samples / sizeof samples[0]; i++) {
+        for (size_t j = 0; j < 3; j++)
+            queries[j]->count = halyardfig_read((const uint8_t *)samples[i].texts[j], strlen(samples[i].texts[j]),
+                                                (const uint8_t *)names, strlen(names), queries[j]->items, ITEM_ROOM);
+        half.count = halyardfig_compose(b.items, b.count, c.items, c.count, half.items, ITEM_ROOM);
+        answer_is("A on (B on C)",
+                  halyardfig_compose(a.items, a.count, half.items, half.count, whole.items, ITEM_ROOM),
+                  samples[i].last_two);
+        half.count = halyardfig_compose(a.items, a.count, b.items, b.count, half.items, ITEM_ROOM);
+        answer_is("(A on B) on C",
+                  halyardfig_compose(half.items, half.count, c.items, c.count, whole.items, ITEM_ROOM),
+                  samples[i].first_two);
+    }
+}
+
 int main(void)
 {
     group_start("samples");
@@ -377,5 +405,6 @@ int main(void)
     document_samples();
     refused_document_samples();
     scratch_samples();
+    chain_samples();
     return group_end();
 }

@@ -16,27 +16,27 @@ use Rattle.promises.proofs.Entries as entries
 
 -- COMPOSE. What the contract says of an accepted call, of the slices by the names they have in the statements.
 module _ {outer inner both : List ℕ} {n : ℕ} (c : ComposeCall outer inner (Value n) both) where
-  abbrev old-items : List ℕ
+  abbrev pub old-items : List ℕ
   old-items = now (c .args .1 .1 .0)
 
-  composed-value : composeAnswer outer inner (length old-items) ≡ value n
+  pub composed-value : composeAnswer outer inner (length old-items) ≡ value n
   composed-value = rw (c .outer-lent, c .inner-lent) at (sym (c .met .0))
 
-  composed-left : both ≡ composeOut outer inner old-items
+  pub composed-left : both ≡ composeOut outer inner old-items
   composed-left = sym (c .out-left) ∙ (rw (c .outer-lent, c .inner-lent) at (c .met .1))
 
 -- RUN.
 module _ {query parents kinds given marks : List ℕ} {a : ℕ} (c : RunCall query parents kinds given (Value a) marks) where
-  abbrev old-marks : List ℕ
+  abbrev pub old-marks : List ℕ
   old-marks = now (c .args .1 .1 .1 .1 .0)
 
-  abbrev scratch-room : ℕ
+  abbrev pub scratch-room : ℕ
   scratch-room = length (now (c .args .1 .1 .1 .1 .1 .0))
 
-  run-value : runAnswer query (tableOf parents kinds) given (length old-marks) scratch-room ≡ value a
+  pub run-value : runAnswer query (tableOf parents kinds) given (length old-marks) scratch-room ≡ value a
   run-value = rw (c .query-lent, c .parents-lent, c .kinds-lent, c .given-lent) at (sym (c .met .0))
 
-  run-left : marks ≡ runMarks query (tableOf parents kinds) given old-marks scratch-room
+  pub run-left : marks ≡ runMarks query (tableOf parents kinds) given old-marks scratch-room
   run-left = sym (c .marks-left) ∙ (rw (c .query-lent, c .parents-lent, c .kinds-lent, c .given-lent) at (c .met .1 .0))
 
 -- EXTRACT.
@@ -57,7 +57,7 @@ module _ {parents kinds marks newParents newKinds : List ℕ} {n : ℕ} (c : Ext
   kinds-left = sym (c .kinds-left) ∙ (rw (c .parents-lent, c .kinds-lent, c .marks-lent) at (c .met .1 .1))
 
 -- A view is what such a run and extract show.
-shows : {query parents kinds given ps ks : List ℕ} (v : View query parents kinds given ps ks) → Shows query (tableOf parents kinds) given (v .kept) (v .count) ps ks
+pub shows : {query parents kinds given ps ks : List ℕ} (v : View query parents kinds given ps ks) → Shows query (tableOf parents kinds) given (v .kept) (v .count) ps ks
 shows v =
     record {
       oldMarks = old-marks (v .ran);

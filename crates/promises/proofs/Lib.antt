@@ -10,3 +10,7 @@ pub mod Accepting
 pub mod Entries
 -- The demands over calls that met their contracts.
 pub mod Calls
+-- Three views in a row over the entry points' definitions.
+pub mod Chains
+-- The same over calls.
+pub mod ChainCalls

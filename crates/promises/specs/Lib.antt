@@ -3,3 +3,5 @@ pub mod UniqueEntries
 pub mod UniqueParts
 pub mod Entries
 pub mod Calls
+pub mod Chains
+pub mod ChainCalls

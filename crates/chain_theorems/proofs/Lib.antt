@@ -1,0 +1,2 @@
+-- `in-turn`, `secrets`, and for three views `three-in-turn`, `three-secrets`.
+pub mod Chains
