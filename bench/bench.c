@@ -289,6 +289,56 @@ static void loadings(void)
     }
 }
 
+/* Axes. */
+
+/* A document of so many nodes. */
+typedef void make_document(struct document *document, size_t nodes);
+
+/* A row of one axis, from every node of documents whose nodes are doubled. */
+static void row_of_axis(const char *axis, const char *name, make_document *make)
+{
+    static struct document document;
+    static struct query query;
+    char text[64];
+    double before = 0, most = 0;
+    snprintf(text, sizeof text, "/descendant-or-self::node()/%s::node()", axis);
+    printf("| %s | %s | ", axis, name);
+    for (size_t nodes = LEAST_NODES; nodes <= NODE_ROOM; nodes *= 2) {
+        make(&document, nodes);
+        read_query(&document, text, &query);
+        double micros = time_own_run(&document, &query);
+        if (before > 0 && micros / before > most)
+            most = micros / before;
+        before = micros;
+        printf("%.1f | ", micros);
+    }
+    printf("%.2f |\n", most);
+    fflush(stdout);
+}
+
+static void axes(void)
+{
+    static const char *const all[] = {"self",
+                                      "child",
+                                      "parent",
+                                      "descendant-or-self",
+                                      "ancestor-or-self",
+                                      "descendant",
+                                      "ancestor",
+                                      "following-sibling",
+                                      "preceding-sibling",
+                                      "following",
+                                      "preceding"};
+    printf("\n### Axes from every node, the nodes doubled, ours alone\n\n| axis | document |");
+    for (size_t nodes = LEAST_NODES; nodes <= NODE_ROOM; nodes *= 2)
+        printf(" %zu nodes, us |", nodes);
+    printf(" most, times the one before |\n|---|---|---|---|---|---|---|\n");
+    for (size_t a = 0; a < sizeof all / sizeof all[0]; a++) {
+        row_of_axis(all[a], "row", make_row);
+        row_of_axis(all[a], "chain", make_chain);
+    }
+}
+
 int main(void)
 {
     static struct document document, small;
@@ -303,5 +353,6 @@ int main(void)
     readings(&document);
     loadings();
     chains();
+    axes();
     return 0;
 }

@@ -250,6 +250,13 @@ void make_chain(struct document *document, size_t nodes)
         open_element(document, i % 2 == 1 ? "a" : "b");
 }
 
+void make_row(struct document *document, size_t nodes)
+{
+    start(document, nodes);
+    for (size_t i = 1; i < nodes; i++)
+        add_empty(document, i % 2 == 1 ? "a" : "b");
+}
+
 void make_names(struct document *document, const char *const *names)
 {
     start(document, 1);

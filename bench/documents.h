@@ -31,6 +31,9 @@ void make_xmark(struct document *document, size_t nodes);
 /* Makes a document of so many nodes in which every element but the last has one child; `a` and `b` take turns. */
 void make_chain(struct document *document, size_t nodes);
 
+/* Makes a document of so many nodes in which every element is a child of the root; `a` and `b` take turns. */
+void make_row(struct document *document, size_t nodes);
+
 /* Makes a document of the root alone, whose list has these names; a null pointer ends them. */
 void make_names(struct document *document, const char *const *names);
 

@@ -93,6 +93,8 @@ static void make_single(struct dice *dice)
 {
     for (unsigned throws = 0; throws < 4; throws++) {
         make_query(dice, &query, (struct bounds){between(dice, 1, 30), (unsigned)below(dice, 5), 3, list.count});
+        if (chance(dice, 50))
+            mix_axes(dice, &query);
         if (run_query(&query) && kept_some())
             return;
     }
@@ -119,12 +121,31 @@ static bool single_query(struct dice *dice)
     return printed;
 }
 
+/* One axis by itself, in a path or in a predicate. */
+static bool one_axis(struct dice *dice)
+{
+    make_document(dice, 20);
+    for (unsigned throws = 0; throws < 4; throws++) {
+        make_axis_query(dice, &query, (unsigned)below(dice, AXES), list.count);
+        if (!run_query(&query))
+            return false;
+        if (kept_some())
+            break;
+    }
+    write_document("one axis");
+    bool printed = write_printed(&query);
+    write_marks('E', kept);
+    return printed;
+}
+
 static uint64_t make_composed(struct dice *dice)
 {
     make_query(dice, &outer, (struct bounds){between(dice, 1, 12), (unsigned)below(dice, 3), 2, list.count});
     make_query(dice, &inner, (struct bounds){between(dice, 1, 12), (unsigned)below(dice, 3), 2, list.count});
     if (chance(dice, 50))
         mix_axes(dice, &outer);
+    if (chance(dice, 50))
+        mix_axes(dice, &inner);
     uint64_t answer = halyardfig_compose(outer.items, outer.count, inner.items, inner.count, composed.items, ITEM_ROOM);
     composed.count = halyardfig_value(answer);
     return halyardfig_refused(answer);
@@ -182,6 +203,7 @@ int main(void)
 {
     group_start("engine");
     try_cases("single query", 8000, single_query);
+    try_cases("one axis", 5000, one_axis);
     try_cases("composed query", 5000, composed_query);
     try_cases("three views", 1500, three_views);
     return group_end();

@@ -30,10 +30,12 @@ static void append(xmlNodePtr parent, xmlNodePtr child)
     parent->last = child;
 }
 
-/* The document of the marked nodes. */
+/* The document of the marked nodes. libxml2's preceding axis ends at the first child of the document, which it takes
+   for an ancestor; so a document type, which is no node of XPath, stands before several top nodes. */
 static xmlDocPtr build(void)
 {
     xmlDocPtr document = xmlNewDoc(BAD_CAST "1.0");
+    xmlCreateIntSubset(document, BAD_CAST "d", NULL, NULL);
     tree[0] = (xmlNodePtr)document;
     for (size_t i = 1; i < now.nodes; i++) {
         if (now.marks[i] == 0)

@@ -29,9 +29,9 @@ static void add_name(struct list *list, const char *name, size_t length)
 }
 
 /* Words that look like something else, each different from the others. */
-static const char *const words[] = {"a",    "b",     "c",     "and", "or",      "not", "node", "text",
-                                    "self", "child", "x.y",   "a-b", "_",       "div", "A",    "parent",
-                                    "a.",   "not-",  "nodes", "mod", "comment", "b2"};
+static const char *const words[] = {"a",    "b",     "c",     "and", "or",      "not", "node",      "text",
+                                    "self", "child", "x.y",   "a-b", "_",       "div", "A",         "parent",
+                                    "a.",   "not-",  "nodes", "mod", "comment", "b2",  "following", "ancestor"};
 enum { WORDS = sizeof words / sizeof words[0] };
 
 void make_list(struct dice *dice, struct list *list, unsigned names)
@@ -118,7 +118,13 @@ static unsigned random_axis(struct dice *dice)
                                     DESCENDANT_OR_SELF,
                                     DESCENDANT_OR_SELF,
                                     DESCENDANT_OR_SELF,
-                                    ANCESTOR_OR_SELF};
+                                    ANCESTOR_OR_SELF,
+                                    DESCENDANT,
+                                    ANCESTOR,
+                                    FOLLOWING_SIBLING,
+                                    PRECEDING_SIBLING,
+                                    FOLLOWING,
+                                    PRECEDING};
     return axes[below(dice, sizeof axes / sizeof axes[0])];
 }
 
@@ -182,7 +188,32 @@ void mix_axes(struct dice *dice, struct query *query)
     for (size_t i = 0; i < query->count; i++) {
         uint32_t item = query->items[i], step = STEP_ITEM(0, 0, 0);
         if ((item & 7) == step)
-            query->items[i] = (item & ~((uint32_t)7 << AXIS_BIT)) | (uint32_t)below(dice, AXES) << AXIS_BIT;
+            query->items[i] = (item & ~((uint32_t)MOST_AXIS << AXIS_BIT)) | (uint32_t)below(dice, AXES) << AXIS_BIT;
+    }
+}
+
+void make_axis_query(struct dice *dice, struct query *query, unsigned axis, unsigned names)
+{
+    struct making making = {dice, query, {ITEM_ROOM, 1, 1, names}};
+    bool within = chance(dice, 50), denied = within && chance(dice, 50);
+    uint32_t step = STEP_ITEM(axis, random_test(dice, names), 0);
+    query->count = 0;
+    put(&making, PATH_ITEM(within ? 1 : 2));
+    put(&making, STEP_ITEM(DESCENDANT_OR_SELF, random_test(dice, names), within));
+    if (denied)
+        put(&making, NOT_ITEM);
+    if (within)
+        put(&making, PATH_ITEM(1));
+    put(&making, step);
+}
+
+void pack_as_before(struct query *query)
+{
+    for (size_t i = 0; i < query->count; i++) {
+        uint32_t item = query->items[i];
+        if ((item & 7) == STEP_ITEM(0, 0, 0))
+            query->items[i] = (item & 7) | (item >> AXIS_BIT & 7) << 3 | (item >> TEST_BIT & MOST_TEST) << 6 |
+                              (item >> PREDICATES_BIT) << 15;
     }
 }
 
@@ -407,7 +438,13 @@ static void write_axis(struct writing *writing, unsigned axis)
                                             [CHILD] = "child",
                                             [PARENT] = "parent",
                                             [DESCENDANT_OR_SELF] = "descendant-or-self",
-                                            [ANCESTOR_OR_SELF] = "ancestor-or-self"};
+                                            [ANCESTOR_OR_SELF] = "ancestor-or-self",
+                                            [DESCENDANT] = "descendant",
+                                            [ANCESTOR] = "ancestor",
+                                            [FOLLOWING_SIBLING] = "following-sibling",
+                                            [PRECEDING_SIBLING] = "preceding-sibling",
+                                            [FOLLOWING] = "following",
+                                            [PRECEDING] = "preceding"};
     if (axis == CHILD && chance(writing->dice, 70))
         return;
     put_token(writing, names[axis]);
@@ -418,7 +455,8 @@ static void write_expr(struct writing *writing);
 
 static void write_step(struct writing *writing, uint32_t item)
 {
-    unsigned axis = item >> AXIS_BIT & 7, test = item >> TEST_BIT & MOST_TEST, predicates = item >> PREDICATES_BIT;
+    unsigned axis = item >> AXIS_BIT & MOST_AXIS, test = item >> TEST_BIT & MOST_TEST,
+             predicates = item >> PREDICATES_BIT;
     bool shortens = test == NODE_TEST && predicates == 0 && chance(writing->dice, 70);
     if (shortens && (axis == SELF || axis == PARENT)) {
         put_token(writing, axis == SELF ? "." : "..");
@@ -548,7 +586,7 @@ static uint32_t odd_item(struct dice *dice)
     if (throw < 3)
         return PATH_ITEM(below(dice, 3));
     if (throw < 5)
-        return STEP_ITEM(below(dice, AXES + 1), below(dice, 4), below(dice, 3));
+        return STEP_ITEM(below(dice, MOST_AXIS + 1), below(dice, 4), below(dice, 3));
     return (uint32_t)below(dice, 6);
 }
 
@@ -601,9 +639,10 @@ void damage_table(struct dice *dice, struct table *table)
 
 void make_token_soup(struct dice *dice, struct text *text, size_t tokens)
 {
-    static const char *const soup[] = {"/", "/", "//", ".",   "..", "::",    "|",    "[",      "]",    "(", ")",
-                                       "*", "a", "b",  "and", "or", "not",   "node", "text",   "self", "[", "]",
-                                       "(", ")", " ",  "\t",  "\n", "child", "not(", "node()", "a",    ":", "-"};
+    static const char *const soup[] = {
+        "/", "/",  "//",  ".",     "..",   "::",     "|",    "[",    "]", "(",         ")",        "*",
+        "a", "b",  "and", "or",    "not",  "node",   "text", "self", "[", "]",         "(",        ")",
+        " ", "\t", "\n",  "child", "not(", "node()", "a",    ":",    "-", "following", "ancestor", "preceding-sibling"};
     clear_text(text);
     put_byte(text, '/');
     put_soup(dice, text, soup, sizeof soup / sizeof soup[0], tokens);

@@ -47,9 +47,22 @@ struct bounds {
 
 /* The items, by the layout of docs/SCOPE.md, "The query in memory". */
 enum { AND_ITEM = 2, OR_ITEM = 3, NOT_ITEM = 4 };
-enum { SELF, CHILD, PARENT, DESCENDANT_OR_SELF, ANCESTOR_OR_SELF, AXES };
+enum {
+    SELF,
+    CHILD,
+    PARENT,
+    DESCENDANT_OR_SELF,
+    ANCESTOR_OR_SELF,
+    DESCENDANT,
+    ANCESTOR,
+    FOLLOWING_SIBLING,
+    PRECEDING_SIBLING,
+    FOLLOWING,
+    PRECEDING,
+    AXES
+};
 enum { NODE_TEST = 0, TEXT_TEST = 1, FIRST_NAME = 2, ANY_TEST = 258, MOST_TEST = 511, MOST_COUNT = 8191 };
-enum { AXIS_BIT = 3, TEST_BIT = 6, PREDICATES_BIT = 15 };
+enum { AXIS_BIT = 3, TEST_BIT = 7, PREDICATES_BIT = 16, MOST_AXIS = 15 };
 #define PATH_ITEM(steps) ((uint32_t)(steps) << 3)
 #define STEP_ITEM(axis, test, predicates)                                                                              \
     (1 | (uint32_t)(axis) << AXIS_BIT | (uint32_t)(test) << TEST_BIT | (uint32_t)(predicates) << PREDICATES_BIT)
@@ -62,6 +75,13 @@ void make_query(struct dice *dice, struct query *query, struct bounds bounds);
 
 /* Gives each step another axis, all axes alike probable. */
 void mix_axes(struct dice *dice, struct query *query);
+
+/* Nodes of some test anywhere, then one step along one axis, or such a step in a predicate. */
+void make_axis_query(struct dice *dice, struct query *query, unsigned axis, unsigned names);
+
+/* Packs the steps as 01 did before 02, 2026-06: the axis in 3 bits, the other fields one bit lower. Axes over 4 lose
+ * their high bit. */
+void pack_as_before(struct query *query);
 
 /* A query whose brackets are nested exactly so deep, of mixed kinds. */
 void make_deep_query(struct dice *dice, struct query *query, unsigned nesting, unsigned names);

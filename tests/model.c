@@ -121,6 +121,20 @@ static bool prints_damaged_query(struct dice *dice)
     return twin_print(dice, query.items, query.count, list.bytes, list.length, 1 << 17);
 }
 
+/* Items of the layout before 02, 2026-06 are judged by the one after it. */
+static bool judges_items_packed_as_before(struct dice *dice)
+{
+    make_list(dice, &list, chance(dice, 30) ? HALYARDFIG_NAMES : (unsigned)below(dice, 8));
+    make_query(dice, &query, (struct bounds){between(dice, 1, 12), (unsigned)below(dice, 3), 3, list.count});
+    pack_as_before(&query);
+    make_table(dice, &table, between(dice, 1, 12), 2);
+    make_query(dice, &outer, (struct bounds){between(dice, 1, 12), (unsigned)below(dice, 3), 2, 2});
+    return twin_print(dice, query.items, query.count, list.bytes, list.length, 1 << 17) &&
+           twin_compose(dice, outer.items, outer.count, query.items, query.count, ITEM_ROOM) &&
+           twin_run(dice, query.items, query.count, table.parent, table.nodes, table.kind, table.nodes, table.marks,
+                    table.nodes, table.nodes, SCRATCH_ROOM);
+}
+
 static bool composes(struct dice *dice)
 {
     unsigned names = (unsigned)below(dice, 5);
@@ -129,6 +143,8 @@ static bool composes(struct dice *dice)
     make_query(dice, &inner, (struct bounds){50 - items, (unsigned)below(dice, 4), 3, names});
     if (chance(dice, 50))
         mix_axes(dice, &outer);
+    if (chance(dice, 50))
+        mix_axes(dice, &inner);
     if (chance(dice, 10))
         damage_query(dice, chance(dice, 50) ? &outer : &inner);
     if (!twin_compose(dice, outer.items, outer.count, inner.items, inner.count, ITEM_ROOM + 1000))
@@ -169,6 +185,8 @@ static bool runs(struct dice *dice)
     if (chance(dice, 60))
         make_marks(dice, &table, (unsigned)between(dice, 50, 100));
     make_query(dice, &query, (struct bounds){between(dice, 1, 30), (unsigned)below(dice, 5), 3, names});
+    if (chance(dice, 50))
+        mix_axes(dice, &query);
     if (chance(dice, 10))
         damage_table(dice, &table);
     if (chance(dice, 5))
@@ -236,6 +254,8 @@ static void make_composition(struct dice *dice, unsigned names)
         make_query(dice, &inner, (struct bounds){between(dice, 1, 12), (unsigned)below(dice, 3), 2, names});
         if (chance(dice, 50))
             mix_axes(dice, &outer);
+        if (chance(dice, 50))
+            mix_axes(dice, &inner);
         answer = halyardfig_compose(outer.items, outer.count, inner.items, inner.count, composed.items, ITEM_ROOM);
     } while (halyardfig_refused(answer) == HALYARDFIG_REFUSED_ROOM);
     composed.count = halyardfig_value(answer);
@@ -297,6 +317,8 @@ static bool marks_are_a_document(struct dice *dice)
         make_marks(dice, &table, (unsigned)between(dice, 60, 100));
     while (table.marks[0] == 0);
     make_query(dice, &query, (struct bounds){between(dice, 1, 30), (unsigned)below(dice, 5), 3, names});
+    if (chance(dice, 50))
+        mix_axes(dice, &query);
     if (!extract_from(&table, table.marks, &part) || !run_on(&query, &table, table.marks, here) ||
         !run_on(&query, &part, part.marks, there) || !extract_from(&table, here, &kept_here) ||
         !extract_from(&part, there, &kept_there))
@@ -480,6 +502,7 @@ int main(void)
     try_cases("read many brackets", 2000, reads_many_brackets);
     try_cases("print and read back", 2000, prints_and_reads_back);
     try_cases("print damaged query", 3000, prints_damaged_query);
+    try_cases("items packed as before", 3000, judges_items_packed_as_before);
     try_cases("compose", 1500, composes);
     try_cases("compose at the edges", 300, composes_at_the_edges);
     try_cases("run", 3000, runs);

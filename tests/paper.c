@@ -11,8 +11,20 @@
 #include <string.h>
 
 enum form { FORM_PATH, FORM_STEP, FORM_AND, FORM_OR, FORM_NOT };
-enum axis { AXIS_SELF, AXIS_CHILD, AXIS_PARENT, AXIS_DESCENDANT_OR_SELF, AXIS_ANCESTOR_OR_SELF };
-enum { AXES = AXIS_ANCESTOR_OR_SELF + 1 };
+enum axis {
+    AXIS_SELF,
+    AXIS_CHILD,
+    AXIS_PARENT,
+    AXIS_DESCENDANT_OR_SELF,
+    AXIS_ANCESTOR_OR_SELF,
+    AXIS_DESCENDANT,
+    AXIS_ANCESTOR,
+    AXIS_FOLLOWING_SIBLING,
+    AXIS_PRECEDING_SIBLING,
+    AXIS_FOLLOWING,
+    AXIS_PRECEDING
+};
+enum { AXES = AXIS_PRECEDING + 1 };
 enum { TEST_NODE = 0, TEST_TEXT = 1, TEST_NAME = 2, TEST_ANY = 258, TEST_UNKNOWN = 259 };
 enum { MOST_KIND = HALYARDFIG_KIND_ELEMENT + HALYARDFIG_NAMES - 1 };
 enum { POOL_BYTES = 1 << 27, BUILT_MOST = 20000 };
@@ -21,7 +33,13 @@ static const char *const axis_words[AXES] = {[AXIS_SELF] = "self",
                                              [AXIS_CHILD] = "child",
                                              [AXIS_PARENT] = "parent",
                                              [AXIS_DESCENDANT_OR_SELF] = "descendant-or-self",
-                                             [AXIS_ANCESTOR_OR_SELF] = "ancestor-or-self"};
+                                             [AXIS_ANCESTOR_OR_SELF] = "ancestor-or-self",
+                                             [AXIS_DESCENDANT] = "descendant",
+                                             [AXIS_ANCESTOR] = "ancestor",
+                                             [AXIS_FOLLOWING_SIBLING] = "following-sibling",
+                                             [AXIS_PRECEDING_SIBLING] = "preceding-sibling",
+                                             [AXIS_FOLLOWING] = "following",
+                                             [AXIS_PRECEDING] = "preceding"};
 
 /* A step: its predicates and the step after it are lists; place is its name's byte or its item's index. */
 struct step {
@@ -538,7 +556,7 @@ static void encode_all(struct items *items, const struct expr *expr)
 static void encode_step(struct items *items, const struct step *step)
 {
     put_item(items,
-             FORM_STEP | (uint32_t)step->axis << 3 | step->test << 6 | (uint32_t)count_exprs(step->predicates) << 15);
+             FORM_STEP | (uint32_t)step->axis << 3 | step->test << 7 | (uint32_t)count_exprs(step->predicates) << 16);
     encode_all(items, step->predicates);
 }
 
@@ -572,8 +590,8 @@ static struct step *decode_step(struct source *source)
         return NULL;
     size_t place = source->at++;
     uint32_t item = source->items[place];
-    unsigned axis = item >> 3 & 7, test = item >> 6 & 511, predicates = item >> 15 & 8191;
-    if ((item & 7) != FORM_STEP || item >> 28 != 0 || axis >= AXES || test > TEST_ANY)
+    unsigned axis = item >> 3 & 15, test = item >> 7 & 511, predicates = item >> 16 & 8191;
+    if ((item & 7) != FORM_STEP || item >> 29 != 0 || axis >= AXES || test > TEST_ANY)
         return NULL;
     struct step *step = new_step((enum axis)axis, test, NULL);
     step->place = place;
@@ -739,14 +757,25 @@ static bool begins_with(const uint8_t *text, size_t length, const char *word)
     return length >= strlen(word) && memcmp(text, word, strlen(word)) == 0;
 }
 
+/* Does the word of a guarded axis stand here? No such word ends another word of a printed text. */
+static bool guarded_word_at(const uint8_t *text, size_t length)
+{
+    static const char *const guarded_words[] = {
+        "child::",     "descendant-or-self::", "descendant::", "following-sibling::", "preceding-sibling::",
+        "following::", "preceding::"};
+    for (size_t i = 0; i < sizeof guarded_words / sizeof guarded_words[0]; i++)
+        if (begins_with(text, length, guarded_words[i]))
+            return true;
+    return false;
+}
+
 static struct brackets count_brackets(const uint8_t *text, size_t length)
 {
     size_t open = 0;
     struct brackets found = {0, 0};
     for (size_t i = 0; i < length; i++) {
         bool empty_pair = text[i] == '(' && i + 1 < length && text[i + 1] == ')';
-        bool guarded = begins_with(text + i, length - i, "child::") ||
-                       begins_with(text + i, length - i, "descendant-or-self::");
+        bool guarded = guarded_word_at(text + i, length - i);
         if (empty_pair)
             i++;
         else if (text[i] == '[' || text[i] == '(')
@@ -807,10 +836,16 @@ static bool guarded(enum axis axis)
     switch (axis) {
     case AXIS_CHILD:
     case AXIS_DESCENDANT_OR_SELF:
+    case AXIS_DESCENDANT:
+    case AXIS_FOLLOWING_SIBLING:
+    case AXIS_PRECEDING_SIBLING:
+    case AXIS_FOLLOWING:
+    case AXIS_PRECEDING:
         return true;
     case AXIS_SELF:
     case AXIS_PARENT:
     case AXIS_ANCESTOR_OR_SELF:
+    case AXIS_ANCESTOR:
         return false;
     }
     abort();
@@ -877,6 +912,18 @@ static enum axis turned(enum axis axis)
         return AXIS_ANCESTOR_OR_SELF;
     case AXIS_ANCESTOR_OR_SELF:
         return AXIS_DESCENDANT_OR_SELF;
+    case AXIS_DESCENDANT:
+        return AXIS_ANCESTOR;
+    case AXIS_ANCESTOR:
+        return AXIS_DESCENDANT;
+    case AXIS_FOLLOWING_SIBLING:
+        return AXIS_PRECEDING_SIBLING;
+    case AXIS_PRECEDING_SIBLING:
+        return AXIS_FOLLOWING_SIBLING;
+    case AXIS_FOLLOWING:
+        return AXIS_PRECEDING;
+    case AXIS_PRECEDING:
+        return AXIS_FOLLOWING;
     }
     abort();
 }
@@ -1002,6 +1049,12 @@ static bool is_above_or_same(const struct document *document, size_t high, size_
     return low == high;
 }
 
+/* Children of one parent; the root is no child. */
+static bool are_siblings(const struct document *document, size_t one, size_t other)
+{
+    return one != 0 && other != 0 && document->parent[one] == document->parent[other];
+}
+
 static bool leads(const struct document *document, enum axis axis, size_t from, size_t to)
 {
     switch (axis) {
@@ -1015,6 +1068,18 @@ static bool leads(const struct document *document, enum axis axis, size_t from, 
         return is_above_or_same(document, from, to);
     case AXIS_ANCESTOR_OR_SELF:
         return is_above_or_same(document, to, from);
+    case AXIS_DESCENDANT:
+        return from != to && is_above_or_same(document, from, to);
+    case AXIS_ANCESTOR:
+        return from != to && is_above_or_same(document, to, from);
+    case AXIS_FOLLOWING_SIBLING:
+        return to > from && are_siblings(document, from, to);
+    case AXIS_PRECEDING_SIBLING:
+        return to < from && are_siblings(document, from, to);
+    case AXIS_FOLLOWING:
+        return to > from && !is_above_or_same(document, from, to);
+    case AXIS_PRECEDING:
+        return to < from && !is_above_or_same(document, to, from);
     }
     abort();
 }
@@ -1150,7 +1215,7 @@ uint64_t model_read(const uint8_t *text, size_t text_len, const uint8_t *names, 
 static size_t first_unknown(const uint32_t *query, size_t query_len, size_t names)
 {
     for (size_t i = 0; i < query_len; i++) {
-        unsigned test = query[i] >> 6 & 511;
+        unsigned test = query[i] >> 7 & 511;
         if ((query[i] & 7) == FORM_STEP && test >= TEST_NAME && test != TEST_ANY && test - TEST_NAME >= names)
             return i;
     }

@@ -70,6 +70,25 @@ static void run_samples(void)
         {"* and the root", "/self::*", "0000000"},
         {"* and text", "//c/*", "0000000"},
         {"* and an element", "/*", "1111111"},
+        {"descendant", "/descendant::c", "1111100"},
+        {"descendant and the node itself", "/descendant::node()[not(..)]|//b/descendant::b", "0000000"},
+        {"ancestor", "//d/ancestor::b", "1100011"},
+        {"ancestor and the node itself", "//c/ancestor::c", "0000000"},
+        {"ancestor, the root", "/a/ancestor::node()", "1111111"},
+        {"following-sibling", "/a/b/following-sibling::b", "1100011"},
+        {"following-sibling of an only child", "//c/following-sibling::node()", "0000000"},
+        {"following-sibling of the root", "/following-sibling::node()|/a/following-sibling::node()", "0000000"},
+        {"preceding-sibling", "/a/b/preceding-sibling::b", "1111100"},
+        {"preceding-sibling of an only child", "//d/preceding-sibling::node()", "0000000"},
+        {"preceding-sibling of the root", "/preceding-sibling::node()|/a/preceding-sibling::node()", "0000000"},
+        {"following", "//c/following::node()", "1100011"},
+        {"following, from text", "//text()/following::d", "1100011"},
+        {"following and descendants", "/following::node()|/a/following::node()|//c/following::text()", "0000000"},
+        {"following the last", "//d/following::node()", "0000000"},
+        {"preceding", "//d/preceding::text()", "1111100"},
+        {"preceding, from two nodes", "/a/b/preceding::c", "1111100"},
+        {"preceding and ancestors", "/preceding::node()|//d/preceding::a|//c/preceding::node()", "0000000"},
+        {"two new axes in a predicate", "//b[following::d and not(preceding::c)]", "1111100"},
         {"docs/VIEWS.md, row 2 alone", "/a[b/c]", "1111111"},
         {"docs/VIEWS.md, row 4 alone", "//b", "1111111"},
     };
@@ -93,6 +112,18 @@ static void composed_samples(void)
         {"a hidden node above nothing", "//c/ancestor-or-self::b", "/a/b/d", "0000000"},
         {"up from a visible node", "//d/../..", "/a/b/d", "1100011"},
         {"a parent with a hidden child", "//d/parent::b[not(c)]/parent::a[not(b/c)]", "/a/b/d", "1100011"},
+        {"a view by descendant", "/", "/descendant::d", "1100011"},
+        {"a view by ancestor", "/", "//text()/ancestor::c", "1111100"},
+        {"a view by following-sibling", "/", "//b/following-sibling::b", "1100011"},
+        {"a view by preceding-sibling", "/", "//b/preceding-sibling::b", "1111100"},
+        {"a view by following", "/", "//c/following::d", "1100011"},
+        {"a view by preceding", "/", "//d/preceding::c", "1111100"},
+        {"no hidden descendant", "/a[not(descendant::c)]", "/a/b/d", "1100011"},
+        {"no hidden preceding sibling", "/a/b[not(preceding-sibling::b)]", "/a/b/d", "1100011"},
+        {"no hidden following sibling", "/a/b[not(following-sibling::b)]", "/a/b/c", "1111100"},
+        {"nothing hidden precedes", "//d[not(preceding::c)]", "/a/b/d", "1100011"},
+        {"nothing hidden follows", "//c[not(following::d)]", "/a/b/c", "1111100"},
+        {"an ancestor of a visible node", "//d/ancestor::b", "/a/b/d", "1100011"},
         {"docs/VIEWS.md, row 2", "/a[b/c]", "/a/b/d", "0000000"},
         {"docs/VIEWS.md, row 4", "//b", "/a/b/d", "1100011"},
         {"docs/VIEWS.md, row 5", "//text()", "/a/b/d", "0000000"},
@@ -140,6 +171,12 @@ static void size_samples(void)
     answer_is("227 steps", compose_texts(&made, repeated(&built, "", "/a", 227, "", ""), "/b"), 4096);
     answer_is("228 steps", compose_texts(&made, repeated(&built, "", "/a", 228, "", ""), "/b"), REFUSED(10, 4114));
     answer_is("no guarded step", compose_texts(&made, "/./../ancestor-or-self::a", "/b"), 4 + 9);
+    answer_is("ancestor, not guarded", compose_texts(&made, "/ancestor::a", "/b"), 2 + 9);
+    answer_is("descendant, guarded", compose_texts(&made, "/descendant::a", "/b"), 2 + 17 + 9);
+    answer_is("following-sibling, guarded", compose_texts(&made, "/following-sibling::a", "/b"), 2 + 17 + 9);
+    answer_is("preceding-sibling, guarded", compose_texts(&made, "/preceding-sibling::a", "/b"), 2 + 17 + 9);
+    answer_is("following, guarded", compose_texts(&made, "/following::a", "/b"), 2 + 17 + 9);
+    answer_is("preceding, guarded", compose_texts(&made, "/preceding::a", "/b"), 2 + 17 + 9);
     answer_is("4086 steps up", compose_texts(&made, repeated(&built, "", "/..", 4086, "", ""), "/b"), 4096);
     answer_is("4087 steps up", compose_texts(&made, repeated(&built, "", "/..", 4087, "", ""), "/b"),
               REFUSED(10, 4097));
@@ -177,7 +214,7 @@ static void read_samples(void)
         {"/a[/b]", 3, 3},
         {"/a[b|c]", 3, 4},
         {"/a[(b)/c]", 3, 6},
-        {"/a/preceding::b", 3, 12},
+        {"/a/attribute::b", 3, 12},
         {"/e", 5, 1},
     };
     static struct query query;
@@ -226,12 +263,56 @@ static void item_samples(void)
         {"/ancestor-or-self::*[self::d]",
          4,
          {ONE, STEP_ITEM(ANCESTOR_OR_SELF, ANY_TEST, 1), ONE, STEP_ITEM(SELF, FIRST_NAME + 3, 0)}},
+        {"/a/preceding::b", 3, {PATH_ITEM(2), A_STEP, STEP_ITEM(PRECEDING, FIRST_NAME + 1, 0)}},
+        {"/following::node()", 2, {8, 73}},
+        {"/descendant::*/ancestor::text()/following-sibling::d[preceding-sibling::a]",
+         6,
+         {PATH_ITEM(3), STEP_ITEM(DESCENDANT, ANY_TEST, 0), STEP_ITEM(ANCESTOR, TEXT_TEST, 0),
+          STEP_ITEM(FOLLOWING_SIBLING, FIRST_NAME + 3, 1), ONE, STEP_ITEM(PRECEDING_SIBLING, FIRST_NAME, 0)}},
     };
     static struct query query;
     for (size_t i = 0; i < sizeof samples / sizeof samples[0]; i++) {
         answer_is(samples[i].text, read_text(&query, samples[i].text), samples[i].count);
         tally(memcmp(query.items, samples[i].items, samples[i].count * sizeof query.items[0]) == 0,
               "`%s` is read as other items", samples[i].text);
+    }
+}
+
+/* Items as they were packed before 02, 2026-06, with what they were and the text that they print as now, or a refusal.
+ */
+static void items_packed_before(void)
+{
+    static const struct {
+        const char *before, *printed;
+        size_t count;
+        uint32_t items[6];
+        uint64_t refusal;
+    } samples[] = {
+        {"/node()", "/child::node()", 2, {8, 1 | 1 << 3}, 0},
+        {"/text()", "/following::node()", 2, {8, 73}, 0},
+        {"/a", "/child::text()", 2, {8, 1 | 1 << 3 | 2 << 6}, 0},
+        {"/b", "/following::text()", 2, {8, 1 | 1 << 3 | 3 << 6}, 0},
+        {"/parent::text()", "/preceding::node()", 2, {8, 1 | 2 << 3 | 1 << 6}, 0},
+        {"/self::text()", "/preceding-sibling::node()", 2, {8, 1 | 1 << 6}, 0},
+        {"/descendant-or-self::text()", "", 2, {8, 1 | 3 << 3 | 1 << 6}, REFUSED(6, 0)},
+        {"/ancestor-or-self::text()", "", 2, {8, 1 | 4 << 3 | 1 << 6}, REFUSED(6, 0)},
+        {"/*", "", 2, {8, 1 | 1 << 3 | 258 << 6}, REFUSED(5, 1)},
+        {"/node()[node()]", "", 4, {8, 1 | 1 << 3 | 1 << 15, 8, 1 | 1 << 3}, REFUSED(5, 1)},
+        {"/node()[node()][node()]",
+         "/child::node()[child::node()]|/child::node()",
+         6,
+         {8, 1 | 1 << 3 | 2 << 15, 8, 1 | 1 << 3, 8, 1 | 1 << 3},
+         0},
+    };
+    for (size_t i = 0; i < sizeof samples / sizeof samples[0]; i++) {
+        char printed[99];
+        size_t length = strlen(samples[i].printed);
+        answer_is(samples[i].before,
+                  halyardfig_print(samples[i].items, samples[i].count, (const uint8_t *)sample_names,
+                                   strlen(sample_names), (uint8_t *)printed, sizeof printed),
+                  samples[i].refusal != 0 ? samples[i].refusal : length);
+        tally(samples[i].refusal != 0 || memcmp(printed, samples[i].printed, length) == 0, "`%s` before is now %.*s",
+              samples[i].before, (int)length, printed);
     }
 }
 
@@ -401,6 +482,7 @@ int main(void)
     size_samples();
     read_samples();
     item_samples();
+    items_packed_before();
     printed_sample();
     document_samples();
     refused_document_samples();

@@ -227,6 +227,9 @@ static const char *const openings[] = {
     "node()[(",
     "a or (a and not(a[a or ",
     "a[a and (a or a[",
+    "preceding-sibling::a[",
+    "descendant::a/ancestor::b[",
+    "following-sibling::a or preceding::b/following::a[",
 };
 enum { OPENINGS = sizeof openings / sizeof openings[0] };
 

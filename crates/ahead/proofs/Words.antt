@@ -3,48 +3,49 @@ use Prim.Native.Nat.{ℕ, _≤_, _<_}
 use native.Mathlib.Omega.{arith}
 use mathlib.Core.Path.{_≡_, refl, sym, _∙_, ap}
 use mathlib.Core.Bool.{Bool, true, false, cond}
-use mathlib.Core.List.{List, []}
+use mathlib.Core.List.{List, [], _∷_}
 use mathlib.Core.Option.{Option, none, some}
 use lib.ListN.{drop}
 use lib.Seq.{drop-drop}
 use Rattle.paper.specs.Tools.{ascii, same}
 use Rattle.paper.specs.Tokens as paper
 use Rattle.paper.specs.Tokens.{letters}
-use Rattle.paper.specs.Query.{Axis, self, child, parent, descendantOrSelf, ancestorOrSelf}
+use Rattle.paper.specs.Query.{Axis, self, child, parent, descendantOrSelf, ancestorOrSelf, descendant, ancestor, followingSibling, precedingSibling, following, preceding}
 use Rattle.paper.specs.Items.{axisNumber, axes, namedFrom}
+use Rattle.paper.specs.Printing.{axisText}
 use Rattle.paper.specs.Reading.{next, sees, axisNamed, axisAhead}
 use Rattle.paper.proofs.Axes.{axis-below}
 use Rattle.paper.proofs.Same.{same-turned}
 use Rattle.ahead.specs.Looking.{tokensAt, endOf, Past, AxisWritten, axisCode, callCode}
 
--- THE WORDS OF THE AXES.
+-- THE WORDS OF THE AXES, in the order in which they are compared.
+abbrev pub inOrder : List Axis
+inOrder = self ∷ child ∷ parent ∷ descendantOrSelf ∷ ancestorOrSelf ∷ descendant ∷ ancestor ∷ followingSibling ∷ precedingSibling ∷ following ∷ preceding ∷ []
+
 module _ (w : List ℕ) where
-  turned : (v : List ℕ) (b : Bool) → same v w ≡ b → same w v ≡ b
-  turned v b h = same-turned w v ∙ h
+  -- The axis of the word, where those before these have another.
+  abbrev pub among : List Axis → Option Axis
+  among [] = none
+  among (a ∷ later) = cond (same w (axisText a)) (some a) (among later)
 
-  pub self-word : same (ascii "self") w ≡ true → axisNumber self ≡ axisCode (axisNamed w)
-  self-word a = rw (turned (ascii "self") true a)
+  -- So many are left to compare with.
+  abbrev pub Left : List Axis → Type 0
+  Left later = axisNamed w ≡ among later
 
-  pub child-word : same (ascii "self") w ≡ false → same (ascii "child") w ≡ true → axisNumber child ≡ axisCode (axisNamed w)
-  child-word a b = rw (turned (ascii "self") false a, turned (ascii "child") true b)
+  pub all-left : Left inOrder
+  all-left = refl
 
-  pub parent-word : same (ascii "self") w ≡ false → same (ascii "child") w ≡ false → same (ascii "parent") w ≡ true → axisNumber parent ≡ axisCode (axisNamed w)
-  parent-word a b c = rw (turned (ascii "self") false a, turned (ascii "child") false b, turned (ascii "parent") true c)
+  -- The next word is another,
+  pub passed : (a : Axis) (later : List Axis) → Left (a ∷ later) → same (axisText a) w ≡ false → Left later
+  passed a later l h = l ∙ ap (λ b. cond b (some a) (among later)) (same-turned w (axisText a) ∙ h)
 
-  pub down-word : same (ascii "self") w ≡ false → same (ascii "child") w ≡ false → same (ascii "parent") w ≡ false → same (ascii "descendant-or-self") w ≡ true
-      → axisNumber descendantOrSelf ≡ axisCode (axisNamed w)
-  down-word a b c d =
-      rw (turned (ascii "self") false a, turned (ascii "child") false b, turned (ascii "parent") false c, turned (ascii "descendant-or-self") true d)
+  -- or it is this one,
+  pub named-so : (a : Axis) (later : List Axis) → Left (a ∷ later) → same (axisText a) w ≡ true → axisNumber a ≡ axisCode (axisNamed w)
+  named-so a later l h = sym (ap axisCode (l ∙ ap (λ b. cond b (some a) (among later)) (same-turned w (axisText a) ∙ h)))
 
-  pub up-word : same (ascii "self") w ≡ false → same (ascii "child") w ≡ false → same (ascii "parent") w ≡ false → same (ascii "descendant-or-self") w ≡ false
-      → same (ascii "ancestor-or-self") w ≡ true → axisNumber ancestorOrSelf ≡ axisCode (axisNamed w)
-  up-word a b c d e =
-      rw (turned (ascii "self") false a, turned (ascii "child") false b, turned (ascii "parent") false c, turned (ascii "descendant-or-self") false d, turned (ascii "ancestor-or-self") true e)
-
-  pub other-word : same (ascii "self") w ≡ false → same (ascii "child") w ≡ false → same (ascii "parent") w ≡ false → same (ascii "descendant-or-self") w ≡ false
-      → same (ascii "ancestor-or-self") w ≡ false → axes ≡ axisCode (axisNamed w)
-  other-word a b c d e =
-      rw (turned (ascii "self") false a, turned (ascii "child") false b, turned (ascii "parent") false c, turned (ascii "descendant-or-self") false d, turned (ascii "ancestor-or-self") false e)
+  -- or none is left.
+  pub none-left : Left [] → axes ≡ axisCode (axisNamed w)
+  none-left l = sym (ap axisCode l)
 
   -- The words of the tests.
   pub node-word : same (ascii "node") w ≡ true → 0 ≡ callCode w

@@ -284,6 +284,24 @@ fn axis_of(text: &[u8], start: usize, len: usize) -> u32
     if same_word(text, start, len, b"ancestor-or-self") {
         return item::ANCESTOR_OR_SELF;
     }
+    if same_word(text, start, len, b"descendant") {
+        return item::DESCENDANT;
+    }
+    if same_word(text, start, len, b"ancestor") {
+        return item::ANCESTOR;
+    }
+    if same_word(text, start, len, b"following-sibling") {
+        return item::FOLLOWING_SIBLING;
+    }
+    if same_word(text, start, len, b"preceding-sibling") {
+        return item::PRECEDING_SIBLING;
+    }
+    if same_word(text, start, len, b"following") {
+        return item::FOLLOWING;
+    }
+    if same_word(text, start, len, b"preceding") {
+        return item::PRECEDING;
+    }
     NO_AXIS
 }
 

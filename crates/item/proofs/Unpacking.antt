@@ -58,45 +58,45 @@ test-none (suc (suc v)) l = rw (le-ltb v namesLimit (omega arith), ne-eqb v name
 bad-step : (w : ℕ) → w % 8 ≡ 1 → stepAt w ≡ none → unpacked w ≡ Bad
 bad-step w k s = no-item w (no-path w (λ e. omega arith)) s (λ e. omega arith) (λ e. omega arith) (λ e. omega arith)
 
-pub step-long : (w : ℕ) → w % 8 ≡ 1 → 268435456 ≤ w → unpacked w ≡ Bad
+pub step-long : (w : ℕ) → w % 8 ≡ 1 → 536870912 ≤ w → unpacked w ≡ Bad
 unfolding stepAt
-step-long w k l = bad-step w k (rw (eq-eqb (w % 8) 1 k, le-ltb w 268435456 l))
+step-long w k l = bad-step w k (rw (eq-eqb (w % 8) 1 k, le-ltb w 536870912 l))
 
-pub step-axis : (w : ℕ) → w % 8 ≡ 1 → axes ≤ bitAnd (w / 8) 7 → unpacked w ≡ Bad
+pub step-axis : (w : ℕ) → w % 8 ≡ 1 → axes ≤ bitAnd (w / 8) 15 → unpacked w ≡ Bad
 unfolding stepAt
 step-axis w k l =
-    bad-step w k (go (ltb w 268435456) refl)
+    bad-step w k (go (ltb w 536870912) refl)
   where
-    none-there : axisOf (w / 8 % 8) ≡ none
-    none-there = axis-none (w / 8 % 8) (rw (and-mask (w / 8) 3) at l)
+    none-there : axisOf (w / 8 % 16) ≡ none
+    none-there = axis-none (w / 8 % 16) (rw (and-mask (w / 8) 4) at l)
 
-    go : (b : Bool) → ltb w 268435456 ≡ b → stepAt w ≡ none
+    go : (b : Bool) → ltb w 536870912 ≡ b → stepAt w ≡ none
     go true p = rw (eq-eqb (w % 8) 1 k, p, none-there)
     go false p = rw (eq-eqb (w % 8) 1 k, p)
 
-pub step-test : (w : ℕ) → w % 8 ≡ 1 → testNumber anyElement < bitAnd (w / 64) 511 → unpacked w ≡ Bad
+pub step-test : (w : ℕ) → w % 8 ≡ 1 → testNumber anyElement < bitAnd (w / 128) 511 → unpacked w ≡ Bad
 unfolding stepAt
 step-test w k l =
-    bad-step w k (go (ltb w 268435456) refl (axisOf (w / 8 % 8)) refl)
+    bad-step w k (go (ltb w 536870912) refl (axisOf (w / 8 % 16)) refl)
   where
-    none-there : testOf (w / 64 % 512) ≡ none
-    none-there = test-none (w / 64 % 512) (rw (and-mask (w / 64) 9) at l)
+    none-there : testOf (w / 128 % 512) ≡ none
+    none-there = test-none (w / 128 % 512) (rw (and-mask (w / 128) 9) at l)
 
-    go : (b : Bool) → ltb w 268435456 ≡ b → (o : Option Axis) → axisOf (w / 8 % 8) ≡ o → stepAt w ≡ none
+    go : (b : Bool) → ltb w 536870912 ≡ b → (o : Option Axis) → axisOf (w / 8 % 16) ≡ o → stepAt w ≡ none
     go true p none q = rw (eq-eqb (w % 8) 1 k, p, q)
     go true p (some a) q = rw (eq-eqb (w % 8) 1 k, p, q, none-there)
     go false p o q = rw (eq-eqb (w % 8) 1 k, p)
 
-pub step-kind : (w : ℕ) → w % 8 ≡ 1 → w < 268435456 → bitAnd (w / 8) 7 < axes → bitAnd (w / 64) 511 ≤ testNumber anyElement
-    → unpacked w ≡ StepItem (record { axis = bitAnd (w / 8) 7; test = bitAnd (w / 64) 511; count = w / 32768 })
+pub step-kind : (w : ℕ) → w % 8 ≡ 1 → w < 536870912 → bitAnd (w / 8) 15 < axes → bitAnd (w / 128) 511 ≤ testNumber anyElement
+    → unpacked w ≡ StepItem (record { axis = bitAnd (w / 8) 15; test = bitAnd (w / 128) 511; count = w / 65536 })
 unfolding unpacked stepAt
 step-kind w k l ha ht =
-    let ea : bitAnd (w / 8) 7 ≡ w / 8 % 8 = and-mask (w / 8) 3 in
-    let et : bitAnd (w / 64) 511 ≡ w / 64 % 512 = and-mask (w / 64) 9 in
-    let a = axis-some (w / 8 % 8) (rw ea at ha) in
-    let t = test-some (w / 64 % 512) (rw et at ht) in
-    rw (no-path w (λ e. omega arith), eq-eqb (w % 8) 1 k, lt-ltb w 268435456 l, a .1, t .1)
-    (ap₂ (λ (x y : ℕ). StepItem (record { axis = x; test = y; count = w / 32768 })) (sym (axis-found _ (a .0) (a .1)) ∙ sym ea) (sym (test-found _ (t .0) (t .1) .0) ∙ sym et))
+    let ea : bitAnd (w / 8) 15 ≡ w / 8 % 16 = and-mask (w / 8) 4 in
+    let et : bitAnd (w / 128) 511 ≡ w / 128 % 512 = and-mask (w / 128) 9 in
+    let a = axis-some (w / 8 % 16) (rw ea at ha) in
+    let t = test-some (w / 128 % 512) (rw et at ht) in
+    rw (no-path w (λ e. omega arith), eq-eqb (w % 8) 1 k, lt-ltb w 536870912 l, a .1, t .1)
+    (ap₂ (λ (x y : ℕ). StepItem (record { axis = x; test = y; count = w / 65536 })) (sym (axis-found _ (a .0) (a .1)) ∙ sym ea) (sym (test-found _ (t .0) (t .1) .0) ∙ sym et))
 
 -- Kinds from 2: the operators and `not`.
 pub operator-kind : (w : ℕ) → 2 ≤ w % 8 → unpacked w ≡ operatorOf w
@@ -105,17 +105,17 @@ operator-kind w k = rw (no-path w (λ e. omega arith), no-step w (λ e. omega ar
 
 -- Shifted fields, put together.
 pub together : (s : Step) → s .axis < axisBound → s .test < testBound → s .count < countBound
-    → bitOr (bitOr (bitOr (s .count * 32768 % 4294967296) (s .test * 64 % 4294967296)) (s .axis * 8 % 4294967296)) 1 ≡ packed s
+    → bitOr (bitOr (bitOr (s .count * 65536 % 4294967296) (s .test * 128 % 4294967296)) (s .axis * 8 % 4294967296)) 1 ≡ packed s
 together s ha ht hc =
     let a = s .axis in
     let t = s .test in
     let n = s .count in
     let fa : a * 8 % 4294967296 ≡ a * 8 = omega arith in
-    let ft : t * 64 % 4294967296 ≡ t * 64 = omega arith in
-    let fn : n * 32768 % 4294967296 ≡ n * 32768 = omega arith in
-    let one : bitOr (n * 32768) (t * 64) ≡ n * 32768 + t * 64 = or-shifted n 15 (t * 64) (omega arith) in
-    let e : n * 32768 + t * 64 ≡ (n * 512 + t) * 64 = omega arith in
-    let two : bitOr ((n * 512 + t) * 64) (a * 8) ≡ (n * 512 + t) * 64 + a * 8 = or-shifted (n * 512 + t) 6 (a * 8) (omega arith) in
-    let f : (n * 512 + t) * 64 + a * 8 ≡ (n * 4096 + t * 8 + a) * 8 = omega arith in
-    let three : bitOr ((n * 4096 + t * 8 + a) * 8) 1 ≡ (n * 4096 + t * 8 + a) * 8 + 1 = or-shifted (n * 4096 + t * 8 + a) 3 1 (omega arith) in
+    let ft : t * 128 % 4294967296 ≡ t * 128 = omega arith in
+    let fn : n * 65536 % 4294967296 ≡ n * 65536 = omega arith in
+    let one : bitOr (n * 65536) (t * 128) ≡ n * 65536 + t * 128 = or-shifted n 16 (t * 128) (omega arith) in
+    let e : n * 65536 + t * 128 ≡ (n * 512 + t) * 128 = omega arith in
+    let two : bitOr ((n * 512 + t) * 128) (a * 8) ≡ (n * 512 + t) * 128 + a * 8 = or-shifted (n * 512 + t) 7 (a * 8) (omega arith) in
+    let f : (n * 512 + t) * 128 + a * 8 ≡ (n * 8192 + t * 16 + a) * 8 = omega arith in
+    let three : bitOr ((n * 8192 + t * 16 + a) * 8) 1 ≡ (n * 8192 + t * 16 + a) * 8 + 1 = or-shifted (n * 8192 + t * 16 + a) 3 1 (omega arith) in
     rw (fa, ft, fn, one, e, two, f, three) (omega arith)

@@ -29,7 +29,7 @@ unpacked w = pathOf w (pathAt w)
 
 -- The number of a step item, from the numbers of its fields.
 abbrev pub packed : Step → ℕ
-packed s = 1 + s .axis * 8 + s .test * 64 + s .count * 32768
+packed s = 1 + s .axis * 8 + s .test * 128 + s .count * 65536
 
 -- Is a step along the axis of this number guarded in a composition? Along what is no axis it is not.
 abbrev pub guardedAxis : Option Axis → Bool

@@ -26,7 +26,19 @@ pub const DESCENDANT_OR_SELF: u32 = 3;
 
 pub const ANCESTOR_OR_SELF: u32 = 4;
 
-pub const AXES: u32 = 5;
+pub const DESCENDANT: u32 = 5;
+
+pub const ANCESTOR: u32 = 6;
+
+pub const FOLLOWING_SIBLING: u32 = 7;
+
+pub const PRECEDING_SIBLING: u32 = 8;
+
+pub const FOLLOWING: u32 = 9;
+
+pub const PRECEDING: u32 = 10;
+
+pub const AXES: u32 = 11;
 
 // The tests `node()` and `text()`, that of the name 0, and `*`.
 pub const ANY_NODE: u32 = 0;
@@ -69,26 +81,26 @@ fn path_item(w: u32) -> Item
     }
 }
 
-// Bits 3 to 5 of a step are its axis, 6 to 14 its test, 15 to 27 its predicate count; it has no others.
+// Bits 3 to 6 of a step are its axis, 7 to 15 its test, 16 to 28 its predicate count; it has no others.
 fn step_item(w: u32) -> Item
     requires { ⌜ w % 8 ≡ 1 ⌝ }
     ensures { λ r. ⌜ r ≡ unpacked w ⌝ }
 {
-    if 268435456 <= w {
+    if 536870912 <= w {
         return Item::Bad;
     }
-    let axis = w >> 3 & 7;
+    let axis = w >> 3 & 15;
     if AXES <= axis {
         return Item::Bad;
     }
-    let test = w >> 6 & 511;
+    let test = w >> 7 & 511;
     if ANY_ELEMENT < test {
         return Item::Bad;
     }
     Item::Step(Step {
         axis,
         test,
-        count: (w >> 15) as usize,
+        count: (w >> 16) as usize,
     })
 }
 
@@ -130,10 +142,10 @@ pub fn pack_step(step: Step) -> u32
     requires { ⌜ (step .axis < axisBound) × (step .test < testBound) × (step .count < countBound) ⌝ }
     ensures { λ r. ⌜ r ≡ packed step ⌝ }
 {
-    (step.count as u32) << 15 | step.test << 6 | step.axis << 3 | 1
+    (step.count as u32) << 16 | step.test << 7 | step.axis << 3 | 1
 }
 
-// The axis that leads back: child turns into parent, parent into child, the two long axes into each other, and self stays; what is no axis turns into none.
+// The axis that leads back: the two of each pair turn into each other, and self stays; what is no axis turns into none.
 pub fn turn(axis: u32) -> u32
     ensures { λ r. ⌜ ((a : Axis) → axis ≡ axisNumber a → r ≡ axisNumber (turned a)) ⌝ }
 {
@@ -143,11 +155,17 @@ pub fn turn(axis: u32) -> u32
         PARENT => CHILD,
         DESCENDANT_OR_SELF => ANCESTOR_OR_SELF,
         ANCESTOR_OR_SELF => DESCENDANT_OR_SELF,
+        DESCENDANT => ANCESTOR,
+        ANCESTOR => DESCENDANT,
+        FOLLOWING_SIBLING => PRECEDING_SIBLING,
+        PRECEDING_SIBLING => FOLLOWING_SIBLING,
+        FOLLOWING => PRECEDING,
+        PRECEDING => FOLLOWING,
         _ => AXES,
     }
 }
 
-// Is a step along the axis guarded in a composition? Child and descendant-or-self lead from a visible node to hidden ones, the other axes and what is no axis do not.
+// Is a step along the axis guarded in a composition? Self and the axes upward lead from a visible node to visible ones alone, and what is no axis leads nowhere.
 pub fn guarded(axis: u32) -> bool
     ensures { λ r. ⌜ r ≡ guardedNumber axis ⌝ }
 {
@@ -157,6 +175,12 @@ pub fn guarded(axis: u32) -> bool
         PARENT => false,
         DESCENDANT_OR_SELF => true,
         ANCESTOR_OR_SELF => false,
+        DESCENDANT => true,
+        ANCESTOR => false,
+        FOLLOWING_SIBLING => true,
+        PRECEDING_SIBLING => true,
+        FOLLOWING => true,
+        PRECEDING => true,
         _ => false,
     }
 }

@@ -44,15 +44,15 @@ step-at a t count h l =
     let x = axisNumber a in
     let y = testNumber t in
     let w = packStep a t count in
-    let hx : x < 8 = axis-small a in
+    let hx : x < 16 = axis-small a in
     let hy : y < 512 = test-small t h in
     let e : w % 8 ≡ 1 = omega arith in
-    let s : w < 268435456 = omega arith in
-    let ma : w / 8 ≡ x + 8 * (y + 512 * count) = omega arith in
-    let ea : w / 8 % 8 ≡ x = rw ma (omega arith) in
-    let mt : w / 64 ≡ y + 512 * count = omega arith in
-    let et : w / 64 % 512 ≡ y = rw mt (omega arith) in
-    let ec : w / 32768 ≡ count = omega arith in
+    let s : w < 536870912 = omega arith in
+    let ma : w / 8 ≡ x + 16 * (y + 512 * count) = omega arith in
+    let ea : w / 8 % 16 ≡ x = rw ma (omega arith) in
+    let mt : w / 128 ≡ y + 512 * count = omega arith in
+    let et : w / 128 % 512 ≡ y = rw mt (omega arith) in
+    let ec : w / 65536 ≡ count = omega arith in
     rw (e, lt-ltb _ _ s, ea, axis-number a, et, test-number t h, ec)
 
 -- What is found in a path item.
@@ -94,20 +94,20 @@ Says w h = (w ≡ packStep (h .axis) (h .test) (h .count)) × (goodTest (h .test
 -- What is found in a step item.
 pub step-found : (w : ℕ) (h : Head) → stepAt w ≡ some h → Says w h
 unfolding stepAt
-step-found w h e = go (eqb (w % 8) 1) refl (ltb w 268435456) refl
+step-found w h e = go (eqb (w % 8) 1) refl (ltb w 536870912) refl
   where
-    fields : (a : Axis) (t : Test) → w % 8 ≡ 1 → w < 268435456 → w / 8 % 8 ≡ axisNumber a → w / 64 % 512 ≡ testNumber t
-        → w ≡ packStep a t (w / 32768)
+    fields : (a : Axis) (t : Test) → w % 8 ≡ 1 → w < 536870912 → w / 8 % 16 ≡ axisNumber a → w / 128 % 512 ≡ testNumber t
+        → w ≡ packStep a t (w / 65536)
     fields a t z l ea et = omega arith
 
-    go : (a : Bool) → eqb (w % 8) 1 ≡ a → (b : Bool) → ltb w 268435456 ≡ b → Says w h
+    go : (a : Bool) → eqb (w % 8) 1 ≡ a → (b : Bool) → ltb w 536870912 ≡ b → Says w h
     go true p true q =
-        found-some (axisOf (w / 8 % 8)) _ h (rw (p, q) at e)
+        found-some (axisOf (w / 8 % 16)) _ h (rw (p, q) at e)
         (λ a fa ga.
-        found-some (testOf (w / 64 % 512)) _ h ga
+        found-some (testOf (w / 128 % 512)) _ h ga
         (λ t ft r.
-        let known = test-found (w / 64 % 512) t ft in
-        let l : w < 268435456 = ltb-true _ _ q in
+        let known = test-found (w / 128 % 512) t ft in
+        let l : w < 536870912 = ltb-true _ _ q in
         subst (λ (x : Head). Says w x) (some-inj r)
         (fields a t (eqb-true _ _ p) l (axis-found _ a fa) (known .0), known .1, omega arith)))
     go true p false q = none-some (rw (p, q) at e)

@@ -8,7 +8,7 @@ pub mod Decoding
 pub mod Encoding
 -- Searching below a number, in a list, in a column: `some-intro`, `some-elim`, `some-same`, `first-none`, `column-at`.
 pub mod Searches
--- The laws of the axes, and what a new axis touches: `converse`, `same-turned`, `of-number`, `no-axis`.
+-- The laws of the axes, and what a new axis touches: `converse`, `same-turned`, `of-number`, `no-axis`, `no-axis-found`.
 pub mod Axes
 -- A table with no fault, going up and down in it: `tree`, `over-up`, `over-cases`, `climb`, `over-row`, `closed`.
 pub mod Trees

@@ -3,18 +3,24 @@ use Prim.Native.Nat.{ℕ, _+_, _*_, _-_, max}
 use mathlib.Core.Bool.{Bool, true, false, cond}
 use mathlib.Core.List.{List, [], _∷_, map}
 use lib.ListN.{length}
-use Rattle.paper.specs.Query.{Axis, self, child, parent, descendantOrSelf, ancestorOrSelf}
+use Rattle.paper.specs.Query.{Axis, self, child, parent, descendantOrSelf, ancestorOrSelf, descendant, ancestor, followingSibling, precedingSibling, following, preceding}
 use Rattle.paper.specs.Query.{Test, anyNode}
 use Rattle.paper.specs.Query.{Expr, path, both, either, negated, Steps, stop, step, Preds, bare, pred, Query, paths}
 use Rattle.paper.specs.Measures.{roundLeftOfAnd, roundRightOfAnd, roundRightOfOr, inBrackets, size, nesting}
 
--- Child turns into parent, parent into child, descendant-or-self and ancestor-or-self into each other; self stays.
+-- Child and parent turn into each other, and so do descendant-or-self and ancestor-or-self, descendant and ancestor, the two siblings, following and preceding; self stays.
 abbrev pub turned : Axis → Axis
 turned self = self
 turned child = parent
 turned parent = child
 turned descendantOrSelf = ancestorOrSelf
 turned ancestorOrSelf = descendantOrSelf
+turned descendant = ancestor
+turned ancestor = descendant
+turned followingSibling = precedingSibling
+turned precedingSibling = followingSibling
+turned following = preceding
+turned preceding = following
 
 -- `not(parent::node())`, which holds at the root alone.
 abbrev pub atRoot : Expr
@@ -46,13 +52,19 @@ someNode a e = path (step a anyNode (pred e bare) stop)
 unfoldable pub visible : Query → Expr
 visible inner = either (someNode descendantOrSelf (selectedBy inner)) (someNode ancestorOrSelf (selectedBy inner))
 
--- Is a step along the axis guarded? Self, parent and ancestor-or-self lead from a visible node only to visible nodes, so child and descendant-or-self alone are.
+-- Is a step along the axis guarded? Self, parent, ancestor-or-self and ancestor lead from a visible node only to visible nodes, so they are not; the others are.
 abbrev pub guarded : Axis → Bool
 guarded self = false
 guarded child = true
 guarded parent = false
 guarded descendantOrSelf = true
 guarded ancestorOrSelf = false
+guarded descendant = true
+guarded ancestor = false
+guarded followingSibling = true
+guarded precedingSibling = true
+guarded following = true
+guarded preceding = true
 
 -- The predicates of a step, with V in front where its axis is guarded.
 abbrev pub guardOn : Axis → Expr → Preds → Preds

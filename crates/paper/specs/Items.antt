@@ -7,21 +7,27 @@ use lib.Dec.{eqb, leb, ltb}
 use lib.ListN.{length, drop}
 use Rattle.paper.specs.Tools.{begins, found}
 use Rattle.paper.specs.Limits.{bracketLimit, namesLimit}
-use Rattle.paper.specs.Query.{Axis, self, child, parent, descendantOrSelf, ancestorOrSelf}
+use Rattle.paper.specs.Query.{Axis, self, child, parent, descendantOrSelf, ancestorOrSelf, descendant, ancestor, followingSibling, precedingSibling, following, preceding}
 use Rattle.paper.specs.Query.{Test, anyNode, textNode, named, anyElement}
 use Rattle.paper.specs.Query.{Expr, path, both, either, negated, Steps, stop, step, Preds, bare, pred, Query, paths}
 
--- Axes 0 to 4 in the order of 01's list.
+-- Axes 0 to 4 in the order of 01's list, 5 to 10 in that of 02, 2026-06.
 abbrev pub axisNumber : Axis → ℕ
 axisNumber self = 0
 axisNumber child = 1
 axisNumber parent = 2
 axisNumber descendantOrSelf = 3
 axisNumber ancestorOrSelf = 4
+axisNumber descendant = 5
+axisNumber ancestor = 6
+axisNumber followingSibling = 7
+axisNumber precedingSibling = 8
+axisNumber following = 9
+axisNumber preceding = 10
 
 -- How many axes there are: their numbers are those below.
 abbrev pub axes : ℕ
-axes = 5
+axes = 11
 
 abbrev pub axisOf : ℕ → Option Axis
 axisOf zero = some self
@@ -29,7 +35,13 @@ axisOf (suc zero) = some child
 axisOf (suc (suc zero)) = some parent
 axisOf (suc (suc (suc zero))) = some descendantOrSelf
 axisOf (suc (suc (suc (suc zero)))) = some ancestorOrSelf
-axisOf (suc (suc (suc (suc (suc n))))) = none
+axisOf (suc (suc (suc (suc (suc zero))))) = some descendant
+axisOf (suc (suc (suc (suc (suc (suc zero)))))) = some ancestor
+axisOf (suc (suc (suc (suc (suc (suc (suc zero))))))) = some followingSibling
+axisOf (suc (suc (suc (suc (suc (suc (suc (suc zero)))))))) = some precedingSibling
+axisOf (suc (suc (suc (suc (suc (suc (suc (suc (suc zero))))))))) = some following
+axisOf (suc (suc (suc (suc (suc (suc (suc (suc (suc (suc zero)))))))))) = some preceding
+axisOf (suc (suc (suc (suc (suc (suc (suc (suc (suc (suc (suc n))))))))))) = none
 
 -- The test of the name 0; those of the other names follow.
 abbrev pub namedFrom : ℕ
@@ -47,9 +59,9 @@ testOf zero = some anyNode
 testOf (suc zero) = some textNode
 testOf (suc (suc v)) = cond (ltb v namesLimit) (some (named v)) (cond (eqb v namesLimit) (some anyElement) none)
 
--- The fields of an item: an axis has 3 bits, a test 9, and a count 13, so each is below its bound, and a count is at most its limit.
+-- The fields of an item: an axis has 4 bits, a test 9, and a count 13, so each is below its bound, and a count is at most its limit.
 abbrev pub axisBound : ℕ
-axisBound = 8
+axisBound = 16
 
 abbrev pub testBound : ℕ
 testBound = 512
@@ -73,15 +85,15 @@ pub record Head : Type 0 where
   pub test : Test
   pub count : ℕ
 
--- A step item: kind 1, the axis in bits 3 to 5, the test in bits 6 to 14, the predicate count in bits 15 to 27; other bits are zero.
+-- A step item: kind 1, the axis in bits 3 to 6, the test in bits 7 to 15, the predicate count in bits 16 to 28; other bits are zero.
 abbrev pub packStep : Axis → Test → ℕ → ℕ
-packStep axis test count = 1 + axisNumber axis * 8 + testNumber test * 64 + count * 32768
+packStep axis test count = 1 + axisNumber axis * 8 + testNumber test * 128 + count * 65536
 
 unfoldable pub stepAt : ℕ → Option Head
 stepAt w =
-    cond (eqb (w % 8) 1 && ltb w 268435456)
-    (found (axisOf (w / 8 % 8))
-    (λ a. found (testOf (w / 64 % 512)) (λ t. some (record { axis = a; test = t; count = w / 32768 }))))
+    cond (eqb (w % 8) 1 && ltb w 536870912)
+    (found (axisOf (w / 8 % 16))
+    (λ a. found (testOf (w / 128 % 512)) (λ t. some (record { axis = a; test = t; count = w / 65536 }))))
     none
 
 -- The items of `and`, `or` and `not` are their kinds, 2, 3 and 4.

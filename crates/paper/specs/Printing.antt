@@ -4,7 +4,7 @@ use mathlib.Core.Bool.{Bool, true, false}
 use mathlib.Core.List.{List, [], _∷_, _++_}
 use lib.ListN.{getD}
 use Rattle.paper.specs.Tools.{ascii}
-use Rattle.paper.specs.Query.{Axis, self, child, parent, descendantOrSelf, ancestorOrSelf}
+use Rattle.paper.specs.Query.{Axis, self, child, parent, descendantOrSelf, ancestorOrSelf, descendant, ancestor, followingSibling, precedingSibling, following, preceding}
 use Rattle.paper.specs.Query.{Test, anyNode, textNode, named, anyElement}
 use Rattle.paper.specs.Query.{Expr, path, both, either, negated, Steps, stop, step, Preds, bare, pred, Query}
 use Rattle.paper.specs.Measures.{roundLeftOfAnd, roundRightOfAnd, roundRightOfOr}
@@ -22,6 +22,12 @@ axisText child = ascii "child"
 axisText parent = ascii "parent"
 axisText descendantOrSelf = ascii "descendant-or-self"
 axisText ancestorOrSelf = ascii "ancestor-or-self"
+axisText descendant = ascii "descendant"
+axisText ancestor = ascii "ancestor"
+axisText followingSibling = ascii "following-sibling"
+axisText precedingSibling = ascii "preceding-sibling"
+axisText following = ascii "following"
+axisText preceding = ascii "preceding"
 
 -- No word of an axis has more bytes.
 abbrev pub axisTextLimit : ℕ

@@ -4,7 +4,7 @@ use mathlib.Core.List.{List, _∷_}
 
 -- The axes.
 pub data Axis : Type 0 where
-  self child parent descendantOrSelf ancestorOrSelf : Axis
+  self child parent descendantOrSelf ancestorOrSelf descendant ancestor followingSibling precedingSibling following preceding : Axis
 
 -- The tests: `node()`, `text()`, a name of the list by its number, and `*`.
 pub data Test : Type 0 where

@@ -8,7 +8,7 @@ use Rattle.paper.specs.Tools.{ascii, same}
 use Rattle.paper.specs.Limits.{bracketLimit}
 use Rattle.paper.specs.Tokens.{Token, slash, slashes, dot, dots, colons, bar, openSquare, closeSquare, openRound, closeRound, star, finish, word}
 use Rattle.paper.specs.Tokens.{is, letters, Placed, tokens}
-use Rattle.paper.specs.Query.{Axis, self, child, parent, descendantOrSelf, ancestorOrSelf}
+use Rattle.paper.specs.Query.{Axis, self, child, parent, descendantOrSelf, ancestorOrSelf, descendant, ancestor, followingSibling, precedingSibling, following, preceding}
 use Rattle.paper.specs.Query.{Test, anyNode, textNode, named, anyElement}
 use Rattle.paper.specs.Query.{Expr, path, both, either, negated, Steps, stop, step, Preds, bare, pred, Query, paths}
 
@@ -54,7 +54,13 @@ axisNamed w =
     (cond (same w (ascii "parent")) (some parent)
     (cond (same w (ascii "descendant-or-self")) (some descendantOrSelf)
     (cond (same w (ascii "ancestor-or-self")) (some ancestorOrSelf)
-    none))))
+    (cond (same w (ascii "descendant")) (some descendant)
+    (cond (same w (ascii "ancestor")) (some ancestor)
+    (cond (same w (ascii "following-sibling")) (some followingSibling)
+    (cond (same w (ascii "preceding-sibling")) (some precedingSibling)
+    (cond (same w (ascii "following")) (some following)
+    (cond (same w (ascii "preceding")) (some preceding)
+    none))))))))))
 
 -- A word before `::` is an axis if it names one of ours.
 abbrev pub axisAhead : List Placed → Option Axis

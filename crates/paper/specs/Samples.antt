@@ -1,6 +1,6 @@
 -- docs/SCOPE.md, "Samples on both sides": P1 to P12 by one table and one statement, then 01's samples of reading and of printing by another, and of the printing program by a third.
 -- The tables go by the definitions of the entry points and of the program, and by texts.
-use Prim.Native.Nat.{ℕ, zero, suc, _-_}
+use Prim.Native.Nat.{ℕ, zero, suc, _+_, _*_, _-_}
 use Prim.Native.String.{String}
 use mathlib.Core.Bool.{Bool, true, _&&_}
 use mathlib.Core.List.{List, [], _∷_, _++_, map}
@@ -137,7 +137,8 @@ textsRead =
     reads (ascii "/a[/b]") (3 ∷ 3 ∷ []) &&
     reads (ascii "/a[b|c]") (3 ∷ 4 ∷ []) &&
     reads (ascii "/a[(b)/c]") (3 ∷ 6 ∷ []) &&
-    reads (ascii "/a/preceding::b") (3 ∷ 12 ∷ []) &&
+    reads (ascii "/a/preceding::b") (3 ∷ []) &&
+    reads (ascii "/a/attribute::b") (3 ∷ 12 ∷ []) &&
     reads (ascii "/e") (5 ∷ 1 ∷ []) &&
     reads (bracketed 63) (4 ∷ []) &&
     reads (bracketed 64) (4 ∷ 66 ∷ []) &&
@@ -181,6 +182,73 @@ guardRows =
     row sized "//." "/b" (29 ∷ []) ∷
     row sized "/a[../b]" "/b" (48 ∷ []) ∷
     []
+
+-- The axes of 02, 2026-06, on this table: descendant and ancestor leave the node itself out, the root has no sibling and is none of its child's, what is below a node does not follow it, and what is above it does not precede it.
+abbrev pub axisRows : List Row
+axisRows =
+    row alone "/descendant::c" "" (marks "1111100") ∷
+    row alone "/descendant::node()[not(..)]" "" (marks "0000000") ∷
+    row alone "//b/descendant::b" "" (marks "0000000") ∷
+    row alone "//d/ancestor::b" "" (marks "1100011") ∷
+    row alone "//c/ancestor::c" "" (marks "0000000") ∷
+    row alone "/a/ancestor::node()" "" (marks "1111111") ∷
+    row alone "/a/b/following-sibling::b" "" (marks "1100011") ∷
+    row alone "//c/following-sibling::node()" "" (marks "0000000") ∷
+    row alone "/following-sibling::node()|/a/following-sibling::node()" "" (marks "0000000") ∷
+    row alone "/a/b/preceding-sibling::b" "" (marks "1111100") ∷
+    row alone "//d/preceding-sibling::node()" "" (marks "0000000") ∷
+    row alone "/preceding-sibling::node()|/a/preceding-sibling::node()" "" (marks "0000000") ∷
+    row alone "//c/following::node()" "" (marks "1100011") ∷
+    row alone "//text()/following::d" "" (marks "1100011") ∷
+    row alone "/following::node()|/a/following::node()|//c/following::text()|//d/following::node()" "" (marks "0000000") ∷
+    row alone "//d/preceding::text()" "" (marks "1111100") ∷
+    row alone "/a/b/preceding::c" "" (marks "1111100") ∷
+    row alone "/preceding::node()|/a/preceding::node()|//d/preceding::a|//c/preceding::node()" "" (marks "0000000") ∷
+    row alone "//b[following::d and not(preceding::c)]" "" (marks "1111100") ∷
+    row through "/" "/descendant::d" (marks "1100011") ∷
+    row through "/" "//text()/ancestor::c" (marks "1111100") ∷
+    row through "/" "//b/following-sibling::b" (marks "1100011") ∷
+    row through "/" "//b/preceding-sibling::b" (marks "1111100") ∷
+    row through "/" "//c/following::d" (marks "1100011") ∷
+    row through "/" "//d/preceding::c" (marks "1111100") ∷
+    row through "/a[not(descendant::c)]" "/a/b/d" (marks "1100011") ∷
+    row through "/a/b[not(preceding-sibling::b)]" "/a/b/d" (marks "1100011") ∷
+    row through "/a/b[not(following-sibling::b)]" "/a/b/c" (marks "1111100") ∷
+    row through "//d[not(preceding::c)]" "/a/b/d" (marks "1100011") ∷
+    row through "//c[not(following::d)]" "/a/b/c" (marks "1111100") ∷
+    row through "//d/ancestor::b" "/a/b/d" (marks "1100011") ∷
+    row sized "/descendant::a" "/b" (28 ∷ []) ∷
+    row sized "/ancestor::a" "/b" (11 ∷ []) ∷
+    row sized "/following-sibling::a" "/b" (28 ∷ []) ∷
+    row sized "/preceding-sibling::a" "/b" (28 ∷ []) ∷
+    row sized "/following::a" "/b" (28 ∷ []) ∷
+    row sized "/preceding::a" "/b" (28 ∷ []) ∷
+    []
+
+-- A path of one step along the axis of this number, with `node()`, printed.
+abbrev pub alongNumber : ℕ → List ℕ
+alongNumber axis = printedItems names (8 ∷ (1 + axis * 8) ∷ [])
+
+-- What printing the items answers.
+abbrev pub printsItems : List ℕ → List ℕ → Bool
+printsItems query expected = same (numbers (printAnswer query names 400)) expected
+
+-- Each number of the six has its word, `[8, 73]` among them, and a number over 10 has none.
+abbrev pub axisWords : Bool
+axisWords =
+    same (alongNumber 5) (ascii "/descendant::node()") &&
+    same (alongNumber 6) (ascii "/ancestor::node()") &&
+    same (alongNumber 7) (ascii "/following-sibling::node()") &&
+    same (alongNumber 8) (ascii "/preceding-sibling::node()") &&
+    same (printedItems names (8 ∷ 73 ∷ [])) (ascii "/following::node()") &&
+    same (alongNumber 10) (ascii "/preceding::node()") &&
+    printsItems (8 ∷ (1 + 11 * 8) ∷ []) (6 ∷ 0 ∷ []) &&
+    printsItems (8 ∷ (1 + 15 * 8) ∷ []) (6 ∷ 0 ∷ [])
+
+-- All of this holds, by computation.
+pub axesHold : T (allRows axisRows && axisWords)
+unfolding height over goodNode tableFault goodMark marksFault reaches selects keeps kept runAnswer runMarks readAnswer readOut readItems composeAnswer composeOut printAnswer printOut printed pieces namesFault namesOf badLine tokens tokenAt readText readTail readTested readStep readOperand readTerm readExpr readPath pathAt stepAt encode decode takeOperand takeTerm takeExpr size nesting reversed selectedBy visible lastStep composedPath composed
+axesHold = tt
 
 -- So many `not(` around a text.
 abbrev pub deniedTimes : ℕ → List ℕ → List ℕ

@@ -2,9 +2,9 @@
 use Prim.Native.Nat.{ℕ, _+_}
 use mathlib.Core.Bool.{Bool, true, not, _&&_, _||_, cond}
 use mathlib.Core.List.{List}
-use lib.Dec.{eqb, leb}
+use lib.Dec.{eqb, leb, ltb}
 use Rattle.paper.specs.Tools.{someBelow, someOf, column}
-use Rattle.paper.specs.Query.{Axis, self, child, parent, descendantOrSelf, ancestorOrSelf}
+use Rattle.paper.specs.Query.{Axis, self, child, parent, descendantOrSelf, ancestorOrSelf, descendant, ancestor, followingSibling, precedingSibling, following, preceding}
 use Rattle.paper.specs.Query.{Test, anyNode, textNode, named, anyElement}
 use Rattle.paper.specs.Query.{Expr, path, both, either, negated, Steps, stop, step, Preds, bare, pred, Query, paths}
 use Rattle.paper.specs.Document.{Table, nodes, parentOf, kindOf, elementKind, over, marked}
@@ -13,6 +13,18 @@ use Rattle.paper.specs.Document.{Table, nodes, parentOf, kindOf, element
 abbrev pub childOf : Table → ℕ → ℕ → Bool
 childOf t i j = not (eqb j 0) && eqb (parentOf t j) i
 
+-- Is j a descendant of i?
+abbrev pub below : Table → ℕ → ℕ → Bool
+below t i j = over t j i && not (eqb i j)
+
+-- Is j a sibling of i that comes after it? The root has no sibling, though its parent column says what that of its children says.
+abbrev pub siblingAfter : Table → ℕ → ℕ → Bool
+siblingAfter t i j = ltb i j && not (eqb i 0) && eqb (parentOf t i) (parentOf t j)
+
+-- Does j come after i in document order, and is it no descendant of i?
+abbrev pub after : Table → ℕ → ℕ → Bool
+after t i j = ltb i j && not (over t j i)
+
 -- Does the axis lead from i to j?
 abbrev pub leads : Table → Axis → ℕ → ℕ → Bool
 leads t self i j = eqb i j
@@ -20,6 +32,12 @@ leads t child i j = childOf t i j
 leads t parent i j = childOf t j i
 leads t descendantOrSelf i j = over t j i
 leads t ancestorOrSelf i j = over t i j
+leads t descendant i j = below t i j
+leads t ancestor i j = below t j i
+leads t followingSibling i j = siblingAfter t i j
+leads t precedingSibling i j = siblingAfter t j i
+leads t following i j = after t i j
+leads t preceding i j = after t j i
 
 -- Is the test met by a node of this kind? `*` is met by the kinds of elements, `node()` by all.
 abbrev pub meets : Test → ℕ → Bool

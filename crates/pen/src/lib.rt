@@ -107,6 +107,12 @@ fn put_axis(out: &mut [u8], pen: usize, axis: u32) -> usize
         item::PARENT => put(out, pen, b"parent"),
         item::DESCENDANT_OR_SELF => put(out, pen, b"descendant-or-self"),
         item::ANCESTOR_OR_SELF => put(out, pen, b"ancestor-or-self"),
+        item::DESCENDANT => put(out, pen, b"descendant"),
+        item::ANCESTOR => put(out, pen, b"ancestor"),
+        item::FOLLOWING_SIBLING => put(out, pen, b"following-sibling"),
+        item::PRECEDING_SIBLING => put(out, pen, b"preceding-sibling"),
+        item::FOLLOWING => put(out, pen, b"following"),
+        item::PRECEDING => put(out, pen, b"preceding"),
         _ => pen,
     }
 }

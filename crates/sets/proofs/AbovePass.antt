@@ -51,7 +51,7 @@ module _ (t : Table) (w : Tree t) (f : ℕ → Bool) where
       (or-true (f k) (someBelow (nodes t) test) h)
 
   -- The way up from j ends at k in a step from a child of k, unless it is j's own.
-  last-step {ℓ} : {C : Type ℓ} (k : ℕ) → (j : ℕ) → j < nodes t → over t j k ≡ true → (j ≡ k → C)
+  pub last-step {ℓ} : {C : Type ℓ} (k : ℕ) → (j : ℕ) → j < nodes t → over t j k ≡ true → (j ≡ k → C)
       → ((c : ℕ) → c < nodes t → childOf t k c ≡ true → over t j c ≡ true → C) → C
   last-step {C = C} k =
       climb t w (λ j. over t j k ≡ true → (j ≡ k → C) → ((c : ℕ) → c < nodes t → childOf t k c ≡ true → over t j c ≡ true → C) → C)

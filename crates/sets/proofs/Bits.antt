@@ -104,3 +104,9 @@ bits-set n f g i v l e h =
 -- A claim on the bytes of n nodes, where the number is known by another name.
 pub resized : {n m : ℕ} {old new : List ℕ} → n ≡ m → (f g : ℕ → Bool) → (old ≡ bits n f → new ≡ bits n g) → old ≡ bits m f → new ≡ bits m g
 resized e f g h o = h (o ∙ ap (λ x. bits x f) (sym e)) ∙ ap (λ x. bits x g) e
+
+-- Two passes after each other, the second over as many bytes as the first left.
+pub joined : {n m : ℕ} {mid new : List ℕ} → n ≡ m → (f g h : ℕ → Bool) → mid ≡ bits m f → (mid ≡ bits (length mid) f → new ≡ bits (length mid) g) → bits n g ≡ bits n h → new ≡ bits m h
+joined {n} {m} {mid} e f g h first second law =
+    let size : length mid ≡ m = ap length first ∙ length-column m 0 (λ k. bit (f k)) in
+    second (first ∙ ap (λ x. bits x f) (sym size)) ∙ ap (λ x. bits x g) (size ∙ sym e) ∙ law ∙ ap (λ x. bits x h) e

@@ -43,13 +43,13 @@ module _ (t : Table) (w : Tree t) (f : ℕ → Bool) where
   parent-left i k l = rw (le-ltb k i l)
 
   -- A node that comes before its children has nothing of them yet.
-  parent-early : (i k : ℕ) → i ≤ k + 1 → i ≤ nodes t → someBelow i (λ j. f j && childOf t k j) ≡ false
+  pub parent-early : (i k : ℕ) → i ≤ k + 1 → i ≤ nodes t → someBelow i (λ j. f j && childOf t k j) ≡ false
   parent-early i k l b =
       some-none i (λ j. f j && childOf t k j)
       (λ j m h. let r = child-elim t k j (and-true (f j) (childOf t k j) h .1) in omega (arith, w .falls j (r .0) (omega arith), r .1))
 
   -- What i hands on goes to its parent alone.
-  parent-more : (i k : ℕ) → 0 < i → someBelow (i + 1) (λ j. f j && childOf t k j) ≡ (someBelow i (λ j. f j && childOf t k j) || (f i && eqb (parentOf t i) k))
+  pub parent-more : (i k : ℕ) → 0 < i → someBelow (i + 1) (λ j. f j && childOf t k j) ≡ (someBelow i (λ j. f j && childOf t k j) || (f i && eqb (parentOf t i) k))
   parent-more i k z = rw (add-one i, ne-eqb i 0 (λ s. omega arith)) (swapped (f i && eqb (parentOf t i) k) (someBelow i (λ j. f j && childOf t k j)))
 
   -- The root has been dropped from the set.

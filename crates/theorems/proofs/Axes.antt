@@ -5,15 +5,15 @@ use mathlib.Core.Bool.{true, not, false≢true}
 use mathlib.Core.List.{List}
 use lib.Dec.{eqb}
 use borrow.Author.Tests.{eqb-true}
-use Rattle.paper.specs.Query.{Axis, self, child, parent, descendantOrSelf, ancestorOrSelf}
-use Rattle.paper.specs.Document.{Table, nodes, parentOf, marked}
+use Rattle.paper.specs.Query.{Axis, self, child, parent, descendantOrSelf, ancestorOrSelf, descendant, ancestor, followingSibling, precedingSibling, following, preceding}
+use Rattle.paper.specs.Document.{Table, nodes, parentOf, over, marked}
 use Rattle.paper.specs.Selection.{leads}
 use Rattle.paper.specs.Extraction.{rank, extracted}
 use Rattle.paper.proofs.Tests.{and-true}
 use Rattle.paper.proofs.Axes as axes
 use Rattle.paper.proofs.Trees.{Tree, Closed, over-marked, tree, closed}
 use Rattle.theorems.specs.Demands.{Converse, rises, StaysInside, Unguarded, Renumbered}
-use Rattle.theorems.proofs.Renumber.{rank-same, over-renumbered, child-renumbered, marks-root}
+use Rattle.theorems.proofs.Renumber.{rank-same, over-renumbered, child-renumbered, below-renumbered, sibling-renumbered, after-renumbered, marks-root}
 
 -- THE TURNED AXIS IS THE CONVERSE.
 pub converse : Converse
@@ -27,6 +27,12 @@ leads-inside t w m c child r i j l h d = absurd (false≢true r)
 leads-inside t w m c parent r i j l h d = subst (λ k. marked m k ≡ true) (eqb-true (parentOf t i) j (and-true (not (eqb i 0)) (eqb (parentOf t i) j) d .1)) (c i l h)
 leads-inside t w m c descendantOrSelf r i j l h d = absurd (false≢true r)
 leads-inside t w m c ancestorOrSelf r i j l h d = over-marked t w m c j i l h d
+leads-inside t w m c descendant r i j l h d = absurd (false≢true r)
+leads-inside t w m c ancestor r i j l h d = over-marked t w m c j i l h (and-true (over t i j) (not (eqb j i)) d .0)
+leads-inside t w m c followingSibling r i j l h d = absurd (false≢true r)
+leads-inside t w m c precedingSibling r i j l h d = absurd (false≢true r)
+leads-inside t w m c following r i j l h d = absurd (false≢true r)
+leads-inside t w m c preceding r i j l h d = absurd (false≢true r)
 
 pub stays-inside : StaysInside
 stays-inside t m a i j ft fm r l h d = leads-inside t (tree t ft) m (closed t m fm) a r i j l h d
@@ -38,6 +44,12 @@ unguarded child = refl
 unguarded parent = refl
 unguarded descendantOrSelf = refl
 unguarded ancestorOrSelf = refl
+unguarded descendant = refl
+unguarded ancestor = refl
+unguarded followingSibling = refl
+unguarded precedingSibling = refl
+unguarded following = refl
+unguarded preceding = refl
 
 -- RENUMBERING KEEPS THE AXIS: it leads from a marked node to a marked node exactly if it leads from the one's new number to the other's.
 pub leads-renumbered : (t : Table) → Tree t → (m : List ℕ) → Closed t m → marked m 0 ≡ true → (a : Axis) (i j : ℕ) → i < nodes t → j < nodes t
@@ -47,6 +59,12 @@ leads-renumbered t w m c root child i j li lj hi hj = child-renumbered t w m c r
 leads-renumbered t w m c root parent i j li lj hi hj = child-renumbered t w m c root j i li hj hi
 leads-renumbered t w m c root descendantOrSelf i j li lj hi hj = over-renumbered t w m c root i hi j lj hj
 leads-renumbered t w m c root ancestorOrSelf i j li lj hi hj = over-renumbered t w m c root j hj i li hi
+leads-renumbered t w m c root descendant i j li lj hi hj = below-renumbered t w m c root i j lj hi hj
+leads-renumbered t w m c root ancestor i j li lj hi hj = below-renumbered t w m c root j i li hj hi
+leads-renumbered t w m c root followingSibling i j li lj hi hj = sibling-renumbered t w m c root i j li lj hi hj
+leads-renumbered t w m c root precedingSibling i j li lj hi hj = sibling-renumbered t w m c root j i lj li hj hi
+leads-renumbered t w m c root following i j li lj hi hj = after-renumbered t w m c root i j lj hi hj
+leads-renumbered t w m c root preceding i j li lj hi hj = after-renumbered t w m c root j i li hj hi
 
 pub renumbered : Renumbered
 renumbered t m a i j ft fm li lj hi hj =

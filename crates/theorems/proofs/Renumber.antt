@@ -10,10 +10,10 @@ use mathlib.Core.List.{List, _∷_}
 use mathlib.Core.Logic.{⊎-elim, by-cases}
 use lib.Dec.{eqb, ltb}
 use lib.ListN.{length, getD}
-use borrow.Author.Tests.{eqb-true, eq-eqb, ltb-true, ltb-false}
+use borrow.Author.Tests.{eqb-true, eq-eqb, ltb-true, ltb-false, lt-ltb}
 use Rattle.paper.specs.Tools.{someBelow}
 use Rattle.paper.specs.Document.{Table, nodes, parentOf, kindOf, over, marked}
-use Rattle.paper.specs.Selection.{childOf}
+use Rattle.paper.specs.Selection.{childOf, below, siblingAfter, after}
 use Rattle.paper.specs.Extraction.{rank, pickFrom, extracted}
 use Rattle.paper.proofs.Tests.{decide, agree}
 use Rattle.paper.proofs.Searches.{some-intro, some-agree}
@@ -50,6 +50,14 @@ module _ (m : List ℕ) where
       ⊎-elim (λ b. absurd (omega (arith, rank-lt i j (ltb-true i j b) hi)))
       (λ b. absurd (let less : j < i = omega (arith, ltb-false i j b) in omega (arith, rank-lt j i less hj))) (decide (ltb i j))))
       (λ e. eq-eqb (rank m i) (rank m j) (ap (rank m) (eqb-true i j e)))
+
+  -- Numbers keep the order of the nodes, past a marked one.
+  pub rank-order : (i j : ℕ) → marked m i ≡ true → ltb (rank m i) (rank m j) ≡ ltb i j
+  rank-order i j h =
+      agree (ltb (rank m i) (rank m j)) (ltb i j)
+      (λ e.
+      ⊎-elim (λ b. b) (λ b. absurd (omega (arith, ltb-true (rank m i) (rank m j) e, rank-le j i (ltb-false i j b)))) (decide (ltb i j)))
+      (λ e. lt-ltb (rank m i) (rank m j) (rank-lt i j (ltb-true i j e) h))
 
   -- Every number below the count is that of a marked node.
   pub rank-onto {ℓ} : {C : Type ℓ} (n r : ℕ) → r < rank m n → ((i : ℕ) → i < n → marked m i ≡ true → rank m i ≡ r → C) → C
@@ -169,11 +177,26 @@ module _ (t : Table) (w : Tree t) (m : List ℕ) (c : Closed t m) (root : marked
       (ap (λ p. over (extracted t m) p (rank m j)) (extracted-parent t m i l hi) ∙ up (omega arith) (c i l hi)) ∙
       sym (over-up t w i j l)))
 
-  -- and the same children.
+  -- the same children,
   pub child-renumbered : (i j : ℕ) → j < nodes t → marked m i ≡ true → marked m j ≡ true → childOf (extracted t m) (rank m i) (rank m j) ≡ childOf t i j
   child-renumbered i j l hi hj =
       ap₂ (λ a b. not a && b) (rank-same m j 0 hj root)
       (ap (λ p. eqb p (rank m i)) (extracted-parent t m j l hj) ∙ rank-same m (parentOf t j) i (c j l hj) hi)
+
+  -- the same descendants,
+  pub below-renumbered : (i j : ℕ) → j < nodes t → marked m i ≡ true → marked m j ≡ true → below (extracted t m) (rank m i) (rank m j) ≡ below t i j
+  below-renumbered i j l hi hj = ap₂ (λ a b. a && not b) (over-renumbered i hi j l hj) (rank-same m i j hi hj)
+
+  -- the same siblings in the same order,
+  pub sibling-renumbered : (i j : ℕ) → i < nodes t → j < nodes t → marked m i ≡ true → marked m j ≡ true
+      → siblingAfter (extracted t m) (rank m i) (rank m j) ≡ siblingAfter t i j
+  sibling-renumbered i j li lj hi hj =
+      ap₂ _&&_ (ap₂ (λ a b. a && not b) (rank-order m i j hi) (rank-same m i 0 hi root))
+      (ap₂ eqb (extracted-parent t m i li hi) (extracted-parent t m j lj hj) ∙ rank-same m (parentOf t i) (parentOf t j) (c i li hi) (c j lj hj))
+
+  -- and the same nodes that come after a node and are not below it.
+  pub after-renumbered : (i j : ℕ) → j < nodes t → marked m i ≡ true → marked m j ≡ true → after (extracted t m) (rank m i) (rank m j) ≡ after t i j
+  after-renumbered i j l hi hj = ap₂ (λ a b. a && not b) (rank-order m i j hi) (over-renumbered i hi j l hj)
 
 -- Marks that mark a node mark the root.
 pub marks-root : (t : Table) → Tree t → (m : List ℕ) → Closed t m → (i : ℕ) → i < nodes t → marked m i ≡ true → marked m 0 ≡ true

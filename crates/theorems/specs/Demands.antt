@@ -6,7 +6,7 @@ use mathlib.Core.List.{List, [], _∷_}
 use mathlib.Core.Option.{none, some}
 use lib.ListN.{length, replicate}
 use Rattle.paper.specs.Limits.{itemLimit, bracketLimit}
-use Rattle.paper.specs.Query.{Axis, self, child, parent, descendantOrSelf, ancestorOrSelf}
+use Rattle.paper.specs.Query.{Axis, self, child, parent, descendantOrSelf, ancestorOrSelf, descendant, ancestor, followingSibling, precedingSibling, following, preceding}
 use Rattle.paper.specs.Query.{Expr, path, both, either, negated, Steps, stop, step, Preds, bare, pred, Query, paths}
 use Rattle.paper.specs.Document.{Table, nodes, tableFault, marked, marksFault}
 use Rattle.paper.specs.Selection.{leads, holds, arrives, keeps, kept}
@@ -60,6 +60,12 @@ rises child = false
 rises parent = true
 rises descendantOrSelf = false
 rises ancestorOrSelf = true
+rises descendant = false
+rises ancestor = true
+rises followingSibling = false
+rises precedingSibling = false
+rises following = false
+rises preceding = false
 
 -- STAYS INSIDE: an axis that rises leads from a marked node only to marked nodes, since marks are closed under parents.
 abbrev pub StaysInside : Type 0

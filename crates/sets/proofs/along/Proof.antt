@@ -5,7 +5,7 @@ use lib.ListN.{length}
 use denote.Ref.{now}
 use borrow.Author.Needs.{needs}
 use Rattle.paper.specs.Document.{tableOf}
-use Rattle.paper.specs.Query.{Axis, self, child, descendantOrSelf, ancestorOrSelf}
+use Rattle.paper.specs.Query.{Axis, self, child, descendantOrSelf, ancestorOrSelf, descendant, ancestor, followingSibling, precedingSibling}
 use Rattle.paper.proofs.Axes.{no-axis}
 use Rattle.sets.specs.Sets.{image}
 use Rattle.sets.proofs.Bits.{bits-same}
@@ -24,6 +24,24 @@ below-requires c κs = search needs
 
 above-requires : tie.Need-above-requires
 above-requires c κs = search needs
+
+descendants-requires : tie.Need-descendants-requires
+descendants-requires c κs = search needs
+
+ancestors-requires : tie.Need-ancestors-requires
+ancestors-requires c κs = search needs
+
+following-siblings-requires : tie.Need-following-siblings-requires
+following-siblings-requires c κs = search needs
+
+preceding-siblings-requires : tie.Need-preceding-siblings-requires
+preceding-siblings-requires c κs = search needs
+
+following-requires : tie.Need-following-requires
+following-requires c κs = search needs
+
+preceding-requires : tie.Need-preceding-requires
+preceding-requires c κs = search needs
 
 fill-requires : tie.Need-fill-requires
 fill-requires c κs = search needs
@@ -71,7 +89,55 @@ same-length-5 : tie.Need-same-length-5
 same-length-5 c = search needs
 
 returns-6 : tie.Need-returns-6
-returns-6 c = λ kinds a f e s. absurd (no-axis a (c .before .before .before .before .before .before .before .args .axis) e (c .before .before .before .before .match .rest))
+returns-6 c = λ kinds a f e s.
+    let d = c .before .before .before .before .before .before .before .args in
+    same-image (tableOf (now (d .parent)) kinds) f (length (now (d .set))) (d .axis) descendant a (omega arith) e (c .before .before .descendants .ensures kinds f s)
+
+same-length-6 : tie.Need-same-length-6
+same-length-6 c = search needs
+
+returns-7 : tie.Need-returns-7
+returns-7 c = λ kinds a f e s.
+    let d = c .before .before .before .before .before .before .before .args in
+    same-image (tableOf (now (d .parent)) kinds) f (length (now (d .set))) (d .axis) ancestor a (omega arith) e (c .before .before .ancestors .ensures kinds f s)
+
+same-length-7 : tie.Need-same-length-7
+same-length-7 c = search needs
+
+returns-8 : tie.Need-returns-8
+returns-8 c = λ kinds a f e s.
+    let d = c .before .before .before .before .before .before .before .args in
+    same-image (tableOf (now (d .parent)) kinds) f (length (now (d .set))) (d .axis) followingSibling a (omega arith) e (c .before .before .following-siblings .ensures kinds f s)
+
+same-length-8 : tie.Need-same-length-8
+same-length-8 c = search needs
+
+returns-9 : tie.Need-returns-9
+returns-9 c = λ kinds a f e s.
+    let d = c .before .before .before .before .before .before .before .args in
+    same-image (tableOf (now (d .parent)) kinds) f (length (now (d .set))) (d .axis) precedingSibling a (omega arith) e (c .before .before .preceding-siblings .ensures kinds f s)
+
+same-length-9 : tie.Need-same-length-9
+same-length-9 c = search needs
+
+returns-10 : tie.Need-returns-10
+returns-10 c = λ kinds a f e s.
+    let d = c .before .before .before .before .before .before .before .args in
+    same-image (tableOf (now (d .parent)) kinds) f (length (now (d .set))) (d .axis) Axis.following a (omega arith) e (c .before .before .following .ensures kinds f s)
+
+same-length-10 : tie.Need-same-length-10
+same-length-10 c = search needs
+
+returns-11 : tie.Need-returns-11
+returns-11 c = λ kinds a f e s.
+    let d = c .before .before .before .before .before .before .before .args in
+    same-image (tableOf (now (d .parent)) kinds) f (length (now (d .set))) (d .axis) Axis.preceding a (omega arith) e (c .before .before .preceding .ensures kinds f s)
+
+same-length-11 : tie.Need-same-length-11
+same-length-11 c = search needs
+
+returns-12 : tie.Need-returns-12
+returns-12 c = λ kinds a f e s. absurd (no-axis a (c .before .before .before .before .before .before .before .args .axis) e (c .before .before .before .before .match .rest))
 
 pub along-spec : {M : Type 1} → statement M
 along-spec =
@@ -81,6 +147,12 @@ along-spec =
     parents-requires
     below-requires
     above-requires
+    descendants-requires
+    ancestors-requires
+    following-siblings-requires
+    preceding-siblings-requires
+    following-requires
+    preceding-requires
     fill-requires
     returns
     same-length
@@ -92,4 +164,16 @@ along-spec =
     same-length-4
     returns-5
     same-length-5
-    returns-6)
+    returns-6
+    same-length-6
+    returns-7
+    same-length-7
+    returns-8
+    same-length-8
+    returns-9
+    same-length-9
+    returns-10
+    same-length-10
+    returns-11
+    same-length-11
+    returns-12)
