@@ -339,6 +339,32 @@ static void axes(void)
     }
 }
 
+/* Cuts. */
+
+static void rows_of_cuts(const char *name, void (*make)(struct document *document, size_t nodes))
+{
+    static struct document document;
+    double before = 0;
+    for (size_t nodes = LEAST_NODES; nodes <= NODE_ROOM; nodes *= 2) {
+        make(&document, nodes);
+        double micros = time_cut(&document);
+        printf("| %s | %zu | %.1f | ", name, document.nodes, micros);
+        if (before > 0)
+            printf("%.2f", micros / before);
+        printf(" |\n");
+        before = micros;
+    }
+    fflush(stdout);
+}
+
+static void cuts(void)
+{
+    printf("\n### Checking a cut, the nodes doubled, ours alone\n\n");
+    printf("| document, as a cut of itself | nodes | us | times the row before |\n|---|---|---|---|\n");
+    rows_of_cuts("like XMark", make_xmark);
+    rows_of_cuts("chain", make_chain);
+}
+
 int main(void)
 {
     static struct document document, small;
@@ -354,5 +380,6 @@ int main(void)
     loadings();
     chains();
     axes();
+    cuts();
     return 0;
 }

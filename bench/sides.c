@@ -145,6 +145,29 @@ double time_own_measures(const struct document *document, const struct query *qu
     return micros;
 }
 
+/* Checking a cut. */
+
+static void check_cut(void *with)
+{
+    static uint16_t numbers[NODE_ROOM];
+    const struct document *document = with;
+    size_t n = document->nodes;
+    for (size_t i = 0; i < n; i++)
+        numbers[i] = (uint16_t)i;
+    if (halyardfig_is_cut(document->parent, n, document->kind, n, document->parent, n, document->kind, n, numbers, n) !=
+        1)
+        fail("no cut", "a document of itself");
+}
+
+double time_cut(const struct document *document)
+{
+    double micros;
+    struct work work = {check_cut, (void *)document};
+    time_first(&work, 1, &micros);
+    time_side_by_side(&work, 1, &micros);
+    return micros;
+}
+
 /* Reading. */
 
 static void read_own(void *with)

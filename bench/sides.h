@@ -17,6 +17,9 @@ double time_own_run(const struct document *document, const struct query *query);
 /* Times the height and the path count of a query. */
 double time_own_measures(const struct document *document, const struct query *query);
 
+/* Times the check of a document as a cut of itself, for the library. */
+double time_cut(const struct document *document);
+
 /* Times the reading of a query's text. */
 void time_reading(const struct document *document, const struct query *query, double micros[SIDES]);
 

@@ -195,6 +195,22 @@ uint64_t halyardfig_paths(const uint32_t *query, size_t query_len);
 uint64_t halyardfig_scratch(size_t nodes, size_t outer_height, size_t outer_paths, size_t inner_height,
                             size_t inner_paths);
 
+/*
+ * Says whether a partner's table, with the original number of each of its nodes, is a cut of a document: what is left
+ * of it where sub-trees are removed down to the leaves. Value: 1 for yes, 0 for no; nothing is written.
+ * Yes exactly if the cut is empty, or: the numbers rise and are nodes, the first is the root, each kind is the kind of
+ * its node, the parent of each node but the root stands for the parent of its node (and the root's parent is 0),
+ * and every node of the cut that has no child in the cut has none in the document.
+ * What halyardfig_extract writes after a run that started with every mark 1 is a cut, with the numbers of the marked
+ * nodes; of other marks it is one only if no marked node lost all its children.
+ * After a yes the marks that are 1 at each number are closed, and halyardfig_extract writes the cut for them.
+ * Refuses, in this order: 1 (over 4,096 nodes in either table, columns of either of unequal length, the numbers
+ * included), 7 (place: the node of the document). Any other fault of the partner's table is a no.
+ */
+uint64_t halyardfig_is_cut(const uint16_t *parent, size_t parent_len, const uint16_t *kind, size_t kind_len,
+                           const uint16_t *cut_parent, size_t cut_parent_len, const uint16_t *cut_kind,
+                           size_t cut_kind_len, const uint16_t *cut_node, size_t cut_node_len);
+
 #ifdef __cplusplus
 }
 #endif

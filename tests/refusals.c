@@ -873,6 +873,14 @@ static void huge_lengths(void)
               halyardfig_read_xml((const uint8_t *)"<a/>", 4, (const uint8_t *)"a\n", 2, columns, huge, columns + huge,
                                   huge, columns + 2 * huge, huge, columns + 3 * huge, huge),
               2);
+    answer_is("huge parent of a cut", halyardfig_is_cut(zero, 1, zero, 1, memory, huge, zero, 1, zero, 1),
+              REFUSED(1, 0));
+    answer_is("huge kind of a cut", halyardfig_is_cut(zero, 1, zero, 1, zero, 1, memory, huge, zero, 1), REFUSED(1, 0));
+    answer_is("huge numbers of a cut", halyardfig_is_cut(zero, 1, zero, 1, zero, 1, zero, 1, memory, huge),
+              REFUSED(1, 0));
+    answer_is("huge parent of ours", halyardfig_is_cut(memory, huge, zero, 1, zero, 1, zero, 1, zero, 1),
+              REFUSED(1, 0));
+    answer_is("huge kind of ours", halyardfig_is_cut(zero, 1, memory, huge, zero, 1, zero, 1, zero, 1), REFUSED(1, 0));
     munmap(memory, bytes);
 }
 

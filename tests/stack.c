@@ -13,9 +13,9 @@
 enum { STACK_BYTES = 1 << 18, PAINT = 0xC7 };
 enum { SCRATCH_ROOM = 1 << 25, PRINT_ROOM = 1 << 19, MIXED_TEXTS = 60, NAMED_MOST = 100 };
 
-enum call { READ, PRINT, COMPOSE, RUN, EXTRACT, READ_XML, HEIGHT, PATHS, SCRATCH, CALLS };
-static const char *const call_names[CALLS] = {"read",     "print",  "compose", "run",    "extract",
-                                              "read_xml", "height", "paths",   "scratch"};
+enum call { READ, PRINT, COMPOSE, RUN, EXTRACT, READ_XML, HEIGHT, PATHS, SCRATCH, IS_CUT, CALLS };
+static const char *const call_names[CALLS] = {"read",     "print",  "compose", "run",     "extract",
+                                              "read_xml", "height", "paths",   "scratch", "is_cut"};
 
 static struct {
     size_t bytes;
@@ -88,6 +88,16 @@ static void call_scratch(void)
     answer = halyardfig_scratch(table.nodes, query.count, 1, query.count, 1);
 }
 
+/* The whole table as a cut of itself. */
+static void call_is_cut(void)
+{
+    static uint16_t numbers[NODE_ROOM];
+    for (size_t i = 0; i < table.nodes; i++)
+        numbers[i] = (uint16_t)i;
+    answer = halyardfig_is_cut(table.parent, table.nodes, table.kind, table.nodes, table.parent, table.nodes,
+                               table.kind, table.nodes, numbers, table.nodes);
+}
+
 /* A painted stack; below it is a page that cannot be touched. */
 static uint8_t *stack_memory(void)
 {
@@ -134,8 +144,8 @@ static size_t painted_over(void (*call)(void))
 
 static void measure_call(enum call which, const char *input)
 {
-    static void (*const calls[CALLS])(void) = {call_read,     call_print,  call_compose, call_run,    call_extract,
-                                               call_read_xml, call_height, call_paths,   call_scratch};
+    static void (*const calls[CALLS])(void) = {call_read,     call_print,  call_compose, call_run,     call_extract,
+                                               call_read_xml, call_height, call_paths,   call_scratch, call_is_cut};
     static char trying[2 * NAMED_MOST];
     static size_t empty;
     if (empty == 0)
@@ -416,14 +426,17 @@ static void large_tables(struct dice *dice)
 {
     make_chain(NODE_ROOM);
     measure_call(EXTRACT, "a chain");
+    measure_call(IS_CUT, "a chain");
     start_text("//a[.//a[../a or not(a)]]");
     measure_text();
     make_table(dice, &table, NODE_ROOM, 2);
     make_marks(dice, &table, 99);
     measure_call(EXTRACT, "a table");
+    measure_call(IS_CUT, "a table");
     measure_text();
     table.kind[NODE_ROOM - 1] = HALYARDFIG_KIND_ROOT;
     measure_call(EXTRACT, "a bad table");
+    measure_call(IS_CUT, "a bad table");
     measure_text();
 }
 

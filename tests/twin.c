@@ -235,3 +235,27 @@ bool twin_scratch(const size_t numbers[SCRATCH_NUMBERS])
     return compare("scratch", ours, models) ||
            complain("of %zu %zu %zu %zu %zu", numbers[0], numbers[1], numbers[2], numbers[3], numbers[4]);
 }
+
+bool twin_is_cut(const uint16_t *parent, size_t parent_len, const uint16_t *kind, size_t kind_len,
+                 const uint16_t *cut_parent, size_t cut_parent_len, const uint16_t *cut_kind, size_t cut_kind_len,
+                 const uint16_t *cut_node, size_t cut_node_len)
+{
+    piece_count = 0;
+    const uint16_t *our_parent = lend_read(parent, parent_len * sizeof *parent);
+    const uint16_t *our_kind = lend_read(kind, kind_len * sizeof *kind);
+    const uint16_t *our_cut_parent = lend_read(cut_parent, cut_parent_len * sizeof *cut_parent);
+    const uint16_t *our_cut_kind = lend_read(cut_kind, cut_kind_len * sizeof *cut_kind);
+    const uint16_t *our_cut_node = lend_read(cut_node, cut_node_len * sizeof *cut_node);
+    uint64_t ours = halyardfig_is_cut(our_parent, parent_len, our_kind, kind_len, our_cut_parent, cut_parent_len,
+                                      our_cut_kind, cut_kind_len, our_cut_node, cut_node_len);
+    uint64_t models = model_is_cut(model_piece(0), parent_len, model_piece(1), kind_len, model_piece(2), cut_parent_len,
+                                   model_piece(3), cut_kind_len, model_piece(4), cut_node_len);
+    if (compare("is_cut", ours, models))
+        return true;
+    show_words("parent", parent, parent_len);
+    show_words("kind", kind, kind_len);
+    show_words("cut's parent", cut_parent, cut_parent_len);
+    show_words("cut's kind", cut_kind, cut_kind_len);
+    show_words("cut's node", cut_node, cut_node_len);
+    return false;
+}

@@ -32,6 +32,10 @@ bool twin_height(const uint32_t *query, size_t query_len);
 bool twin_paths(const uint32_t *query, size_t query_len);
 bool twin_scratch(const size_t numbers[SCRATCH_NUMBERS]);
 
+bool twin_is_cut(const uint16_t *parent, size_t parent_len, const uint16_t *kind, size_t kind_len,
+                 const uint16_t *cut_parent, size_t cut_parent_len, const uint16_t *cut_kind, size_t cut_kind_len,
+                 const uint16_t *cut_node, size_t cut_node_len);
+
 /* What the last accepted read, compose or print wrote. */
 const uint32_t *twin_items(void);
 const uint8_t *twin_bytes(void);

@@ -4,7 +4,7 @@ ghost use Prim.Native.Nat.{_+_, _*_, _<_};
 ghost use mathlib.Core.Path.{_≡_};
 ghost use lib.ListN.{length};
 ghost use Rattle.paper.specs.Document.{tableOf};
-ghost use Rattle.paper.specs.Answers.{readAnswer, readOut, printAnswer, printOut, composeAnswer, composeOut, runAnswer, runMarks, runScratch, extractAnswer, extractParents, extractKinds, readXmlAnswer, readXmlColumn, parentField, kindField, beginField, endField};
+ghost use Rattle.paper.specs.Answers.{readAnswer, readOut, printAnswer, printOut, composeAnswer, composeOut, runAnswer, runMarks, runScratch, extractAnswer, extractParents, extractKinds, readXmlAnswer, readXmlColumn, parentField, kindField, beginField, endField, isCutAnswer};
 ghost use Rattle.paper.specs.Room.{heightAnswer, pathsAnswer, scratchAnswer};
 ghost use Rattle.paper.specs.Told.{told};
 ghost use Rattle.theorems.specs.Bounds.{Small};
@@ -149,4 +149,18 @@ pub extern "C" fn halyardfig_scratch(
     ensures { λ r. ⌜ r ≡ codeOf (scratchAnswer nodes «outer_height» «outer_paths» «inner_height» «inner_paths») ⌝ }
 {
     code(room::scratch(nodes, outer_height, outer_paths, inner_height, inner_paths))
+}
+
+// Says whether a partner's table is a cut of ours: `cut::is_cut` for C.
+#[no_mangle]
+pub extern "C" fn halyardfig_is_cut(
+    parent: &[u16],
+    kind: &[u16],
+    cut_parent: &[u16],
+    cut_kind: &[u16],
+    cut_node: &[u16],
+) -> u64
+    ensures { λ r. ⌜ r ≡ codeOf (isCutAnswer (tableOf (now (parent .entry)) (now (kind .entry))) (tableOf (now («cut_parent» .entry)) (now («cut_kind» .entry))) (now («cut_node» .entry))) ⌝ }
+{
+    code(cut::is_cut(parent, kind, cut_parent, cut_kind, cut_node))
 }

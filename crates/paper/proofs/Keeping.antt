@@ -17,11 +17,11 @@ use Rattle.paper.proofs.Searches.{some-intro, some-elim, none-first, le
 use Rattle.paper.proofs.Trees.{Tree, parent-le, over-self, over-parent, over-cases, over-trans, Closed, tree, closed}
 
 -- A bit is 1 exactly where the test holds.
-bit : (b : Bool) → eqb (cond b 1 0) 1 ≡ b
+pub bit : (b : Bool) → eqb (cond b 1 0) 1 ≡ b
 bit true = refl
 bit false = refl
 
-bit-fine : (b c : Bool) → (b ≡ true → c ≡ true) → (eqb (cond b 1 0) 0 || eqb (cond b 1 0) 1 && c) ≡ true
+pub bit-fine : (b c : Bool) → (b ≡ true → c ≡ true) → (eqb (cond b 1 0) 0 || eqb (cond b 1 0) 1 && c) ≡ true
 bit-fine true c h = h refl
 bit-fine false c h = refl
 

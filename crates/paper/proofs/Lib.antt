@@ -28,3 +28,5 @@ pub mod Same
 pub mod Lines
 -- Scratch told before composing: `Wrong`, `all-inside`, `bytes-few`, `paths-size`, `let-all-pass`.
 pub mod Lending
+-- A cut and the marks it stands for: `child-behind`, `Standing`, `rank-row`, `cut-extracted`, `marks-good`, `cut-good`, `yes-rows`, `rows-yes`.
+pub mod Cutting

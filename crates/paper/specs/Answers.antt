@@ -17,6 +17,7 @@ use Rattle.paper.specs.Document.{Table, nodes, tableFault, marksFault}
 use Rattle.paper.specs.Selection.{kept}
 use Rattle.paper.specs.Extraction.{rank, extracted}
 use Rattle.paper.specs.Composition.{composed}
+use Rattle.paper.specs.Cut.{isCut}
 use Rattle.paper.specs.Xml.{Nodes, Judged, wanted, unwanted, readXml, Row, table, kindBy, unnamed}
 
 -- An answer is either the value or a refusal number with a place.
@@ -237,3 +238,12 @@ endField r = r .end
 -- A column at exit of a call that answers so, by what it has of each line.
 unfoldable pub readXmlColumn : (Row → ℕ) → List ℕ → Answer → List ℕ → List ℕ
 readXmlColumn field text answer out = atExit answer (map field (rowsGot (length text) (readXml text))) out
+
+-- IS CUT (02, 2026-11): 1 for either table, its partner column of original numbers included, then 7 for ours; it answers 1 for yes and 0 for no.
+unfoldable pub isCutAnswer : Table → Table → List ℕ → Answer
+isCutAnswer t cut numbers =
+    line 1
+    (when
+    (ltb nodeLimit (nodes t) || not (eqb (length (t .kinds)) (nodes t)) || ltb nodeLimit (nodes cut) || not (eqb (length (cut .kinds)) (nodes cut)) || not (eqb (length numbers) (nodes cut)))
+    0)
+    (line 7 (tableFault t) (value (cond (isCut t cut numbers) 1 0)))

@@ -9,6 +9,7 @@ pub mod Document
 pub mod Xml
 pub mod Selection
 pub mod Extraction
+pub mod Cut
 pub mod Items
 pub mod Measures
 pub mod Printing
@@ -18,4 +19,5 @@ pub mod Room
 pub mod Program
 pub mod Samples
 pub mod XmlSamples
+pub mod CutSamples
 pub mod Told

@@ -165,11 +165,11 @@ pub record Took (t : Table) (marks : List ℕ) (n : ℕ) (parents kinds : List �
   pub counted : n ≡ markedCount t marks
   pub left : tableLeft t marks n parents kinds ≡ extracted t marks
 
-length-parents : (t : Table) (marks : List ℕ) → length (extracted t marks .parents) ≡ markedCount t marks
+pub length-parents : (t : Table) (marks : List ℕ) → length (extracted t marks .parents) ≡ markedCount t marks
 unfolding extracted
 length-parents t marks = length-pick marks (λ i. rank marks (parentOf t i)) (nodes t)
 
-length-kinds : (t : Table) (marks : List ℕ) → length (extracted t marks .kinds) ≡ markedCount t marks
+pub length-kinds : (t : Table) (marks : List ℕ) → length (extracted t marks .kinds) ≡ markedCount t marks
 unfolding extracted
 length-kinds t marks = length-pick marks (λ i. kindOf t i) (nodes t)
 

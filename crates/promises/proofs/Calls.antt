@@ -4,14 +4,19 @@ use mathlib.Core.Path.{_≡_, sym, _∙_, ap}
 use mathlib.Core.List.{List}
 use lib.ListN.{length, take}
 use denote.Ref.{now}
-use Rattle.paper.specs.Document.{tableOf}
+use Rattle.paper.specs.Document.{tableOf, nodes}
 use Rattle.paper.specs.Room.{heightAnswer, pathsAnswer, scratchAnswer}
-use Rattle.paper.specs.Answers.{value, refusal, readAnswer, readOut, printAnswer, printOut, composeAnswer, composeOut, runAnswer, runMarks, extractAnswer, extractParents, extractKinds}
+use Rattle.paper.specs.Answers.{value, refusal, readAnswer, readOut, printAnswer, printOut, composeAnswer, composeOut, runAnswer, runMarks, extractAnswer, extractParents, extractKinds, isCutAnswer}
+use Rattle.paper.specs.Cut.{marksOf}
 use Rattle.paper.specs.Told.{told}
+use Rattle.paper.specs.declared.Answer.{Answer}
 use Rattle.paper.specs.declared.Answer.the-variants.{Value}
 use Rattle.promises.specs.Calls.{ComposeCall, RunCall, ExtractCall, Exactness, View, Secrecy, Extraction, RoundTrip, HeightCall, PathsCall, ScratchCall, scratchLent, ScratchEnough}
+use Rattle.cut_theorems.proofs.Yes.{marks-are-good, extracts}
+use Rattle.promises.specs.Calls.{CutCall, YesMarks, YesExtracts, ViewIsCut}
 use Rattle.promises.specs.Entries.{Shows}
 use Rattle.promises.proofs.Telling.{told-same}
+use Rattle.promises.proofs.Accepting.{length-parents, took}
 use Rattle.promises.proofs.Entries as entries
 
 -- COMPOSE. What the contract says of an accepted call, of the slices by the names they have in the statements.
@@ -132,3 +137,35 @@ scratch-enough outer inner both parents kinds given marks n oh op ih ip bytes pl
     entries.scratch-enough outer inner (old-items composing) t given n oh op ih ip bytes lent (scratchLent run) place (composed-value composing)
     (height-value outer-high) (paths-value outer-many) (height-value inner-high) (paths-value inner-many) (scratch-value told-bytes) enough
     (rw (composed-left composing) at said)
+
+-- IS CUT.
+module _ {parents kinds cutParents cutKinds numbers : List ℕ} {answer : Answer} (c : CutCall parents kinds cutParents cutKinds numbers answer) where
+  cut-said : told answer ≡ isCutAnswer (tableOf parents kinds) (tableOf cutParents cutKinds) numbers
+  cut-said = rw (c .parents-lent, c .kinds-lent, c .cut-parents-lent, c .cut-kinds-lent, c .numbers-lent) at (c .met)
+
+-- A YES.
+pub yes-marks : YesMarks
+yes-marks parents kinds cutParents cutKinds numbers outParents outKinds place c x =
+    let t = tableOf parents kinds in
+    let refused : extractAnswer t (marksOf t numbers) (length (now (x .args .1 .1 .1 .0))) (length (now (x .args .1 .1 .1 .1 .0))) ≡ refusal 8 place =
+    rw (x .parents-lent, x .kinds-lent, x .marks-lent) at (sym (x .met .0)) in
+    entries.never-bad-marks t (marksOf t numbers) _ _ place (marks-are-good t (tableOf cutParents cutKinds) numbers (entries.says-yes t (tableOf cutParents cutKinds) numbers (sym (cut-said c)))) refused
+
+pub yes-extracts : YesExtracts
+yes-extracts parents kinds cutParents cutKinds numbers outParents outKinds n c x =
+    let t = tableOf parents kinds in
+    let cut = tableOf cutParents cutKinds in
+    let marks = marksOf t numbers in
+    let got = took t marks n (old-parents x) (old-kinds x) (extract-value x) in
+    let table = extracts t cut numbers (entries.says-yes t cut numbers (sym (cut-said c))) .0 in
+    let left = got .left ∙ table in (
+      got .counted ∙ sym (length-parents t marks) ∙ ap nodes table,
+      ap (take n) (parents-left x) ∙ ap (λ v. v .parents) left,
+      ap (take n) (kinds-left x) ∙ ap (λ v. v .kinds) left,
+    )
+
+-- A VIEW IS A CUT.
+pub view-is-cut : ViewIsCut
+unfolding shows
+view-is-cut query parents kinds ps ks answer v c =
+    told-same answer (Value 1) (cut-said c ∙ entries.shown-is-cut query (tableOf parents kinds) (v .kept) (v .count) ps ks (shows v))

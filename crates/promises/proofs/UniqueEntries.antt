@@ -4,6 +4,7 @@ use Rattle.read_xml.proofs.read_xml
 use Rattle.promises.specs.UniqueEntries.{ReadUnique, PrintUnique, ComposeUnique, RunUnique, ExtractUnique, ReadXmlUnique}
 use Rattle.promises.specs.UniqueEntries.{ReadForCUnique, PrintForCUnique, ComposeForCUnique, RunForCUnique, ExtractForCUnique, ReadXmlForCUnique, ReportUnique}
 use Rattle.promises.specs.UniqueEntries.{HeightUnique, PathsUnique, ScratchUnique, HeightForCUnique, PathsForCUnique, ScratchForCUnique}
+use Rattle.promises.specs.UniqueEntries.{IsCutUnique, IsCutForCUnique}
 use Rattle.promises.proofs.Telling.{same, same-told, same-slice, same-slices, same-more}
 
 pub read-unique : ReadUnique
@@ -66,3 +67,9 @@ paths-for-c-unique κs a u v x y g p q = same p q
 
 pub scratch-for-c-unique : ScratchForCUnique
 scratch-for-c-unique κs a u v x y g p q = same p q
+
+pub is-cut-unique : IsCutUnique
+is-cut-unique κs a u v x y g p q = same-told p q
+
+pub is-cut-for-c-unique : IsCutForCUnique
+is-cut-for-c-unique κs a u v x y g p q = same p q

@@ -8,8 +8,10 @@ use denote.Ref.{now}
 use denote.Triple.Clauses.{AtExit}
 use borrow.Fn.Kinds.{Dens, endedOf}
 use Rattle.paper.specs.Limits.{textLimit}
+use Rattle.paper.specs.Document.{tableOf}
+use Rattle.paper.specs.Cut.{marksOf, numbersOf}
 use Rattle.paper.specs.declared.Answer.{Answer}
-use Rattle.paper.specs.declared.Answer.the-variants.{Value, Short}
+use Rattle.paper.specs.declared.Answer.the-variants.{Value, Short, BadMarks}
 use Rattle.read.proofs.read
 use Rattle.print.proofs.print
 use Rattle.compose.proofs.compose
@@ -18,6 +20,7 @@ use Rattle.extract.proofs.extract
 use Rattle.room.proofs.height
 use Rattle.room.proofs.paths
 use Rattle.room.proofs.scratch
+use Rattle.cut.proofs.is_cut
 
 -- A call of `read::read`, which held `old` in the slice for items.
 pub record ReadCall (text list old : List ℕ) (answer : Answer) (out : List ℕ) : Type 0 where
@@ -157,3 +160,34 @@ ScratchEnough =
     → HeightCall outer (Value oh) → PathsCall outer (Value op) → HeightCall inner (Value ih) → PathsCall inner (Value ip)
     → ScratchCall (length parents) oh op ih ip (Value bytes)
     → (run : RunCall (take n both) parents kinds given (Short place) marks) → bytes ≤ scratchLent run → ⊥
+
+-- A call of `cut::is_cut`.
+pub record CutCall (parents kinds cutParents cutKinds numbers : List ℕ) (answer : Answer) : Type 0 where
+  pub κs : Lfts 5
+  pub args : Dens κs is_cut.Kinds.ps
+  pub exit : AtExit (endedOf 5 is_cut.Kinds.ps is_cut.Kinds.r) κs
+  pub met : is_cut.Reads.Post κs args answer exit
+  pub parents-lent : now (args .0) ≡ parents
+  pub kinds-lent : now (args .1 .0) ≡ kinds
+  pub cut-parents-lent : now (args .1 .1 .0) ≡ cutParents
+  pub cut-kinds-lent : now (args .1 .1 .1 .0) ≡ cutKinds
+  pub numbers-lent : now (args .1 .1 .1 .1 .0) ≡ numbers
+
+-- A YES: no extract calls the marks that the partner's numbers stand for bad,
+abbrev pub YesMarks : Type 0
+YesMarks =
+    (parents kinds cutParents cutKinds numbers outParents outKinds : List ℕ) (place : ℕ) → CutCall parents kinds cutParents cutKinds numbers (Value 1)
+    → ExtractCall parents kinds (marksOf (tableOf parents kinds) numbers) (BadMarks place) outParents outKinds → ⊥
+
+-- and one that is accepted leaves the partner's columns.
+abbrev pub YesExtracts : Type 0
+YesExtracts =
+    (parents kinds cutParents cutKinds numbers outParents outKinds : List ℕ) (n : ℕ) → CutCall parents kinds cutParents cutKinds numbers (Value 1)
+    → ExtractCall parents kinds (marksOf (tableOf parents kinds) numbers) (Value n) outParents outKinds
+    → (n ≡ length cutParents) × (take n outParents ≡ cutParents) × (take n outKinds ≡ cutKinds)
+
+-- A VIEW IS A CUT: what a run that started with every mark 1 shows gets a yes, with the numbers of the nodes that it marked.
+abbrev pub ViewIsCut : Type 0
+ViewIsCut =
+    (query parents kinds ps ks : List ℕ) (answer : Answer) (v : View query parents kinds (ones parents) ps ks)
+    → CutCall parents kinds ps ks (numbersOf (tableOf parents kinds) (v .marks)) answer → answer ≡ Value 1

@@ -11,9 +11,11 @@ use Rattle.paper.specs.Items.{decode}
 use Rattle.paper.specs.Document.{Table, nodes, marked, tableOf}
 use Rattle.paper.specs.Extraction.{rank}
 use Rattle.paper.specs.Composition.{composed}
-use Rattle.paper.specs.Answers.{value, refusal, scratchOf, readAnswer, readOut, printAnswer, printOut, composeAnswer, composeOut, runAnswer, runMarks, extractAnswer, extractParents, extractKinds}
+use Rattle.paper.specs.Answers.{value, refusal, scratchOf, readAnswer, readOut, printAnswer, printOut, composeAnswer, composeOut, runAnswer, runMarks, extractAnswer, extractParents, extractKinds, isCutAnswer}
 use Rattle.paper.specs.Room.{heightAnswer, pathsAnswer, scratchAnswer}
+use Rattle.paper.specs.Cut.{marksOf, numbersOf}
 use Rattle.theorems.specs.Demands.{allMarked}
+use Rattle.cut_theorems.specs.Cuts.{LeavesStay}
 
 -- ACCEPTANCE. The items are those of the composition of two queries in memory, and can stand in memory themselves.
 pub record IsComposition (outer inner both : List ℕ) : Type 0 where
@@ -123,3 +125,21 @@ ScratchTold =
     (outer inner out : List ℕ) (n count : ℕ) → composeAnswer outer inner (length out) ≡ value n → 1 ≤ count → count ≤ nodeLimit
     → (oh op ih ip bytes : ℕ) × (heightAnswer outer ≡ value oh) × (pathsAnswer outer ≡ value op) × (heightAnswer inner ≡ value ih) × (pathsAnswer inner ≡ value ip)
     × (scratchAnswer count oh op ih ip ≡ value bytes)
+
+-- A YES (02, 2026-11): an extract of the marks that the partner's numbers stand for is accepted, with room enough, and leaves the partner's table.
+abbrev pub YesExtracts : Type 0
+YesExtracts =
+    (t cut : Table) (numbers parents kinds : List ℕ) → isCutAnswer t cut numbers ≡ value 1 → length parents ≡ length kinds → nodes cut ≤ length parents
+    → (extractAnswer t (marksOf t numbers) (length parents) (length kinds) ≡ value (nodes cut)) × (tableLeft t (marksOf t numbers) (nodes cut) parents kinds ≡ cut)
+
+-- THE CONVERSE: the table that an extract left of marks whose kept leaves are leaves gets a yes, with the numbers of the marked nodes.
+abbrev pub ExtractIsCut : Type 0
+ExtractIsCut =
+    (t : Table) (marks parents kinds : List ℕ) (n : ℕ) → extractAnswer t marks (length parents) (length kinds) ≡ value n → LeavesStay t marks
+    → isCutAnswer t (tableLeft t marks n parents kinds) (numbersOf t marks) ≡ value 1
+
+-- So does what is shown of a run that started with every mark 1.
+abbrev pub ShownIsCut : Type 0
+ShownIsCut =
+    (query : List ℕ) (t : Table) (kept count : ℕ) (parents kinds : List ℕ) (shows : Shows query t (allMarked t) kept count parents kinds)
+    → isCutAnswer t (tableOf parents kinds) (numbersOf t (shows .marks)) ≡ value 1

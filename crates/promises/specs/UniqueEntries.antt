@@ -10,6 +10,7 @@ use Rattle.read_xml.proofs.read_xml
 use Rattle.room.proofs.height
 use Rattle.room.proofs.paths
 use Rattle.room.proofs.scratch
+use Rattle.cut.proofs.is_cut
 use Rattle.report.proofs.report
 use Rattle.halyardfig.proofs.halyardfig_read
 use Rattle.halyardfig.proofs.halyardfig_print
@@ -20,6 +21,7 @@ use Rattle.halyardfig.proofs.halyardfig_read_xml
 use Rattle.halyardfig.proofs.halyardfig_height
 use Rattle.halyardfig.proofs.halyardfig_paths
 use Rattle.halyardfig.proofs.halyardfig_scratch
+use Rattle.halyardfig.proofs.halyardfig_is_cut
 use Rattle.promises.specs.Uniqueness.{Unique, UniqueAnswer}
 
 abbrev pub ReadUnique : Type 0
@@ -87,3 +89,9 @@ PathsForCUnique = UniqueAnswer halyardfig_paths.Kinds.ps halyardfig_paths.Kinds.
 
 abbrev pub ScratchForCUnique : Type 0
 ScratchForCUnique = UniqueAnswer halyardfig_scratch.Kinds.ps halyardfig_scratch.Kinds.r halyardfig_scratch.Reads.Pre halyardfig_scratch.Reads.Post
+
+abbrev pub IsCutUnique : Type 0
+IsCutUnique = UniqueAnswer is_cut.Kinds.ps is_cut.Kinds.r is_cut.Reads.Pre is_cut.Reads.Post
+
+abbrev pub IsCutForCUnique : Type 0
+IsCutForCUnique = UniqueAnswer halyardfig_is_cut.Kinds.ps halyardfig_is_cut.Kinds.r halyardfig_is_cut.Reads.Pre halyardfig_is_cut.Reads.Post

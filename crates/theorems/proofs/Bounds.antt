@@ -68,7 +68,7 @@ first-below (suc left) at test place e =
     chosen (test at) e (λ c f. subst (λ p. p < at + suc left) (some-inj f) (omega arith)) (λ c f. omega (arith, first-below left (suc at) test place f))
 
 -- A fault of a table or of marks is a node, or 0.
-table-within : (t : Table) (place : ℕ) → tableFault t ≡ some place → place ≤ nodes t
+pub table-within : (t : Table) (place : ℕ) → tableFault t ≡ some place → place ≤ nodes t
 unfolding tableFault
 table-within t place e =
     chosen (eqb (nodes t) 0) e (λ c f. subst (λ p. p ≤ nodes t) (some-inj f) (omega arith)) (λ c f. omega (arith, first-below (nodes t) 0 (λ i. not (goodNode t i)) place f))
