@@ -1,11 +1,11 @@
 -- docs/SCOPE.md, "Numbers refused": for each entry point its answer and each lent slice at exit, for every input, as the first line that holds in the order of 01.
 use Prim.Native.Nat.{ℕ, suc, _+_, _*_}
-use mathlib.Core.Bool.{Bool, false, not, _||_, cond}
+use mathlib.Core.Bool.{Bool, false, not, _&&_, _||_, cond}
 use mathlib.Core.List.{List, [], _∷_, map}
 use mathlib.Core.Option.{Option, none, some}
 use lib.Dec.{eqb, leb, ltb}
 use lib.ListN.{length, replicate}
-use Rattle.paper.specs.Tools.{when, written}
+use Rattle.paper.specs.Tools.{when, written, same, someBelow}
 use Rattle.paper.specs.Limits.{textLimit, listLimit, itemLimit, nodeLimit, bracketLimit}
 use Rattle.paper.specs.Query.{Test, anyNode, textNode, named, anyElement, Query}
 use Rattle.paper.specs.Names.{namesFault, namesOf, numberOf}
@@ -13,12 +13,13 @@ use Rattle.paper.specs.Reading.{Got, got, refused, readText}
 use Rattle.paper.specs.Items.{Head, stepAt, encode, decode}
 use Rattle.paper.specs.Measures.{size, nesting, height}
 use Rattle.paper.specs.Printing.{printed}
-use Rattle.paper.specs.Document.{Table, nodes, tableFault, marksFault}
+use Rattle.paper.specs.Document.{Table, nodes, kindOf, elementKind, tableFault, marked, marksFault}
 use Rattle.paper.specs.Selection.{kept}
 use Rattle.paper.specs.Extraction.{rank, extracted}
 use Rattle.paper.specs.Composition.{composed}
 use Rattle.paper.specs.Cut.{isCut}
 use Rattle.paper.specs.Xml.{Nodes, Judged, wanted, unwanted, readXml, Row, table, kindBy, unnamed}
+use Rattle.paper.specs.WriteXml.{keptXml}
 
 -- An answer is either the value or a refusal number with a place.
 pub data Answer : Type 0 where
@@ -247,3 +248,40 @@ isCutAnswer t cut numbers =
     (ltb nodeLimit (nodes t) || not (eqb (length (t .kinds)) (nodes t)) || ltb nodeLimit (nodes cut) || not (eqb (length (cut .kinds)) (nodes cut)) || not (eqb (length numbers) (nodes cut)))
     0)
     (line 7 (tableFault t) (value (cond (isCut t cut numbers) 1 0)))
+
+-- WRITE XML (02, 2026-02). Is an element marked?
+abbrev pub elementMarked : Table → List ℕ → Bool
+elementMarked t marks = someBelow (nodes t) (λ i. marked marks i && leb elementKind (kindOf t i))
+
+-- Does a call answer this number?
+abbrev pub answers : ℕ → Answer → Bool
+answers n (value m) = eqb m n
+answers n (refusal number place) = false
+
+-- Does reading the text with this list give exactly these nodes, parents, kinds and places?
+unfoldable pub readsAs : List ℕ → List ℕ → Table → List ℕ → List ℕ → Bool
+readsAs text list t begins ends =
+    let answer = readXmlAnswer text list (nodes t) (length (t .kinds)) (length begins) (length ends) in
+    answers (nodes t) answer
+    && same (readXmlColumn parentField text answer (t .parents)) (t .parents)
+    && same (readXmlColumn (kindField list) text answer (t .kinds)) (t .kinds)
+    && same (readXmlColumn beginField text answer begins) begins
+    && same (readXmlColumn endField text answer ends) ends
+
+-- Write XML: 1, 2, 7, 8, 13, 14, 10; it answers the number of bytes. The four columns and the marks are of one length.
+unfoldable pub writeXmlAnswer : List ℕ → List ℕ → Table → List ℕ → List ℕ → List ℕ → ℕ → Answer
+writeXmlAnswer text list t begins ends marks room =
+    line 1
+    (when
+    (tooLong text textLimit || tooLong list listLimit || ltb nodeLimit (nodes t) || not (eqb (length (t .kinds)) (nodes t)) || not (eqb (length begins) (nodes t))
+    || not (eqb (length ends) (nodes t)) || not (eqb (length marks) (nodes t)))
+    0)
+    (line 2 (namesFault list)
+    (line 7 (tableFault t)
+    (line 8 (marksFault t marks)
+    (line 13 (when (not (elementMarked t marks)) 0)
+    (line 14 (when (not (readsAs text list t begins ends)) 0)
+    (let needed = length (keptXml text marks) in line 10 (short room needed) (value needed)))))))
+
+unfoldable pub writeXmlOut : List ℕ → List ℕ → Table → List ℕ → List ℕ → List ℕ → List ℕ → List ℕ
+writeXmlOut text list t begins ends marks out = atExit (writeXmlAnswer text list t begins ends marks (length out)) (keptXml text marks) out

@@ -10,6 +10,7 @@ pub mod Xml
 pub mod Selection
 pub mod Extraction
 pub mod Cut
+pub mod WriteXml
 pub mod Items
 pub mod Measures
 pub mod Printing
@@ -20,4 +21,5 @@ pub mod Program
 pub mod Samples
 pub mod XmlSamples
 pub mod CutSamples
+pub mod WriteXmlSamples
 pub mod Told

@@ -73,7 +73,7 @@ unfolding tableFault
 table-within t place e =
     chosen (eqb (nodes t) 0) e (λ c f. subst (λ p. p ≤ nodes t) (some-inj f) (omega arith)) (λ c f. omega (arith, first-below (nodes t) 0 (λ i. not (goodNode t i)) place f))
 
-marks-within : (t : Table) (marks : List ℕ) (place : ℕ) → marksFault t marks ≡ some place → place ≤ nodes t
+pub marks-within : (t : Table) (marks : List ℕ) (place : ℕ) → marksFault t marks ≡ some place → place ≤ nodes t
 unfolding marksFault
 marks-within t marks place e = omega (arith, first-below (nodes t) 0 (λ i. not (goodMark t marks i)) place e)
 

@@ -141,10 +141,10 @@ pub tree-stands : TreeStands
 tree-stands text tree h = derived-stands (accepted text tree .0 h)
 
 -- THE TABLE.
-text-named : (name : List ℕ) → What.text ≡ What.named name → ⊥
+pub text-named : (name : List ℕ) → What.text ≡ What.named name → ⊥
 text-named name h = let z : _≡_ {A = ℕ} 0 1 = cc in omega arith
 
-named-same : {a b : List ℕ} → What.named a ≡ What.named b → a ≡ b
+pub named-same : {a b : List ℕ} → What.named a ≡ What.named b → a ≡ b
 named-same h = cc
 
 module _ (text : List ℕ) (lines : List Row) where
@@ -178,7 +178,7 @@ module _ (text : List ℕ) (lines : List Row) where
       subst (λ (r : Row). TextStands text (r .begin) (r .end)) (sym line) (g .0))
       (λ b m. texts rest up (suc n) (stand-behind lines up n begin end rest h) (g .1) i b m w)
 
-root-named : (name : List ℕ) → What.root ≡ What.named name → ⊥
+pub root-named : (name : List ℕ) → What.root ≡ What.named name → ⊥
 root-named name h = let z : _≡_ {A = ℕ} 0 1 = cc in omega arith
 
 pub elements-stand : ElementsStand

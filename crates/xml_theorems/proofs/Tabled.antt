@@ -51,7 +51,7 @@ number-below (n ∷ ns) v k word h =
     (decide (same n word))
 
 -- KINDS.
-element-low : (o : Option ℕ) → 2 ≤ nameKind o
+pub element-low : (o : Option ℕ) → 2 ≤ nameKind o
 element-low none = omega arith
 element-low (some v) = omega arith
 

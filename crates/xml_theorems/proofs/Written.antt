@@ -23,12 +23,13 @@ use Rattle.xml_theorems.specs.Tables.{lineAt, Good, writtenTable, Writte
 use Rattle.xml_theorems.proofs.Tabled.{good-table}
 
 -- What is known where the answer is a value.
-record Taken (text list : List ℕ) (n : ℕ) : Type 0 where
-  tree : Nodes
-  read : readXml text ≡ wanted tree
-  names-fine : namesFault list ≡ none
-  many : length (table (length text) tree) ≡ n
-  few : n ≤ nodeLimit
+pub record Taken (text list : List ℕ) (n : ℕ) : Type 0 where
+  pub tree : Nodes
+  pub read : readXml text ≡ wanted tree
+  pub names-fine : namesFault list ≡ none
+  pub named : unnamed (numberOf (namesOf list)) (table (length text) tree) ≡ none
+  pub many : length (table (length text) tree) ≡ n
+  pub few : n ≤ nodeLimit
 
 judged : (text list : List ℕ) (room n : ℕ) (j : Judged) → readXml text ≡ j → namesFault list ≡ none
     → lineXml j (λ tree. readXmlLast list room (table (length text) tree)) ≡ value n → Taken text list n
@@ -40,9 +41,9 @@ judged text list room n (wanted tree) e f h =
     let same : value (length lines) ≡ value n = b .1 in
     let many : length lines ≡ n = cc in
     let c = or-none (ltb room (length lines)) (ltb nodeLimit (length lines)) (when-none (ltb room (length lines) || ltb nodeLimit (length lines)) (length lines) (b .0)) in
-    record { tree = tree; read = e; names-fine = f; many = many; few = omega (arith, ltb-false nodeLimit (length lines) (c .1)) }
+    record { tree = tree; read = e; names-fine = f; named = a .0; many = many; few = omega (arith, ltb-false nodeLimit (length lines) (c .1)) }
 
-taken : (text list : List ℕ) (parentRoom kindRoom beginRoom endRoom n : ℕ) → readXmlAnswer text list parentRoom kindRoom beginRoom endRoom ≡ value n → Taken text list n
+pub taken : (text list : List ℕ) (parentRoom kindRoom beginRoom endRoom n : ℕ) → readXmlAnswer text list parentRoom kindRoom beginRoom endRoom ≡ value n → Taken text list n
 unfolding readXmlAnswer
 taken text list parentRoom kindRoom beginRoom endRoom n h =
     let later = lineXml (readXml text) (λ tree. readXmlLast list parentRoom (table (length text) tree)) in
@@ -55,7 +56,7 @@ taken text list parentRoom kindRoom beginRoom endRoom n h =
     let b = line-value 2 n (namesFault list) later (a .1) in
     judged text list parentRoom n (readXml text) refl (b .0) (b .1)
 
-take-front : (xs ys : List ℕ) → take (length xs) (xs ++ ys) ≡ xs
+pub take-front : (xs ys : List ℕ) → take (length xs) (xs ++ ys) ≡ xs
 take-front [] ys = refl
 take-front (x ∷ xs) ys = ap (λ (l : List ℕ). x ∷ l) (take-front xs ys)
 
@@ -70,7 +71,7 @@ module _ (text list : List ℕ) (n : ℕ) (k : Taken text list n) where
   lines = table (length text) (k .tree)
 
   -- A column up to the number of nodes.
-  column-front : (field : Row → ℕ) (out : List ℕ) → take n (readXmlColumn field text (value n) out) ≡ map field lines
+  pub column-front : (field : Row → ℕ) (out : List ℕ) → take n (readXmlColumn field text (value n) out) ≡ map field lines
   unfolding readXmlColumn
   column-front field out =
       let e : n ≡ length (map field lines) = sym (length-map lines field ∙ k .many) in
@@ -86,7 +87,7 @@ module _ (text list : List ℕ) (n : ℕ) (k : Taken text list n) where
       ∙ getD-any (map field lines) i 0 (field (row 0 What.root 0 0)) short
       ∙ List·getD-map field lines i (row 0 What.root 0 0)
 
-  table-is : (parents kinds : List ℕ) → writtenTable text list parents kinds n ≡ tableOf (map parentField lines) (map (kindField list) lines)
+  pub table-is : (parents kinds : List ℕ) → writtenTable text list parents kinds n ≡ tableOf (map parentField lines) (map (kindField list) lines)
   table-is parents kinds = ap₂ (λ a b. tableOf a b) (column-front parentField parents) (column-front (kindField list) kinds)
 
   good : (parents kinds : List ℕ) → Good (writtenTable text list parents kinds n) n

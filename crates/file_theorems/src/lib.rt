@@ -1,0 +1,1 @@
+// No code: what a written file owes stands in specs/Files.antt, the proofs in proofs/.
