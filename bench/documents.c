@@ -257,6 +257,51 @@ void make_row(struct document *document, size_t nodes)
         add_empty(document, i % 2 == 1 ? "a" : "b");
 }
 
+/* Opens so many elements, each in the one before, the last one `end`; where leaves are wanted, one comes first in the
+   root and in each of them. */
+static void open_chain(struct document *document, size_t elements, int leaves)
+{
+    if (leaves)
+        add_empty(document, "b");
+    for (size_t i = 1; i <= elements; i++) {
+        open_element(document, i < elements ? "a" : "end");
+        if (leaves)
+            add_empty(document, "b");
+    }
+}
+
+/* Adds a leaf at the end of so many open elements, closing each, and then one at the end of the root. */
+static void close_chain(struct document *document, size_t elements)
+{
+    for (size_t i = 0; i < elements; i++) {
+        add_empty(document, "b");
+        close_element(document, document->parent[document->open]);
+    }
+    add_empty(document, "b");
+}
+
+void make_deep(struct document *document, size_t nodes, enum shape shape)
+{
+    size_t leaves = nodes / 512 * 250;
+    start(document, nodes);
+    switch (shape) {
+    case COMB_BEFORE:
+        open_chain(document, nodes / 2 - 1, 1);
+        break;
+    case COMB_BEHIND:
+        open_chain(document, nodes / 2 - 1, 0);
+        close_chain(document, nodes / 2 - 1);
+        break;
+    case LEAVES_AT_END:
+        open_chain(document, nodes - 1 - leaves, 0);
+        while (document->nodes < nodes)
+            add_empty(document, "b");
+        break;
+    default:
+        open_chain(document, nodes - 1, 0);
+    }
+}
+
 void make_names(struct document *document, const char *const *names)
 {
     start(document, 1);

@@ -34,6 +34,14 @@ void make_chain(struct document *document, size_t nodes);
 /* Makes a document of so many nodes in which every element is a child of the root; `a` and `b` take turns. */
 void make_row(struct document *document, size_t nodes);
 
+/* Deep documents: a chain of elements from the root down, alone, with one leaf in each of its nodes, which comes before
+   the rest of the chain or behind it, or with 2,000 leaves of 4,096 nodes in its last element. */
+enum shape { CHAIN, COMB_BEFORE, COMB_BEHIND, LEAVES_AT_END, SHAPES };
+
+/* Makes a deep document of so many nodes, a multiple of 512; the chain's elements are `a` but for the last, which is
+   `end`, and the leaves are `b`. */
+void make_deep(struct document *document, size_t nodes, enum shape shape);
+
 /* Makes a document of the root alone, whose list has these names; a null pointer ends them. */
 void make_names(struct document *document, const char *const *names);
 

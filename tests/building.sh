@@ -1,4 +1,4 @@
-# What tests/run and bench/run do alike, sourced by both from the repository's root: the flag --sudo, packages, the archive.
+# What tests/run, bench/run and bench/instructions do alike, sourced by each from the repository's root: the flag --sudo, packages, the archive.
 # They set `built` to the folder for what they make; functions that fail print why.
 # shellcheck shell=bash
 
