@@ -16,13 +16,13 @@ use Rattle.paper.specs.Cut.{hasChild, marksOf}
 use Rattle.paper.proofs.Tests.{true-and, or-true}
 use Rattle.paper.proofs.Searches.{some-intro, length-column, column-at}
 use Rattle.paper.proofs.Cutting.{Standing, child-elim, yes-rows, yes-stands, marked-row, row-marked, cut-extracted, numbers-back, marks-good}
-use Rattle.cut_theorems.specs.Cuts.{Yes, MarksGood, Extracts, keepsChild, YesLeaves, EmptyMarks}
+use Rattle.cut_theorems.specs.Cuts.{Yes, MarksAreGood, Extracts, keepsChild, YesLeaves, EmptyMarks}
 
 standing : {t cut : Table} {numbers : List ℕ} → Yes t cut numbers → Standing t cut numbers
 standing {t} {cut} {numbers} y = yes-stands t cut numbers (y .numbers-long) (y .says)
 
 -- THE MARKS ARE WITHOUT FAULT,
-pub marks-are-good : MarksGood
+pub marks-are-good : MarksAreGood
 marks-are-good t cut numbers y = marks-good t cut numbers (y .ours) (y .numbers-long) (standing y)
 
 -- THE TABLE IS THEIR EXTRACT,

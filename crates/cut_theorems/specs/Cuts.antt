@@ -21,8 +21,8 @@ pub record Yes (t cut : Table) (numbers : List ℕ) : Type 0 where
   pub says : isCut t cut numbers ≡ true
 
 -- A YES MEANS that the marks it stands for are without fault,
-abbrev pub MarksGood : Type 0
-MarksGood = (t cut : Table) (numbers : List ℕ) → Yes t cut numbers → marksFault t (marksOf t numbers) ≡ none
+abbrev pub MarksAreGood : Type 0
+MarksAreGood = (t cut : Table) (numbers : List ℕ) → Yes t cut numbers → marksFault t (marksOf t numbers) ≡ none
 
 -- that the partner's table is exactly what an extraction gives for them, its numbers being those of the marked nodes,
 abbrev pub Extracts : Type 0
