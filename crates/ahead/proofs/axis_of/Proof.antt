@@ -14,212 +14,168 @@ abbrev word : tie.Start → List ℕ
 word start = take (start .args .len) (drop (start .args .start) (start .args .text .now))
 
 -- What is left where the first word has been compared,
-abbrev start-1 : tie.After-same-word → tie.Start
-start-1 c = c .before .before .before
+abbrev start-1 : tie.After-is-self → tie.Start
+start-1 c = c .before .before
 
-left-1 : (c : tie.After-same-word) → Left (word (start-1 c)) inOrder
+left-1 : (c : tie.After-is-self) → Left (word (start-1 c)) inOrder
 left-1 c = all-left (word (start-1 c))
 
 -- and where each of the others has, from the place of the one before it.
-abbrev start-2 : tie.After-same-word2 → tie.Start
-start-2 c = start-1 (c .before .before .before)
+abbrev start-2 : tie.After-is-child → tie.Start
+start-2 c = start-1 (c .before .before)
 
-left-2 : (c : tie.After-same-word2) → Left (word (start-2 c)) (drop 1 inOrder)
-left-2 c = let one = c .before .before .before in passed (word (start-2 c)) self (drop 1 inOrder) (left-1 one) (sym (one .same-word .ensures) ∙ c .before .before .if1 .left)
+left-2 : (c : tie.After-is-child) → Left (word (start-2 c)) (drop 1 inOrder)
+left-2 c = let one = c .before .before in passed (word (start-2 c)) self (drop 1 inOrder) (left-1 one) (sym (one .is-self .ensures) ∙ c .before .if1 .left)
 
-abbrev start-3 : tie.After-same-word3 → tie.Start
-start-3 c = start-2 (c .before .before .before)
+abbrev start-3 : tie.After-is-parent → tie.Start
+start-3 c = start-2 (c .before .before)
 
-left-3 : (c : tie.After-same-word3) → Left (word (start-3 c)) (drop 2 inOrder)
-left-3 c = let one = c .before .before .before in passed (word (start-3 c)) child (drop 2 inOrder) (left-2 one) (sym (one .same-word2 .ensures) ∙ c .before .before .if2 .left)
+left-3 : (c : tie.After-is-parent) → Left (word (start-3 c)) (drop 2 inOrder)
+left-3 c = let one = c .before .before in passed (word (start-3 c)) child (drop 2 inOrder) (left-2 one) (sym (one .is-child .ensures) ∙ c .before .if2 .left)
 
-abbrev start-4 : tie.After-same-word4 → tie.Start
-start-4 c = start-3 (c .before .before .before)
+abbrev start-4 : tie.After-is-descendant-or-self → tie.Start
+start-4 c = start-3 (c .before .before)
 
-left-4 : (c : tie.After-same-word4) → Left (word (start-4 c)) (drop 3 inOrder)
-left-4 c = let one = c .before .before .before in passed (word (start-4 c)) Axis.parent (drop 3 inOrder) (left-3 one) (sym (one .same-word3 .ensures) ∙ c .before .before .if3 .left)
+left-4 : (c : tie.After-is-descendant-or-self) → Left (word (start-4 c)) (drop 3 inOrder)
+left-4 c = let one = c .before .before in passed (word (start-4 c)) Axis.parent (drop 3 inOrder) (left-3 one) (sym (one .is-parent .ensures) ∙ c .before .if3 .left)
 
-abbrev start-5 : tie.After-same-word5 → tie.Start
-start-5 c = start-4 (c .before .before .before)
+abbrev start-5 : tie.After-is-ancestor-or-self → tie.Start
+start-5 c = start-4 (c .before .before)
 
-left-5 : (c : tie.After-same-word5) → Left (word (start-5 c)) (drop 4 inOrder)
-left-5 c = let one = c .before .before .before in passed (word (start-5 c)) descendantOrSelf (drop 4 inOrder) (left-4 one) (sym (one .same-word4 .ensures) ∙ c .before .before .if4 .left)
+left-5 : (c : tie.After-is-ancestor-or-self) → Left (word (start-5 c)) (drop 4 inOrder)
+left-5 c = let one = c .before .before in passed (word (start-5 c)) descendantOrSelf (drop 4 inOrder) (left-4 one) (sym (one .is-descendant-or-self .ensures) ∙ c .before .if4 .left)
 
-abbrev start-6 : tie.After-same-word6 → tie.Start
-start-6 c = start-5 (c .before .before .before)
+abbrev start-6 : tie.After-is-descendant → tie.Start
+start-6 c = start-5 (c .before .before)
 
-left-6 : (c : tie.After-same-word6) → Left (word (start-6 c)) (drop 5 inOrder)
-left-6 c = let one = c .before .before .before in passed (word (start-6 c)) ancestorOrSelf (drop 5 inOrder) (left-5 one) (sym (one .same-word5 .ensures) ∙ c .before .before .if5 .left)
+left-6 : (c : tie.After-is-descendant) → Left (word (start-6 c)) (drop 5 inOrder)
+left-6 c = let one = c .before .before in passed (word (start-6 c)) ancestorOrSelf (drop 5 inOrder) (left-5 one) (sym (one .is-ancestor-or-self .ensures) ∙ c .before .if5 .left)
 
-abbrev start-7 : tie.After-same-word7 → tie.Start
-start-7 c = start-6 (c .before .before .before)
+abbrev start-7 : tie.After-is-ancestor → tie.Start
+start-7 c = start-6 (c .before .before)
 
-left-7 : (c : tie.After-same-word7) → Left (word (start-7 c)) (drop 6 inOrder)
-left-7 c = let one = c .before .before .before in passed (word (start-7 c)) descendant (drop 6 inOrder) (left-6 one) (sym (one .same-word6 .ensures) ∙ c .before .before .if6 .left)
+left-7 : (c : tie.After-is-ancestor) → Left (word (start-7 c)) (drop 6 inOrder)
+left-7 c = let one = c .before .before in passed (word (start-7 c)) descendant (drop 6 inOrder) (left-6 one) (sym (one .is-descendant .ensures) ∙ c .before .if6 .left)
 
-abbrev start-8 : tie.After-same-word8 → tie.Start
-start-8 c = start-7 (c .before .before .before)
+abbrev start-8 : tie.After-is-following-sibling → tie.Start
+start-8 c = start-7 (c .before .before)
 
-left-8 : (c : tie.After-same-word8) → Left (word (start-8 c)) (drop 7 inOrder)
-left-8 c = let one = c .before .before .before in passed (word (start-8 c)) ancestor (drop 7 inOrder) (left-7 one) (sym (one .same-word7 .ensures) ∙ c .before .before .if7 .left)
+left-8 : (c : tie.After-is-following-sibling) → Left (word (start-8 c)) (drop 7 inOrder)
+left-8 c = let one = c .before .before in passed (word (start-8 c)) ancestor (drop 7 inOrder) (left-7 one) (sym (one .is-ancestor .ensures) ∙ c .before .if7 .left)
 
-abbrev start-9 : tie.After-same-word9 → tie.Start
-start-9 c = start-8 (c .before .before .before)
+abbrev start-9 : tie.After-is-preceding-sibling → tie.Start
+start-9 c = start-8 (c .before .before)
 
-left-9 : (c : tie.After-same-word9) → Left (word (start-9 c)) (drop 8 inOrder)
-left-9 c = let one = c .before .before .before in passed (word (start-9 c)) followingSibling (drop 8 inOrder) (left-8 one) (sym (one .same-word8 .ensures) ∙ c .before .before .if8 .left)
+left-9 : (c : tie.After-is-preceding-sibling) → Left (word (start-9 c)) (drop 8 inOrder)
+left-9 c = let one = c .before .before in passed (word (start-9 c)) followingSibling (drop 8 inOrder) (left-8 one) (sym (one .is-following-sibling .ensures) ∙ c .before .if8 .left)
 
-abbrev start-10 : tie.After-same-word10 → tie.Start
-start-10 c = start-9 (c .before .before .before)
+abbrev start-10 : tie.After-is-following → tie.Start
+start-10 c = start-9 (c .before .before)
 
-left-10 : (c : tie.After-same-word10) → Left (word (start-10 c)) (drop 9 inOrder)
-left-10 c = let one = c .before .before .before in passed (word (start-10 c)) precedingSibling (drop 9 inOrder) (left-9 one) (sym (one .same-word9 .ensures) ∙ c .before .before .if9 .left)
+left-10 : (c : tie.After-is-following) → Left (word (start-10 c)) (drop 9 inOrder)
+left-10 c = let one = c .before .before in passed (word (start-10 c)) precedingSibling (drop 9 inOrder) (left-9 one) (sym (one .is-preceding-sibling .ensures) ∙ c .before .if9 .left)
 
-abbrev start-11 : tie.After-same-word11 → tie.Start
-start-11 c = start-10 (c .before .before .before)
+abbrev start-11 : tie.After-is-preceding → tie.Start
+start-11 c = start-10 (c .before .before)
 
-left-11 : (c : tie.After-same-word11) → Left (word (start-11 c)) (drop 10 inOrder)
-left-11 c = let one = c .before .before .before in passed (word (start-11 c)) following (drop 10 inOrder) (left-10 one) (sym (one .same-word10 .ensures) ∙ c .before .before .if10 .left)
+left-11 : (c : tie.After-is-preceding) → Left (word (start-11 c)) (drop 10 inOrder)
+left-11 c = let one = c .before .before in passed (word (start-11 c)) following (drop 10 inOrder) (left-10 one) (sym (one .is-following .ensures) ∙ c .before .if10 .left)
 
-slice-aggregate-same-word : tie.Need-slice-aggregate-same-word
-slice-aggregate-same-word c = search needs
-
-same-word-requires : tie.Need-same-word-requires
-same-word-requires c κs = search needs
+is-self-requires : tie.Need-is-self-requires
+is-self-requires c κs = search needs
 
 returns : tie.Need-returns
-returns c = named-so (word (start-1 (c .before))) self (drop 1 inOrder) (left-1 (c .before)) (sym (c .before .same-word .ensures) ∙ c .if1 .taken)
+returns c = named-so (word (start-1 (c .before))) self (drop 1 inOrder) (left-1 (c .before)) (sym (c .before .is-self .ensures) ∙ c .if1 .taken)
 
-slice-aggregate-same-word-2 : tie.Need-slice-aggregate-same-word-2
-slice-aggregate-same-word-2 c = search needs
-
-same-word-requires-2 : tie.Need-same-word-requires-2
-same-word-requires-2 c κs = start-1 (c .before .before) .pre
+is-child-requires : tie.Need-is-child-requires
+is-child-requires c κs = start-1 (c .before) .pre
 
 returns-2 : tie.Need-returns-2
-returns-2 c = named-so (word (start-2 (c .before))) child (drop 2 inOrder) (left-2 (c .before)) (sym (c .before .same-word2 .ensures) ∙ c .if2 .taken)
+returns-2 c = named-so (word (start-2 (c .before))) child (drop 2 inOrder) (left-2 (c .before)) (sym (c .before .is-child .ensures) ∙ c .if2 .taken)
 
-slice-aggregate-same-word-3 : tie.Need-slice-aggregate-same-word-3
-slice-aggregate-same-word-3 c = search needs
-
-same-word-requires-3 : tie.Need-same-word-requires-3
-same-word-requires-3 c κs = start-2 (c .before .before) .pre
+is-parent-requires : tie.Need-is-parent-requires
+is-parent-requires c κs = start-2 (c .before) .pre
 
 returns-3 : tie.Need-returns-3
-returns-3 c = named-so (word (start-3 (c .before))) Axis.parent (drop 3 inOrder) (left-3 (c .before)) (sym (c .before .same-word3 .ensures) ∙ c .if3 .taken)
+returns-3 c = named-so (word (start-3 (c .before))) Axis.parent (drop 3 inOrder) (left-3 (c .before)) (sym (c .before .is-parent .ensures) ∙ c .if3 .taken)
 
-slice-aggregate-same-word-4 : tie.Need-slice-aggregate-same-word-4
-slice-aggregate-same-word-4 c = search needs
-
-same-word-requires-4 : tie.Need-same-word-requires-4
-same-word-requires-4 c κs = start-3 (c .before .before) .pre
+is-descendant-or-self-requires : tie.Need-is-descendant-or-self-requires
+is-descendant-or-self-requires c κs = start-3 (c .before) .pre
 
 returns-4 : tie.Need-returns-4
-returns-4 c = named-so (word (start-4 (c .before))) descendantOrSelf (drop 4 inOrder) (left-4 (c .before)) (sym (c .before .same-word4 .ensures) ∙ c .if4 .taken)
+returns-4 c = named-so (word (start-4 (c .before))) descendantOrSelf (drop 4 inOrder) (left-4 (c .before)) (sym (c .before .is-descendant-or-self .ensures) ∙ c .if4 .taken)
 
-slice-aggregate-same-word-5 : tie.Need-slice-aggregate-same-word-5
-slice-aggregate-same-word-5 c = search needs
-
-same-word-requires-5 : tie.Need-same-word-requires-5
-same-word-requires-5 c κs = start-4 (c .before .before) .pre
+is-ancestor-or-self-requires : tie.Need-is-ancestor-or-self-requires
+is-ancestor-or-self-requires c κs = start-4 (c .before) .pre
 
 returns-5 : tie.Need-returns-5
-returns-5 c = named-so (word (start-5 (c .before))) ancestorOrSelf (drop 5 inOrder) (left-5 (c .before)) (sym (c .before .same-word5 .ensures) ∙ c .if5 .taken)
+returns-5 c = named-so (word (start-5 (c .before))) ancestorOrSelf (drop 5 inOrder) (left-5 (c .before)) (sym (c .before .is-ancestor-or-self .ensures) ∙ c .if5 .taken)
 
-slice-aggregate-same-word-6 : tie.Need-slice-aggregate-same-word-6
-slice-aggregate-same-word-6 c = search needs
-
-same-word-requires-6 : tie.Need-same-word-requires-6
-same-word-requires-6 c κs = start-5 (c .before .before) .pre
+is-descendant-requires : tie.Need-is-descendant-requires
+is-descendant-requires c κs = start-5 (c .before) .pre
 
 returns-6 : tie.Need-returns-6
-returns-6 c = named-so (word (start-6 (c .before))) descendant (drop 6 inOrder) (left-6 (c .before)) (sym (c .before .same-word6 .ensures) ∙ c .if6 .taken)
+returns-6 c = named-so (word (start-6 (c .before))) descendant (drop 6 inOrder) (left-6 (c .before)) (sym (c .before .is-descendant .ensures) ∙ c .if6 .taken)
 
-slice-aggregate-same-word-7 : tie.Need-slice-aggregate-same-word-7
-slice-aggregate-same-word-7 c = search needs
-
-same-word-requires-7 : tie.Need-same-word-requires-7
-same-word-requires-7 c κs = start-6 (c .before .before) .pre
+is-ancestor-requires : tie.Need-is-ancestor-requires
+is-ancestor-requires c κs = start-6 (c .before) .pre
 
 returns-7 : tie.Need-returns-7
-returns-7 c = named-so (word (start-7 (c .before))) ancestor (drop 7 inOrder) (left-7 (c .before)) (sym (c .before .same-word7 .ensures) ∙ c .if7 .taken)
+returns-7 c = named-so (word (start-7 (c .before))) ancestor (drop 7 inOrder) (left-7 (c .before)) (sym (c .before .is-ancestor .ensures) ∙ c .if7 .taken)
 
-slice-aggregate-same-word-8 : tie.Need-slice-aggregate-same-word-8
-slice-aggregate-same-word-8 c = search needs
-
-same-word-requires-8 : tie.Need-same-word-requires-8
-same-word-requires-8 c κs = start-7 (c .before .before) .pre
+is-following-sibling-requires : tie.Need-is-following-sibling-requires
+is-following-sibling-requires c κs = start-7 (c .before) .pre
 
 returns-8 : tie.Need-returns-8
-returns-8 c = named-so (word (start-8 (c .before))) followingSibling (drop 8 inOrder) (left-8 (c .before)) (sym (c .before .same-word8 .ensures) ∙ c .if8 .taken)
+returns-8 c = named-so (word (start-8 (c .before))) followingSibling (drop 8 inOrder) (left-8 (c .before)) (sym (c .before .is-following-sibling .ensures) ∙ c .if8 .taken)
 
-slice-aggregate-same-word-9 : tie.Need-slice-aggregate-same-word-9
-slice-aggregate-same-word-9 c = search needs
-
-same-word-requires-9 : tie.Need-same-word-requires-9
-same-word-requires-9 c κs = start-8 (c .before .before) .pre
+is-preceding-sibling-requires : tie.Need-is-preceding-sibling-requires
+is-preceding-sibling-requires c κs = start-8 (c .before) .pre
 
 returns-9 : tie.Need-returns-9
-returns-9 c = named-so (word (start-9 (c .before))) precedingSibling (drop 9 inOrder) (left-9 (c .before)) (sym (c .before .same-word9 .ensures) ∙ c .if9 .taken)
+returns-9 c = named-so (word (start-9 (c .before))) precedingSibling (drop 9 inOrder) (left-9 (c .before)) (sym (c .before .is-preceding-sibling .ensures) ∙ c .if9 .taken)
 
-slice-aggregate-same-word-10 : tie.Need-slice-aggregate-same-word-10
-slice-aggregate-same-word-10 c = search needs
-
-same-word-requires-10 : tie.Need-same-word-requires-10
-same-word-requires-10 c κs = start-9 (c .before .before) .pre
+is-following-requires : tie.Need-is-following-requires
+is-following-requires c κs = start-9 (c .before) .pre
 
 returns-10 : tie.Need-returns-10
-returns-10 c = named-so (word (start-10 (c .before))) following (drop 10 inOrder) (left-10 (c .before)) (sym (c .before .same-word10 .ensures) ∙ c .if10 .taken)
+returns-10 c = named-so (word (start-10 (c .before))) following (drop 10 inOrder) (left-10 (c .before)) (sym (c .before .is-following .ensures) ∙ c .if10 .taken)
 
-slice-aggregate-same-word-11 : tie.Need-slice-aggregate-same-word-11
-slice-aggregate-same-word-11 c = search needs
-
-same-word-requires-11 : tie.Need-same-word-requires-11
-same-word-requires-11 c κs = start-10 (c .before .before) .pre
+is-preceding-requires : tie.Need-is-preceding-requires
+is-preceding-requires c κs = start-10 (c .before) .pre
 
 returns-11 : tie.Need-returns-11
-returns-11 c = named-so (word (start-11 (c .before))) preceding (drop 11 inOrder) (left-11 (c .before)) (sym (c .before .same-word11 .ensures) ∙ c .if11 .taken)
+returns-11 c = named-so (word (start-11 (c .before))) preceding (drop 11 inOrder) (left-11 (c .before)) (sym (c .before .is-preceding .ensures) ∙ c .if11 .taken)
 
 returns-12 : tie.Need-returns-12
 returns-12 c =
     let w = word (start-11 (c .before)) in
-    none-left w (passed w preceding (drop 11 inOrder) (left-11 (c .before)) (sym (c .before .same-word11 .ensures) ∙ c .if11 .left))
+    none-left w (passed w preceding (drop 11 inOrder) (left-11 (c .before)) (sym (c .before .is-preceding .ensures) ∙ c .if11 .left))
 
 pub axis-of-spec : {M : Type 1} → statement M
 axis-of-spec =
     tie.close
     (tie.spec
-    slice-aggregate-same-word
-    same-word-requires
+    is-self-requires
     returns
-    slice-aggregate-same-word-2
-    same-word-requires-2
+    is-child-requires
     returns-2
-    slice-aggregate-same-word-3
-    same-word-requires-3
+    is-parent-requires
     returns-3
-    slice-aggregate-same-word-4
-    same-word-requires-4
+    is-descendant-or-self-requires
     returns-4
-    slice-aggregate-same-word-5
-    same-word-requires-5
+    is-ancestor-or-self-requires
     returns-5
-    slice-aggregate-same-word-6
-    same-word-requires-6
+    is-descendant-requires
     returns-6
-    slice-aggregate-same-word-7
-    same-word-requires-7
+    is-ancestor-requires
     returns-7
-    slice-aggregate-same-word-8
-    same-word-requires-8
+    is-following-sibling-requires
     returns-8
-    slice-aggregate-same-word-9
-    same-word-requires-9
+    is-preceding-sibling-requires
     returns-9
-    slice-aggregate-same-word-10
-    same-word-requires-10
+    is-following-requires
     returns-10
-    slice-aggregate-same-word-11
-    same-word-requires-11
+    is-preceding-requires
     returns-11
     returns-12)
