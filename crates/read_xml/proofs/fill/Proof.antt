@@ -81,7 +81,7 @@ copy-lines-requires-4 : tie.Need-copy-lines-requires-4
 copy-lines-requires-4 c κs =
     let said = first (second (third (c .before .before .before .before))) in
     let h = all said in
-    (h .few, kept-room h .3, omega (arith, h .fits, begun (judged said .before) .pre .1 .1 .2))
+    (h .few, omega (arith, kept-room h .2, kept-room h .3), omega (arith, h .fits, begun (judged said .before) .pre .1 .1 .2))
 
 same-length : tie.Need-same-length
 same-length c = search needs
