@@ -318,24 +318,13 @@ static void row_of_axis(const char *axis, const char *name, make_document *make)
 
 static void axes(void)
 {
-    static const char *const all[] = {"self",
-                                      "child",
-                                      "parent",
-                                      "descendant-or-self",
-                                      "ancestor-or-self",
-                                      "descendant",
-                                      "ancestor",
-                                      "following-sibling",
-                                      "preceding-sibling",
-                                      "following",
-                                      "preceding"};
     printf("\n### Axes from every node, the nodes doubled, ours alone\n\n| axis | document |");
     for (size_t nodes = LEAST_NODES; nodes <= NODE_ROOM; nodes *= 2)
         printf(" %zu nodes, us |", nodes);
     printf(" most, times the one before |\n|---|---|---|---|---|---|---|\n");
-    for (size_t a = 0; a < sizeof all / sizeof all[0]; a++) {
-        row_of_axis(all[a], "row", make_row);
-        row_of_axis(all[a], "chain", make_chain);
+    for (size_t a = 0; a < AXES; a++) {
+        row_of_axis(axis_names[a], "row", make_row);
+        row_of_axis(axis_names[a], "chain", make_chain);
     }
 }
 

@@ -244,24 +244,13 @@ static void head(const char *title, const char *work)
 /* The eleven axes, taken from every node and asked at every node. */
 static double axes(void)
 {
-    static const char *const all[] = {"self",
-                                      "child",
-                                      "parent",
-                                      "descendant-or-self",
-                                      "ancestor-or-self",
-                                      "descendant",
-                                      "ancestor",
-                                      "following-sibling",
-                                      "preceding-sibling",
-                                      "following",
-                                      "preceding"};
     static const char *const ways[] = {"/%s::node()", "[%s::node()]"};
     double most = 0;
     head("Axes, instructions a node", "`/descendant-or-self::node()` and");
-    for (size_t a = 0; a < sizeof all / sizeof all[0]; a++)
+    for (size_t a = 0; a < AXES; a++)
         for (size_t w = 0; w < sizeof ways / sizeof ways[0]; w++) {
             char part[64], name[68], query[128];
-            snprintf(part, sizeof part, ways[w], all[a]);
+            snprintf(part, sizeof part, ways[w], axis_names[a]);
             snprintf(name, sizeof name, "`%s`", part);
             snprintf(query, sizeof query, "/descendant-or-self::node()%s", part);
             most = larger(most, row(&(struct counted){name, query, run, nothing, nothing, 0}));

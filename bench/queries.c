@@ -6,6 +6,18 @@
 #include <stdlib.h>
 #include <string.h>
 
+const char *const axis_names[AXES] = {"self",
+                                      "child",
+                                      "parent",
+                                      "descendant-or-self",
+                                      "ancestor-or-self",
+                                      "descendant",
+                                      "ancestor",
+                                      "following-sibling",
+                                      "preceding-sibling",
+                                      "following",
+                                      "preceding"};
+
 void fail(const char *what, const char *which)
 {
     printf("bench: %s: %s\n", what, which);

@@ -4,7 +4,10 @@
 
 #include "documents.h"
 
-enum { ITEM_ROOM = HALYARDFIG_QUERY_ITEMS, TEXT_ROOM = HALYARDFIG_TEXT_BYTES };
+enum { ITEM_ROOM = HALYARDFIG_QUERY_ITEMS, TEXT_ROOM = HALYARDFIG_TEXT_BYTES, AXES = 11 };
+
+/* The words of the axes, by their numbers. */
+extern const char *const axis_names[AXES];
 
 struct query {
     size_t count;
