@@ -30,6 +30,7 @@ use Rattle.promises.specs.UniqueParts.{PutByteUnique, PutUnique, PutSlas
 use Rattle.promises.specs.UniqueParts.{LineEndUnique, LineStartUnique, PutRefusalUnique, PutResultUnique}
 use Rattle.promises.specs.UniqueParts.{FillUnique, CopyUnique, KeepUnique, AddUnique, FlipUnique, KeepSecondUnique, AddSecondUnique, KeepMetUnique, AlongUnique}
 use Rattle.promises.specs.UniqueParts.{KeepQueryUnique, OwesUnique, SkipUnique, CountPathsUnique, PutSelectedUnique, SelectedSizeUnique}
+use Rattle.promises.specs.UniqueParts.{ReadsAsUnique}
 use Rattle.promises.proofs.Telling.{same, same-slice, same-slices}
 
 -- ITEMS.
@@ -273,3 +274,6 @@ put-selected-unique κs a u v x y g p q = (refl, same-slice p q)
 
 pub selected-size-unique : SelectedSizeUnique
 selected-size-unique κs a u v x y g p q = same (p .0) (q .0)
+
+pub reads-as-unique : ReadsAsUnique
+reads-as-unique κs a u v x y g p q = same p q

@@ -23,6 +23,7 @@ use Rattle.names.proofs.find
 use Rattle.names.proofs.spell
 use Rattle.initials.proofs.link
 use Rattle.initials.proofs.find as find_initial
+use Rattle.match_xml.proofs.reads_as
 use Rattle.token.proofs.white_space
 use Rattle.token.proofs.skip as skip_space
 use Rattle.token.proofs.run_end
@@ -311,3 +312,7 @@ PutSelectedUnique = Unique put_selected.Kinds.ps put_selected.Kinds.r put_select
 
 abbrev pub SelectedSizeUnique : Type 0
 SelectedSizeUnique = UniqueAnswer selected_size.Kinds.ps selected_size.Kinds.r selected_size.Reads.Pre selected_size.Reads.Post
+
+-- XML TEXT AGAINST COLUMNS.
+abbrev pub ReadsAsUnique : Type 0
+ReadsAsUnique = UniqueAnswer reads_as.Kinds.ps reads_as.Kinds.r reads_as.Reads.Pre reads_as.Reads.Post
