@@ -11,7 +11,7 @@ use lib.ListN.{length, take, drop, length-append, length-drop, length-map}
 use Rattle.paper.specs.Limits.{textLimit, listLimit, nodeLimit}
 use Rattle.paper.specs.Names.{namesFault}
 use Rattle.paper.specs.Document.{Table, nodes, marked, tableFault, marksFault}
-use Rattle.paper.specs.Xml.{Nodes, nothing, element, chars, table, count, starts}
+use Rattle.paper.specs.Xml.{Nodes, nothing, element, chars, wanted, readXml, table, count, starts}
 use Rattle.paper.specs.WriteXml.{pruned, bytesAt, squaresBy, squaresPast, escaped, asXml, keptOf, keptXml}
 use Rattle.paper.specs.Answers.{parentField, tooLong, elementMarked, readsAs, writeXmlAnswer}
 use Rattle.paper.proofs.Tests.{and-true, decide}
@@ -80,13 +80,16 @@ module _ (text marks : List ℕ) (short : length text ≤ textLimit) where
       (decide (marked marks n))
 
 -- So it is of all that is written.
-file-small : (text list : List ℕ) (t : Table) (begins ends marks : List ℕ) → length text ≤ textLimit → Reads text list t begins ends → length (keptXml text marks) < 4294967296
+pub kept-small : (text marks : List ℕ) (tree : Nodes) → length text ≤ textLimit → readXml text ≡ wanted tree → length (table (length text) tree) ≤ nodeLimit → length (keptXml text marks) < 4294967296
 unfolding keptXml
+kept-small text marks tree short read few =
+    omega
+    (arith, ap (λ j. length (keptOf text marks j)) read, kept-short text marks short tree 1 0 (tree-stands text tree read), length-table (length text) tree, few)
+
+file-small : (text list : List ℕ) (t : Table) (begins ends marks : List ℕ) → length text ≤ textLimit → Reads text list t begins ends → length (keptXml text marks) < 4294967296
 file-small text list t begins ends marks short r =
-    let lines = table (length text) (r .tree) in
-    let many : nodes t ≡ suc (count (r .tree)) = ap nodes (r .columns) ∙ length-map lines parentField ∙ length-table (length text) (r .tree) ∙ omega arith in
-    let bound = kept-short text marks short (r .tree) 1 0 (tree-stands text (r .tree) (r .read)) in
-    omega (arith, ap (λ j. length (keptOf text marks j)) (r .read), bound, many, r .few)
+    let many : nodes t ≡ length (table (length text) (r .tree)) = ap nodes (r .columns) ∙ length-map (table (length text) (r .tree)) parentField in
+    kept-small text marks (r .tree) short (r .read) (omega (arith, many, r .few))
 
 pub write-xml-small : (text list : List ℕ) (t : Table) (begins ends marks : List ℕ) (room : ℕ) → Small (writeXmlAnswer text list t begins ends marks room)
 unfolding writeXmlAnswer

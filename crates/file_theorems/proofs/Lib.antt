@@ -16,7 +16,7 @@ pub mod Twins
 pub mod Secret
 -- Every answer is below 2^32: `write-xml-small`.
 pub mod Bounds
--- The walk over the lines that writes the same, `onward`: `kept-onward`.
+-- The walk over the lines that writes the same, `onward`: `kept-onward`; what is open all the way: `start-rests`, `node-rests`.
 pub mod Onward
 -- An element's name is what a writer finds behind its `<`: `names-stand`.
 pub mod Naming

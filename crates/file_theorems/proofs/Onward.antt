@@ -3,27 +3,30 @@
 -- By induction over the nodes: a walk that leaves elements open may as well close them at once, since the next marked node stands at or above the innermost that stays open. Assumes nothing.
 use Prim.Native.Nat.{ℕ, zero, suc, _+_, _<_, _≤_}
 use native.Mathlib.Omega.{arith}
+use native.Mathlib.Decide.{decLt}
 use native.Mathlib.Nat.{add-zero, zero-add}
 use mathlib.Core.Path.{_≡_, refl, sym, _∙_, ap, ap₂, subst}
 use mathlib.Core.Bool.{Bool, true, false, cond, false≢true}
 use mathlib.Core.List.{List, [], _∷_, _++_, append-assoc, append-nil}
-use mathlib.Core.Logic.{⊎-elim}
+use mathlib.Core.Logic.{⊎-elim, by-cases}
 use lib.Dec.{eqb}
-use lib.ListN.{length}
+use lib.ListN.{length, getD, List·getD-eq-default}
 use borrow.Author.Tests.{eq-eqb, ne-eqb}
 use Rattle.paper.specs.Document.{marked}
-use Rattle.paper.specs.Xml.{Nodes, nothing, element, chars, What, Row, row, rows, table, count}
+use Rattle.paper.specs.Xml.{Nodes, nothing, element, chars, wanted, readXml, What, Row, row, rows, table, count}
 use Rattle.paper.specs.WriteXml.{pruned, bytesAt, squaresPast, escaped, asXml}
 use Rattle.paper.proofs.Tests.{decide}
 use Rattle.paper.proofs.Trees.{Closed}
-use Rattle.xml_theorems.specs.Tables.{lineAt}
+pub use Rattle.xml_theorems.specs.Tables.{lineAt}
 use Rattle.xml_theorems.proofs.Numbered.{Stand, stand-element, stand-inside, stand-rest, stand-chars, stand-behind, three, two}
-use Rattle.xml_theorems.proofs.Placed.{stand-table, length-table}
+use Rattle.xml_theorems.proofs.Placed.{stand-table, places-nest}
+pub use Rattle.xml_theorems.proofs.Placed.{length-table}
+use Rattle.xml_theorems.proofs.Standing.{elements-stand, texts-stand}
 use Rattle.file_theorems.specs.Files.{columnsOf}
 use Rattle.file_theorems.proofs.Rebuilt.{element-bytes, text-bytes}
 use Rattle.file_theorems.proofs.Pruning.{unmarked, under-marked}
 
-abbrev nameOf : What → List ℕ
+abbrev pub nameOf : What → List ℕ
 nameOf What.root = []
 nameOf What.text = []
 nameOf (What.named name) = name
@@ -33,6 +36,15 @@ abbrev pub shown : What → List ℕ → ℕ → (ℕ → List ℕ) → List ℕ
 shown What.root bytes k within under = within k
 shown What.text bytes k within under = escaped k bytes ++ within (squaresPast k bytes)
 shown (What.named name) bytes k within under = 60 ∷ name ++ (62 ∷ under)
+
+-- The innermost open element once a marked node was written.
+abbrev pub innermost : Row → ℕ → ℕ
+innermost r i = inner (r .what)
+  where
+    inner : What → ℕ
+    inner What.root = r .parent
+    inner What.text = r .parent
+    inner (What.named name) = i
 
 -- How many `]` end what is written, once the elements from `top` to `up` are closed.
 abbrev pub past : ℕ → ℕ → ℕ → ℕ
@@ -56,30 +68,30 @@ module _ (text marks : List ℕ) (lines : List Row) where
       passed
 
   -- OPEN ELEMENTS, from one up to another that is over it, with their end tags.
-  data Chain : ℕ → ℕ → List ℕ → Type 0 where
+  pub data Chain : ℕ → ℕ → List ℕ → Type 0 where
     here : {i : ℕ} → Chain i i []
-    below : {i up : ℕ} {bytes : List ℕ} → up < i → lineAt lines i .parent < i → Chain (lineAt lines i .parent) up bytes
-        → Chain i up (60 ∷ 47 ∷ nameOf (lineAt lines i .what) ++ (62 ∷ bytes))
+    below : {i up : ℕ} {name bytes : List ℕ} → up < i → i < length lines → lineAt lines i .what ≡ What.named name → lineAt lines i .parent < i
+        → Chain (lineAt lines i .parent) up bytes → Chain i up (60 ∷ 47 ∷ nameOf (lineAt lines i .what) ++ (62 ∷ bytes))
 
   chain-falls : {i up : ℕ} {bytes : List ℕ} → Chain i up bytes → up ≤ i
   chain-falls here = omega arith
-  chain-falls (below l p c) = omega arith
+  chain-falls (below l n w p c) = omega arith
 
-  chain-closes : {i up : ℕ} {bytes : List ℕ} → Chain i up bytes → (fuel : ℕ) → i ≤ fuel → closes fuel i up ≡ bytes
+  pub chain-closes : {i up : ℕ} {bytes : List ℕ} → Chain i up bytes → (fuel : ℕ) → i ≤ fuel → closes fuel i up ≡ bytes
   chain-closes here zero l = refl
   chain-closes (here {i = i}) (suc fuel) l = let same : eqb i i ≡ true = eq-eqb i i refl in rw same
-  chain-closes (below u p c) zero l = absurd (omega arith)
-  chain-closes (below {i = i} {up = up} u p c) (suc fuel) l =
+  chain-closes (below u n w p c) zero l = absurd (omega arith)
+  chain-closes (below {i = i} {up = up} u n w p c) (suc fuel) l =
       let other : eqb i up ≡ false = ne-eqb i up (λ e. omega arith) in
       rw other (ap (λ (bs : List ℕ). 60 ∷ 47 ∷ nameOf (lineAt lines i .what) ++ (62 ∷ bs)) (chain-closes c fuel (omega arith)))
 
   chain-then : {i j p : ℕ} {b c : List ℕ} → Chain i j b → Chain j p c → Chain i p (b ++ c)
   chain-then here d = d
-  chain-then {p = p} {c = c} (below {i = i} {bytes = bs} u l r) d =
-      subst (Chain i p) (sym (append-assoc (60 ∷ 47 ∷ nameOf (lineAt lines i .what)) (62 ∷ bs) c)) (below (omega (arith, chain-falls d)) l (chain-then r d))
+  chain-then {p = p} {c = c} (below {i = i} {bytes = bs} u n w l r) d =
+      subst (Chain i p) (sym (append-assoc (60 ∷ 47 ∷ nameOf (lineAt lines i .what)) (62 ∷ bs) c)) (below (omega (arith, chain-falls d)) n w l (chain-then r d))
 
   -- The next marked node, or the end, stands at `up` or above it.
-  abbrev Rests : ℕ → ℕ → ℕ → Type 0
+  abbrev pub Rests : ℕ → ℕ → ℕ → Type 0
   Rests up zero i = (b : List ℕ) × Chain up 0 b
   Rests up (suc left) i = (marked marks i ≡ true → (b : List ℕ) × Chain up (lineAt lines i .parent) b) × (marked marks i ≡ false → Rests up left (suc i))
 
@@ -152,11 +164,11 @@ module _ (text marks : List ℕ) (lines : List Row) where
       ∙ ap₂ (λ (bs : List ℕ) n. bs ++ (escaped n bytes ++ onward left (suc i) up (squaresPast n bytes))) (chain-closes (here {i = up}) up (omega arith)) same)
 
   -- An element that was just opened.
-  opened : (n up : ℕ) (name : List ℕ) (begin end : ℕ) → lineAt lines n ≡ row up (What.named name) begin end → up < n → Chain n up (60 ∷ 47 ∷ name ++ (62 ∷ []))
-  opened n up name begin end line u =
+  opened : (n up : ℕ) (name : List ℕ) (begin end : ℕ) → lineAt lines n ≡ row up (What.named name) begin end → up < n → n < length lines → Chain n up (60 ∷ 47 ∷ name ++ (62 ∷ []))
+  opened n up name begin end line u l =
       let p = ap (λ (r : Row). r .parent) line in
       let w = ap (λ (r : Row). r .what) line in
-      subst (λ v. Chain n up (60 ∷ 47 ∷ nameOf v ++ (62 ∷ []))) w (below u (omega (arith, p)) (subst (λ i. Chain i up []) (sym p) here))
+      subst (λ v. Chain n up (60 ∷ 47 ∷ nameOf v ++ (62 ∷ []))) w (below u l w (omega (arith, p)) (subst (λ i. Chain i up []) (sym p) here))
 
   -- How many `]` end what was written for nodes.
   abbrev ends : ℕ → Nodes → ℕ
@@ -173,6 +185,19 @@ module _ (text marks : List ℕ) (lines : List Row) where
       let closed : onward left m n (ends 0 inside) ≡ tag ++ (62 ∷ asXml text 0 more ++ rest) =
       lazy left m n up (ends 0 inside) (tag ++ (62 ∷ [])) u c r ∙ append-assoc tag (62 ∷ []) (onward left m up 0) ∙ ap (λ (x : List ℕ). tag ++ (62 ∷ x)) behind in
       ap (λ (x : List ℕ). 60 ∷ name ++ (62 ∷ x)) (within ∙ ap (λ (x : List ℕ). asXml text 0 inside ++ x) closed) ∙ sym (element-bytes text name k begin end inside more rest)
+
+  -- Below the root a node is a text or an element.
+  told {ℓ} : {C : Type ℓ} (ns : Nodes) (up n : ℕ) → Stand lines n (rows up n ns) → (i : ℕ) → n ≤ i → i < n + count ns
+      → (lineAt lines i .what ≡ What.text → C) → ((name : List ℕ) → lineAt lines i .what ≡ What.named name → C) → C
+  told nothing up n h i a l f g = absurd (omega arith)
+  told (element name begin end inside rest) up n h i a l f g =
+      three n (count inside) (count rest) i a l
+      (λ e. g name (ap (λ j. lineAt lines j .what) e ∙ ap (λ (r : Row). r .what) (stand-element lines up n name begin end inside rest h)))
+      (λ b m. told inside n (suc n) (stand-inside lines up n name begin end inside rest h) i b m f g)
+      (λ b m. told rest up (suc n + count inside) (stand-rest lines up n name begin end inside rest h) i b m f g)
+  told (chars begin end rest) up n h i a l f g =
+      two n (count rest) i a l (λ e. f (ap (λ j. lineAt lines j .what) e ∙ ap (λ (r : Row). r .what) (stand-chars lines up n begin end rest h)))
+      (λ b m. told rest up (suc n) (stand-behind lines up n begin end rest h) i b m f g)
 
   module _ (up-marked : (i : ℕ) → i < length lines → marked marks i ≡ true → marked marks (lineAt lines i .parent) ≡ true) where
     -- Under an unmarked node nothing is marked.
@@ -210,6 +235,38 @@ module _ (text marks : List ℕ) (lines : List Row) where
         subst (λ m. Rests up m n) all
         (λ m. ([], subst (λ p. Chain up p []) (sym line) here), λ m. rests-row rest up (suc n) left (stand-behind lines up n begin end rest h) (omega arith) (subst (Rests up left) on r))
 
+    -- What is open once a marked node was written: the element itself, or a text's parent. What comes next rests there.
+    rests-behind : (ns : Nodes) (up n left : ℕ) → Stand lines n (rows up n ns) → up < n → n + count ns ≤ length lines → Rests up left (n + count ns)
+        → (i more : ℕ) → n ≤ i → i < n + count ns → suc i + more ≡ n + count ns + left → Rests (innermost (lineAt lines i) i) more (suc i)
+    rests-behind nothing up n left h u l r i more a b e = absurd (omega arith)
+    rests-behind (element name begin end inside rest) up n left h u l r i more a b e =
+        let m = suc n + count inside in
+        let line = stand-element lines up n name begin end inside rest h in
+        let hi = stand-inside lines up n name begin end inside rest h in
+        let hr = stand-rest lines up n name begin end inside rest h in
+        let on : n + suc (count inside + count rest) ≡ m + count rest = omega arith in
+        let behind : Rests up left (m + count rest) = subst (Rests up left) on r in
+        let resting : Rests up (count rest + left) m = rests-row rest up m left hr (omega arith) behind in
+        let within : Rests n (count rest + left) m = rests-below (count rest + left) m up n _ (opened n up name begin end line u (omega arith)) resting in
+        three n (count inside) (count rest) i a b
+        (λ same.
+        let all : count inside + (count rest + left) ≡ more = omega arith in
+        subst (λ j. Rests (innermost (lineAt lines j) j) more (suc j)) (sym same)
+        (subst (λ (r : Row). Rests (innermost r n) more (suc n)) (sym line) (subst (λ k. Rests n k (suc n)) all (rests-row inside n (suc n) (count rest + left) hi (omega arith) within))))
+        (λ c d. rests-behind inside n (suc n) (count rest + left) hi (omega arith) (omega arith) within i more c d (omega arith))
+        (λ c d. rests-behind rest up m left hr (omega arith) (omega arith) behind i more c d (omega arith))
+    rests-behind (chars begin end rest) up n left h u l r i more a b e =
+        let line = stand-chars lines up n begin end rest h in
+        let hb = stand-behind lines up n begin end rest h in
+        let on : n + suc (count rest) ≡ suc n + count rest = omega arith in
+        let behind : Rests up left (suc n + count rest) = subst (Rests up left) on r in
+        two n (count rest) i a b
+        (λ same.
+        let all : count rest + left ≡ more = omega arith in
+        subst (λ j. Rests (innermost (lineAt lines j) j) more (suc j)) (sym same)
+        (subst (λ (r : Row). Rests (innermost r n) more (suc n)) (sym line) (subst (λ k. Rests up k (suc n)) all (rests-row rest up (suc n) left hb (omega arith) behind))))
+        (λ c d. rests-behind rest up (suc n) left hb (omega arith) (omega arith) behind i more c d (omega arith))
+
     -- THE WALK over a row writes its marked nodes, and goes on behind it.
     walked : (ns : Nodes) (up n left k : ℕ) → Stand lines n (rows up n ns) → up < n → n + count ns ≤ length lines → Rests up left (n + count ns)
         → onward (count ns + left) n up k ≡ asXml text k (pruned marks n ns) ++ onward left (n + count ns) up (ends k (pruned marks n ns))
@@ -225,7 +282,7 @@ module _ (text marks : List ℕ) (lines : List Row) where
         let resting : Rests up (count rest + left) m = rests-row rest up m left hr (omega arith) behind in
         let later : (k : ℕ) → onward (count rest + left) m up k ≡ asXml text k (pruned marks m rest) ++ onward left (m + count rest) up (ends k (pruned marks m rest)) =
         λ k. walked rest up m left k hr (omega arith) (omega arith) behind in
-        let chain = opened n up name begin end line u in
+        let chain = opened n up name begin end line u (omega arith) in
         ap (λ i. onward i n up k) all
         ∙ ⊎-elim
         (λ (e : marked marks n ≡ true).
@@ -265,3 +322,36 @@ kept-onward list text marks long tree c =
     sym (append-nil (asXml text 0 (pruned marks 1 tree)))
     ∙ sym (walked text marks lines (under-marked list marks long tree c) tree 0 1 0 0 (stand-table long tree) (omega arith) (omega (arith, length-table long tree)) ([], here))
     ∙ ap (λ n. onward text marks lines n 1 0 0) (add-zero (count tree))
+
+-- ALL THE WAY what comes next rests in the innermost open element: at the start, and behind each node below the root.
+pub start-rests : (list text marks : List ℕ) (long : ℕ) (tree : Nodes) → Closed (columnsOf list long tree) marks → Rests text marks (table long tree) 0 (count tree) 1
+start-rests list text marks long tree c =
+    let lines = table long tree in
+    subst (λ n. Rests text marks lines 0 n 1) (add-zero (count tree))
+    (rests-row text marks lines (under-marked list marks long tree c) tree 0 1 0 (stand-table long tree) (omega (arith, length-table long tree)) ([], here))
+
+pub node-rests : (list text marks : List ℕ) (long : ℕ) (tree : Nodes) → Closed (columnsOf list long tree) marks
+    → (i left : ℕ) → 0 < i → suc i + left ≡ length (table long tree) → Rests text marks (table long tree) (innermost (lineAt (table long tree) i) i) left (suc i)
+node-rests list text marks long tree c i left a e =
+    let long-is = length-table long tree in
+    rests-behind text marks (table long tree) (under-marked list marks long tree c) tree 0 1 0 (stand-table long tree) (omega arith) (omega (arith, long-is)) ([], here) i left (omega arith)
+    (omega (arith, long-is)) (omega (arith, long-is))
+
+-- BELOW THE ROOT a node is a text or an element, and has a place in the text.
+pub node-told {ℓ} : {C : Type ℓ} (long : ℕ) (tree : Nodes) (i : ℕ) → 0 < i → i < length (table long tree)
+    → (lineAt (table long tree) i .what ≡ What.text → C) → ((name : List ℕ) → lineAt (table long tree) i .what ≡ What.named name → C) → C
+node-told long tree i a l f g = told [] [] (table long tree) tree 0 1 (stand-table long tree) i (omega arith) (omega (arith, length-table long tree)) f g
+
+-- A byte that is not 0 stands inside.
+stands-inside : (text : List ℕ) (at b : ℕ) → 0 < b → getD text at 0 ≡ b → at < length text
+stands-inside text at b z h = by-cases (decLt at (length text)) (λ l. l) (λ l. absurd (omega (arith, z, h, List·getD-eq-default text 0 {n = at} (omega arith))))
+
+pub node-inside : (text : List ℕ) (tree : Nodes) → readXml text ≡ wanted tree → (i : ℕ) → 0 < i → i < length (table (length text) tree)
+    → (lineAt (table (length text) tree) i .begin < lineAt (table (length text) tree) i .end) × (lineAt (table (length text) tree) i .end ≤ length text)
+node-inside text tree read i a l = (
+  places-nest text tree read i l .filled,
+  node-told (length text) tree i a l (λ w. omega (arith, stands-inside text _ 60 (omega arith) (texts-stand text tree read i l w .before)))
+      (λ name w.
+      let past = elements-stand text tree read i name l w .closed in
+      omega (arith, past .next, stands-inside text (past .last) 62 (omega arith) (past .stands))),
+)

@@ -2,3 +2,5 @@
 pub mod Texts
 -- End tags put one by one: `closing-start`, `known`, `closing-more`, `closing-done`, `closing-room`.
 pub mod Closing
+-- The walk over the nodes: `walk-start`, `walk-node`, `walk-pass`, `walk-done`; where it may begin: `walk-lent`.
+pub mod Walking
