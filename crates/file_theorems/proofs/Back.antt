@@ -20,8 +20,8 @@ use Rattle.paper.specs.Answers.{parentField, kindField, elementMarked}
 use Rattle.paper.proofs.Tests.{and-true, none-some, decide}
 use Rattle.paper.proofs.Searches.{some-elim}
 use Rattle.paper.proofs.Trees.{Tree, Closed, over-root, over-marked, closed}
-use Rattle.xml_theorems.specs.Productions.{Derives, text}
-use Rattle.xml_theorems.proofs.Accepted.{accepted}
+use Rattle.xml_grammar.specs.Productions.{Derives, text}
+use Rattle.xml_verdicts.proofs.Accepted.{accepted}
 use Rattle.xml_theorems.proofs.Numbered.{stand-inside}
 use Rattle.xml_theorems.proofs.Placed.{stand-table, length-table}
 use Rattle.xml_theorems.proofs.Tabled.{under, parent-column, column-tree}

@@ -14,7 +14,7 @@ use Rattle.paper.specs.Names.{nameStart, namePart, nameParts, isName}
 use Rattle.paper.specs.Xml.{Nodes, nothing, element, chars, Judged, wanted, unwanted, readXml, squares, starts}
 use Rattle.paper.specs.WriteXml.{pruned, bytesAt, squaresBy, squaresPast, escaped, asXml, keptOf, keptXml}
 use Rattle.paper.proofs.Tests.{and-true, or-left, or-right, decide}
-use Rattle.xml_theorems.proofs.Accepted.{accepted}
+use Rattle.xml_verdicts.proofs.Accepted.{accepted}
 use Rattle.file_theorems.specs.Files.{NoMarksEnd}
 use Rattle.file_theorems.proofs.Rebuilt.{Sound, derived-sound, pruned-sound, element-bytes, text-bytes}
 

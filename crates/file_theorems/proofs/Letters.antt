@@ -11,8 +11,8 @@ use borrow.Author.Tests.{eqb-true, ne-eqb, ltb-false}
 use Rattle.paper.specs.Tools.{ascii}
 use Rattle.paper.specs.WriteXml.{squaresBy, squaresPast, escaped}
 use Rattle.paper.proofs.Tests.{and-true, true-and, decide}
-use Rattle.xml_theorems.specs.Productions.{SayIn, said, saying, isChar, utf8, Atom, char, reference, AtomIn, a-char, lt-ref, gt-ref, amp-ref, apos-ref, quot-ref, AtomsIn, no-atom, one-atom, isThe}
-use Rattle.xml_theorems.proofs.Squares.{more, fine, counted}
+use Rattle.xml_grammar.specs.Productions.{SayIn, said, saying, isChar, utf8, Atom, char, reference, AtomIn, a-char, lt-ref, gt-ref, amp-ref, apos-ref, quot-ref, AtomsIn, no-atom, one-atom, isThe}
+use Rattle.xml_grammar.proofs.Squares.{more, fine, counted}
 
 -- WORDS, at any place.
 say-splits : {ws bs rest : List ℕ} {at to : ℕ} → SayIn ws at bs to rest → bs ≡ ws ++ rest

@@ -12,10 +12,10 @@ use Rattle.paper.specs.Tokens.{white}
 use Rattle.paper.specs.Xml.{Nodes, nothing, element, chars, What, Row, row, rows, table, count, firstIs}
 use Rattle.paper.specs.WriteXml.{bytesAt}
 use Rattle.paper.proofs.Tests.{or-left}
-use Rattle.xml_theorems.specs.Productions.{ManyIn, no-more, one-more, PartsIn, name-ends, name-goes-on, NameIn, name-starts, RowIn, row-ends, run-first, empty-first, full-first, Derives, text}
+use Rattle.xml_grammar.specs.Productions.{ManyIn, no-more, one-more, PartsIn, name-ends, name-goes-on, NameIn, name-starts, RowIn, row-ends, run-first, empty-first, full-first, Derives, text}
 use Rattle.xml_theorems.specs.Tables.{lineAt}
-use Rattle.xml_theorems.proofs.Accepted.{accepted}
-use Rattle.xml_theorems.proofs.Followed.{white-no-part}
+use Rattle.xml_verdicts.proofs.Accepted.{accepted}
+use Rattle.xml_grammar.proofs.Followed.{white-no-part}
 use Rattle.xml_theorems.proofs.Nesting.{drop-next, say-further, many-further, name-further, run-further, declaration-further, rowed}
 use Rattle.xml_theorems.proofs.Numbered.{Stand, stand-element, stand-inside, stand-rest, stand-chars, stand-behind, three, two}
 use Rattle.xml_theorems.proofs.Placed.{stand-table, length-table}

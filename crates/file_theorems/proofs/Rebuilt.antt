@@ -11,8 +11,8 @@ use Rattle.paper.specs.Document.{marked}
 use Rattle.paper.specs.Xml.{Nodes, nothing, element, chars, count}
 use Rattle.paper.specs.WriteXml.{pruned, bytesAt, squaresPast, escaped, asXml}
 use Rattle.paper.proofs.Tests.{and-true, true-and}
-use Rattle.xml_theorems.specs.Productions.{no-more, PartsIn, name-ends, name-goes-on, NameIn, name-starts, Atom, AtomsIn, no-atom, RunIn, a-run, RowIn, row-ends, run-first, empty-first, full-first, Derives, text, not-declared}
-use Rattle.xml_theorems.proofs.Squares.{fine, fine-marks}
+use Rattle.xml_grammar.specs.Productions.{no-more, PartsIn, name-ends, name-goes-on, NameIn, name-starts, Atom, AtomsIn, no-atom, RunIn, a-run, RowIn, row-ends, run-first, empty-first, full-first, Derives, text, not-declared}
+use Rattle.xml_grammar.proofs.Squares.{fine, fine-marks}
 use Rattle.xml_theorems.proofs.Nesting.{drop-next, say-further, many-further, name-further, run-further, declaration-further, rowed}
 use Rattle.xml_theorems.proofs.Written.{take-front}
 use Rattle.file_theorems.specs.Files.{Parts, before, partsOf, escapedRuns}

@@ -7,7 +7,7 @@ use native.Mathlib.Decide.{decLt}
 use mathlib.Core.Path.{_≡_, refl, sym, _∙_, ap, ap₂, subst, fun-ext}
 use mathlib.Core.Bool.{Bool, true, false, cond, _&&_, _||_}
 use mathlib.Core.List.{List, [], _∷_, _++_, append-assoc, append-nil}
-use mathlib.Core.Logic.{by-cases, ⊎-elim}
+use mathlib.Core.Logic.{by-cases}
 use mathlib.Core.Option.{none, some}
 use lib.Dec.{eqb, leb}
 use lib.ListN.{length, getD, take, drop, set, replicate, drop-of-length-le}
@@ -15,15 +15,15 @@ use lib.Seq.{drop-cons}
 use borrow.Author.Tests.{eqb-true, eq-eqb, ne-eqb}
 use Rattle.paper.specs.Tools.{someBelow, someOf, columnFrom}
 use Rattle.paper.specs.Limits.{bracketLimit}
-use Rattle.paper.specs.Query.{descendantOrSelf, ancestorOrSelf, Steps, stop, step, Preds, Query, paths}
+use Rattle.paper.specs.Query.{Steps, stop, step, Preds, Query, paths}
 use Rattle.paper.specs.Items.{Head, pathAt, stepAt, takePreds, takeSteps, takePath, takeWithin, takePaths, asQuery, decode}
 use Rattle.paper.specs.Measures.{heightSteps, heightPreds, heightPaths, height}
-use Rattle.paper.specs.Document.{Table, nodes, kindOf, marked, over}
+use Rattle.paper.specs.Document.{Table, nodes, kindOf, marked}
 use Rattle.paper.specs.Selection.{meets, allHold, arrives, selects}
-use Rattle.paper.proofs.Tests.{and-true, true-and, or-true, or-left, or-right, agree, found-some, none-some, some-inj}
+use Rattle.paper.proofs.Tests.{and-true, true-and, or-right, agree, found-some, none-some, some-inj}
 use Rattle.paper.proofs.Searches.{some-intro, some-elim, column-same}
 use Rattle.sets.specs.Sets.{bits, image}
-use Rattle.keep.specs.Evals.{Fits, Narrows, Moves, Runs, keepsBy}
+use Rattle.keep.specs.Evals.{Fits, Narrows, Moves, Runs}
 use Rattle.keep.proofs.Slices.{front-back}
 use Rattle.keep.proofs.Stepwise.{forward-step}
 use Rattle.keep.proofs.Running.{enough}
@@ -45,32 +45,6 @@ first-mark zero marks l e = absurd (omega arith)
 first-mark (suc n) marks l e = ap (λ (z : List ℕ). getD z 0 0) e
 
 -- SPREADING.
-
-split-or : (n : ℕ) (f g h : ℕ → Bool) → (someBelow n (λ k. f k && h k) || someBelow n (λ k. f k && g k)) ≡ someBelow n (λ k. f k && (g k || h k))
-split-or n f g h =
-    agree (someBelow n (λ k. f k && h k) || someBelow n (λ k. f k && g k)) (someBelow n (λ k. f k && (g k || h k)))
-    (λ e.
-    ⊎-elim
-    (λ p. some-elim n (λ k. f k && h k) p (λ k l q. let r = and-true (f k) (h k) q in some-intro n (λ k. f k && (g k || h k)) k l (true-and (r .0) (or-right (g k) (r .1)))))
-    (λ p. some-elim n (λ k. f k && g k) p (λ k l q. let r = and-true (f k) (g k) q in some-intro n (λ k. f k && (g k || h k)) k l (true-and (r .0) (or-left (h k) (r .1)))))
-    (or-true (someBelow n (λ k. f k && h k)) (someBelow n (λ k. f k && g k)) e))
-    (λ e.
-    some-elim n (λ k. f k && (g k || h k)) e
-    (λ k l q.
-    let r = and-true (f k) (g k || h k) q in
-    ⊎-elim (λ p. or-right (someBelow n (λ k. f k && h k)) (some-intro n (λ k. f k && g k) k l (true-and (r .0) p)))
-    (λ p. or-left (someBelow n (λ k. f k && g k)) (some-intro n (λ k. f k && h k) k l (true-and (r .0) p))) (or-true (g k) (h k) (r .1))))
-
-and-comm : (a b : Bool) → (a && b) ≡ (b && a)
-and-comm true true = refl
-and-comm true false = refl
-and-comm false true = refl
-and-comm false false = refl
-
--- What is above or below the set, and marked, is what the subtree rule keeps.
-pub spreads : (t : Table) (m : List ℕ) (f : ℕ → Bool) (i : ℕ) → ((image t ancestorOrSelf f i || image t descendantOrSelf f i) && marked m i) ≡ keepsBy t m f i
-unfolding image keepsBy
-spreads t m f i = and-comm (someBelow (nodes t) (λ k. f k && over t k i) || someBelow (nodes t) (λ k. f k && over t i k)) (marked m i) ∙ ap (λ b. marked m i && b) (split-or (nodes t) f (over t i) (λ k. over t k i))
 
 -- FORWARD.
 

@@ -1,7 +1,7 @@
 -- What evaluating items over all nodes at once gives: where it ends, and the set of nodes at which what stands there holds.
 use Prim.Native.Nat.{ℕ, _+_, _-_, _*_, _%_, _≤_, _<_}
 use mathlib.Core.Path.{_≡_}
-use mathlib.Core.Bool.{Bool, _&&_, _||_}
+use mathlib.Core.Bool.{Bool, _&&_}
 use mathlib.Core.List.{List}
 use mathlib.Core.Option.{some}
 use lib.ListN.{length, take, drop}
@@ -10,19 +10,12 @@ use Rattle.paper.specs.Query.{Steps, Query}
 use Rattle.paper.specs.Measures.{height}
 use Rattle.paper.specs.Selection.{arrives}
 use Rattle.paper.specs.Items.{Taken, Head, stepAt, pathAt, takeSteps, takeWithin, decode}
-use Rattle.paper.specs.Document.{Table, nodes, marked, over, tableOf}
-use Rattle.paper.proofs.Trees.{Tree}
+use Rattle.paper.specs.Document.{Table, nodes}
 use Rattle.keep.specs.declared.Places.{Places}
 use Rattle.item.specs.declared.Step.{Step}
 use Rattle.item.proofs.Saying.{numbered}
 use Rattle.sets.specs.Sets.{bits}
-
--- A document that can be searched: columns and marks of one length, a tree, and marks of 0 and 1.
-pub record Ready (parents kinds marks : List ℕ) : Type 0 where
-  pub kinds-all : length kinds ≡ length parents
-  pub marks-all : length marks ≡ length parents
-  pub tree : Tree (tableOf parents kinds)
-  pub marks-bits : marks ≡ bits (length parents) (marked marks)
+pub use Rattle.spread.specs.Spreading.{Ready}
 
 -- Something is to be read from `at` on, and there is room for its sets.
 pub record Fits {A : Type 0} (items : List ℕ) (at nodes room : ℕ) (taken : Taken A) (heightOf : A → ℕ) : Type 0 where
@@ -94,7 +87,3 @@ pub record Runs (items : List ℕ) (nodeCount room : ℕ) : Type 0 where
   pub query : Query
   pub decodes : decode items ≡ some query
   pub room-for : nodeCount * height query ≤ room
-
--- Is the node i marked, and in the set, or above or below a node of it?
-unfoldable pub keepsBy : Table → List ℕ → (ℕ → Bool) → ℕ → Bool
-keepsBy t marks f i = marked marks i && someBelow (nodes t) (λ k. f k && (over t i k || over t k i))

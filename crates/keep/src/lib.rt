@@ -2,20 +2,22 @@
 use item::Item;
 use item::Step;
 use shape::Walked;
-ghost use Prim.Native.Nat.{ℕ, suc, _+_, _≤_, _<_};
+use spread::restrict;
+use spread::spread;
+ghost use Prim.Native.Nat.{suc, _+_, _≤_, _<_};
 ghost use mathlib.Core.Path.{_≡_};
-ghost use mathlib.Core.Bool.{Bool, true, false, _&&_, _||_};
+ghost use mathlib.Core.Bool.{true, false, _&&_, _||_};
 ghost use mathlib.Core.Option.{some};
 ghost use lib.Dec.{eqb};
 ghost use lib.ListN.{length, getD, drop, replicate};
 ghost use Rattle.paper.specs.Limits.{bracketLimit};
-ghost use Rattle.paper.specs.Query.{Test, Query};
+ghost use Rattle.paper.specs.Query.{Query};
 ghost use Rattle.paper.specs.Document.{marked, tableOf};
-ghost use Rattle.paper.specs.Items.{pathAt, testNumber, goodTest, decode, takePreds, takeSteps, takeOperand, takeExpr, takeWithin};
+ghost use Rattle.paper.specs.Items.{pathAt, decode, takePreds, takeSteps, takeOperand, takeExpr, takeWithin};
 ghost use Rattle.paper.specs.Measures.{heightExpr, heightSteps, heightPreds};
-ghost use Rattle.paper.specs.Selection.{meets, holds, finds, allHold, selects, kept};
+ghost use Rattle.paper.specs.Selection.{holds, finds, allHold, selects, kept};
 ghost use Rattle.sets.specs.Sets.{bits};
-ghost use Rattle.keep.specs.Evals.{Ready, Readable, Fits, Ends, Known, StepThere, StepSaid, Joined, Evaluates, Narrows, Moves, PathThere, Runs, keepsBy};
+ghost use Rattle.keep.specs.Evals.{Ready, Readable, Fits, Ends, Known, StepThere, StepSaid, Joined, Evaluates, Narrows, Moves, PathThere, Runs};
 
 // Where so many steps end.
 fn past_steps(items: &[u32], at: usize, count: usize, depth: usize) -> usize
@@ -108,15 +110,6 @@ fn step_at(items: &[u32], place: usize) -> Step
         };
     };
     step
-}
-
-// Keeps of the set the marked nodes that meet the test.
-fn restrict(kind: &[u16], given: &[u8], test: u32, set: &mut [u8])
-    requires { ⌜ (length (now kind) ≡ length (now set)) × (length (now given) ≡ length (now set)) × (now given ≡ bits (length (now set)) (marked (now given))) ⌝ }
-    ensures { λ _. ⌜ ((t : Test) (f : ℕ → Bool) → goodTest t ≡ true → test ≡ testNumber t → now (set .entry) ≡ bits (length (now (set .entry))) f → now (set .exit) ≡ bits (length (now (set .entry))) (λ i. (f i && marked (now (given .entry)) i) && meets t (getD (now (kind .entry)) i 0))) ⌝ }
-{
-    sets::keep(given, set);
-    sets::keep_met(kind, test, set);
 }
 
 // Keeps of the set at `base` what the set behind it has too; where no bytes of it are held yet, the set at `base` is new and stays.
@@ -254,7 +247,7 @@ fn path(
             given,
             sets,
         );
-        sets::along(parent, item::turn(step.axis), &mut sets[..n]);
+        axes::along(parent, item::turn(step.axis), &mut sets[..n]);
     }
     end
 }
@@ -305,7 +298,7 @@ fn forward(
     let mut left = count;
     while 0 < left {
         let step = step_at(items, place);
-        sets::along(parent, step.axis, &mut sets[..n]);
+        axes::along(parent, step.axis, &mut sets[..n]);
         restrict(kind, given, step.test, &mut sets[..n]);
         place = predicates(
             items,
@@ -366,19 +359,6 @@ fn select(
         place = forward(items, place + 1, count, parent, kind, given, sets);
         sets::add(&sets[..n], marks);
     }
-}
-
-// Keeps, with the selected nodes, all above them and all below them that are marked.
-fn spread(parent: &[u16], kind: &[u16], given: &[u8], marks: &mut [u8], set: &mut [u8])
-    requires { ⌜ Ready (now parent) (now kind) (now given) ⌝ }
-    requires { ⌜ (length (now marks) ≡ length (now parent)) × (length (now set) ≡ length (now parent)) ⌝ }
-    ensures { λ _. ⌜ ((f : ℕ → Bool) → now (marks .entry) ≡ bits (length (now (parent .entry))) f → now (marks .exit) ≡ bits (length (now (parent .entry))) (keepsBy (tableOf (now (parent .entry)) (now (kind .entry))) (now (given .entry)) f)) ⌝ }
-{
-    sets::copy(marks, set);
-    sets::along(parent, item::DESCENDANT_OR_SELF, set);
-    sets::along(parent, item::ANCESTOR_OR_SELF, marks);
-    sets::add(set, marks);
-    sets::keep(given, marks);
 }
 
 // Marks the nodes that the query keeps, and clears the sets.

@@ -1,25 +1,17 @@
 -- Lines that agree with columns: one line more, one end told, and that the lines of a whole table which agree are the columns. Assumes nothing.
-use Prim.Native.Nat.{ℕ, zero, suc, _+_, _≤_, _<_}
+use Prim.Native.Nat.{ℕ, suc, _+_, _<_}
 use native.Mathlib.Omega.{arith}
 use mathlib.Core.Path.{_≡_, refl, sym, _∙_, ap, subst}
 use mathlib.Core.Bool.{Bool, true, false, _&&_, false≢true}
-use mathlib.Core.List.{List, [], _∷_, _++_, map, append-assoc, append-nil}
-use mathlib.Core.Option.{Option, none, some}
+use mathlib.Core.List.{List, [], _∷_, _++_, append-assoc, append-nil}
 use lib.ListN.{length, getD, length-append}
-use Rattle.paper.specs.Names.{namesOf, numberOf}
-use Rattle.paper.specs.Xml.{Nodes, nothing, element, chars, Frame, named, lacks, unnamed, Row, row, rows, table, count}
-use Rattle.paper.specs.Answers.{kindField}
-use Rattle.read_xml.specs.Kept.{Columns}
-use Rattle.read_xml.specs.Open.{begun, innermost, Stand, within, past, openIn, joined}
-use Rattle.read_xml.proofs.Opened.{rows-beside, length-rows}
-use Rattle.match_xml.specs.Lines.{Tells, Has, LineIs, Agree, told, toldAt}
+use Rattle.paper.specs.Xml.{Nodes, nothing, element, Frame, named, Row, row, rows, count}
+use Rattle.xml_lines.specs.Kept.{Columns}
+use Rattle.xml_lines.specs.Open.{begun, innermost, joined}
+use Rattle.xml_lines.proofs.Opened.{rows-beside, length-rows}
+use Rattle.match_xml.specs.Lines.{LineIs, Agree, told, toldAt}
+use Rattle.line_tests.specs.Telling.{Tells, Has}
 use Rattle.match_xml.specs.Compared.{Compares}
-
--- Two tests tell of two facts.
-pub tells-both : {P Q : Type 0} (a b : Bool) → Tells a P → Tells b Q → Tells (a && b) (P × Q)
-tells-both true true s t = (λ e. (s .0 refl, t .0 refl), λ e h. t .1 e (h .1))
-tells-both true false s t = (λ e. absurd (false≢true e), λ e h. t .1 refl (h .1))
-tells-both false b s t = (λ e. absurd (false≢true e), λ e h. s .1 refl (h .0))
 
 -- LINES SO FAR. How many they are, with a node more, and with an end told.
 pub told-length : (long : ℕ) (ends : List ℕ) (frames : List Frame) → length (told long ends frames) ≡ begun frames

@@ -1,7 +1,5 @@
--- Lines that agree with columns: `tells-both`, `told-joined`, `told-closed`, `more-compares`, `end-compares`.
+-- Lines that agree with columns: `told-joined`, `told-closed`, `more-compares`, `end-compares`.
 pub mod Agreeing
--- The kind that a look for a name tells: `has-kind`, `lacks-kind`.
-pub mod Naming
 -- What is counted and compared past each piece: `start-comes`, `empty-comes`, `end-comes`, `text-comes`.
 pub mod Pieces
 -- Comparing from piece to piece: `deep`, `takes`, `root-faces`, `element-read`, `ends-wanted`.

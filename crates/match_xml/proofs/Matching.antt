@@ -11,16 +11,17 @@ use Rattle.paper.specs.Limits.{textLimit}
 use Rattle.paper.specs.Names.{namesOf, numberOf}
 use Rattle.paper.specs.Xml.{Nodes, Frame, unwanted, readXml, row, root, table}
 use Rattle.xml.specs.Pieces.{Takes, Roots, Finishes, finished}
-use Rattle.xml.specs.Heading.{Leads}
-use Rattle.xml.specs.declared.Reach.{Reach}
-use Rattle.xml.specs.declared.Reach.the-variants as reach
+use Rattle.prolog.specs.Heading.{Leads}
+use Rattle.xml_bytes.specs.declared.Reach.{Reach}
+use Rattle.xml_bytes.specs.declared.Reach.the-variants as reach
 use Rattle.xml.specs.declared.Piece.{Piece}
-use Rattle.read_xml.specs.Open.{innermost, lines, Stand, within, past, openIn, soFar, Stands}
-use Rattle.read_xml.specs.Kept.{Columns}
-use Rattle.read_xml.specs.Judges.{openLimit, Counts}
+use Rattle.xml_lines.specs.Open.{innermost, lines, Stand, within, past, openIn, soFar, Stands}
+use Rattle.xml_lines.specs.Kept.{Columns}
+use Rattle.xml_lines.specs.Judges.{openLimit, Counts}
 use Rattle.read_xml.proofs.Moved.{take-moves, root-moves, lead-on}
 use Rattle.read_xml.proofs.Counted.{progress}
-use Rattle.match_xml.specs.Lines.{Tells, LineIs, told, toldAt}
+use Rattle.match_xml.specs.Lines.{LineIs, told, toldAt}
+use Rattle.line_tests.specs.Telling.{Tells}
 use Rattle.match_xml.specs.Compared.{Compares, Standing, Facing, IsRefused, Comes, Matched, Element, Ends, Inside, Wanted, Judges}
 use Rattle.match_xml.specs.declared.Progress.{Progress}
 use Rattle.match_xml.specs.declared.Step.{Step}

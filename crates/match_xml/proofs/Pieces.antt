@@ -13,16 +13,18 @@ use Rattle.paper.specs.Xml as xml
 use Rattle.xml.specs.Pieces.{nameAt, opened}
 use Rattle.xml.specs.declared.Cursor.{Cursor}
 use Rattle.xml.specs.declared.Piece.the-variants.{Start, Empty, End, Text}
-use Rattle.read_xml.specs.Open.{begun, innermost, lines, within, openIn, soFar, joined, Moves}
-use Rattle.read_xml.specs.Kept.{Columns}
-use Rattle.read_xml.specs.Judges.{openLimit, placeOf, Counts}
-use Rattle.read_xml.proofs.Opened.{length-lines, joined-lines}
-use Rattle.read_xml.proofs.Lacking.{lacks-nothing}
+use Rattle.xml_lines.specs.Open.{begun, innermost, lines, within, openIn, soFar, joined, Moves}
+use Rattle.xml_lines.specs.Kept.{Columns}
+use Rattle.xml_lines.specs.Judges.{openLimit, placeOf, Counts}
+use Rattle.xml_lines.proofs.Opened.{length-lines, joined-lines}
+use Rattle.xml_lines.proofs.Lacking.{lacks-nothing}
 use Rattle.read_xml.proofs.Counted.{progress, start-counts, joined-counts, closed-counts}
-use Rattle.match_xml.specs.Lines.{Tells, Has, NamedAt, LineIs, told, toldAt}
+use Rattle.match_xml.specs.Lines.{LineIs, told, toldAt}
+use Rattle.line_tests.specs.Telling.{Tells, Has, NamedAt}
 use Rattle.match_xml.specs.Compared.{Compares, Standing, Facing}
 use Rattle.match_xml.specs.declared.Progress.{Progress}
-use Rattle.match_xml.proofs.Agreeing.{tells-both, told-length, told-joined, told-closed, more-compares, end-compares}
+use Rattle.match_xml.proofs.Agreeing.{told-length, told-joined, told-closed, more-compares, end-compares}
+use Rattle.line_tests.proofs.Tests.{tells-both}
 
 abbrev pub place : ℕ → ℕ → ℕ → ℕ → Bool → Progress
 place at depth inner nodes same = record { at = at; depth = depth; inner = inner; nodes = nodes; same = same }

@@ -19,9 +19,10 @@ use Rattle.paper.specs.Answers.{Answer as Told}
 use Rattle.paper.proofs.Tests.{and-true, true-and, agree, none-some}
 use Rattle.paper.proofs.Same.{same-equal, same-refl}
 use Rattle.paper.proofs.Refusing.{line-value, when-none, or-none}
-use Rattle.read_xml.specs.Kept.{Columns, columns, xmlAnswer}
-use Rattle.read_xml.proofs.Answered.{wrong, good-list}
-use Rattle.match_xml.specs.Lines.{Has, LineIs, Agree}
+use Rattle.xml_lines.specs.Kept.{Columns, columns, xmlAnswer}
+use Rattle.xml_lines.proofs.Answered.{wrong, good-list}
+use Rattle.match_xml.specs.Lines.{LineIs, Agree}
+use Rattle.line_tests.specs.Telling.{Has}
 use Rattle.match_xml.specs.Compared.{IsRefused, Matched, Wanted}
 use Rattle.match_xml.specs.declared.Progress.{Progress}
 

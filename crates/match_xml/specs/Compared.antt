@@ -7,9 +7,9 @@ use lib.ListN.{length}
 use Rattle.paper.specs.Names.{namesOf, numberOf}
 use Rattle.paper.specs.Xml.{Nodes, Frame, Row, wanted, unwanted, readXml, table}
 use Rattle.xml.specs.declared.Piece.{Piece}
-use Rattle.read_xml.specs.Kept.{Columns}
-use Rattle.read_xml.specs.Open.{innermost, lines, Stand, past, openIn, soFar, Stands, Moves}
-use Rattle.read_xml.specs.Judges.{Counts}
+use Rattle.xml_lines.specs.Kept.{Columns}
+use Rattle.xml_lines.specs.Open.{innermost, lines, Stand, past, openIn, soFar, Stands, Moves}
+use Rattle.xml_lines.specs.Judges.{Counts}
 use Rattle.read_xml.proofs.Counted.{progress}
 use Rattle.match_xml.specs.Lines.{Agree, told, toldAt}
 use Rattle.match_xml.specs.declared.Progress.{Progress}

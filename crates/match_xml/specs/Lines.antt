@@ -1,27 +1,15 @@
 -- The lines of a text against lent columns: which lines agree with them, and the lines so far where the columns say at what places the open elements end.
-use Prim.Native.Nat.{ℕ, suc, _<_}
+use Prim.Native.Nat.{ℕ, suc}
 use mathlib.Core.Path.{_≡_}
-use mathlib.Core.Bool.{Bool, true, false}
+use mathlib.Core.Bool.{false}
 use mathlib.Core.List.{List, [], _∷_, _++_}
-use mathlib.Core.Option.{Option}
-use lib.ListN.{length, getD}
+use lib.ListN.{getD}
 use Rattle.paper.specs.Names.{namesOf, numberOf}
-use Rattle.paper.specs.Xml.{Frame, Row, row, root, named, kindBy, lacks, rows, table}
+use Rattle.paper.specs.Xml.{Frame, Row, row, root, named, lacks, rows, table}
 use Rattle.paper.specs.Answers.{kindField}
-use Rattle.read_xml.specs.Kept.{Columns}
-use Rattle.read_xml.specs.Open.{begun, innermost, Stand, within, past}
-
--- The test says whether the fact holds.
-abbrev pub Tells : Bool → Type 0 → Type 0
-Tells b P = (b ≡ true → P) × (b ≡ false → P → ⊥)
-
--- The column has this number at an index.
-abbrev pub Has : List ℕ → ℕ → ℕ → Type 0
-Has column n number = (n < length column) × (getD column n 0 ≡ number)
-
--- The list has this name, and the column the kind of its elements.
-abbrev pub NamedAt : (List ℕ → Option ℕ) → List ℕ → List ℕ → ℕ → Type 0
-NamedAt look name kinds n = (lacks look (named name) ≡ false) × Has kinds n (kindBy look (named name))
+use Rattle.xml_lines.specs.Kept.{Columns}
+use Rattle.line_tests.specs.Telling.{Has}
+use Rattle.xml_lines.specs.Open.{begun, innermost, Stand, within, past}
 
 -- The columns have this line at an index, and the list has its name.
 pub record LineIs (list : List ℕ) (cols : Columns) (n : ℕ) (r : Row) : Type 0 where

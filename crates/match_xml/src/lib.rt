@@ -1,24 +1,26 @@
 // Does an XML text read as these columns? Its pieces are compared with their lines one by one, and no second table is made.
-use names::Found;
+use line_tests::begins_line;
+use line_tests::kind_is;
+use line_tests::says;
 use xml::Cursor;
 use xml::Piece;
-use xml::Reach;
-ghost use Prim.Native.Nat.{ℕ, suc, _+_, _≤_, _<_};
+use xml_bytes::Reach;
+use xml_lines::find_name;
+use xml_lines::narrow;
+use xml_lines::wide;
+ghost use Prim.Native.Nat.{ℕ, _+_, _≤_, _<_};
 ghost use mathlib.Core.Path.{_≡_};
 ghost use mathlib.Core.List.{List};
-ghost use mathlib.Core.Option.{Option, some, none};
+ghost use mathlib.Core.Option.{none};
 ghost use lib.ListN.{length, getD};
-ghost use Rattle.paper.specs.Limits.{textLimit, listLimit, nodeLimit, namesLimit};
-ghost use Rattle.paper.specs.Names.{namesFault, namesOf, numberOf};
+ghost use Rattle.paper.specs.Limits.{textLimit, listLimit, nodeLimit};
+ghost use Rattle.paper.specs.Names.{namesFault};
 ghost use Rattle.paper.specs.Document.{tableOf};
 ghost use Rattle.paper.specs.Answers.{readsAs};
-ghost use Rattle.names.specs.Listing.{foundAt};
-ghost use Rattle.xml.specs.Pieces.{nameAt};
-ghost use Rattle.xml.specs.Heading.{Leads};
-ghost use Rattle.xml.specs.declared.Reach.the-variants.{At};
-ghost use Rattle.read_xml.specs.Open.{Looks, NameEnds};
-ghost use Rattle.read_xml.specs.Kept.{Columns, columns};
-ghost use Rattle.match_xml.specs.Lines.{Tells, Has, NamedAt};
+ghost use Rattle.prolog.specs.Heading.{Leads};
+ghost use Rattle.xml_bytes.specs.declared.Reach.the-variants.{At};
+ghost use Rattle.xml_lines.specs.Open.{Looks};
+ghost use Rattle.xml_lines.specs.Kept.{Columns, columns};
 ghost use Rattle.match_xml.specs.Compared.{Standing, Facing, Comes, Rises, Ends, Inside, Judges};
 
 // How many elements can be open at once: a start tag has three bytes at least.
@@ -39,77 +41,7 @@ enum Step {
     Refused,
 }
 
-// A number below 65,536 as an entry of a column.
-fn narrow(x: usize) -> u16
-    requires { ⌜ x < 65536 ⌝ }
-    ensures { λ r. ⌜ r ≡ x ⌝ }
-{
-    x as u16
-}
-
-// An entry of a column as an index.
-fn wide(x: u16) -> usize
-    ensures { λ r. ⌜ r ≡ x ⌝ }
-{
-    x as usize
-}
-
-// NAMES.
-
-// The number of the name of the start tag that begins there.
-fn find_name(
-    list: &[u8],
-    starts: &[u16; names::STARTS],
-    count: usize,
-    chains: &[u16; initials::CHAINS],
-    text: &[u8],
-    begin: usize,
-    name_end: usize,
-) -> Found
-    requires { ⌜ Looks (now list) (now starts) count (now chains) ⌝ }
-    requires { ⌜ NameEnds (now text) begin «name_end» ⌝ }
-    ensures { λ r. ⌜ foundAt r ≡ numberOf (namesOf (now (list .entry))) (nameAt (now (text .entry)) (suc begin)) ⌝ }
-{
-    initials::find(
-        list,
-        starts,
-        count,
-        chains,
-        text,
-        begin + 1,
-        name_end - (begin + 1),
-    )
-}
-
 // LINES.
-
-// Has the column this number at the index?
-fn says(column: &[u16], n: usize, number: usize) -> bool
-    ensures { λ r. ⌜ Tells r (Has (now (column .entry)) n number) ⌝ }
-{
-    if column.len() <= n {
-        return false;
-    }
-    wide(column[n]) == number
-}
-
-// Has the column the kind of an element of this name, which the list has?
-fn kind_is(kind: &[u16], n: usize, found: Found) -> bool
-    requires { ⌜ ((v : ℕ) → foundAt found ≡ some v → v < namesLimit) ⌝ }
-    ensures { λ r. ⌜ ((look : List ℕ → Option ℕ) (name : List ℕ) → foundAt found ≡ look name → Tells r (NamedAt look name (now (kind .entry)) n)) ⌝ }
-{
-    match found {
-        Found::At(v) => says(kind, n, wide(paper::ELEMENT_KIND) + v),
-        Found::Nothing => false,
-    }
-}
-
-// Have the columns a line of these that begins there?
-fn begins_line(parent: &[u16], begin: &[u16], n: usize, up: u16, first: usize) -> bool
-    ensures { λ r. ⌜ Tells r (Has (now (parent .entry)) n up × Has (now (begin .entry)) n first) ⌝ }
-{
-    says(parent, n, wide(up)) & says(begin, n, first)
-}
 
 // The parent that the column says, 0 past its end.
 fn parent_of(parent: &[u16], n: u16) -> u16
@@ -381,7 +313,7 @@ fn compare(
     requires { ⌜ (length (now text) ≤ textLimit) × (length (now end) ≡ length (now parent)) ⌝ }
     ensures { λ r. ⌜ Judges (now (text .entry)) (now (list .entry)) (columns (now (parent .entry)) (now (kind .entry)) (now (begin .entry)) (now (end .entry))) r ⌝ }
 {
-    match xml::lead(text) {
+    match prolog::lead(text) {
         Reach::At(at) => finished(
             text,
             match_element(

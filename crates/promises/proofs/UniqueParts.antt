@@ -12,7 +12,11 @@ use Rattle.paper.proofs.Tests.{none-some, some-inj}
 use Rattle.names.proofs.Unique as names
 use Rattle.initials.proofs.Unique.{chained-unique}
 use Rattle.token.proofs.Unique as token
+use Rattle.xml_runs.proofs.Unique as runs
+use Rattle.prolog.proofs.Unique as prolog
 use Rattle.xml.proofs.Unique as xml
+use Rattle.names.specs.Listing.{foundAt}
+use Rattle.line_tests.proofs.Tests.{tells-unique}
 use Rattle.ahead.proofs.Unique as ahead
 use Rattle.shape.specs.declared.Walked.{Walked}
 use Rattle.shape.specs.declared.Walked.the-variants.{Done, Malformed}
@@ -23,15 +27,18 @@ use Rattle.table.specs.declared.Fault.the-variants.{Nothing, At}
 use Rattle.table.specs.Faults.{faultOf}
 use Rattle.promises.specs.UniqueParts.{UnpackUnique, PackPathUnique, PackStepUnique, TurnUnique, GuardedUnique, PutItemsUnique, PutSameUnique}
 use Rattle.promises.specs.UniqueParts.{NameStartUnique, NamePartUnique, IndexUnique, FindUnique, LinkUnique, FindInitialUnique, SpellUnique, WhiteSpaceUnique, TakeUnique}
-use Rattle.promises.specs.UniqueParts.{SkipSpaceUnique, RunEndUnique, TakePieceUnique, RootPieceUnique, FinishUnique, LeadUnique}
+use Rattle.promises.specs.UniqueParts.{SkipSpaceUnique, RunEndUnique, MarkupUnique, RefuseUnique, ByteUnique, SayUnique, SoonerUnique, RunPieceUnique, TakePieceUnique, RootPieceUnique, FinishUnique, LeadUnique}
 use Rattle.promises.specs.UniqueParts.{MarkUnique, WordAheadUnique, JoinedUnique, PathLeadUnique, OpeningUnique, AxisAheadUnique, TestCallUnique}
 use Rattle.promises.specs.UniqueParts.{LargerUnique, RunOfUnique, StepsUnique, MeasureUnique, WideUnique, TableFaultUnique, MarksFaultUnique, CountUnique}
 use Rattle.promises.specs.UniqueParts.{PutByteUnique, PutUnique, PutSlashUnique, PutBarUnique, PutOpenUnique, PutOrUnique, PutAndUnique, PutNotUnique, PutHeadUnique}
 use Rattle.promises.specs.UniqueParts.{LineEndUnique, LineStartUnique, PutRefusalUnique, PutResultUnique}
-use Rattle.promises.specs.UniqueParts.{FillUnique, CopyUnique, KeepUnique, AddUnique, FlipUnique, KeepSecondUnique, AddSecondUnique, KeepMetUnique, AlongUnique}
-use Rattle.promises.specs.UniqueParts.{KeepQueryUnique, OwesUnique, SkipUnique, CountPathsUnique, PutSelectedUnique, SelectedSizeUnique}
-use Rattle.promises.specs.UniqueParts.{ReadsAsUnique}
-use Rattle.promises.proofs.Telling.{same, same-slice, same-slices}
+use Rattle.promises.specs.UniqueParts.{FillUnique, CopyUnique, KeepUnique, AddUnique, FlipUnique, KeepSecondUnique, AddSecondUnique, KeepMetUnique}
+use Rattle.promises.specs.UniqueParts.{ChildrenUnique, ParentsUnique, BelowUnique, AboveUnique, DescendantsUnique, AncestorsUnique}
+use Rattle.promises.specs.UniqueParts.{FollowingSiblingsUnique, PrecedingSiblingsUnique, FollowingUnique, PrecedingUnique, AlongUnique}
+use Rattle.promises.specs.UniqueParts.{RestrictUnique, SpreadUnique, KeepQueryUnique, OwesUnique, SkipUnique, CountPathsUnique, PutSelectedUnique, SelectedSizeUnique}
+use Rattle.promises.specs.UniqueParts.{NarrowUnique, WideEntryUnique, FindNameUnique, FirstUnnamedUnique, KindOfUnique, AnswerUnique}
+use Rattle.promises.specs.UniqueParts.{SaysUnique, KindIsUnique, BeginsLineUnique, ReadsAsUnique}
+use Rattle.promises.proofs.Telling.{same, same-told, same-slice, same-slices}
 
 -- ITEMS.
 pub unpack-unique : UnpackUnique
@@ -92,6 +99,24 @@ pub take-unique : TakeUnique
 take-unique κs a u v x y g p q = token.take-unique (now (a .1 .0)) (a .0 .at) u v p q
 
 -- PIECES OF XML TEXT.
+pub markup-unique : MarkupUnique
+markup-unique κs a u v x y g p q = same p q
+
+pub refuse-unique : RefuseUnique
+refuse-unique κs a u v x y g p q = same p q
+
+pub byte-unique : ByteUnique
+byte-unique κs a u v x y g p q = same (p .comes) (q .comes)
+
+pub say-unique : SayUnique
+say-unique κs a u v x y g p q = same (p .comes) (q .comes)
+
+pub sooner-unique : SoonerUnique
+sooner-unique κs a u v x y g p q = same (p .is) (q .is)
+
+pub run-piece-unique : RunPieceUnique
+run-piece-unique κs a u v x y g p q = runs.run-unique (now (a .0)) (a .1 .0) u v p q
+
 pub take-piece-unique : TakePieceUnique
 take-piece-unique κs a u v x y g p q = xml.take-unique (now (a .1 .0)) (a .0 .at) (a .1 .1 .0) u v p q
 
@@ -102,7 +127,7 @@ pub finish-unique : FinishUnique
 finish-unique κs a u v x y g p q = xml.finish-unique (now (a .0)) (a .1 .0) u v p q
 
 pub lead-unique : LeadUnique
-lead-unique κs a u v x y g p q = xml.lead-unique (now (a .0)) u v p q
+lead-unique κs a u v x y g p q = prolog.lead-unique (now (a .0)) u v p q
 
 -- WHAT COMES NEXT IN A TEXT.
 pub mark-unique : MarkUnique
@@ -250,11 +275,50 @@ keep-met-unique κs a u v x y g p q =
     let t = g .0 in let f = g .1 in
     (refl, same-slice (p (t .0) (f .0) (t .1 .0) (t .1 .1) (f .1)) (q (t .0) (f .0) (t .1 .0) (t .1 .1) (f .1)))
 
+-- AXES.
+pub children-unique : ChildrenUnique
+children-unique κs a u v x y g p q = (refl, same-slice (p [] (g .0) (g .1)) (q [] (g .0) (g .1)))
+
+pub parents-unique : ParentsUnique
+parents-unique κs a u v x y g p q = (refl, same-slice (p [] (g .0) (g .1)) (q [] (g .0) (g .1)))
+
+pub below-unique : BelowUnique
+below-unique κs a u v x y g p q = (refl, same-slice (p [] (g .0) (g .1)) (q [] (g .0) (g .1)))
+
+pub above-unique : AboveUnique
+above-unique κs a u v x y g p q = (refl, same-slice (p [] (g .0) (g .1)) (q [] (g .0) (g .1)))
+
+pub descendants-unique : DescendantsUnique
+descendants-unique κs a u v x y g p q = (refl, same-slice (p [] (g .0) (g .1)) (q [] (g .0) (g .1)))
+
+pub ancestors-unique : AncestorsUnique
+ancestors-unique κs a u v x y g p q = (refl, same-slice (p [] (g .0) (g .1)) (q [] (g .0) (g .1)))
+
+pub following-siblings-unique : FollowingSiblingsUnique
+following-siblings-unique κs a u v x y g p q = (refl, same-slice (p [] (g .0) (g .1)) (q [] (g .0) (g .1)))
+
+pub preceding-siblings-unique : PrecedingSiblingsUnique
+preceding-siblings-unique κs a u v x y g p q = (refl, same-slice (p [] (g .0) (g .1)) (q [] (g .0) (g .1)))
+
+pub following-unique : FollowingUnique
+following-unique κs a u v x y g p q = (refl, same-slice (p [] (g .0) (g .1)) (q [] (g .0) (g .1)))
+
+pub preceding-unique : PrecedingUnique
+preceding-unique κs a u v x y g p q = (refl, same-slice (p [] (g .0) (g .1)) (q [] (g .0) (g .1)))
+
 pub along-unique : AlongUnique
 along-unique κs a u v x y g p q =
     let b = g .0 in let f = g .1 in (refl, same-slice (p [] (b .0) (f .0) (b .1) (f .1)) (q [] (b .0) (f .0) (b .1) (f .1)))
 
 -- KEEPING.
+pub restrict-unique : RestrictUnique
+restrict-unique κs a u v x y g p q =
+    let t = g .0 in let f = g .1 in
+    (refl, same-slice (p (t .0) (f .0) (t .1 .0) (t .1 .1) (f .1)) (q (t .0) (f .0) (t .1 .0) (t .1 .1) (f .1)))
+
+pub spread-unique : SpreadUnique
+spread-unique κs a u v x y g p q = (refl, same-slices (p .0 (g .0) (g .1)) (p .1 (g .0) (g .1)) (q .0 (g .0) (g .1)) (q .1 (g .0) (g .1)))
+
 pub keep-query-unique : KeepQueryUnique
 keep-query-unique κs a u v x y g p q =
     let runs = g .1 .1 in (refl, same-slices (p .0 (runs .query) (runs .decodes)) (p .1) (q .0 (runs .query) (runs .decodes)) (q .1))
@@ -274,6 +338,35 @@ put-selected-unique κs a u v x y g p q = (refl, same-slice p q)
 
 pub selected-size-unique : SelectedSizeUnique
 selected-size-unique κs a u v x y g p q = same (p .0) (q .0)
+
+-- XML TEXT.
+pub narrow-unique : NarrowUnique
+narrow-unique κs a u v x y g p q = same p q
+
+pub wide-entry-unique : WideEntryUnique
+wide-entry-unique κs a u v x y g p q = same p q
+
+pub find-name-unique : FindNameUnique
+find-name-unique κs a u v x y g p q = names.find-unique u v (same p q)
+
+pub first-unnamed-unique : FirstUnnamedUnique
+first-unnamed-unique κs a u v x y (look, rows, name, (found, before)) p q =
+    same (p look rows name 0 0 found before) (q look rows name 0 0 found before)
+
+pub kind-of-unique : KindOfUnique
+kind-of-unique κs a u v x y g p q = same p q
+
+pub answer-unique : AnswerUnique
+answer-unique κs a u v x y (text, list, cols, judged) p q = same-told (p text list cols judged) (q text list cols judged)
+
+pub says-unique : SaysUnique
+says-unique κs a u v x y g p q = tells-unique _ u v p q
+
+pub kind-is-unique : KindIsUnique
+kind-is-unique κs a u v x y g p q = tells-unique _ u v (p (λ name. foundAt (a .1 .1 .0)) [] refl) (q (λ name. foundAt (a .1 .1 .0)) [] refl)
+
+pub begins-line-unique : BeginsLineUnique
+begins-line-unique κs a u v x y g p q = tells-unique _ u v p q
 
 pub reads-as-unique : ReadsAsUnique
 reads-as-unique κs a u v x y g p q = same p q

@@ -1,13 +1,20 @@
 -- The contract of each public function below the entry points leaves one answer and one content of each slice.
--- Four of the contracts speak of some arguments only: `turn` and `along` of the numbers of axes, `keep_met` of those of tests, `put_head` of both; and `sets` speaks of bytes that are 0 or 1.
+-- Seven of the contracts speak of some arguments only: `turn` and `along` of the numbers of axes, `keep_met` and `restrict` of those of tests, `put_head` of both, `first_unnamed` of a name that was looked for behind lines, `answer` of a text that was judged; and `sets`, `vertical`, `sideways`, `axes` and `spread` speak of bytes that are 0 or 1.
 use Prim.Native.Nat.{ℕ}
 use mathlib.Core.Path.{_≡_}
 use mathlib.Core.Bool.{Bool, true}
 use mathlib.Core.List.{List, [], _∷_}
+use mathlib.Core.Option.{Option}
 use lib.ListN.{length, take, drop}
 use denote.Ref.{now}
 use Rattle.paper.specs.Query.{Axis, Test}
 use Rattle.paper.specs.Items.{axisNumber, testNumber, goodTest}
+use Rattle.paper.specs.Xml.{Row, unnamed}
+use Rattle.names.specs.Listing.{foundAt}
+use Rattle.names.specs.declared.Found.{Found}
+use Rattle.xml_lines.specs.Kept.{Columns}
+use Rattle.xml_lines.specs.Judges.{placeOf, Judges}
+use Rattle.xml_lines.specs.declared.Step.{Step}
 use Rattle.sets.specs.Sets.{bits}
 use Rattle.item.proofs.unpack
 use Rattle.item.proofs.pack_path
@@ -23,14 +30,29 @@ use Rattle.names.proofs.find
 use Rattle.names.proofs.spell
 use Rattle.initials.proofs.link
 use Rattle.initials.proofs.find as find_initial
+use Rattle.xml_lines.proofs.narrow
+use Rattle.xml_lines.proofs.wide as wide_entry
+use Rattle.xml_lines.proofs.find_name
+use Rattle.xml_lines.proofs.first_unnamed
+use Rattle.xml_lines.proofs.kind_of
+use Rattle.xml_lines.proofs.answer
+use Rattle.line_tests.proofs.says
+use Rattle.line_tests.proofs.kind_is
+use Rattle.line_tests.proofs.begins_line
 use Rattle.match_xml.proofs.reads_as
 use Rattle.token.proofs.white_space
 use Rattle.token.proofs.skip as skip_space
 use Rattle.token.proofs.run_end
+use Rattle.xml_bytes.proofs.markup
+use Rattle.xml_bytes.proofs.refuse
+use Rattle.xml_bytes.proofs.byte
+use Rattle.xml_bytes.proofs.say
+use Rattle.xml_bytes.proofs.sooner
+use Rattle.xml_runs.proofs.run as run_piece
 use Rattle.xml.proofs.Cursor.take as take_piece
 use Rattle.xml.proofs.Cursor.root as root_piece
 use Rattle.xml.proofs.finish
-use Rattle.xml.proofs.lead
+use Rattle.prolog.proofs.lead
 use Rattle.token.proofs.Cursor.take as take_token
 use Rattle.ahead.proofs.mark
 use Rattle.ahead.proofs.word_ahead
@@ -68,7 +90,19 @@ use Rattle.sets.proofs.flip
 use Rattle.sets.proofs.keep_second
 use Rattle.sets.proofs.add_second
 use Rattle.sets.proofs.keep_met
-use Rattle.sets.proofs.along
+use Rattle.vertical.proofs.children
+use Rattle.vertical.proofs.parents
+use Rattle.vertical.proofs.below
+use Rattle.vertical.proofs.above
+use Rattle.vertical.proofs.descendants
+use Rattle.vertical.proofs.ancestors
+use Rattle.sideways.proofs.following_siblings
+use Rattle.sideways.proofs.preceding_siblings
+use Rattle.sideways.proofs.following
+use Rattle.sideways.proofs.preceding
+use Rattle.axes.proofs.along
+use Rattle.spread.proofs.restrict
+use Rattle.spread.proofs.spread
 use Rattle.keep.proofs.keep as keep_query
 use Rattle.reverse.proofs.owes
 use Rattle.reverse.proofs.skip
@@ -88,6 +122,15 @@ IsTest number = (t : Test) × ((goodTest t ≡ true) × (number ≡ testNumber t
 -- The bytes are a set of n nodes: each is 0 or 1.
 abbrev pub IsSet : ℕ → List ℕ → Type 0
 IsSet n bytes = (f : ℕ → Bool) × (bytes ≡ bits n f)
+
+-- What was looked for and the place so far are those of a name and of lines.
+abbrev pub IsLooked : Found → ℕ → Type 0
+IsLooked found before =
+    (look : List ℕ → Option ℕ) × (rows : List Row) × (name : List ℕ) × ((foundAt found ≡ look name) × (before ≡ placeOf (unnamed look rows)))
+
+-- It is what judging a text came to.
+abbrev pub IsJudged : Step → Type 0
+IsJudged judged = (text : List ℕ) × (list : List ℕ) × (cols : Columns) × Judges text list cols judged
 
 -- ITEMS.
 abbrev pub UnpackUnique : Type 0
@@ -147,6 +190,24 @@ abbrev pub TakeUnique : Type 0
 TakeUnique = UniqueAnswer take_token.Kinds.ps take_token.Kinds.r take_token.Reads.Pre take_token.Reads.Post
 
 -- PIECES OF XML TEXT.
+abbrev pub MarkupUnique : Type 0
+MarkupUnique = UniqueAnswer markup.Kinds.ps markup.Kinds.r markup.Reads.Pre markup.Reads.Post
+
+abbrev pub RefuseUnique : Type 0
+RefuseUnique = UniqueAnswer refuse.Kinds.ps refuse.Kinds.r refuse.Reads.Pre refuse.Reads.Post
+
+abbrev pub ByteUnique : Type 0
+ByteUnique = UniqueAnswer byte.Kinds.ps byte.Kinds.r byte.Reads.Pre byte.Reads.Post
+
+abbrev pub SayUnique : Type 0
+SayUnique = UniqueAnswer say.Kinds.ps say.Kinds.r say.Reads.Pre say.Reads.Post
+
+abbrev pub SoonerUnique : Type 0
+SoonerUnique = UniqueAnswer sooner.Kinds.ps sooner.Kinds.r sooner.Reads.Pre sooner.Reads.Post
+
+abbrev pub RunPieceUnique : Type 0
+RunPieceUnique = UniqueAnswer run_piece.Kinds.ps run_piece.Kinds.r run_piece.Reads.Pre run_piece.Reads.Post
+
 abbrev pub TakePieceUnique : Type 0
 TakePieceUnique = UniqueAnswer take_piece.Kinds.ps take_piece.Kinds.r take_piece.Reads.Pre take_piece.Reads.Post
 
@@ -287,12 +348,53 @@ KeepMetUnique =
     Unique keep_met.Kinds.ps keep_met.Kinds.r (λ κs a. IsTest (a .1 .0) × IsSet (length (now (a .1 .1 .0))) (now (a .1 .1 .0))) keep_met.Reads.Post
     (λ κs x. now (x .1 .1 .0) ∷ [])
 
+-- AXES.
+abbrev pub ChildrenUnique : Type 0
+ChildrenUnique = Unique children.Kinds.ps children.Kinds.r (λ κs a. IsSet (length (now (a .1 .0))) (now (a .1 .0))) children.Reads.Post (λ κs x. now (x .1 .0) ∷ [])
+
+abbrev pub ParentsUnique : Type 0
+ParentsUnique = Unique parents.Kinds.ps parents.Kinds.r (λ κs a. IsSet (length (now (a .1 .0))) (now (a .1 .0))) parents.Reads.Post (λ κs x. now (x .1 .0) ∷ [])
+
+abbrev pub BelowUnique : Type 0
+BelowUnique = Unique below.Kinds.ps below.Kinds.r (λ κs a. IsSet (length (now (a .1 .0))) (now (a .1 .0))) below.Reads.Post (λ κs x. now (x .1 .0) ∷ [])
+
+abbrev pub AboveUnique : Type 0
+AboveUnique = Unique above.Kinds.ps above.Kinds.r (λ κs a. IsSet (length (now (a .1 .0))) (now (a .1 .0))) above.Reads.Post (λ κs x. now (x .1 .0) ∷ [])
+
+abbrev pub DescendantsUnique : Type 0
+DescendantsUnique = Unique descendants.Kinds.ps descendants.Kinds.r (λ κs a. IsSet (length (now (a .1 .0))) (now (a .1 .0))) descendants.Reads.Post (λ κs x. now (x .1 .0) ∷ [])
+
+abbrev pub AncestorsUnique : Type 0
+AncestorsUnique = Unique ancestors.Kinds.ps ancestors.Kinds.r (λ κs a. IsSet (length (now (a .1 .0))) (now (a .1 .0))) ancestors.Reads.Post (λ κs x. now (x .1 .0) ∷ [])
+
+abbrev pub FollowingSiblingsUnique : Type 0
+FollowingSiblingsUnique = Unique following_siblings.Kinds.ps following_siblings.Kinds.r (λ κs a. IsSet (length (now (a .1 .0))) (now (a .1 .0))) following_siblings.Reads.Post (λ κs x. now (x .1 .0) ∷ [])
+
+abbrev pub PrecedingSiblingsUnique : Type 0
+PrecedingSiblingsUnique = Unique preceding_siblings.Kinds.ps preceding_siblings.Kinds.r (λ κs a. IsSet (length (now (a .1 .0))) (now (a .1 .0))) preceding_siblings.Reads.Post (λ κs x. now (x .1 .0) ∷ [])
+
+abbrev pub FollowingUnique : Type 0
+FollowingUnique = Unique following.Kinds.ps following.Kinds.r (λ κs a. IsSet (length (now (a .1 .0))) (now (a .1 .0))) following.Reads.Post (λ κs x. now (x .1 .0) ∷ [])
+
+abbrev pub PrecedingUnique : Type 0
+PrecedingUnique = Unique preceding.Kinds.ps preceding.Kinds.r (λ κs a. IsSet (length (now (a .1 .0))) (now (a .1 .0))) preceding.Reads.Post (λ κs x. now (x .1 .0) ∷ [])
+
 abbrev pub AlongUnique : Type 0
 AlongUnique =
     Unique along.Kinds.ps along.Kinds.r (λ κs a. IsAxis (a .1 .0) × IsSet (length (now (a .1 .1 .0))) (now (a .1 .1 .0))) along.Reads.Post
     (λ κs x. now (x .1 .1 .0) ∷ [])
 
 -- KEEPING.
+abbrev pub RestrictUnique : Type 0
+RestrictUnique =
+    Unique restrict.Kinds.ps restrict.Kinds.r (λ κs a. IsTest (a .1 .1 .0) × IsSet (length (now (a .1 .1 .1 .0))) (now (a .1 .1 .1 .0))) restrict.Reads.Post
+    (λ κs x. now (x .1 .1 .1 .0) ∷ [])
+
+abbrev pub SpreadUnique : Type 0
+SpreadUnique =
+    Unique spread.Kinds.ps spread.Kinds.r (λ κs a. IsSet (length (now (a .0))) (now (a .1 .1 .1 .0))) spread.Reads.Post
+    (λ κs x. now (x .1 .1 .1 .0) ∷ now (x .1 .1 .1 .1 .0) ∷ [])
+
 abbrev pub KeepQueryUnique : Type 0
 KeepQueryUnique =
     Unique keep_query.Kinds.ps keep_query.Kinds.r keep_query.Reads.Pre keep_query.Reads.Post (λ κs x. now (x .1 .1 .1 .1 .0) ∷ now (x .1 .1 .1 .1 .1 .0) ∷ [])
@@ -313,6 +415,34 @@ PutSelectedUnique = Unique put_selected.Kinds.ps put_selected.Kinds.r put_select
 abbrev pub SelectedSizeUnique : Type 0
 SelectedSizeUnique = UniqueAnswer selected_size.Kinds.ps selected_size.Kinds.r selected_size.Reads.Pre selected_size.Reads.Post
 
+-- LINES OF XML TEXT.
+abbrev pub NarrowUnique : Type 0
+NarrowUnique = UniqueAnswer narrow.Kinds.ps narrow.Kinds.r narrow.Reads.Pre narrow.Reads.Post
+
+abbrev pub WideEntryUnique : Type 0
+WideEntryUnique = UniqueAnswer wide_entry.Kinds.ps wide_entry.Kinds.r wide_entry.Reads.Pre wide_entry.Reads.Post
+
+abbrev pub FindNameUnique : Type 0
+FindNameUnique = UniqueAnswer find_name.Kinds.ps find_name.Kinds.r find_name.Reads.Pre find_name.Reads.Post
+
+abbrev pub FirstUnnamedUnique : Type 0
+FirstUnnamedUnique = UniqueAnswer first_unnamed.Kinds.ps first_unnamed.Kinds.r (λ κs a. IsLooked (a .0) (a .1 .1 .0)) first_unnamed.Reads.Post
+
+abbrev pub KindOfUnique : Type 0
+KindOfUnique = UniqueAnswer kind_of.Kinds.ps kind_of.Kinds.r kind_of.Reads.Pre kind_of.Reads.Post
+
+abbrev pub AnswerUnique : Type 0
+AnswerUnique = UniqueAnswer answer.Kinds.ps answer.Kinds.r (λ κs a. IsJudged (a .0)) answer.Reads.Post
+
 -- XML TEXT AGAINST COLUMNS.
+abbrev pub SaysUnique : Type 0
+SaysUnique = UniqueAnswer says.Kinds.ps says.Kinds.r says.Reads.Pre says.Reads.Post
+
+abbrev pub KindIsUnique : Type 0
+KindIsUnique = UniqueAnswer kind_is.Kinds.ps kind_is.Kinds.r kind_is.Reads.Pre kind_is.Reads.Post
+
+abbrev pub BeginsLineUnique : Type 0
+BeginsLineUnique = UniqueAnswer begins_line.Kinds.ps begins_line.Kinds.r begins_line.Reads.Pre begins_line.Reads.Post
+
 abbrev pub ReadsAsUnique : Type 0
 ReadsAsUnique = UniqueAnswer reads_as.Kinds.ps reads_as.Kinds.r reads_as.Reads.Pre reads_as.Reads.Post

@@ -14,13 +14,13 @@ use Rattle.paper.specs.Answers.{parentField, kindField, beginField, endField}
 use Rattle.xml.specs.Pieces.{nameAt, opened}
 use Rattle.xml.specs.declared.Cursor.{Cursor}
 use Rattle.xml.specs.declared.Piece.the-variants.{Start, Empty, End, Text}
-use Rattle.read_xml.specs.Open.{begun, innermost, lines, within, openIn, soFar, joined, Moves}
-use Rattle.read_xml.specs.Kept.{Columns, columns, lineSet, Filled}
-use Rattle.read_xml.specs.Judges.{openLimit, placeOf, Kept, Counts, Lined, Standing, Facing}
-use Rattle.read_xml.specs.declared.Progress.{Progress}
-use Rattle.read_xml.proofs.Lacking.{front, lacks-nothing}
-use Rattle.read_xml.proofs.Opened.{length-lines, joined-lines, closed-lines, length-ending}
-use Rattle.read_xml.proofs.Filling.{filled-more, filled-end, parent-there}
+use Rattle.xml_lines.specs.Open.{begun, innermost, lines, within, openIn, soFar, joined, Moves}
+use Rattle.xml_lines.specs.Kept.{Columns, columns, lineSet, Filled}
+use Rattle.xml_lines.specs.Judges.{openLimit, placeOf, Kept, Counts, Lined, Standing, Facing}
+use Rattle.xml_lines.specs.declared.Progress.{Progress}
+use Rattle.xml_lines.proofs.Lacking.{front, lacks-nothing}
+use Rattle.xml_lines.proofs.Opened.{length-lines, joined-lines, closed-lines, length-ending}
+use Rattle.xml_lines.proofs.Filling.{filled-more, filled-end, parent-there}
 
 -- A place kept behind those of the open elements.
 kept-set : (begins : List ℕ) (i v : ℕ) (fs : List Frame) → length fs ≤ i → Kept begins fs → Kept (set begins i v) fs

@@ -10,21 +10,21 @@ use types.Run.{OneOf, miss}
 use Rattle.paper.specs.Limits.{textLimit, nodeLimit}
 use Rattle.paper.specs.Names.{namesOf, numberOf}
 use Rattle.paper.specs.Xml.{Nodes, Frame, ahead, ended, Judged, wanted, unwanted, judge, readXml, Row, row, root, table}
-use Rattle.xml.specs.Promised.{state}
+use Rattle.xml_bytes.specs.Promised.{state}
 use Rattle.xml.specs.Pieces.{Takes, Roots, Finishes, finished}
-use Rattle.xml.specs.Heading.{Leads}
-use Rattle.xml.specs.declared.Reach.{Reach}
-use Rattle.xml.specs.declared.Reach.the-variants as reach
+use Rattle.prolog.specs.Heading.{Leads}
+use Rattle.xml_bytes.specs.declared.Reach.{Reach}
+use Rattle.xml_bytes.specs.declared.Reach.the-variants as reach
 use Rattle.xml.specs.declared.Piece.{Piece}
-use Rattle.read_xml.specs.Open.{innermost, lines, Stand, within, past, openIn, soFar, Stands, Moves}
-use Rattle.read_xml.specs.Kept.{Columns, columns, blank, lineSet, Filled}
-use Rattle.read_xml.specs.Judges.{openLimit, Counts, Lined, Standing, Facing, Comes, Counted, Element, Ends, Inside, Wanted, Judges}
-use Rattle.read_xml.specs.declared.Progress.{Progress}
-use Rattle.read_xml.specs.declared.Step.{Step}
-use Rattle.read_xml.specs.declared.Step.the-variants.{On, Wrong, LeftOut}
+use Rattle.xml_lines.specs.Open.{innermost, lines, Stand, within, past, openIn, soFar, Stands, Moves}
+use Rattle.xml_lines.specs.Kept.{Columns, columns, blank, lineSet, Filled}
+use Rattle.xml_lines.specs.Judges.{openLimit, Counts, Lined, Standing, Facing, Comes, Counted, Element, Ends, Inside, Wanted, Judges}
+use Rattle.xml_lines.specs.declared.Progress.{Progress}
+use Rattle.xml_lines.specs.declared.Step.{Step}
+use Rattle.xml_lines.specs.declared.Step.the-variants.{On, Wrong, LeftOut}
 use Rattle.read_xml.proofs.Moved.{take-moves, root-moves, lead-on}
-use Rattle.read_xml.proofs.Step.{the-type}
-use Rattle.read_xml.proofs.Filling.{filled-more}
+use Rattle.xml_lines.proofs.Step.{the-type}
+use Rattle.xml_lines.proofs.Filling.{filled-more}
 use Rattle.read_xml.proofs.Counted.{progress}
 
 -- A step that is a refusal.

@@ -7,17 +7,17 @@ use lib.ListN.{length, drop}
 use Rattle.paper.specs.Tools.{runOf}
 use Rattle.paper.specs.Names.{namePart}
 use Rattle.paper.specs.Xml.{Nodes, nothing, element, chars, Frame, State, start, ahead, content, ended, with, Judged, unwanted, judge, readXml}
-use Rattle.xml.specs.Seeking.{stops, refused}
-use Rattle.xml.specs.Promised.{state, seekAt, reached}
+use Rattle.xml_bytes.specs.Seeking.{stops, refused}
+use Rattle.xml_bytes.specs.Promised.{state, seekAt, reached}
 use Rattle.xml.specs.Pieces.{nameAt, opened, added, Named, Takes, Roots}
-use Rattle.xml.specs.Heading.{Leads}
-use Rattle.xml.specs.declared.Reach.{Reach}
-use Rattle.xml.specs.declared.Reach.the-variants as reach
+use Rattle.prolog.specs.Heading.{Leads}
+use Rattle.xml_bytes.specs.declared.Reach.{Reach}
+use Rattle.xml_bytes.specs.declared.Reach.the-variants as reach
 use Rattle.xml.specs.declared.Piece.{Piece}
 use Rattle.xml.specs.declared.Piece.the-variants.{Start, Empty, End, Text, Wrong, LeftOut}
 use Rattle.xml.proofs.Judging.{goneOn, judged, judged-on, judged-refused, judged-next-on, judged-next-refused}
-use Rattle.read_xml.specs.Open.{Stand, within, past, stateOf, openIn, joined, Names, Stands, NameEnds, Tagged, Moves}
-use Rattle.read_xml.proofs.Opened.{joined-state}
+use Rattle.xml_lines.specs.Open.{Stand, within, past, stateOf, openIn, joined, Names, Stands, NameEnds, Tagged, Moves}
+use Rattle.xml_lines.proofs.Opened.{joined-state}
 
 module _ (text : List ℕ) where
   -- The names stay where a node is added.

@@ -1,117 +1,36 @@
 // XML text into the table. The text is gone through once, piece by piece: the places at which the open elements begin are kept, and beside them the lines of the table; where the text is accepted, the lines are copied into the columns.
-use names::Found;
 use names::Listed;
 use paper::Answer;
 use xml::Cursor;
 use xml::Piece;
-use xml::Reach;
-ghost use Prim.Native.Nat.{ℕ, suc, _+_, _≤_, _<_};
+use xml_bytes::Reach;
+use xml_lines::Progress;
+use xml_lines::Step;
+use xml_lines::answer;
+use xml_lines::find_name;
+use xml_lines::first_unnamed;
+use xml_lines::kind_of;
+use xml_lines::narrow;
+use xml_lines::wide;
+ghost use Prim.Native.Nat.{ℕ, _+_, _≤_, _<_};
 ghost use mathlib.Core.Path.{_≡_};
-ghost use mathlib.Core.List.{List, [], _∷_, _++_};
-ghost use mathlib.Core.Option.{Option, some};
+ghost use mathlib.Core.List.{List};
 ghost use lib.ListN.{length, getD, set, take};
 ghost use Rattle.paper.specs.Tools.{written};
-ghost use Rattle.paper.specs.Limits.{textLimit, nodeLimit, namesLimit};
-ghost use Rattle.paper.specs.Names.{namesOf, numberOf};
-ghost use Rattle.paper.specs.Xml.{Row, row, named, nameKind, unnamed};
+ghost use Rattle.paper.specs.Limits.{textLimit, nodeLimit};
 ghost use Rattle.paper.specs.Answers.{readXmlAnswer, readXmlColumn, parentField, kindField, beginField, endField};
 ghost use Rattle.paper.specs.Told.{told};
-ghost use Rattle.names.specs.Listing.{foundAt};
-ghost use Rattle.xml.specs.Pieces.{nameAt};
-ghost use Rattle.xml.specs.Heading.{Leads};
-ghost use Rattle.xml.specs.declared.Reach.the-variants.{At};
-ghost use Rattle.read_xml.specs.Open.{Looks, NameEnds};
-ghost use Rattle.read_xml.specs.Kept.{Columns, columns, blank, lineSet, xmlAnswer, exitColumns};
-ghost use Rattle.read_xml.specs.Judges.{openLimit, placeOf, Standing, Facing, Comes, Rises, Ends, Inside, Judges};
+ghost use Rattle.prolog.specs.Heading.{Leads};
+ghost use Rattle.xml_bytes.specs.declared.Reach.the-variants.{At};
+ghost use Rattle.xml_lines.specs.Open.{Looks};
+ghost use Rattle.xml_lines.specs.Kept.{Columns, columns, blank, lineSet, xmlAnswer, exitColumns};
+ghost use Rattle.xml_lines.specs.Judges.{Standing, Facing, Comes, Rises, Ends, Inside, Judges};
 
 // How many elements can be open at once: a start tag has three bytes at least.
 const OPEN: usize = paper::TEXT_LIMIT / 3;
 
 // How many lines are kept: no text with more nodes is accepted.
 const LINES: usize = paper::NODE_LIMIT;
-
-// How far reading has come: the place, how many elements are open, the innermost of them by its number, 0 where none is open, how many nodes there are, and where the first name stands that the list lacks, 0 where it lacks none.
-struct Progress {
-    at: usize,
-    depth: usize,
-    inner: u16,
-    nodes: usize,
-    unnamed: usize,
-}
-
-// What reading on comes to.
-enum Step {
-    On(Progress),
-    Wrong(usize),
-    LeftOut(usize),
-}
-
-// A number below 65,536 as an entry of a column.
-fn narrow(x: usize) -> u16
-    requires { ⌜ x < 65536 ⌝ }
-    ensures { λ r. ⌜ r ≡ x ⌝ }
-{
-    x as u16
-}
-
-// An entry of a column as an index.
-fn wide(x: u16) -> usize
-    ensures { λ r. ⌜ r ≡ x ⌝ }
-{
-    x as usize
-}
-
-// NAMES.
-
-// The number of the name of the start tag that begins there.
-fn find_name(
-    list: &[u8],
-    starts: &[u16; names::STARTS],
-    count: usize,
-    chains: &[u16; initials::CHAINS],
-    text: &[u8],
-    begin: usize,
-    name_end: usize,
-) -> Found
-    requires { ⌜ Looks (now list) (now starts) count (now chains) ⌝ }
-    requires { ⌜ NameEnds (now text) begin «name_end» ⌝ }
-    ensures { λ r. ⌜ foundAt r ≡ numberOf (namesOf (now (list .entry))) (nameAt (now (text .entry)) (suc begin)) ⌝ }
-{
-    initials::find(
-        list,
-        starts,
-        count,
-        chains,
-        text,
-        begin + 1,
-        name_end - (begin + 1),
-    )
-}
-
-// Where the first name stands that the list lacks, with one start tag more, whose name was looked for.
-fn first_unnamed(found: Found, begin: usize, before: usize) -> usize
-    requires { ⌜ begin < 65536 ⌝ }
-    ensures { λ r. ⌜ ((look : List ℕ → Option ℕ) (rows : List Row) (name : List ℕ) (up end : ℕ) → foundAt found ≡ look name → before ≡ placeOf (unnamed look rows) → r ≡ placeOf (unnamed look (rows ++ (row up (named name) begin end ∷ [])))) ⌝ }
-{
-    if before != 0 {
-        return before;
-    }
-    match found {
-        Found::At(_) => 0,
-        Found::Nothing => begin + 1,
-    }
-}
-
-// The kind of an element by its name.
-fn kind_of(found: Found) -> u16
-    requires { ⌜ ((v : ℕ) → foundAt found ≡ some v → v < namesLimit) ⌝ }
-    ensures { λ r. ⌜ r ≡ nameKind (foundAt found) ⌝ }
-{
-    match found {
-        Found::At(v) => paper::ELEMENT_KIND + narrow(v),
-        Found::Nothing => paper::ELEMENT_KIND,
-    }
-}
 
 // LINES.
 
@@ -451,7 +370,7 @@ fn judge(
     requires { ⌜ columns (now parents) (now kinds) (now begins) (now ends) ≡ blank ⌝ }
     ensures { λ r. ⌜ Judges (now (text .entry)) (now (list .entry)) (columns (now (parents .exit)) (now (kinds .exit)) (now (begins .exit)) (now (ends .exit))) r ⌝ }
 {
-    match xml::lead(text) {
+    match prolog::lead(text) {
         Reach::At(at) => finished(
             text,
             read_element(
@@ -473,26 +392,6 @@ fn judge(
 }
 
 // THE ANSWER.
-
-// What is answered where the list is good and the text was judged.
-fn answer(judged: Step, room: usize) -> Answer
-    ensures { λ r. ⌜ ((text list : List ℕ) (cols : Columns) → Judges text list cols judged → told r ≡ xmlAnswer text list room) ⌝ }
-{
-    match judged {
-        Step::On(read) => {
-            if read.unnamed != 0 {
-                return Answer::UnknownName(read.unnamed);
-            }
-            let needed = read.nodes;
-            if (room < needed) | (paper::NODE_LIMIT < needed) {
-                return Answer::Short(needed);
-            }
-            Answer::Value(needed)
-        }
-        Step::Wrong(place) => Answer::NoXml(place),
-        Step::LeftOut(place) => Answer::LeftOut(place),
-    }
-}
 
 // Answers and writes where the list is good.
 fn fill(

@@ -1,5 +1,5 @@
 -- How reading goes through an end tag: the name of the element again, letter by letter, white space, and its `>`. Assumes nothing.
-use Prim.Native.Nat.{ℕ, suc, _+_, _≤_, _<_}
+use Prim.Native.Nat.{ℕ, suc, _+_, _≤_, _<_, zero}
 use native.Mathlib.Omega.{arith}
 use borrow.Author.Tests.{ne-eqb}
 use mathlib.Core.Path.{_≡_, refl, sym, _∙_, ap, subst}
@@ -14,15 +14,18 @@ use Rattle.paper.specs.Names.{namePart}
 use Rattle.paper.specs.Tokens.{white}
 use Rattle.paper.specs.Xml.{nothing, element, Frame, closing, leftOut, leftOutAnywhere}
 use Rattle.paper.proofs.Lexing.{run-more}
-use Rattle.xml.specs.Seeking.{stops, seek}
-use Rattle.xml.specs.Promised.{state, seekAt, reached, Between, refusalAt, Reads}
-use Rattle.xml.specs.Pieces.{nameAt, added, Named, Renames, endTook, Ends}
-use Rattle.xml.specs.declared.Reach.{Reach}
-use Rattle.xml.specs.declared.Reach.the-variants.{At, Wrong, LeftOut}
-use Rattle.xml.proofs.Steps.{Calm, is-calm, run-inside, stops-run, text-ends, steps-on, refused-here}
-use Rattle.xml.proofs.Rows.{Refused, reads-bounds, wait-read, byte-calm}
-use Rattle.xml.proofs.Holding.{opens-not}
-use Rattle.xml.proofs.Tagging.{added-stops, add-added, end-gap, wait-letter, calm-part}
+use Rattle.xml_bytes.specs.Seeking.{stops, seek}
+use Rattle.xml_bytes.specs.Promised.{state, seekAt, reached, Between, refusalAt, Reads}
+use Rattle.xml.specs.Pieces.{nameAt, added, Named, Renames, endTook, Ends, repeatedFrom}
+use Rattle.xml_bytes.specs.declared.Reach.{Reach}
+use Rattle.xml_bytes.specs.declared.Reach.the-variants.{At, Wrong, LeftOut}
+use Rattle.xml_bytes.proofs.Steps.{Calm, is-calm, run-inside, stops-run, text-ends, steps-on, refused-here, opens-not}
+use Rattle.xml_bytes.proofs.Rows.{Refused, reads-bounds, wait-read, byte-calm, reads-taken}
+use Rattle.xml.proofs.Tagging.{added-stops, add-added, end-gap, wait-letter}
+use Rattle.xml_bytes.proofs.Signs.{calm-part}
+use native.Mathlib.Nat.{add-zero}
+use Rattle.paper.proofs.Tests.{and-true}
+use Rattle.xml_bytes.specs.Blocks.{AllFit}
 
 -- A name that goes on at a place has this letter first; one that ends there is empty.
 name-letter : (text : List ℕ) (at : ℕ) → at < length text → namePart (getD text at 0) ≡ true → nameAt text at ≡ getD text at 0 ∷ nameAt text (suc at)
@@ -141,3 +144,17 @@ module _ (text : List ℕ) (at inner : ℕ) where
       record { goes = λ f fs n. ap (λ (w : List ℕ). seekAt text at (state (closing w) (f ∷ fs))) n ∙ h .goes (f ∷ fs); bounds = h .bounds }
   end-stuck (LeftOut spot) stuck h =
       record { goes = λ f fs n. ap (λ (w : List ℕ). seekAt text at (state (closing w) (f ∷ fs))) n ∙ h .goes (f ∷ fs); bounds = h .bounds }
+
+-- LETTERS of a name that stand at another place too are read again there.
+module _ (text : List ℕ) (at inner letter : ℕ) where
+  pub letters-again : (n : ℕ) → at + n ≤ length text → AllFit (repeatedFrom text at letter) n → Renaming text at inner at letter → Renaming text at inner (at + n) (letter + n)
+  letters-again zero l all so-far = rw (add-zero at, add-zero letter) so-far
+  letters-again (suc n) l all so-far =
+      let before = letters-again n (omega arith) (λ i m. all i (omega arith)) so-far in
+      let both = and-true (namePart (getD text (letter + n) 0)) (eqb (getD text (letter + n) 0) (getD text (at + n) 0)) (all n (omega arith)) in
+      let place : (at + n) + 1 ≡ at + suc n = omega arith in
+      let next : (letter + n) + 1 ≡ letter + suc n = omega arith in
+      subst (λ m. Renaming text at inner m (letter + suc n)) place
+      (subst (Renaming text at inner ((at + n) + 1)) next
+      (renaming-more text at inner (at + n) (letter + n) before (both .0) ((at + n) + 1)
+      (reads-taken text (at + n) (eqb (getD text (letter + n) 0)) ((at + n) + 1) (omega arith) (both .1) refl)))

@@ -10,13 +10,13 @@ use lib.Seq.{drop-cons, drop-drop}
 use Rattle.paper.specs.Tools.{runOf}
 use Rattle.paper.specs.Tokens.{white}
 use Rattle.paper.specs.Xml.{Nodes, ahead, opening, ended, leftOut, leftOutAnywhere, unwanted, judge}
-use Rattle.xml.specs.Promised.{state, refusalAt}
+use Rattle.xml_bytes.specs.Promised.{state, refusalAt}
 use Rattle.xml.specs.Pieces.{Tags, Roots, finished, FinishBounds, Finishes}
-use Rattle.xml.specs.declared.Reach.{Reach}
-use Rattle.xml.specs.declared.Reach.the-variants.{At}
+use Rattle.xml_bytes.specs.declared.Reach.{Reach}
+use Rattle.xml_bytes.specs.declared.Reach.the-variants.{At}
 use Rattle.xml.specs.declared.Piece.{Piece}
-use Rattle.xml.proofs.Steps.{calm-opens, run-inside, stops-run, steps-on}
-use Rattle.xml.proofs.Tagging.{white-calm}
+use Rattle.xml_bytes.proofs.Steps.{calm-opens, run-inside, stops-run, steps-on}
+use Rattle.xml_bytes.proofs.Signs.{white-calm}
 
 -- The `<` of the one element, then its start tag.
 pub roots : (text : List ℕ) (at next : ℕ) (r : Piece) → at < length text → getD text at 0 ≡ 60 → leftOutAnywhere (drop at text) ≡ false → next ≡ at + 1 → Tags text next r → Roots text at r

@@ -12,8 +12,8 @@ use lib.ListN.{drop}
 use lib.Seq.{drop-drop}
 use Rattle.paper.proofs.Tests.{none-some}
 use Rattle.paper.specs.Xml.{nothing, chars, Frame, Mode, start, first, heading, ahead, opening, inName, inTag, emptied, content, run, partly, closing, ended, State, with, step, leftOut, Judged, unwanted, atEnd, onward, judge}
-use Rattle.xml.specs.Seeking.{Sought, stops, refused, settled, unless, onwards, seek, seekNext}
-use Rattle.xml.specs.Promised.{state, seekAt}
+use Rattle.xml_bytes.specs.Seeking.{Sought, stops, refused, settled, unless, onwards, seek, seekNext}
+use Rattle.xml_bytes.specs.Promised.{state, seekAt}
 
 -- How the judgement goes on past a piece.
 abbrev pub goneOn : List ℕ → Sought → Judged

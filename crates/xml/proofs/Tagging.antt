@@ -2,34 +2,34 @@
 use Prim.Native.Nat.{ℕ, suc, _+_, _≤_, _<_}
 use native.Mathlib.Omega.{arith}
 use native.Mathlib.Nat.{add-zero}
-use borrow.Author.Tests.{ne-eqb, leb-true, eqb-true, lt-ltb, le-ltb, ltb-false}
+use borrow.Author.Tests.{ne-eqb, eqb-true, lt-ltb, le-ltb, ltb-false}
 use mathlib.Core.Path.{_≡_, refl, sym, _∙_, ap, subst}
 use mathlib.Core.Bool.{Bool, true, false, not, _&&_, _||_, cond}
 use mathlib.Core.List.{List, [], _∷_, _++_, append-assoc, append-nil}
 use mathlib.Core.Logic.{⊎-elim}
 use types.Run.{miss}
 use mathlib.Core.Option.{Option, none, some}
-use lib.Dec.{eqb, leb, ltb}
+use lib.Dec.{eqb, ltb}
 use lib.ListN.{length, getD, take, drop}
 use lib.Seq.{drop-cons, drop-drop}
 use Rattle.paper.specs.Tools.{runOf}
-use Rattle.paper.specs.Names.{letter, nameStart, namePart}
+use Rattle.paper.specs.Names.{nameStart, namePart}
 use Rattle.paper.specs.Tokens.{white}
 use Rattle.paper.specs.Xml.{Nodes, nothing, element, xmlStart, xmlPart, Frame, State, add, opening, inName, inTag, emptied, content, closing, tagGoesOn, stepMode, leftOut, leftOutAnywhere}
 use Rattle.paper.proofs.Axes.{same-turned}
-use Rattle.paper.proofs.Tests.{and-true, or-true, decide}
+use Rattle.paper.proofs.Tests.{decide}
 use Rattle.paper.proofs.Lexing.{run-more}
-use Rattle.xml.specs.Seeking.{stops, settled, seek}
-use Rattle.xml.specs.Promised.{state, seekAt, reached, refusalAt, calm, Reads}
+use Rattle.xml_bytes.specs.Seeking.{stops, settled, seek}
+use Rattle.xml_bytes.specs.Promised.{state, seekAt, reached, refusalAt, calm, Reads}
 use Rattle.xml.specs.Pieces.{nameAt, opened, added, tagMode, foreignIn, Past, refusedPiece, tagTook, TagBounds, TagEnds, EmptyEnds, HasName, Tags}
-use Rattle.xml.specs.declared.Reach.{Reach}
-use Rattle.xml.specs.declared.Reach.the-variants.{At, Wrong, LeftOut}
+use Rattle.xml_bytes.specs.declared.Reach.{Reach}
+use Rattle.xml_bytes.specs.declared.Reach.the-variants.{At, Wrong, LeftOut}
 use Rattle.xml.specs.declared.Piece.{Piece}
 use Rattle.xml.specs.declared.Piece.the-variants.{Start, Empty, End, Text}
 use Rattle.xml.specs.declared.Piece.the-variants as piece
-use Rattle.xml.proofs.Steps.{Calm, is-calm, Waits, calm-opens, text-ends, opens-here, steps-on, refused-here}
-use Rattle.xml.proofs.Rows.{Refused, reads-bounds, wait-read, byte-calm}
-use Rattle.xml.proofs.Holding.{opens-not}
+use Rattle.xml_bytes.proofs.Steps.{Calm, is-calm, Waits, calm-opens, text-ends, opens-here, steps-on, refused-here, opens-not}
+use Rattle.xml_bytes.proofs.Rows.{Refused, reads-bounds, wait-read, byte-calm}
+use Rattle.xml_bytes.proofs.Signs.{part-calm, calm-part, start-part, white-calm}
 
 -- Where a node is read, a piece ends.
 pub added-stops : (at : ℕ) (node : Nodes) (frames : List Frame) (bs : List ℕ) → seek at (added node frames) bs ≡ stops at (added node frames)
@@ -45,70 +45,6 @@ content-stops at frames (b ∷ bs) = refl
 pub add-added : (node : Nodes) (frames : List Frame) → add node frames ≡ some (added node frames)
 add-added node [] = refl
 add-added node (f ∷ fs) = refl
-
--- BYTES OF NAMES.
--- A byte with which a name starts is none below 65.
-start-high : (b : ℕ) → nameStart b ≡ true → 65 ≤ b
-start-high b h =
-    ⊎-elim
-    (λ l.
-    ⊎-elim (λ u. leb-true 65 b (and-true (leb 65 b) (leb b 90) u .0)) (λ u. let k : 97 ≤ b = leb-true 97 b (and-true (leb 97 b) (leb b 122) u .0) in omega arith)
-    (or-true (leb 65 b && leb b 90) (leb 97 b && leb b 122) l))
-    (λ u. let k : b ≡ 95 = eqb-true b 95 u in omega arith)
-    (or-true (letter b) (eqb b 95) h)
-
--- A byte with which a name goes on is `-`, `.`, or none below 48, and none of `<` and `>`.
-pub record Part (b : ℕ) : Type 0 where
-  pub calm : Calm b
-  pub no-space : white b ≡ false
-
-part-from : (b : ℕ) → (b ≡ 60 → ⊥) → (b ≡ 38 → ⊥) → 32 < b → Part b
-part-from b tag amp l =
-    record {
-      calm = record { no-tag = tag; no-reference = amp };
-      no-space = rw (ne-eqb b 32 (λ e. omega arith), ne-eqb b 9 (λ e. omega arith), ne-eqb b 10 (λ e. omega arith), ne-eqb b 13 (λ e. omega arith));
-    }
-
-pub part-calm : (b : ℕ) → namePart b ≡ true → Part b
-part-calm b h =
-    ⊎-elim
-    (λ u.
-    ⊎-elim
-    (λ v.
-    ⊎-elim (λ w. let l = start-high b w in part-from b (λ e. omega arith) (λ e. omega arith) (omega arith))
-    (λ w. let l = leb-true 48 b (and-true (leb 48 b) (leb b 57) w .0) in let m = leb-true b 57 (and-true (leb 48 b) (leb b 57) w .1) in part-from b (λ e. omega arith) (λ e. omega arith) (omega arith))
-    (or-true (nameStart b) (leb 48 b && leb b 57) v))
-    (λ v. let e′ = eqb-true b 46 v in part-from b (λ e. omega arith) (λ e. omega arith) (omega arith))
-    (or-true (nameStart b || leb 48 b && leb b 57) (eqb b 46) u))
-    (λ v. let e′ = eqb-true b 45 v in part-from b (λ e. omega arith) (λ e. omega arith) (omega arith))
-    (or-true (nameStart b || leb 48 b && leb b 57 || eqb b 46) (eqb b 45) h)
-
-pub calm-part : (b : ℕ) → namePart b ≡ true → calm b ≡ true
-calm-part b h = let p = part-calm b h .calm in rw (ne-eqb b 60 (p .no-tag), ne-eqb b 38 (p .no-reference))
-
-pub start-part : (b : ℕ) → nameStart b ≡ true → namePart b ≡ true
-start-part b h = rw h
-
--- White space is calm, and no byte of a name of XML 1.0.
-pub record Space (b : ℕ) : Type 0 where
-  pub calm : Calm b
-  pub no-part : namePart b ≡ false
-  pub no-xml-part : xmlPart b ≡ false
-  pub no-xml-start : xmlStart b ≡ false
-
-pub white-calm : (b : ℕ) → white b ≡ true → Space b
-white-calm b h =
-    ⊎-elim
-    (λ u.
-    ⊎-elim
-    (λ v. ⊎-elim (λ w. is 32 (eqb-true b 32 w) (record { calm = is-calm 32 refl; no-part = refl; no-xml-part = refl; no-xml-start = refl })) (λ w. is 9 (eqb-true b 9 w) (record { calm = is-calm 9 refl; no-part = refl; no-xml-part = refl; no-xml-start = refl })) (or-true (eqb b 32) (eqb b 9) v))
-    (λ v. is 10 (eqb-true b 10 v) (record { calm = is-calm 10 refl; no-part = refl; no-xml-part = refl; no-xml-start = refl }))
-    (or-true (eqb b 32 || eqb b 9) (eqb b 10) u))
-    (λ v. is 13 (eqb-true b 13 v) (record { calm = is-calm 13 refl; no-part = refl; no-xml-part = refl; no-xml-start = refl }))
-    (or-true (eqb b 32 || eqb b 9 || eqb b 10) (eqb b 13) h)
-  where
-    is : (n : ℕ) → b ≡ n → Space n → Space b
-    is n e s = subst Space (sym e) s
 
 -- NAMES.
 module _ (begin : ℕ) (frames : List Frame) where

@@ -9,15 +9,16 @@ use types.Run.{miss}
 use lib.ListN.{length, getD, drop, drop-of-length-le}
 use lib.Seq.{drop-cons}
 use Rattle.paper.specs.Xml.{Frame, opening, content, closing, leftOut, leftOutAnywhere}
-use Rattle.xml.specs.Seeking.{seekNext}
-use Rattle.xml.specs.Promised.{state, seekAt}
-use Rattle.xml.specs.Pieces.{Runs, refusedPiece, Tags, Ends, took, Takes}
-use Rattle.xml.specs.declared.Reach.{Reach}
-use Rattle.xml.specs.declared.Reach.the-variants.{At, Wrong, LeftOut}
+use Rattle.xml_bytes.specs.Seeking.{seekNext}
+use Rattle.xml_bytes.specs.Promised.{state, seekAt}
+use Rattle.xml_runs.specs.Runs.{Runs}
+use Rattle.xml.specs.Pieces.{refusedPiece, Tags, Ends, took, Takes}
+use Rattle.xml_bytes.specs.declared.Reach.{Reach}
+use Rattle.xml_bytes.specs.declared.Reach.the-variants.{At, Wrong, LeftOut}
 use Rattle.xml.specs.declared.Piece.{Piece}
 use Rattle.xml.specs.declared.Piece.the-variants.{Start, Empty, End, Text}
 use Rattle.xml.specs.declared.Piece.the-variants as piece
-use Rattle.xml.proofs.Rows.{Refused}
+use Rattle.xml_bytes.proofs.Rows.{Refused}
 
 module _ (text : List ℕ) (at inner : ℕ) where
   -- The text ends, or a thing that is left out opens.

@@ -1,4 +1,4 @@
--- The promises of `take`, `root`, `finish` and `lead` leave one answer: where reading stands past a piece gives back the piece, inside an empty element or as the one element.
+-- The promises of `take`, `root` and `finish` leave one answer: where reading stands past a piece gives back the piece, inside an empty element or as the one element.
 -- Assumes nothing.
 use Prim.Native.Nat.{ℕ, suc, _+_}
 use mathlib.Core.Path.{_≡_, refl, sym, _∙_, ap}
@@ -9,12 +9,11 @@ use lib.ListN.{length, drop}
 use Rattle.paper.specs.Tools.{runOf}
 use Rattle.paper.specs.Names.{namePart}
 use Rattle.paper.specs.Xml.{Nodes, nothing, element, chars, Frame, Mode, start, first, heading, ahead, opening, inName, inTag, emptied, content, run, partly, closing, ended, Judged, wanted, unwanted}
-use Rattle.xml.specs.Seeking.{Sought, stops, refused}
+use Rattle.xml_bytes.specs.Seeking.{Sought, stops, refused}
 use Rattle.xml.specs.Pieces.{nameAt, opened, took, TookBounds, Takes, tagTook, TagBounds, Roots, finished, FinishBounds, Finishes}
-use Rattle.xml.specs.Heading.{led, Leads}
 use Rattle.xml.specs.declared.Cursor.{Cursor}
-use Rattle.xml.specs.declared.Reach.{Reach}
-use Rattle.xml.specs.declared.Reach.the-variants as reach
+use Rattle.xml_bytes.specs.declared.Reach.{Reach}
+use Rattle.xml_bytes.specs.declared.Reach.the-variants as reach
 use Rattle.xml.specs.declared.Piece.{Piece}
 use Rattle.xml.specs.declared.Piece.the-variants.{Start, Empty, End, Text, Wrong, LeftOut}
 
@@ -118,16 +117,3 @@ finish-answer most (reach.LeftOut place) b = refl
 pub finish-unique : (text : List ℕ) (at : ℕ) (r s : Reach) → Finishes text at r → Finishes text at s → r ≡ s
 finish-unique text at r s p q =
     sym (finish-answer (length text) r (p .bounds)) ∙ ap (finish-back (length text)) (sym (p .goes nothing) ∙ q .goes nothing) ∙ finish-answer (length text) s (q .bounds)
-
--- THE PLACE OF THE ELEMENT. Reading stops there.
-abbrev lead-back : Sought → Reach
-lead-back (stops to s) = reach.At to
-lead-back (refused number place) = cond (eqb number 11) (reach.Wrong place) (reach.LeftOut place)
-
-lead-answer : (r : Reach) → lead-back (led r) ≡ r
-lead-answer (reach.At to) = refl
-lead-answer (reach.Wrong place) = refl
-lead-answer (reach.LeftOut place) = refl
-
-pub lead-unique : (text : List ℕ) (r s : Reach) → Leads text r → Leads text s → r ≡ s
-lead-unique text r s p q = sym (lead-answer r) ∙ ap lead-back (sym (p .only) ∙ q .only) ∙ lead-answer s

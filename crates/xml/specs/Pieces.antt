@@ -1,18 +1,18 @@
 -- What taking a piece promises: where the paper's reading stands past it.
 use Prim.Native.Nat.{ℕ, suc, _+_, _≤_, _<_}
 use mathlib.Core.Path.{_≡_}
-use mathlib.Core.Bool.{Bool, true, false}
+use mathlib.Core.Bool.{Bool, true, false, _&&_}
 use mathlib.Core.List.{List, [], _∷_}
-use lib.Dec.{ltb}
+use lib.Dec.{eqb, ltb}
 use lib.ListN.{length, getD, take, drop}
 use Rattle.paper.specs.Tools.{runOf}
 use Rattle.paper.specs.Names.{namePart}
 use Rattle.paper.specs.Tokens.{white}
 use Rattle.paper.specs.Xml.{Nodes, nothing, element, chars, xmlStart, xmlPart, Frame, Mode, State, with, opening, inName, inTag, emptied, content, closing, ended, ahead, Judged, wanted, unwanted, judge}
-use Rattle.xml.specs.Seeking.{Sought, stops, refused, seekNext}
-use Rattle.xml.specs.Promised.{state, seekAt, reached, Between}
-use Rattle.xml.specs.declared.Reach.{Reach}
-use Rattle.xml.specs.declared.Reach.the-variants.{At, Wrong, LeftOut}
+use Rattle.xml_bytes.specs.Seeking.{Sought, stops, refused, seekNext}
+use Rattle.xml_bytes.specs.Promised.{state, seekAt, reached, Between}
+use Rattle.xml_bytes.specs.declared.Reach.{Reach}
+use Rattle.xml_bytes.specs.declared.Reach.the-variants.{At, Wrong, LeftOut}
 use Rattle.xml.specs.declared.Piece.{Piece}
 use Rattle.xml.specs.declared.Piece.the-variants.{Start, Empty, End, Text}
 use Rattle.xml.specs.declared.Piece.the-variants as piece
@@ -29,16 +29,6 @@ opened name begin = record { name = name; begin = begin; inside = nothing }
 abbrev pub added : Nodes → List Frame → State
 added node [] = state (ended node) []
 added node (f ∷ fs) = state content (with f node ∷ fs)
-
--- RUNS. Where a run of characters ends, reading stands inside the same element with a text node more.
-abbrev pub ran : ℕ → Frame → List Frame → Reach → Sought
-ran begin f fs (At to) = stops to (state content (with f (chars begin to nothing) ∷ fs))
-ran begin f fs (Wrong place) = refused 11 place
-ran begin f fs (LeftOut place) = refused 12 place
-
-pub record Runs (text : List ℕ) (begin : ℕ) (r : Reach) : Type 0 where
-  pub goes : (f : Frame) (fs : List Frame) → seekNext begin (state content (f ∷ fs)) (drop begin text) ≡ ran begin f fs r
-  pub bounds : Between (suc begin) (length text) r
 
 -- TAGS. In the name of a start tag, or past white space behind it.
 abbrev pub tagMode : Bool → ℕ → List ℕ → Mode
@@ -106,6 +96,10 @@ abbrev pub endTook : Frame → List Frame → Reach → Sought
 endTook f fs (At to) = stops to (added (element (f .name) (f .begin) to (f .inside) nothing) fs)
 endTook f fs (Wrong place) = refused 11 place
 endTook f fs (LeftOut place) = refused 12 place
+
+-- Is the byte so far behind `letter` one of a name, and the same as the one so far behind `place`?
+abbrev pub repeatedFrom : List ℕ → ℕ → ℕ → ℕ → Bool
+repeatedFrom text place letter i = namePart (getD text (letter + i) 0) && eqb (getD text (letter + i) 0) (getD text (place + i) 0)
 
 -- The name of the element that begins at `inner` is read again.
 pub record Renames (text : List ℕ) (at inner : ℕ) (r : Reach) : Type 0 where

@@ -8,12 +8,12 @@ use mathlib.Core.List.{List, [], _∷_}
 use lib.Dec.{ltb}
 use lib.ListN.{length, drop}
 use Rattle.paper.specs.Xml.{Nodes, nothing, element, chars}
-use Rattle.xml_theorems.specs.Productions.{SayIn, said, saying, ManyIn, no-more, one-more, SomeIn, at-least, PartsIn, name-ends, name-goes-on, NameIn, name-starts}
-use Rattle.xml_theorems.specs.Productions.{utf8, Atom, AtomIn, a-char, lt-ref, gt-ref, amp-ref, apos-ref, quot-ref, AtomsIn, no-atom, one-atom, RunIn, a-run}
-use Rattle.xml_theorems.specs.Productions.{RowIn, row-ends, run-first, empty-first, full-first, equals, GivenIn, gives, VersionIn, version}
-use Rattle.xml_theorems.specs.Productions.{EncodingIn, encoded, not-encoded, StandaloneIn, alone-yes, alone-no, not-alone, DeclarationIn, declared, not-declared, Derives}
+use Rattle.xml_grammar.specs.Productions.{SayIn, said, saying, ManyIn, no-more, one-more, SomeIn, at-least, PartsIn, name-ends, name-goes-on, NameIn, name-starts}
+use Rattle.xml_grammar.specs.Productions.{utf8, Atom, AtomIn, a-char, lt-ref, gt-ref, amp-ref, apos-ref, quot-ref, AtomsIn, no-atom, one-atom, RunIn, a-run}
+use Rattle.xml_grammar.specs.Productions.{RowIn, row-ends, run-first, empty-first, full-first, equals, GivenIn, gives, VersionIn, version}
+use Rattle.xml_grammar.specs.Productions.{EncodingIn, encoded, not-encoded, StandaloneIn, alone-yes, alone-no, not-alone, DeclarationIn, declared, not-declared, Derives}
 use Rattle.xml_theorems.specs.Tables.{Nested, Spaced, TreeNests, TreeSpaced}
-use Rattle.xml_theorems.proofs.Accepted.{accepted}
+use Rattle.xml_verdicts.proofs.Accepted.{accepted}
 
 -- The bytes from the next place on.
 drop-one : (at : ℕ) (text : List ℕ) → drop (suc at) text ≡ drop 1 (drop at text)

@@ -9,9 +9,9 @@ use mathlib.Core.List.{List}
 use mathlib.Core.Logic.{_⊎_, inl, inr, ⊎-elim, by-cases}
 use lib.ListN.{length}
 use Rattle.paper.specs.Xml.{Nodes, nothing, element, chars, What, Row, rows, table, count}
-use Rattle.xml_theorems.specs.Productions.{Derives}
+use Rattle.xml_grammar.specs.Productions.{Derives}
 use Rattle.xml_theorems.specs.Tables.{Nested, Spaced, lineAt, PlacesNest, PlacesRise, PlacesApart, ElementBetween, NoTwoTexts}
-use Rattle.xml_theorems.proofs.Accepted.{accepted}
+use Rattle.xml_verdicts.proofs.Accepted.{accepted}
 use Rattle.xml_theorems.proofs.Nesting.{tree-nests, tree-spaced}
 use Rattle.xml_theorems.proofs.Numbered.{length-rows, Stand, stand-element, stand-inside, stand-rest, stand-chars, stand-behind, three, two}
 

@@ -12,10 +12,10 @@ use lib.ListN.{length, getD, drop}
 use borrow.Author.Tests.{eq-eqb}
 use Rattle.paper.specs.Xml.{Nodes, nothing, element, chars, What, Row, row, rows, table, count, starts}
 use Rattle.paper.proofs.Tests.{true-and}
-use Rattle.xml_theorems.specs.Productions.{SayIn, said, saying, PartsIn, name-ends, name-goes-on, NameIn, name-starts, utf8, Atom, AtomIn, a-char, lt-ref, gt-ref, amp-ref, apos-ref, quot-ref}
-use Rattle.xml_theorems.specs.Productions.{AtomsIn, no-atom, one-atom, RunIn, a-run, RowIn, row-ends, run-first, empty-first, full-first, Derives}
+use Rattle.xml_grammar.specs.Productions.{SayIn, said, saying, PartsIn, name-ends, name-goes-on, NameIn, name-starts, utf8, Atom, AtomIn, a-char, lt-ref, gt-ref, amp-ref, apos-ref, quot-ref}
+use Rattle.xml_grammar.specs.Productions.{AtomsIn, no-atom, one-atom, RunIn, a-run, RowIn, row-ends, run-first, empty-first, full-first, Derives}
 use Rattle.xml_theorems.specs.Tables.{RightPast, ElementStands, TextStands, Standing, TreeStands, lineAt, ElementsStand, TextsStand}
-use Rattle.xml_theorems.proofs.Accepted.{accepted}
+use Rattle.xml_verdicts.proofs.Accepted.{accepted}
 use Rattle.xml_theorems.proofs.Nesting.{drop-next, say-further, many-further, name-further, atom-further, run-further, declaration-further, rowed}
 use Rattle.xml_theorems.proofs.Numbered.{Stand, stand-element, stand-inside, stand-rest, stand-chars, stand-behind, three, two}
 use Rattle.xml_theorems.proofs.Placed.{named-text, root-text, stand-table, length-table}

@@ -1,3 +1,1 @@
-pub mod Productions
-pub mod Owed
 pub mod Tables

@@ -48,10 +48,10 @@ use Rattle.item.proofs.unpack.Reads as unpack-reads
 use Rattle.keep.proofs.look.Reads as look-reads
 use Rattle.keep.proofs.look_first.Reads as look-first-reads
 use Rattle.keep.proofs.narrow.Reads as narrow-reads
-use Rattle.keep.proofs.restrict.Reads as restrict-reads
+use Rattle.spread.proofs.restrict.Reads as restrict-reads
 use Rattle.keep.proofs.step_at.Reads as step-at-reads
 use Rattle.keep.proofs.widen.Reads as widen-reads
-use Rattle.sets.proofs.along.Reads as along-reads
+use Rattle.axes.proofs.along.Reads as along-reads
 use Rattle.sets.proofs.fill.Reads as fill-reads
 use Rattle.sets.proofs.flip.Reads as flip-reads
 use Rattle.sets.proofs.keep_second.Reads as keep-second-reads

@@ -9,7 +9,7 @@ use denote.Ref.{now}
 use Rattle.paper.specs.Document.{tableOf}
 use Rattle.paper.specs.Measures.{height}
 use Rattle.paper.specs.Selection.{selects, keeps, kept}
-use Rattle.keep.specs.Evals.{keepsBy}
+use Rattle.spread.specs.Spreading.{keepsBy}
 use Rattle.keep.proofs.Slices.{front-length}
 use Rattle.keep.proofs.Running.{one-fits}
 use Rattle.keep.proofs.Selecting.{some-tall}
@@ -79,7 +79,7 @@ returns c =
     let over = c .before .before .before .before .before .before .before .before .spread in
     let cleared = c .before .before .fill in
     let len2 : length (over .last .1 .1 .1 .1 .0 ++ drop n sets1) ≡ length (now (a .sets)) = front-length n sets1 (over .last .1 .1 .1 .1 .0) (omega arith) (over .kept .1 .1 .1 .1 .0) ∙ len1 in (
-      λ q e. over .ensures (selects (tableOf (now (a .parent)) (now (a .kind))) (now (a .given)) q) (chosen .ensures q e),
+      λ q e. over .ensures .0 (selects (tableOf (now (a .parent)) (now (a .kind))) (now (a .given)) q) (chosen .ensures q e),
       cleared .ensures ∙ ap (λ (k : ℕ). replicate k 0) len2,
     )
 

@@ -3,7 +3,7 @@ use Rattle.match_xml.proofs.Matching.{ends-inside}
 use Rattle.match_xml.proofs.compare.Statement.{statement}
 use Rattle.match_xml.proofs.compare.Tie as tie
 use Rattle.read_xml.proofs.Moved.{lead-wrong, lead-left-out}
-use Rattle.xml.specs.Heading.{Leads}
+use Rattle.prolog.specs.Heading.{Leads}
 use borrow.Author.Needs.{needs}
 use mathlib.Core.Path.{_≡_, refl, sym, _∙_, ap, subst}
 

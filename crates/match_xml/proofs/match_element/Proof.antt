@@ -1,5 +1,5 @@
 -- `match_xml::match_element` meets its contract: the root's line, the start tag, then all pieces inside. Assumes nothing.
-use Rattle.match_xml.proofs.Agreeing.{tells-both}
+use Rattle.line_tests.proofs.Tests.{tells-both}
 use Rattle.match_xml.proofs.Matching.{root-faces}
 use Rattle.match_xml.proofs.Pieces.{root-line}
 use Rattle.match_xml.proofs.match_element.Statement.{statement}

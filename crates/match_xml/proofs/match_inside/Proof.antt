@@ -5,7 +5,7 @@ use Rattle.match_xml.proofs.match_inside.Statement.{statement}
 use Rattle.match_xml.proofs.match_inside.Tie as tie
 use Rattle.match_xml.specs.Compared.{Standing, Comes, Rises, Ends}
 use Rattle.match_xml.specs.declared.Step.the-variants.{On, Refused}
-use Rattle.read_xml.specs.Kept.{columns}
+use Rattle.xml_lines.specs.Kept.{columns}
 use borrow.Author.Needs.{needs}
 use denote.Ref.{now}
 use lib.ListN.{length}

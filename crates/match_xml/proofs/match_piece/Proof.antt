@@ -2,14 +2,14 @@
 use Prim.Native.Nat.{ℕ, suc, _+_, _≤_, _<_}
 use Rattle.paper.specs.Names.{namesOf, numberOf}
 use Rattle.xml.specs.Pieces.{nameAt}
-use Rattle.match_xml.proofs.Agreeing.{tells-both}
+use Rattle.line_tests.proofs.Tests.{tells-both}
 use Rattle.match_xml.proofs.Pieces.{start-room, start-comes, empty-comes, end-comes, text-comes}
 use Rattle.match_xml.proofs.match_piece.Statement.{statement}
 use Rattle.match_xml.proofs.match_piece.Tie as tie
 use Rattle.match_xml.specs.Compared.{Facing}
-use Rattle.match_xml.specs.Lines.{Tells, Has}
-use Rattle.read_xml.proofs.Naming.{number-few}
-use Rattle.read_xml.specs.Kept.{Columns, columns}
+use Rattle.line_tests.specs.Telling.{Tells, Has}
+use Rattle.xml_lines.proofs.Naming.{number-few}
+use Rattle.xml_lines.specs.Kept.{Columns, columns}
 use Rattle.xml.specs.declared.Piece.the-variants.{Start, Empty, End, Text, Wrong, LeftOut}
 use Rattle.xml.specs.declared.Piece.{Piece}
 use borrow.Author.Needs.{needs}

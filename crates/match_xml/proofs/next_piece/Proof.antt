@@ -3,7 +3,7 @@ use Prim.Native.Nat.{_-_, _≤_, _<_}
 use Rattle.match_xml.proofs.Matching.{Deep, deep, takes}
 use Rattle.match_xml.proofs.next_piece.Statement.{statement}
 use Rattle.match_xml.proofs.next_piece.Tie as tie
-use Rattle.read_xml.specs.Kept.{columns}
+use Rattle.xml_lines.specs.Kept.{columns}
 use Rattle.xml.specs.Pieces.{Named}
 use borrow.Author.Needs.{needs}
 use denote.Ref.{now}

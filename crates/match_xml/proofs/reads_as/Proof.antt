@@ -3,7 +3,7 @@ use Rattle.match_xml.proofs.Reading.{Fit, told-as, refused-as}
 use Rattle.match_xml.proofs.reads_as.Statement.{statement}
 use Rattle.match_xml.proofs.reads_as.Tie as tie
 use Rattle.match_xml.specs.Compared.{Judges}
-use Rattle.read_xml.specs.Kept.{Columns, columns}
+use Rattle.xml_lines.specs.Kept.{Columns, columns}
 use borrow.Author.Needs.{needs}
 use denote.Ref.{now}
 use mathlib.Core.Path.{_≡_, refl, sym, _∙_, ap, subst}

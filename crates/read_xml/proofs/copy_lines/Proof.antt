@@ -1,7 +1,7 @@
 -- `read_xml::copy_lines` meets its contract. The loop's invariant: the first lines are copied. The measure is what is left of them. Assumes nothing.
 use Prim.Native.Nat.{ℕ, _+_, _-_, _≤_, _<_}
 use Rattle.paper.specs.Tools.{written}
-use Rattle.read_xml.proofs.Filling.{one-copied}
+use Rattle.xml_lines.proofs.Filling.{one-copied}
 use Rattle.read_xml.proofs.copy_lines.Statement.{statement}
 use Rattle.read_xml.proofs.copy_lines.Tie as tie
 use borrow.Author.Needs.{needs}

@@ -2,10 +2,10 @@
 use Prim.Native.Nat.{_≤_}
 use Rattle.paper.specs.Answers.{value}
 use Rattle.paper.specs.Told.{told}
-use Rattle.read_xml.proofs.Answered.{Accepted, accepted, kept-room, copied-exit, refused-exit}
+use Rattle.xml_lines.proofs.Answered.{Accepted, accepted, kept-room, copied-exit, refused-exit}
 use Rattle.read_xml.proofs.fill.Statement.{statement}
 use Rattle.read_xml.proofs.fill.Tie as tie
-use Rattle.read_xml.specs.Kept.{Columns, columns, empty, exitColumns}
+use Rattle.xml_lines.specs.Kept.{Columns, columns, empty, exitColumns}
 use borrow.Author.Needs.{needs}
 use denote.Ref.{now}
 use lib.ListN.{length}

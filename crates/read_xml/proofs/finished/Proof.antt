@@ -2,7 +2,7 @@
 use Rattle.read_xml.proofs.Judged.{ends-judges, ends-wanted, ends-refused}
 use Rattle.read_xml.proofs.finished.Statement.{statement}
 use Rattle.read_xml.proofs.finished.Tie as tie
-use Rattle.read_xml.specs.Judges.{Ends, Inside}
+use Rattle.xml_lines.specs.Judges.{Ends, Inside}
 use Rattle.xml.specs.Pieces.{Finishes}
 use borrow.Author.Needs.{needs}
 use denote.Ref.{now}

@@ -3,7 +3,7 @@ use Rattle.read_xml.proofs.Judged.{ends-inside}
 use Rattle.read_xml.proofs.Moved.{lead-wrong, lead-left-out}
 use Rattle.read_xml.proofs.judge.Statement.{statement}
 use Rattle.read_xml.proofs.judge.Tie as tie
-use Rattle.xml.specs.Heading.{Leads}
+use Rattle.prolog.specs.Heading.{Leads}
 use borrow.Author.Needs.{needs}
 use mathlib.Core.Path.{refl, sym, _∙_, ap, subst}
 

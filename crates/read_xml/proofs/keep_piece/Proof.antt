@@ -1,12 +1,12 @@
 -- `read_xml::keep_piece` meets its contract: one law a piece. Assumes nothing.
 use Prim.Native.Nat.{ℕ, _+_, _≤_, _<_}
 use Rattle.read_xml.proofs.Counted.{start-room, start-comes, empty-comes, end-comes, end-inside, text-comes, text-inside}
-use Rattle.read_xml.proofs.Naming.{number-few}
+use Rattle.xml_lines.proofs.Naming.{number-few}
 use Rattle.read_xml.proofs.keep_piece.Statement.{statement}
 use Rattle.read_xml.proofs.keep_piece.Tie as tie
-use Rattle.read_xml.specs.Judges.{Facing}
+use Rattle.xml_lines.specs.Judges.{Facing}
 use Rattle.paper.specs.Xml.{nameKind}
-use Rattle.read_xml.specs.Kept.{Columns, columns}
+use Rattle.xml_lines.specs.Kept.{Columns, columns}
 use Rattle.xml.specs.declared.Piece.the-variants.{Start, Empty, End, Text, Wrong, LeftOut}
 use Rattle.xml.specs.declared.Piece.{Piece}
 use borrow.Author.Needs.{needs}

@@ -2,8 +2,8 @@
 use Rattle.read_xml.proofs.Judged.{root-faces, comes-ends}
 use Rattle.read_xml.proofs.read_element.Statement.{statement}
 use Rattle.read_xml.proofs.read_element.Tie as tie
-use Rattle.read_xml.specs.Judges.{Comes}
-use Rattle.read_xml.specs.Kept.{columns, lineSet, blank}
+use Rattle.xml_lines.specs.Judges.{Comes}
+use Rattle.xml_lines.specs.Kept.{columns, lineSet, blank}
 use borrow.Author.Needs.{needs}
 use denote.Ref.{now}
 use lib.ListN.{length}

@@ -3,9 +3,9 @@ use Prim.Native.Nat.{_-_, _≤_, _<_}
 use Rattle.read_xml.proofs.Judged.{element-read, comes-ends}
 use Rattle.read_xml.proofs.read_inside.Statement.{statement}
 use Rattle.read_xml.proofs.read_inside.Tie as tie
-use Rattle.read_xml.specs.Judges.{Standing, Comes, Rises}
-use Rattle.read_xml.specs.Kept.{columns}
-use Rattle.read_xml.specs.declared.Step.the-variants.{On}
+use Rattle.xml_lines.specs.Judges.{Standing, Comes, Rises}
+use Rattle.xml_lines.specs.Kept.{columns}
+use Rattle.xml_lines.specs.declared.Step.the-variants.{On}
 use borrow.Author.Needs.{needs}
 use denote.Ref.{now}
 use lib.ListN.{length}

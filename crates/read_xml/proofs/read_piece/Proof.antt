@@ -3,7 +3,7 @@ use Prim.Native.Nat.{_-_, _≤_, _<_}
 use Rattle.read_xml.proofs.Judged.{Deep, deep, takes}
 use Rattle.read_xml.proofs.read_piece.Statement.{statement}
 use Rattle.read_xml.proofs.read_piece.Tie as tie
-use Rattle.read_xml.specs.Kept.{columns}
+use Rattle.xml_lines.specs.Kept.{columns}
 use Rattle.xml.specs.Pieces.{Named}
 use borrow.Author.Needs.{needs}
 use denote.Ref.{now}

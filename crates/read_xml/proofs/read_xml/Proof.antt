@@ -1,10 +1,10 @@
 -- `read_xml::read_xml` meets its contract: the lines 1 and 2, then what stands where the list is good. Assumes nothing.
 use Rattle.names.specs.Listing.{faultOf, Indexed}
 use Rattle.paper.specs.Answers.{readXmlColumn}
-use Rattle.read_xml.proofs.Answered.{too-long, bad-list, good-list, Agree, agree}
+use Rattle.xml_lines.proofs.Answered.{too-long, bad-list, good-list, Agree, agree}
 use Rattle.read_xml.proofs.read_xml.Statement.{statement}
 use Rattle.read_xml.proofs.read_xml.Tie as tie
-use Rattle.read_xml.specs.Kept.{Columns}
+use Rattle.xml_lines.specs.Kept.{Columns}
 use borrow.Author.Needs.{needs}
 use denote.Ref.{now}
 use lib.ListN.{length}

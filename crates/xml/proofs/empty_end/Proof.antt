@@ -4,8 +4,8 @@ use lib.Dec.{eqb}
 use mathlib.Core.List.{[], _∷_}
 use mathlib.Core.Path.{subst}
 use Rattle.xml.proofs.Tagging.{empty-read, empty-refused}
-use Rattle.xml.specs.Promised.{Reads}
-use Rattle.xml.specs.declared.Reach.the-variants.{At}
+use Rattle.xml_bytes.specs.Promised.{Reads}
+use Rattle.xml_bytes.specs.declared.Reach.the-variants.{At}
 use Rattle.xml.proofs.empty_end.Statement.{statement}
 use Rattle.xml.proofs.empty_end.Tie as tie
 

@@ -3,7 +3,7 @@ use borrow.Author.Needs.{needs}
 use mathlib.Core.Path.{refl, subst}
 use Rattle.xml.proofs.Ending.{end-cut, end-closes, end-refused, end-stuck}
 use Rattle.xml.specs.Pieces.{Renames}
-use Rattle.xml.specs.declared.Reach.the-variants.{At}
+use Rattle.xml_bytes.specs.declared.Reach.the-variants.{At}
 use Rattle.xml.proofs.end_tag.Statement.{statement}
 use Rattle.xml.proofs.end_tag.Tie as tie
 

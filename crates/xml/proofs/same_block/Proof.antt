@@ -7,8 +7,9 @@ use mathlib.Core.Path.{subst}
 use borrow.Author.Needs.{needs}
 use lib.Dec.{eqb}
 use lib.ListN.{getD}
-use Rattle.xml.specs.Blocks.{block, repeatedFrom, Sooner}
-use Rattle.xml.proofs.Blocks.{Fit, fit-none, fit-more, fit-all}
+use Rattle.xml_bytes.specs.Blocks.{block, Sooner}
+use Rattle.xml.specs.Pieces.{repeatedFrom}
+use Rattle.xml_bytes.proofs.Blocks.{Fit, fit-none, fit-more, fit-all}
 use Rattle.xml.proofs.same_block.Statement.{statement}
 use Rattle.xml.proofs.same_block.Tie as tie
 

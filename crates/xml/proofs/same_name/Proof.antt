@@ -9,10 +9,10 @@ use mathlib.Core.List.{List, [], _∷_}
 use mathlib.Core.Path.{_≡_, refl, sym, _∙_, subst}
 use native.Mathlib.Omega.{arith}
 use Rattle.paper.specs.Names.{namePart}
-use Rattle.xml.proofs.Blocks.{letters-again}
+use Rattle.xml.proofs.Ending.{letters-again}
 use Rattle.xml.proofs.Ending.{Renaming, renaming-begins, letter-inside, renaming-more, renaming-refused, renaming-done}
-use Rattle.xml.specs.Promised.{Reads}
-use Rattle.xml.specs.declared.Reach.the-variants.{At}
+use Rattle.xml_bytes.specs.Promised.{Reads}
+use Rattle.xml_bytes.specs.declared.Reach.the-variants.{At}
 use Rattle.xml.proofs.same_name.Statement.{statement}
 use Rattle.xml.proofs.same_name.Tie as tie
 

@@ -10,7 +10,7 @@ use native.Mathlib.Omega.{arith}
 use Rattle.paper.specs.Names.{nameStart, namePart}
 use Rattle.paper.specs.Tokens.{white}
 use Rattle.paper.specs.Tools.{runOf}
-use Rattle.xml.proofs.Steps.{run-inside, stops-run}
+use Rattle.xml_bytes.proofs.Steps.{run-inside, stops-run}
 use Rattle.xml.proofs.Tagging.{start-cut, start-foreign, start-refused, start-names}
 use Rattle.xml.specs.Pieces.{refusedPiece}
 use Rattle.xml.proofs.start_tag.Statement.{statement}

@@ -2,8 +2,8 @@
 use borrow.Author.Needs.{needs}
 use mathlib.Core.Path.{subst}
 use Rattle.xml.proofs.Taking.{takes-text, text-refused}
-use Rattle.xml.specs.Pieces.{Runs}
-use Rattle.xml.specs.declared.Reach.the-variants.{At}
+use Rattle.xml_runs.specs.Runs.{Runs}
+use Rattle.xml_bytes.specs.declared.Reach.the-variants.{At}
 use Rattle.xml.proofs.text_piece.Statement.{statement}
 use Rattle.xml.proofs.text_piece.Tie as tie
 

@@ -1,0 +1,2 @@
+-- What is kept with the nodes of a set: `spreads`.
+pub mod Spreading
