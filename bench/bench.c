@@ -1,5 +1,5 @@
-/* Runs and reads the same queries, and loads the same XML texts, with the library, libxml2 and pugixml, and prints
- * tables of times and ratios. */
+/* Runs and reads the same queries, loads the same XML texts and writes what is kept of them, with the library, libxml2
+ * and pugixml, and prints tables of times and ratios. */
 #include "sides.h"
 
 #include <stdio.h>
@@ -16,6 +16,16 @@ static double smaller(double a, double b)
 }
 
 /* Tables. */
+
+/* Ends a row with how many times the row before took, if there is one; answers the time of this one. */
+static double end_row(double micros, double before)
+{
+    if (before > 0)
+        printf("%.2f", micros / before);
+    printf(" |\n");
+    fflush(stdout);
+    return micros;
+}
 
 static void head_of_runs(const char *title)
 {
@@ -161,12 +171,8 @@ static void rows_of_growing(const struct document *document, const struct growin
         read_query(document, text, &query);
         double micros = time(document, &query);
         printf("| %s | %zu | %zu | %.0f | ", growing->name, query.count, document->nodes, micros);
-        if (before > 0)
-            printf("%.2f", micros / before);
-        printf(" |\n");
-        before = micros;
+        before = end_row(micros, before);
     }
-    fflush(stdout);
 }
 
 static const struct growing growths[] = {
@@ -252,11 +258,7 @@ static double row_of_loading(const char *name, const struct xml_text *text, doub
     printf("| %s | %zu | %zu | %.1f | %.1f | %.1f | %.2f | %.2f | ", name, text->length, text->document->nodes,
            bytes / micros[OURS], bytes / micros[LIBXML2], bytes / micros[PUGIXML], micros[LIBXML2] / micros[OURS],
            micros[PUGIXML] / micros[OURS]);
-    if (before > 0)
-        printf("%.2f", micros[OURS] / before);
-    printf(" |\n");
-    fflush(stdout);
-    return micros[OURS];
+    return end_row(micros[OURS], before);
 }
 
 /* The largest document like XMark whose text has at most so many bytes. */
@@ -265,6 +267,13 @@ static void make_xmark_text(struct document *document, size_t bytes, struct xml_
     size_t nodes = NODE_ROOM;
     for (make_xmark(document, nodes); !write_xml(document, bytes, text); make_xmark(document, nodes))
         nodes -= nodes / 64 + 1;
+}
+
+static void make_chain_text(struct document *document, size_t nodes, struct xml_text *text)
+{
+    make_chain(document, nodes);
+    if (!write_xml(document, sizeof text->bytes, text))
+        fail("does not fit", "the text of a chain");
 }
 
 static void loadings(void)
@@ -282,10 +291,47 @@ static void loadings(void)
     }
     before = 0;
     for (size_t nodes = LEAST_NODES; nodes <= NODE_ROOM; nodes *= 2) {
-        make_chain(&document, nodes);
-        if (!write_xml(&document, sizeof text.bytes, &text))
-            fail("does not fit", "the text of a chain");
+        make_chain_text(&document, nodes, &text);
         before = row_of_loading("chain", &text, before);
+    }
+}
+
+/* Writing. */
+
+/* A row of what a query keeps of one text, with the library's time for the row before, if there is one; answers its
+   time for this one. */
+static double row_of_writing(const char *name, const struct xml_text *text, const char *query_text, double before)
+{
+    static struct query query;
+    double micros[SIDES];
+    read_query(text->document, query_text, &query);
+    size_t bytes = time_writing(text, &query, micros);
+    printf("| %s, `%s` | %zu | %zu | %zu | %.1f | %.1f | %.1f | %.2f | %.2f | ", name, query_text, text->length,
+           text->document->nodes, bytes, micros[OURS], micros[LIBXML2], micros[PUGIXML], micros[LIBXML2] / micros[OURS],
+           micros[PUGIXML] / micros[OURS]);
+    return end_row(micros[OURS], before);
+}
+
+static void writings(void)
+{
+    static const char *const views[] = {"/", "//item", "//desc", "//name"};
+    static struct document document;
+    static struct xml_text text;
+    printf("\n### Writing what is kept back to XML, the bytes doubled\n\n");
+    printf(
+        "| text and view | bytes | nodes | written | ours, us | libxml2, us | pugixml, us | libxml2 / ours | pugixml / "
+        "ours | ours, times the row before |\n|---|---|---|---|---|---|---|---|---|---|\n");
+    for (size_t v = 0; v < sizeof views / sizeof views[0]; v++) {
+        double before = 0;
+        for (size_t bytes = LEAST_BYTES; bytes <= HALYARDFIG_TEXT_BYTES; bytes *= 2) {
+            make_xmark_text(&document, bytes, &text);
+            before = row_of_writing("like XMark", &text, views[v], before);
+        }
+    }
+    double before = 0;
+    for (size_t nodes = LEAST_NODES; nodes <= NODE_ROOM; nodes *= 2) {
+        make_chain_text(&document, nodes, &text);
+        before = row_of_writing("chain", &text, "/", before);
     }
 }
 
@@ -338,12 +384,8 @@ static void rows_of_cuts(const char *name, void (*make)(struct document *documen
         make(&document, nodes);
         double micros = time_cut(&document);
         printf("| %s | %zu | %.1f | ", name, document.nodes, micros);
-        if (before > 0)
-            printf("%.2f", micros / before);
-        printf(" |\n");
-        before = micros;
+        before = end_row(micros, before);
     }
-    fflush(stdout);
 }
 
 static void cuts(void)
@@ -367,6 +409,7 @@ int main(void)
     doubled_measures(&document);
     readings(&document);
     loadings();
+    writings();
     chains();
     axes();
     cuts();

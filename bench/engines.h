@@ -20,6 +20,9 @@ struct engine {
     void (*release)(void *parsed);
     /* How many nodes the tree has, the root included. */
     size_t (*count)(void *parsed);
+    /* Removes the nodes of the tree that are not marked, in document order, and writes what is left without a
+       declaration, each element with two tags; answers the bytes, of which there is room for so many. */
+    size_t (*write)(void *parsed, const uint8_t *marks, uint8_t *out, size_t room);
 };
 
 #ifdef __cplusplus

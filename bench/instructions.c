@@ -2,6 +2,7 @@
    Run by `bench/instructions`, which says in its first argument where the count stands. */
 #define _GNU_SOURCE
 #include "queries.h"
+#include "texts.h"
 
 #include <fcntl.h>
 #include <stdio.h>
@@ -22,6 +23,10 @@ struct lent {
     size_t out_room;
     uint16_t out_parent[NODE_ROOM];
     uint16_t out_kind[NODE_ROOM];
+    struct xml_text text;
+    uint16_t begin[NODE_ROOM];
+    uint16_t end[NODE_ROOM];
+    uint8_t written[2 * HALYARDFIG_TEXT_BYTES];
 };
 
 /* The work that is counted; its answer is that of the library's call. */
@@ -87,6 +92,23 @@ static uint64_t extract(struct lent *lent)
     const struct document *document = &lent->document;
     return halyardfig_extract(document->parent, document->nodes, document->kind, document->nodes, lent->given,
                               document->nodes, lent->out_parent, lent->out_room, lent->out_kind, lent->out_room);
+}
+
+static uint64_t read_text(struct lent *lent)
+{
+    struct document *document = &lent->document;
+    return halyardfig_read_xml(lent->text.bytes, lent->text.length, document->list, document->list_length,
+                               document->parent, document->nodes, document->kind, document->nodes, lent->begin,
+                               document->nodes, lent->end, document->nodes);
+}
+
+static uint64_t write_text(struct lent *lent)
+{
+    const struct document *document = &lent->document;
+    return halyardfig_write_xml(lent->text.bytes, lent->text.length, document->list, document->list_length,
+                                document->parent, document->nodes, document->kind, document->nodes, lent->begin,
+                                document->nodes, lent->end, document->nodes, lent->given, document->nodes,
+                                lent->written, lent->out_room == 0 ? 0 : sizeof lent->written);
 }
 
 /* Marks what lies below the elements `end` as no call does it: each node climbs until it meets one, or to the root. */
@@ -167,6 +189,34 @@ static void mark_way(struct lent *lent)
     memcpy(lent->given, lent->marks, sizeof lent->given);
 }
 
+/* The document as XML text, under one element, which takes the place of the last node; read, so that its places are
+   there. */
+static void lend_text(struct lent *lent)
+{
+    struct document *document = &lent->document;
+    for (size_t i = last(lent); i > 1; i--) {
+        document->parent[i] = (uint16_t)(document->parent[i - 1] + 1);
+        document->kind[i] = document->kind[i - 1];
+    }
+    document->parent[1] = 0;
+    document->kind[1] = HALYARDFIG_KIND_ELEMENT;
+    if (!write_xml(document, sizeof lent->text.bytes, &lent->text))
+        fail("does not fit", "the text of a deep document");
+    accepted(read_text(lent), "the text of a deep document");
+}
+
+/* The text ends with a byte that no text has there. */
+static void end_badly(struct lent *lent)
+{
+    lent->text.bytes[lent->text.length - 1] = 0;
+}
+
+/* The first half of the nodes is marked. */
+static void mark_half(struct lent *lent)
+{
+    memset(lent->given + lent->document.nodes / 2, 0, lent->document.nodes / 2);
+}
+
 /* Tables. */
 
 struct counted {
@@ -241,6 +291,16 @@ static void head(const char *title, const char *work)
            work);
 }
 
+/* Prints a table of calls, and answers the most that a doubling cost. */
+static double rows(const char *title, const struct counted *all, size_t count)
+{
+    double most = 0;
+    head(title, "call");
+    for (size_t c = 0; c < count; c++)
+        most = larger(most, row(&all[c]));
+    return most;
+}
+
 /* The eleven axes, taken from every node and asked at every node. */
 static double axes(void)
 {
@@ -280,11 +340,20 @@ static double calls(void)
         {"extract, the last node's kind 0: 7", "/", extract, name_badly, nothing, HALYARDFIG_REFUSED_TABLE},
         {"extract, the last node's mark 2: 8", "/", extract, mark_badly, nothing, HALYARDFIG_REFUSED_MARKS},
     };
-    double most = 0;
-    head("Marking, checks and extract, instructions a node", "call");
-    for (size_t c = 0; c < sizeof all / sizeof all[0]; c++)
-        most = larger(most, row(&all[c]));
-    return most;
+    return rows("Marking, checks and extract, instructions a node", all, sizeof all / sizeof all[0]);
+}
+
+/* Reading the text of a deep document, and writing it back. */
+static double texts(void)
+{
+    static const struct counted all[] = {
+        {"read_xml", "/", read_text, lend_text, nothing, 0},
+        {"write_xml, all marked", "/", write_text, lend_text, nothing, 0},
+        {"write_xml, the first half marked", "/", write_text, lend_text, mark_half, 0},
+        {"write_xml, no room lent: 10", "/", write_text, lend_text, lend_no_room, HALYARDFIG_REFUSED_ROOM},
+        {"write_xml, a bad byte at the end: 14", "/", write_text, lend_text, end_badly, HALYARDFIG_REFUSED_COLUMNS},
+    };
+    return rows("XML text read and written back, instructions a node", all, sizeof all / sizeof all[0]);
 }
 
 /* What the tables would show of a climb from each node. */
@@ -302,6 +371,7 @@ int main(int argc, char **argv)
     find_counter(argv[1]);
     double most = axes();
     most = larger(most, calls());
+    most = larger(most, texts());
     if (climbing() <= 2)
         fail("not seen", "a climb from each node");
     if (most > 2)

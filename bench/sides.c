@@ -217,19 +217,24 @@ struct loading {
     const struct xml_text *text;
 };
 
-static void load_engine(void *with)
+static void *parse_text(const struct loading *loading)
 {
-    const struct loading *loading = with;
     void *parsed = loading->engine->parse(loading->text->bytes, loading->text->length);
     if (parsed == NULL)
         fail("does not take an XML text", loading->engine->name);
-    loading->engine->release(parsed);
+    return parsed;
+}
+
+static void load_engine(void *with)
+{
+    const struct loading *loading = with;
+    loading->engine->release(parse_text(loading));
 }
 
 static void check_loading(const struct loading *loading)
 {
-    void *parsed = loading->engine->parse(loading->text->bytes, loading->text->length);
-    if (parsed == NULL || loading->engine->count(parsed) != loading->text->document->nodes)
+    void *parsed = parse_text(loading);
+    if (loading->engine->count(parsed) != loading->text->document->nodes)
         fail("other nodes than were written", loading->engine->name);
     loading->engine->release(parsed);
 }
@@ -254,6 +259,61 @@ void time_loading(const struct xml_text *text, double micros[SIDES])
     }
     time_first(works, SIDES, micros);
     time_side_by_side(works, SIDES, micros);
+}
+
+/* Writing. */
+
+/* What is written of a text, for which a side has room; the marks are those of our run. */
+struct written {
+    struct loading loading;
+    size_t length;
+    uint8_t bytes[2 * HALYARDFIG_TEXT_BYTES];
+};
+
+static struct written writings[SIDES];
+
+static void write_own(void *with)
+{
+    struct written *written = with;
+    const struct xml_text *text = written->loading.text;
+    size_t n = text->document->nodes;
+    written->length =
+        accepted(halyardfig_write_xml(text->bytes, text->length, text->document->list, text->document->list_length,
+                                      columns[0], n, columns[1], n, columns[2], n, columns[3], n, sides[OURS].marks, n,
+                                      written->bytes, sizeof written->bytes),
+                 "an XML text and its columns");
+}
+
+static void write_engine(void *with)
+{
+    struct written *written = with;
+    void *parsed = parse_text(&written->loading);
+    written->length = written->loading.engine->write(parsed, sides[OURS].marks, written->bytes, sizeof written->bytes);
+    written->loading.engine->release(parsed);
+}
+
+static void check_writings(void)
+{
+    for (size_t s = OURS + 1; s < SIDES; s++)
+        if (writings[s].length != writings[OURS].length ||
+            memcmp(writings[s].bytes, writings[OURS].bytes, writings[s].length) != 0)
+            fail("other bytes than ours", engines[s]->name);
+}
+
+size_t time_writing(const struct xml_text *text, const struct query *query, double micros[SIDES])
+{
+    struct work works[SIDES];
+    set_up(text->document, query);
+    run_own(&sides[OURS]);
+    load_own((void *)text);
+    for (size_t s = 0; s < SIDES; s++) {
+        writings[s].loading = (struct loading){engines[s], text};
+        works[s] = (struct work){s == OURS ? write_own : write_engine, &writings[s]};
+    }
+    time_first(works, SIDES, micros);
+    check_writings();
+    time_side_by_side(works, SIDES, micros);
+    return writings[OURS].length;
 }
 
 const char *versions(void)

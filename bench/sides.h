@@ -27,6 +27,11 @@ void time_reading(const struct document *document, const struct query *query, do
    nodes. */
 void time_loading(const struct xml_text *text, double micros[SIDES]);
 
+/* Times the writing of what a query keeps of an XML text back to XML: the library from the text with its columns and
+   the marks, the others by reading the text, removing what is not marked and writing what is left. All have to write
+   the same bytes. Answers how many they are. */
+size_t time_writing(const struct xml_text *text, const struct query *query, double micros[SIDES]);
+
 /* The versions of the other engines, in words. */
 const char *versions(void);
 

@@ -3,8 +3,10 @@
 
 #include <libxml/parser.h>
 #include <libxml/tree.h>
+#include <libxml/xmlsave.h>
 #include <libxml/xpath.h>
 #include <stdlib.h>
+#include <string.h>
 
 static xmlNodePtr new_node(xmlDocPtr tree, const struct document *document, size_t i)
 {
@@ -69,20 +71,58 @@ static void release(void *parsed)
     xmlFreeDoc(parsed);
 }
 
+/* The node after this one in document order, or after all inside it. */
+static xmlNodePtr next_node(xmlNodePtr node, int inside)
+{
+    if (inside && node->children != NULL)
+        return node->children;
+    while (node != NULL && node->next == NULL)
+        node = node->parent;
+    return node == NULL ? NULL : node->next;
+}
+
 static size_t count_nodes(void *parsed)
 {
     size_t count = 1;
-    for (xmlNodePtr node = ((xmlDocPtr)parsed)->children; node != NULL; count++) {
-        if (node->children != NULL) {
-            node = node->children;
-            continue;
-        }
-        while (node != NULL && node->next == NULL)
-            node = node->parent;
-        node = node == NULL ? NULL : node->next;
-    }
+    for (xmlNodePtr node = ((xmlDocPtr)parsed)->children; node != NULL; node = next_node(node, 1))
+        count++;
     return count;
 }
 
-const struct engine libxml2_engine = {"libxml2", LIBXML_DOTTED_VERSION, load,  unload,  compile,
-                                      discard,   select_nodes,          parse, release, count_nodes};
+/* Nodes are numbered by the way through the whole tree, so what is inside a node that goes is counted and then freed
+   with it. */
+static void remove_unmarked(xmlDocPtr tree, const uint8_t *marks)
+{
+    size_t number = 1;
+    for (xmlNodePtr node = tree->children; node != NULL;) {
+        if (marks[number] == 1) {
+            node = next_node(node, 1);
+            number++;
+            continue;
+        }
+        xmlNodePtr removed = node, behind = next_node(node, 0);
+        for (; node != behind; node = next_node(node, 1))
+            number++;
+        xmlUnlinkNode(removed);
+        xmlFreeNode(removed);
+    }
+}
+
+static size_t write_marked(void *parsed, const uint8_t *marks, uint8_t *out, size_t room)
+{
+    xmlBufferPtr buffer = xmlBufferCreate();
+    xmlSaveCtxtPtr save = xmlSaveToBuffer(buffer, "UTF-8", XML_SAVE_NO_DECL | XML_SAVE_NO_EMPTY | XML_SAVE_AS_XML);
+    remove_unmarked(parsed, marks);
+    xmlSaveTree(save, xmlDocGetRootElement(parsed));
+    xmlSaveClose(save);
+    size_t length = (size_t)xmlBufferLength(buffer);
+    if (length > room)
+        abort();
+    memcpy(out, xmlBufferContent(buffer), length);
+    xmlBufferFree(buffer);
+    return length;
+}
+
+const struct engine libxml2_engine = {"libxml2",   LIBXML_DOTTED_VERSION, load,  unload,  compile,
+                                      discard,     select_nodes,          parse, release, count_nodes,
+                                      write_marked};

@@ -4,6 +4,9 @@
 #include <algorithm>
 #include <cstddef>
 #include <cstdint>
+#include <cstdlib>
+#include <cstring>
+#include <limits>
 #include <pugixml.hpp>
 #include <vector>
 
@@ -117,7 +120,57 @@ std::size_t count_nodes(void *parsed)
     return walker.nodes;
 }
 
+// Keeps the nodes that are not marked, without those inside them; nodes are numbered in document order.
+struct unmarked : pugi::xml_tree_walker {
+    const std::uint8_t *marks;
+    std::size_t number = 0;
+    int removed_depth = std::numeric_limits<int>::max();
+    std::vector<pugi::xml_node> nodes;
+    explicit unmarked(const std::uint8_t *of) : marks(of)
+    {
+    }
+    bool for_each(pugi::xml_node &node) override
+    {
+        bool goes = marks[++number] == 0;
+        if (depth() > removed_depth)
+            return true;
+        removed_depth = goes ? depth() : std::numeric_limits<int>::max();
+        if (goes)
+            nodes.push_back(node);
+        return true;
+    }
+};
+
+// What is written, as far as there is room.
+struct writing : pugi::xml_writer {
+    std::uint8_t *out;
+    std::size_t room, length = 0;
+    writing(std::uint8_t *to, std::size_t bytes) : out(to), room(bytes)
+    {
+    }
+    void write(const void *data, std::size_t size) override
+    {
+        if (size > room - length)
+            std::abort();
+        std::memcpy(out + length, data, size);
+        length += size;
+    }
+};
+
+std::size_t write_marked(void *parsed, const std::uint8_t *marks, std::uint8_t *out, std::size_t room)
+{
+    auto *tree = static_cast<pugi::xml_document *>(parsed);
+    unmarked walker(marks);
+    tree->traverse(walker);
+    for (pugi::xml_node &node : walker.nodes)
+        node.parent().remove_child(node);
+    writing writer(out, room);
+    tree->print(writer, "", pugi::format_raw | pugi::format_no_declaration | pugi::format_no_empty_element_tags,
+                pugi::encoding_utf8);
+    return writer.length;
+}
+
 } // namespace
 
-const engine pugixml_engine = {"pugixml", version,      load,  unload,  compile,
-                               discard,   select_nodes, parse, release, count_nodes};
+const engine pugixml_engine = {"pugixml",    version, load,    unload,      compile,     discard,
+                               select_nodes, parse,   release, count_nodes, write_marked};

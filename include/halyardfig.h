@@ -1,6 +1,6 @@
 /*
  * Halyardfig: queries in a part of XPath 1.0, run over node tables as subtree queries, and composed;
- * and XML text read into such tables.
+ * and XML text read into such tables, and what is kept of it written back.
  *
  * A query in memory is an array of 32-bit items, made by halyardfig_read or halyardfig_compose.
  * A document is two columns of one length, parent and kind: node 0 is the root (parent 0, kind 0),
@@ -38,6 +38,9 @@
  *       or XML text of over 4,096 nodes                                      the number needed
  *   11  XML text: no wanted text goes on like this, or it ends too early     the byte, or the length
  *   12  XML text: a thing of XML that is left out begins                     its first byte
+ *   13  marks: no element is marked                                          0
+ *   14  XML text: read with this list it is refused, or does not give
+ *       exactly these nodes, parents, kinds and places                       0
  */
 #ifndef HALYARDFIG_H
 #define HALYARDFIG_H
@@ -77,6 +80,8 @@
 #define HALYARDFIG_REFUSED_ROOM 10
 #define HALYARDFIG_REFUSED_XML 11
 #define HALYARDFIG_REFUSED_LEFT_OUT 12
+#define HALYARDFIG_REFUSED_NO_ELEMENT 13
+#define HALYARDFIG_REFUSED_COLUMNS 14
 
 #ifdef __cplusplus
 extern "C" {
@@ -172,6 +177,24 @@ uint64_t halyardfig_extract(const uint16_t *parent, size_t parent_len, const uin
 uint64_t halyardfig_read_xml(const uint8_t *text, size_t text_len, const uint8_t *names, size_t names_len,
                              uint16_t *parent, size_t parent_len, uint16_t *kind, size_t kind_len, uint16_t *begin,
                              size_t begin_len, uint16_t *end, size_t end_len);
+
+/*
+ * Writes the marked part of an XML text to out as XML: lent are the text, the list, the columns that
+ * halyardfig_read_xml wrote for them, and marks.
+ * Written are for each marked element `<name>`, what is kept inside it and `</name>`, also where the text has `<name/>`
+ * or white space in a tag; and for each marked text node its bytes as they stand in the text, but a `>` that would end
+ * `]]>` with what stands before it in out is written `&gt;`. There is no declaration, and nothing outside the one
+ * element.
+ * Value: the number of bytes; out past it is untouched, and no zero byte ends the text.
+ * Read again with the same list, where they are at most 32,768, the bytes give what halyardfig_extract writes for these
+ * marks, with each row of text nodes side by side made one.
+ * Refuses, in this order: 1 (text over 32,768 bytes, list over 8,192, over 4,096 nodes, columns or marks of unequal
+ * length), 2, 7 (place: the node), 8 (place: the node), 13, 14, 10 (place: the bytes needed).
+ */
+uint64_t halyardfig_write_xml(const uint8_t *text, size_t text_len, const uint8_t *names, size_t names_len,
+                              const uint16_t *parent, size_t parent_len, const uint16_t *kind, size_t kind_len,
+                              const uint16_t *begin, size_t begin_len, const uint16_t *end, size_t end_len,
+                              const uint8_t *marks, size_t marks_len, uint8_t *out, size_t out_len);
 
 /*
  * The height of a query, by which halyardfig_run reckons its scratch. Value: the height, from 1 on.

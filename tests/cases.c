@@ -26,3 +26,22 @@ void write_column(char letter, const uint16_t *column, size_t nodes)
         printf(" %u", column[i]);
     printf("\n");
 }
+
+void write_marks(char letter, const uint8_t *marks, size_t nodes)
+{
+    printf("%c ", letter);
+    for (size_t i = 0; i < nodes; i++)
+        putchar('0' + marks[i]);
+    printf("\n");
+}
+
+void write_bytes(char letter, const uint8_t *bytes, size_t count)
+{
+    static const char digits[] = "0123456789abcdef";
+    printf("%c ", letter);
+    for (size_t i = 0; i < count; i++) {
+        putchar(digits[bytes[i] >> 4]);
+        putchar(digits[bytes[i] & 15]);
+    }
+    printf("\n");
+}

@@ -13,4 +13,10 @@ void write_names(const struct list *list);
 /* A column of numbers. */
 void write_column(char letter, const uint16_t *column, size_t nodes);
 
+/* Marks, a digit each. */
+void write_marks(char letter, const uint8_t *marks, size_t nodes);
+
+/* Bytes in hexadecimal. */
+void write_bytes(char letter, const uint8_t *bytes, size_t count);
+
 #endif

@@ -5,6 +5,8 @@
 #include "halyardfig.h"
 #include "support.h"
 
+#include <libxml/tree.h>
+
 /* A column of a case, by its nodes. */
 typedef unsigned case_column[HALYARDFIG_NODES];
 
@@ -24,5 +26,31 @@ void no_such_line(void);
 
 /* Takes the numbers of a line, and answers how many they are. */
 size_t take_column(char *words, case_column column);
+
+/* Takes the bytes of a line in hexadecimal, and answers how many they are. */
+size_t take_bytes(const char *digits, uint8_t *bytes);
+
+/* An XML text of a case, and its columns. */
+struct case_xml {
+    uint8_t text[HALYARDFIG_TEXT_BYTES + 1];
+    size_t length;
+    case_column parent, kind, begin, end;
+    size_t nodes;
+};
+
+/* Takes a line of an XML text, which starts with T, P, K, B or E; answers whether it is one. */
+bool take_xml_line(struct case_xml *xml, char letter, char *rest);
+
+/* Counts one test of the case, and says what is wrong if it fails. */
+void judge_case(bool passed, const char *wrong);
+
+/* The tree that libxml2 makes of XML text; a null pointer if that is not well-formed. */
+xmlDocPtr parse_xml(const uint8_t *text, size_t length);
+
+/* The node after this one in document order. */
+xmlNodePtr next_node(xmlNodePtr node);
+
+/* Character data as a parser hands it on: references replaced, CR and CR LF turned into LF, and a zero byte behind. */
+void write_plain(const uint8_t *data, size_t length, char *plain);
 
 #endif

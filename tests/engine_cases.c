@@ -16,14 +16,6 @@ static struct table table;
 static struct query query, outer, inner, composed;
 static uint8_t kept[NODE_ROOM];
 
-static void write_marks(char letter, const uint8_t *marks)
-{
-    printf("%c ", letter);
-    for (size_t i = 0; i < table.nodes; i++)
-        putchar('0' + marks[i]);
-    printf("\n");
-}
-
 /* A text on one line: tab, LF and CR become \t, \n and \r. */
 static void write_text(const uint8_t *bytes, size_t length)
 {
@@ -51,7 +43,7 @@ static void write_document(const char *what)
     write_names(&list);
     write_column('P', table.parent, table.nodes);
     write_column('K', table.kind, table.nodes);
-    write_marks('G', table.marks);
+    write_marks('G', table.marks, table.nodes);
 }
 
 static bool write_printed(const struct query *printing)
@@ -114,10 +106,10 @@ static bool single_query(struct dice *dice)
         return false;
     write_document("printed query");
     bool printed = write_printed(&query);
-    write_marks('E', kept);
+    write_marks('E', kept, table.nodes);
     write_document("query as it was read");
     write_text(text.bytes, text.length);
-    write_marks('E', kept);
+    write_marks('E', kept, table.nodes);
     return printed;
 }
 
@@ -134,7 +126,7 @@ static bool one_axis(struct dice *dice)
     }
     write_document("one axis");
     bool printed = write_printed(&query);
-    write_marks('E', kept);
+    write_marks('E', kept, table.nodes);
     return printed;
 }
 
@@ -166,10 +158,10 @@ static bool composed_query(struct dice *dice)
     }
     write_document("composed query");
     bool printed = write_printed(&composed);
-    write_marks('E', kept);
+    write_marks('E', kept, table.nodes);
     write_document("inner then outer");
     printed = write_printed(&inner) && write_printed(&outer) && printed;
-    write_marks('E', kept);
+    write_marks('E', kept, table.nodes);
     return printed;
 }
 
@@ -187,15 +179,15 @@ static bool three_views(struct dice *dice)
     }
     write_document("A on (B on C)");
     bool printed = write_printed(&views.last_two);
-    write_marks('E', kept);
+    write_marks('E', kept, table.nodes);
     if (!run_query(&views.first_two))
         return false;
     write_document("(A on B) on C");
     printed = write_printed(&views.first_two) && printed;
-    write_marks('E', kept);
+    write_marks('E', kept, table.nodes);
     write_document("C, B and A in turn");
     printed = write_printed(&views.inner) && write_printed(&views.middle) && write_printed(&views.outer) && printed;
-    write_marks('E', kept);
+    write_marks('E', kept, table.nodes);
     return printed;
 }
 

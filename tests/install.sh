@@ -40,7 +40,7 @@ example_compiles() {
 example_runs() {
     local answer
     answer=$($emulator "$prefix/example") || return 1
-    [ "$(printf '%s\n' "$answer" | tail -n 1)" = '4 of 7 nodes kept' ]
+    [ "$(printf '%s\n' "$answer" | tail -n 2)" = $'4 of 7 nodes kept\n<a><b><d></d></b></a>' ]
 }
 
 step 'make install' installed

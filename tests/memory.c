@@ -1,4 +1,5 @@
 /* Arbitrary memory into every call: no trap, nothing written that may not be, the same answer twice. */
+#include "file_making.h"
 #include "halyardfig.h"
 #include "twin.h"
 
@@ -212,6 +213,50 @@ static bool read_any_xml(struct dice *dice)
            in_range("read_xml", first, room, HALYARDFIG_REFUSED_LEFT_OUT);
 }
 
+/* Any text and list with the columns that they are, or with any, and any marks. */
+static void any_file(struct dice *dice, struct file *file)
+{
+    make_list(dice, &list, (unsigned)below(dice, 6));
+    any_xml(dice);
+    if (chance(dice, 10))
+        any_list(dice);
+    file->list = list;
+    file->xml.text = text;
+    if (!read_text(file) || chance(dice, 10)) {
+        any_table(dice);
+        file->table = table;
+        scatter(dice, file->xml.column[BEGIN_COLUMN], table.nodes * sizeof(uint16_t));
+        scatter(dice, file->xml.column[END_COLUMN], table.nodes * sizeof(uint16_t));
+    }
+    if (chance(dice, 60))
+        mark_some(dice, file);
+    if (chance(dice, 20))
+        damage_table(dice, &file->table);
+    if (chance(dice, 10))
+        lent_column(file, (enum column)below(dice, COLUMNS))[below(dice, file->table.nodes + 1)] = (uint16_t)roll(dice);
+}
+
+static bool write_any_xml(struct dice *dice)
+{
+    static struct file file;
+    any_file(dice, &file);
+    const uint16_t *columns[COLUMNS];
+    size_t lengths[COLUMNS + 1];
+    for (unsigned i = 0; i < COLUMNS; i++)
+        columns[i] = lent_column(&file, i);
+    for (unsigned i = 0; i <= COLUMNS; i++)
+        lengths[i] = chance(dice, 99) ? file.table.nodes : between(dice, 0, MOST_NODES_TRIED);
+    size_t room = any_length(dice, 2 * file.xml.text.length, FILE_ROOM);
+    uint64_t first = 0;
+    for (unsigned time = 0; time < 2; time++) {
+        if (!twin_write_xml(dice, file.xml.text.bytes, file.xml.text.length, file.list.bytes, file.list.length, columns,
+                            file.table.marks, lengths, room))
+            return false;
+        first = time == 0 ? twin_answer : first;
+    }
+    return in_range("write_xml", first, room, HALYARDFIG_REFUSED_COLUMNS);
+}
+
 static bool height_of_anything(struct dice *dice)
 {
     any_query(dice, &query);
@@ -250,6 +295,7 @@ int main(void)
     try_cases("run", 15000, run_anything);
     try_cases("extract", 10000, extract_anything);
     try_cases("read_xml", 15000, read_any_xml);
+    try_cases("write_xml", 15000, write_any_xml);
     try_cases("height", 6000, height_of_anything);
     try_cases("paths", 6000, paths_of_anything);
     try_cases("scratch", 5000, scratch_of_anything);

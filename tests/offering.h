@@ -4,7 +4,7 @@
 
 #include "support.h"
 
-enum { OFFERS = 6 };
+enum { OFFERS = 8 };
 
 /* Lends memory for the next call: a copy of this, or filled with one byte where that is null. */
 void *offer(const void *from, size_t bytes);

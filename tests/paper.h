@@ -24,6 +24,10 @@ uint64_t model_extract(const uint16_t *parent, size_t parent_len, const uint16_t
 uint64_t model_read_xml(const uint8_t *text, size_t text_len, const uint8_t *names, size_t names_len, uint16_t *parent,
                         size_t parent_len, uint16_t *kind, size_t kind_len, uint16_t *begin, size_t begin_len,
                         uint16_t *end, size_t end_len);
+uint64_t model_write_xml(const uint8_t *text, size_t text_len, const uint8_t *names, size_t names_len,
+                         const uint16_t *parent, size_t parent_len, const uint16_t *kind, size_t kind_len,
+                         const uint16_t *begin, size_t begin_len, const uint16_t *end, size_t end_len,
+                         const uint8_t *marks, size_t marks_len, uint8_t *out, size_t out_len);
 uint64_t model_is_cut(const uint16_t *parent, size_t parent_len, const uint16_t *kind, size_t kind_len,
                       const uint16_t *cut_parent, size_t cut_parent_len, const uint16_t *cut_kind, size_t cut_kind_len,
                       const uint16_t *cut_node, size_t cut_node_len);

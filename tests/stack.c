@@ -13,9 +13,9 @@
 enum { STACK_BYTES = 1 << 18, PAINT = 0xC7 };
 enum { SCRATCH_ROOM = 1 << 25, PRINT_ROOM = 1 << 19, MIXED_TEXTS = 60, NAMED_MOST = 100 };
 
-enum call { READ, PRINT, COMPOSE, RUN, EXTRACT, READ_XML, HEIGHT, PATHS, SCRATCH, IS_CUT, CALLS };
-static const char *const call_names[CALLS] = {"read",     "print",  "compose", "run",     "extract",
-                                              "read_xml", "height", "paths",   "scratch", "is_cut"};
+enum call { READ, PRINT, COMPOSE, RUN, EXTRACT, READ_XML, WRITE_XML, HEIGHT, PATHS, SCRATCH, IS_CUT, CALLS };
+static const char *const call_names[CALLS] = {"read",      "print",  "compose", "run",     "extract", "read_xml",
+                                              "write_xml", "height", "paths",   "scratch", "is_cut"};
 
 static struct {
     size_t bytes;
@@ -32,6 +32,8 @@ static struct query query, outer, inner, made;
 static struct table table, extracted;
 static uint8_t kept[NODE_ROOM], scratch[SCRATCH_ROOM], printed[PRINT_ROOM];
 static uint16_t columns[COLUMNS][NODE_ROOM];
+static uint8_t column_marks[NODE_ROOM];
+static size_t column_nodes;
 static uint64_t answer;
 
 static void call_nothing(void)
@@ -71,6 +73,14 @@ static void call_read_xml(void)
     answer = halyardfig_read_xml((const uint8_t *)text, text_length, list.bytes, list.length, columns[PARENT_COLUMN],
                                  NODE_ROOM, columns[KIND_COLUMN], NODE_ROOM, columns[BEGIN_COLUMN], NODE_ROOM,
                                  columns[END_COLUMN], NODE_ROOM);
+}
+
+static void call_write_xml(void)
+{
+    size_t n = column_nodes;
+    answer = halyardfig_write_xml((const uint8_t *)text, text_length, list.bytes, list.length, columns[PARENT_COLUMN],
+                                  n, columns[KIND_COLUMN], n, columns[BEGIN_COLUMN], n, columns[END_COLUMN], n,
+                                  column_marks, n, printed, PRINT_ROOM);
 }
 
 static void call_height(void)
@@ -144,8 +154,9 @@ static size_t painted_over(void (*call)(void))
 
 static void measure_call(enum call which, const char *input)
 {
-    static void (*const calls[CALLS])(void) = {call_read,     call_print,  call_compose, call_run,     call_extract,
-                                               call_read_xml, call_height, call_paths,   call_scratch, call_is_cut};
+    static void (*const calls[CALLS])(void) = {call_read,    call_print,    call_compose,   call_run,
+                                               call_extract, call_read_xml, call_write_xml, call_height,
+                                               call_paths,   call_scratch,  call_is_cut};
     static char trying[2 * NAMED_MOST];
     static size_t empty;
     if (empty == 0)
@@ -477,6 +488,21 @@ static const struct document {
     {"<e", "e", "/>", "", 0},
 };
 
+/* Reads the XML text, and writes it back: all of it, the first half of its nodes, and with none marked but the root. A
+   text that is not read gets the columns of the one before. */
+static void measure_xml(void)
+{
+    measure_call(READ_XML, text);
+    if (halyardfig_refused(answer) == 0)
+        column_nodes = halyardfig_value(answer);
+    const size_t marked[] = {column_nodes, column_nodes / 2 + 1, 1};
+    for (size_t m = 0; m < sizeof marked / sizeof marked[0]; m++) {
+        for (size_t i = 0; i < column_nodes; i++)
+            column_marks[i] = i < marked[m];
+        measure_call(WRITE_XML, text);
+    }
+}
+
 static void xml_texts(void)
 {
     for (size_t i = 0; i < sizeof documents / sizeof documents[0]; i++) {
@@ -488,7 +514,7 @@ static void xml_texts(void)
         add_times(d->part, times);
         add(d->middle);
         add_times(d->closer, times);
-        measure_call(READ_XML, text);
+        measure_xml();
     }
 }
 
@@ -505,7 +531,7 @@ static void random_xml_texts(struct dice *dice)
         memcpy(text, xml.text.bytes, xml.text.length);
         text[xml.text.length] = 0;
         text_length = xml.text.length;
-        measure_call(READ_XML, text);
+        measure_xml();
     }
 }
 

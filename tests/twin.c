@@ -6,9 +6,9 @@
 
 #include <string.h>
 
-/* Two slots for each piece lent: the library's, and the same piece as the model has it. The columns of a read of XML
-   follow the text and the names. */
-enum { PIECES = 6, FIRST_COLUMN = 2 };
+/* Two slots for each piece lent: the library's, and the same piece as the model has it. The columns of a read or a
+   write of XML follow the text and the names. */
+enum { PIECES = 8, FIRST_COLUMN = 2 };
 
 uint64_t twin_answer;
 
@@ -204,6 +204,38 @@ bool twin_read_xml(struct dice *dice, const uint8_t *text, size_t text_len, cons
         return true;
     show_text("text", text, text_len);
     show_text("names", names, names_len);
+    return false;
+}
+
+bool twin_write_xml(struct dice *dice, const uint8_t *text, size_t text_len, const uint8_t *names, size_t names_len,
+                    const uint16_t *const columns[COLUMNS], const uint8_t *marks, const size_t lengths[COLUMNS + 1],
+                    size_t room)
+{
+    enum { MARKS_PIECE = FIRST_COLUMN + COLUMNS, OUT_PIECE };
+    piece_count = 0;
+    const uint8_t *our_text = lend_read(text, text_len);
+    const uint8_t *our_names = lend_read(names, names_len);
+    const uint16_t *in[COLUMNS], *models_in[COLUMNS];
+    for (unsigned i = 0; i < COLUMNS; i++) {
+        in[i] = lend_read(columns[i], lengths[i] * sizeof *in[i]);
+        models_in[i] = model_piece(FIRST_COLUMN + i);
+    }
+    const uint8_t *our_marks = lend_read(marks, lengths[COLUMNS]);
+    uint8_t *out = lend_write(dice, room);
+    written_first = out;
+    uint64_t ours = halyardfig_write_xml(our_text, text_len, our_names, names_len, in[0], lengths[0], in[1], lengths[1],
+                                         in[2], lengths[2], in[3], lengths[3], our_marks, lengths[COLUMNS], out, room);
+    uint64_t models = model_write_xml(model_piece(0), text_len, model_piece(1), names_len, models_in[0], lengths[0],
+                                      models_in[1], lengths[1], models_in[2], lengths[2], models_in[3], lengths[3],
+                                      model_piece(MARKS_PIECE), lengths[COLUMNS], model_piece(OUT_PIECE), room);
+    if (compare("write_xml", ours, models))
+        return true;
+    show_text("text", text, text_len);
+    show_text("names", names, names_len);
+    for (unsigned i = 0; i < COLUMNS; i++)
+        show_words("column", columns[i], lengths[i]);
+    show_bytes("marks", marks, lengths[COLUMNS]);
+    show_text("written", out, halyardfig_refused(ours) == 0 ? halyardfig_value(ours) : 0);
     return false;
 }
 

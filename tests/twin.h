@@ -28,6 +28,11 @@ bool twin_extract(struct dice *dice, const uint16_t *parent, size_t parent_len, 
 bool twin_read_xml(struct dice *dice, const uint8_t *text, size_t text_len, const uint8_t *names, size_t names_len,
                    const size_t rooms[COLUMNS]);
 
+/* The columns are lent in the lengths given; so are the marks, the last of the lengths. */
+bool twin_write_xml(struct dice *dice, const uint8_t *text, size_t text_len, const uint8_t *names, size_t names_len,
+                    const uint16_t *const columns[COLUMNS], const uint8_t *marks, const size_t lengths[COLUMNS + 1],
+                    size_t room);
+
 bool twin_height(const uint32_t *query, size_t query_len);
 bool twin_paths(const uint32_t *query, size_t query_len);
 bool twin_scratch(const size_t numbers[SCRATCH_NUMBERS]);
@@ -36,7 +41,7 @@ bool twin_is_cut(const uint16_t *parent, size_t parent_len, const uint16_t *kind
                  const uint16_t *cut_parent, size_t cut_parent_len, const uint16_t *cut_kind, size_t cut_kind_len,
                  const uint16_t *cut_node, size_t cut_node_len);
 
-/* What the last accepted read, compose or print wrote. */
+/* What the last accepted read, compose, print or write of XML wrote. */
 const uint32_t *twin_items(void);
 const uint8_t *twin_bytes(void);
 

@@ -14,14 +14,6 @@ static struct list list;
 static struct xml xml;
 static uint16_t columns[COLUMNS][NODE_ROOM];
 
-static void write_text(const struct text *text)
-{
-    printf("T ");
-    for (size_t i = 0; i < text->length; i++)
-        printf("%02x", text->bytes[i]);
-    printf("\n");
-}
-
 /* Of what is left out the parsers need not agree, so that there is no case. */
 static void write_read(const char *what, const struct text *text)
 {
@@ -34,7 +26,7 @@ static void write_read(const char *what, const struct text *text)
         return;
     write_case(what);
     write_names(&list);
-    write_text(text);
+    write_bytes('T', text->bytes, text->length);
     if (halyardfig_refused(answer) != 0)
         printf("R %u %u\n", halyardfig_refused(answer), halyardfig_place(answer));
     else

@@ -1,35 +1,17 @@
 /* Reads cases from standard input and holds them to libxml2 as a parser of XML. */
 #include "checking.h"
 
-#include <libxml/parser.h>
 #include <stdio.h>
 #include <stdlib.h>
 #include <string.h>
 
-static struct {
-    uint8_t text[HALYARDFIG_TEXT_BYTES + 1];
-    size_t length;
-    case_column parent, kind, begin, end;
-    size_t nodes;
-} now;
-
-/* The tree of the first bytes of the text; a null pointer if they are not well-formed. */
-static xmlDocPtr parse(size_t length)
-{
-    return xmlReadMemory((const char *)now.text, (int)length, NULL, "UTF-8",
-                         XML_PARSE_HUGE | XML_PARSE_NOERROR | XML_PARSE_NOWARNING | XML_PARSE_NONET);
-}
+static struct case_xml now;
 
 static bool is_well_formed(size_t length)
 {
-    xmlDocPtr document = parse(length);
+    xmlDocPtr document = parse_xml(now.text, length);
     xmlFreeDoc(document);
     return document != NULL;
-}
-
-static void judge(bool passed, const char *what)
-{
-    tally(passed, "%s, SEED=%llu: %s\n%s", case_now(), (unsigned long long)group_seed(), what, case_lines());
 }
 
 static bool stands_at(size_t place, const char *word)
@@ -53,39 +35,15 @@ static void check_refused(const char *rest)
     unsigned number = 0, place = 0;
     sscanf(rest, "%u %u", &number, &place);
     if (number == HALYARDFIG_REFUSED_XML)
-        judge(!is_well_formed(now.length) || is_lenient(place), "libxml2 takes what is refused with 11");
+        judge_case(!is_well_formed(now.length) || is_lenient(place), "libxml2 takes what is refused with 11");
     else
-        judge(is_well_formed(now.length), "libxml2 does not take what is refused only for its names or nodes");
-}
-
-/* The text of a node as a parser hands it on: references replaced, CR and CR LF turned into LF. */
-static size_t plain_text(size_t node, char *plain)
-{
-    static const struct {
-        const char *reference;
-        char byte;
-    } references[] = {{"&lt;", '<'}, {"&gt;", '>'}, {"&amp;", '&'}, {"&apos;", '\''}, {"&quot;", '"'}};
-    size_t length = 0;
-    for (size_t at = now.begin[node]; at < now.end[node]; at++) {
-        plain[length] = (char)now.text[at];
-        for (size_t i = 0; now.text[at] == '&' && i < sizeof references / sizeof references[0]; i++)
-            if (stands_at(at, references[i].reference)) {
-                plain[length] = references[i].byte;
-                at += strlen(references[i].reference) - 1;
-            }
-        if (now.text[at] == '\r')
-            plain[length] = '\n';
-        at += stands_at(at, "\r\n");
-        length++;
-    }
-    plain[length] = 0;
-    return length;
+        judge_case(is_well_formed(now.length), "libxml2 does not take what is refused only for its names or nodes");
 }
 
 static bool is_text(size_t node, const xmlNode *in_tree)
 {
     static char plain[HALYARDFIG_TEXT_BYTES + 1];
-    plain_text(node, plain);
+    write_plain(now.text + now.begin[node], now.end[node] - now.begin[node], plain);
     return in_tree->type == XML_TEXT_NODE && strcmp(plain, (const char *)in_tree->content) == 0;
 }
 
@@ -94,16 +52,6 @@ static bool is_element(size_t node, const xmlNode *in_tree)
     return in_tree->type == XML_ELEMENT_NODE && in_tree->properties == NULL && now.text[now.begin[node]] == '<' &&
            now.text[now.end[node] - 1] == '>' &&
            strcmp((const char *)in_tree->name, name_of(now.kind[node] - HALYARDFIG_KIND_ELEMENT)) == 0;
-}
-
-/* The node after this one in document order. */
-static xmlNodePtr next_node(xmlNodePtr node)
-{
-    if (node->children != NULL)
-        return node->children;
-    while (node != NULL && node->next == NULL)
-        node = node->parent;
-    return node == NULL ? NULL : node->next;
 }
 
 static bool same_tree(xmlDocPtr document)
@@ -123,47 +71,19 @@ static bool same_tree(xmlDocPtr document)
 
 static void check_read(void)
 {
-    xmlDocPtr document = parse(now.length);
-    judge(document != NULL && same_tree(document), "libxml2 reads another tree, or none");
+    xmlDocPtr document = parse_xml(now.text, now.length);
+    judge_case(document != NULL && same_tree(document), "libxml2 reads another tree, or none");
     xmlFreeDoc(document);
-}
-
-static unsigned digit_of(char digit)
-{
-    return (unsigned)(digit <= '9' ? digit - '0' : digit - 'a' + 10);
-}
-
-static void take_text(const char *digits)
-{
-    for (now.length = 0; digits[0] != 0; digits += 2)
-        now.text[now.length++] = (uint8_t)(digit_of(digits[0]) << 4 | digit_of(digits[1]));
 }
 
 static void take_line(char letter, char *rest)
 {
-    switch (letter) {
-    case 'T':
-        take_text(rest);
-        return;
-    case 'R':
+    if (letter == 'R')
         check_refused(rest);
-        return;
-    case 'P':
-        now.nodes = take_column(rest, now.parent);
-        return;
-    case 'K':
-        take_column(rest, now.kind);
-        return;
-    case 'B':
-        take_column(rest, now.begin);
-        return;
-    case 'E':
-        take_column(rest, now.end);
-        check_read();
-        return;
-    default:
+    else if (!take_xml_line(&now, letter, rest))
         no_such_line();
-    }
+    else if (letter == 'E')
+        check_read();
 }
 
 int main(void)

@@ -230,6 +230,18 @@ struct growth any_growth(struct dice *dice)
     return (struct growth){TEXT_ROOM, between(dice, 2, 30), 25, 15, 25, loose, 8};
 }
 
+struct growth large_growth(struct dice *dice)
+{
+    unsigned opens = (unsigned)below(dice, 100);
+    return (struct growth){.bytes = TEXT_ROOM,
+                           .nodes = NODE_ROOM,
+                           .opens = opens,
+                           .empties = (unsigned)below(dice, 100 - opens),
+                           .closes = (unsigned)below(dice, 3),
+                           .loose = 2,
+                           .run = between(dice, 1, 40)};
+}
+
 void make_xml(struct dice *dice, struct xml *xml, const struct list *list, struct growth growth)
 {
     struct growing *g = &growing;

@@ -27,6 +27,9 @@ struct growth {
 /* A growth of any sort: small mostly, sometimes deep, wide or long. */
 struct growth any_growth(struct dice *dice);
 
+/* A growth up to the limits of a text and of a table. */
+struct growth large_growth(struct dice *dice);
+
 /* A wanted text with names of a list that has some. */
 void make_xml(struct dice *dice, struct xml *xml, const struct list *list, struct growth growth);
 

@@ -83,15 +83,7 @@ static void fill_up(struct dice *dice)
 static bool reads_large(struct dice *dice)
 {
     list_of(&list, "a b");
-    unsigned opens = (unsigned)below(dice, 100);
-    struct growth growth = {.bytes = TEXT_ROOM,
-                            .nodes = NODE_ROOM,
-                            .opens = opens,
-                            .empties = (unsigned)below(dice, 100 - opens),
-                            .closes = (unsigned)below(dice, 3),
-                            .loose = 2,
-                            .run = between(dice, 1, 40)};
-    make_xml(dice, &xml, &list, growth);
+    make_xml(dice, &xml, &list, large_growth(dice));
     if (chance(dice, 50))
         fill_up(dice);
     if (!reads_made(dice, NODE_ROOM))

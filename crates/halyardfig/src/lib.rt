@@ -4,7 +4,7 @@ ghost use Prim.Native.Nat.{_+_, _*_, _<_};
 ghost use mathlib.Core.Path.{_≡_};
 ghost use lib.ListN.{length};
 ghost use Rattle.paper.specs.Document.{tableOf};
-ghost use Rattle.paper.specs.Answers.{readAnswer, readOut, printAnswer, printOut, composeAnswer, composeOut, runAnswer, runMarks, runScratch, extractAnswer, extractParents, extractKinds, readXmlAnswer, readXmlColumn, parentField, kindField, beginField, endField, isCutAnswer};
+ghost use Rattle.paper.specs.Answers.{readAnswer, readOut, printAnswer, printOut, composeAnswer, composeOut, runAnswer, runMarks, runScratch, extractAnswer, extractParents, extractKinds, readXmlAnswer, readXmlColumn, parentField, kindField, beginField, endField, isCutAnswer, writeXmlAnswer, writeXmlOut};
 ghost use Rattle.paper.specs.Room.{heightAnswer, pathsAnswer, scratchAnswer};
 ghost use Rattle.paper.specs.Told.{told};
 ghost use Rattle.theorems.specs.Bounds.{Small};
@@ -39,6 +39,8 @@ fn code(answer: Answer) -> u64
         Answer::Short(needed) => refused(10, needed),
         Answer::NoXml(place) => refused(11, place),
         Answer::LeftOut(place) => refused(12, place),
+        Answer::NoElement => refused(13, 0),
+        Answer::OtherText => refused(14, 0),
     }
 }
 
@@ -119,6 +121,24 @@ pub extern "C" fn halyardfig_read_xml(
     ensures { λ _. ⌜ now (end .exit) ≡ readXmlColumn endField (now (text .entry)) (readXmlAnswer (now (text .entry)) (now (names .entry)) (length (now (parent .entry))) (length (now (kind .entry))) (length (now (begin .entry))) (length (now (end .entry)))) (now (end .entry)) ⌝ }
 {
     code(read_xml::read_xml(text, names, parent, kind, begin, end))
+}
+
+// Writes the kept part of a text as XML: `write_xml::write_xml` for C.
+#[no_mangle]
+pub extern "C" fn halyardfig_write_xml(
+    text: &[u8],
+    names: &[u8],
+    parent: &[u16],
+    kind: &[u16],
+    begin: &[u16],
+    end: &[u16],
+    marks: &[u8],
+    out: &mut [u8],
+) -> u64
+    ensures { λ r. ⌜ r ≡ codeOf (writeXmlAnswer (now (text .entry)) (now (names .entry)) (tableOf (now (parent .entry)) (now (kind .entry))) (now (begin .entry)) (now (end .entry)) (now (marks .entry)) (length (now (out .entry)))) ⌝ }
+    ensures { λ _. ⌜ now (out .exit) ≡ writeXmlOut (now (text .entry)) (now (names .entry)) (tableOf (now (parent .entry)) (now (kind .entry))) (now (begin .entry)) (now (end .entry)) (now (marks .entry)) (now (out .entry)) ⌝ }
+{
+    code(write_xml::write_xml(text, names, parent, kind, begin, end, marks, out))
 }
 
 // The height of a query: `room::height` for C.

@@ -73,6 +73,8 @@ fn number_of(answer: Answer) -> usize
         Answer::Short(_) => 10,
         Answer::NoXml(_) => 11,
         Answer::LeftOut(_) => 12,
+        Answer::NoElement => 13,
+        Answer::OtherText => 14,
     }
 }
 
@@ -94,6 +96,8 @@ fn place_of(answer: Answer) -> usize
         Answer::Short(needed) => needed,
         Answer::NoXml(place) => place,
         Answer::LeftOut(place) => place,
+        Answer::NoElement => 0,
+        Answer::OtherText => 0,
     }
 }
 

@@ -12,7 +12,7 @@ use Rattle.paper.specs.Answers.{value, refusal, line, atExit}
 use Rattle.paper.specs.Answers.{Answer as Told}
 use Rattle.paper.specs.Told.{told}
 use Rattle.paper.specs.declared.Answer.{Answer}
-use Rattle.paper.specs.declared.Answer.the-variants.{Value, TooLong, BadName, NoQuery, TooDeep, UnknownName, BadQuery, BadTable, BadMarks, TooNested, Short, NoXml, LeftOut}
+use Rattle.paper.specs.declared.Answer.the-variants.{Value, TooLong, BadName, NoQuery, TooDeep, UnknownName, BadQuery, BadTable, BadMarks, TooNested, Short, NoXml, LeftOut, NoElement, OtherText}
 use Rattle.paper.proofs.Answer.{the-type}
 
 -- Where a value is answered, no line before it holds.
@@ -31,7 +31,7 @@ or-none false b h = (refl, h)
 
 -- The cases of `Answer` that are refusals: all after the first.
 abbrev refusals : List ℕ
-refusals = 1 ∷ 2 ∷ 3 ∷ 4 ∷ 5 ∷ 6 ∷ 7 ∷ 8 ∷ 9 ∷ 10 ∷ 11 ∷ 12 ∷ []
+refusals = 1 ∷ 2 ∷ 3 ∷ 4 ∷ 5 ∷ 6 ∷ 7 ∷ 8 ∷ 9 ∷ 10 ∷ 11 ∷ 12 ∷ 13 ∷ 14 ∷ []
 
 -- An answer is a refusal, as a branch on the case of an answer says it.
 abbrev pub Refuses : Answer → Type 0
@@ -52,6 +52,8 @@ refusal-told (TooNested place) h = (9, place, refl)
 refusal-told (Short place) h = (10, place, refl)
 refusal-told (NoXml place) h = (11, place, refl)
 refusal-told (LeftOut place) h = (12, place, refl)
+refusal-told NoElement h = (13, 0, refl)
+refusal-told OtherText h = (14, 0, refl)
 
 -- A refused call writes nothing.
 pub refused-keeps : (a : Answer) (new old : List ℕ) → Refuses a → atExit (told a) new old ≡ old

@@ -2,7 +2,7 @@
 use Rattle.paper.specs.Answers.{value, refusal}
 use Rattle.paper.specs.Answers.{Answer as Told}
 use Rattle.paper.specs.declared.Answer.{Answer}
-use Rattle.paper.specs.declared.Answer.the-variants.{Value, TooLong, BadName, NoQuery, TooDeep, UnknownName, BadQuery, BadTable, BadMarks, TooNested, Short, NoXml, LeftOut}
+use Rattle.paper.specs.declared.Answer.the-variants.{Value, TooLong, BadName, NoQuery, TooDeep, UnknownName, BadQuery, BadTable, BadMarks, TooNested, Short, NoXml, LeftOut, NoElement, OtherText}
 
 abbrev pub told : Answer → Told
 told (Value n) = value n
@@ -18,3 +18,5 @@ told (TooNested place) = refusal 9 place
 told (Short place) = refusal 10 place
 told (NoXml place) = refusal 11 place
 told (LeftOut place) = refusal 12 place
+told NoElement = refusal 13 0
+told OtherText = refusal 14 0

@@ -36,4 +36,6 @@ pub enum Answer {
     Short(usize),
     NoXml(usize),
     LeftOut(usize),
+    NoElement,
+    OtherText,
 }

@@ -1,4 +1,6 @@
 -- Bytes put from a place on: `Puts`, `puts-both`.
 pub mod Putting
+-- What stands in a slice with room enough and with none: `puts-written`, `puts-nothing`.
+pub mod Room
 -- The words of tests.
 pub mod Words

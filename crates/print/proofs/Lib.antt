@@ -1,5 +1,3 @@
--- With room enough and with none: `puts-written`, `puts-nothing`.
-pub mod Room
 -- Names that the list lacks.
 pub mod Unknowns
 -- The loop of an expression: `Turn`, with `Awaits` and `Left` over the operator.

@@ -14,3 +14,5 @@ pub mod Calls
 pub mod Chains
 -- The same over calls.
 pub mod ChainCalls
+-- Files over calls: `read-back`, `file-secrecy`.
+pub mod FileCalls

@@ -8,7 +8,7 @@ use Rattle.paper.specs.Answers.{value, refusal}
 use Rattle.paper.specs.Answers.{Answer as Told}
 use Rattle.paper.specs.Told.{told}
 use Rattle.paper.specs.declared.Answer.{Answer}
-use Rattle.paper.specs.declared.Answer.the-variants.{Value, TooLong, BadName, NoQuery, TooDeep, UnknownName, BadQuery, BadTable, BadMarks, TooNested, Short, NoXml, LeftOut}
+use Rattle.paper.specs.declared.Answer.the-variants.{Value, TooLong, BadName, NoQuery, TooDeep, UnknownName, BadQuery, BadTable, BadMarks, TooNested, Short, NoXml, LeftOut, NoElement, OtherText}
 
 -- The answer that tells this.
 abbrev telling : Told → Answer
@@ -24,7 +24,9 @@ telling (refusal number place) =
     (cond (eqb number 8) (BadMarks place)
     (cond (eqb number 9) (TooNested place)
     (cond (eqb number 10) (Short place)
-    (cond (eqb number 11) (NoXml place) (LeftOut place)))))))))))
+    (cond (eqb number 11) (NoXml place)
+    (cond (eqb number 12) (LeftOut place)
+    (cond (eqb number 13) NoElement OtherText))))))))))))
 
 telling-told : (r : Answer) → telling (told r) ≡ r
 telling-told (Value n) = refl
@@ -40,6 +42,8 @@ telling-told (TooNested place) = refl
 telling-told (Short place) = refl
 telling-told (NoXml place) = refl
 telling-told (LeftOut place) = refl
+telling-told NoElement = refl
+telling-told OtherText = refl
 
 pub told-same : (r s : Answer) → told r ≡ told s → r ≡ s
 told-same r s h = sym (telling-told r) ∙ ap telling h ∙ telling-told s

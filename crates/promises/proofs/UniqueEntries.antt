@@ -1,8 +1,8 @@
 -- The contracts of the entry points leave one answer and one content of each slice: each says what the answer tells and what each slice holds, by one definition. Assumes nothing.
 use mathlib.Core.Path.{subst}
 use Rattle.read_xml.proofs.read_xml
-use Rattle.promises.specs.UniqueEntries.{ReadUnique, PrintUnique, ComposeUnique, RunUnique, ExtractUnique, ReadXmlUnique}
-use Rattle.promises.specs.UniqueEntries.{ReadForCUnique, PrintForCUnique, ComposeForCUnique, RunForCUnique, ExtractForCUnique, ReadXmlForCUnique, ReportUnique}
+use Rattle.promises.specs.UniqueEntries.{ReadUnique, PrintUnique, ComposeUnique, RunUnique, ExtractUnique, ReadXmlUnique, WriteXmlUnique}
+use Rattle.promises.specs.UniqueEntries.{ReadForCUnique, PrintForCUnique, ComposeForCUnique, RunForCUnique, ExtractForCUnique, ReadXmlForCUnique, WriteXmlForCUnique, ReportUnique}
 use Rattle.promises.specs.UniqueEntries.{HeightUnique, PathsUnique, ScratchUnique, HeightForCUnique, PathsForCUnique, ScratchForCUnique}
 use Rattle.promises.specs.UniqueEntries.{IsCutUnique, IsCutForCUnique}
 use Rattle.promises.proofs.Telling.{same, same-told, same-slice, same-slices, same-more}
@@ -28,6 +28,9 @@ read-xml-unique κs a u v x y g p q =
     let p′ = subst (λ w. read_xml.Reads.Post κs a w x) e p in
     (e, same-more (p′ .1 .0) (q .1 .0) (same-more (p′ .1 .1 .0) (q .1 .1 .0) (same-slices (p′ .1 .1 .1 .0) (p′ .1 .1 .1 .1) (q .1 .1 .1 .0) (q .1 .1 .1 .1))))
 
+pub write-xml-unique : WriteXmlUnique
+write-xml-unique κs a u v x y g p q = (same-told (p .0) (q .0), same-slice (p .1) (q .1))
+
 pub read-for-c-unique : ReadForCUnique
 read-for-c-unique κs a u v x y g p q = (same (p .0) (q .0), same-slice (p .1) (q .1))
 
@@ -46,6 +49,9 @@ extract-for-c-unique κs a u v x y g p q = (same (p .0) (q .0), same-slices (p .
 pub read-xml-for-c-unique : ReadXmlForCUnique
 read-xml-for-c-unique κs a u v x y g p q =
     (same (p .0) (q .0), same-more (p .1 .0) (q .1 .0) (same-more (p .1 .1 .0) (q .1 .1 .0) (same-slices (p .1 .1 .1 .0) (p .1 .1 .1 .1) (q .1 .1 .1 .0) (q .1 .1 .1 .1))))
+
+pub write-xml-for-c-unique : WriteXmlForCUnique
+write-xml-for-c-unique κs a u v x y g p q = (same (p .0) (q .0), same-slice (p .1) (q .1))
 
 pub report-unique : ReportUnique
 report-unique κs a u v x y g p q = (same (p .puts .moved) (q .puts .moved), same-slice (p .puts .wrote) (q .puts .wrote))

@@ -37,7 +37,7 @@ use Rattle.promises.specs.UniqueParts.{ChildrenUnique, ParentsUnique, Be
 use Rattle.promises.specs.UniqueParts.{FollowingSiblingsUnique, PrecedingSiblingsUnique, FollowingUnique, PrecedingUnique, AlongUnique}
 use Rattle.promises.specs.UniqueParts.{RestrictUnique, SpreadUnique, KeepQueryUnique, OwesUnique, SkipUnique, CountPathsUnique, PutSelectedUnique, SelectedSizeUnique}
 use Rattle.promises.specs.UniqueParts.{NarrowUnique, WideEntryUnique, FindNameUnique, FirstUnnamedUnique, KindOfUnique, AnswerUnique}
-use Rattle.promises.specs.UniqueParts.{SaysUnique, KindIsUnique, BeginsLineUnique, ReadsAsUnique}
+use Rattle.promises.specs.UniqueParts.{SaysUnique, KindIsUnique, BeginsLineUnique, ReadsAsUnique, WriteKeptUnique}
 use Rattle.promises.proofs.Telling.{same, same-told, same-slice, same-slices}
 
 -- ITEMS.
@@ -370,3 +370,6 @@ begins-line-unique κs a u v x y g p q = tells-unique _ u v p q
 
 pub reads-as-unique : ReadsAsUnique
 reads-as-unique κs a u v x y g p q = same p q
+
+pub write-kept-unique : WriteKeptUnique
+write-kept-unique κs a u v x y g p q = both-put p q

@@ -5,3 +5,4 @@ pub mod Entries
 pub mod Calls
 pub mod Chains
 pub mod ChainCalls
+pub mod FileCalls

@@ -7,6 +7,7 @@ use Rattle.compose.proofs.compose
 use Rattle.run.proofs.run
 use Rattle.extract.proofs.extract
 use Rattle.read_xml.proofs.read_xml
+use Rattle.write_xml.proofs.write_xml
 use Rattle.room.proofs.height
 use Rattle.room.proofs.paths
 use Rattle.room.proofs.scratch
@@ -18,6 +19,7 @@ use Rattle.halyardfig.proofs.halyardfig_compose
 use Rattle.halyardfig.proofs.halyardfig_run
 use Rattle.halyardfig.proofs.halyardfig_extract
 use Rattle.halyardfig.proofs.halyardfig_read_xml
+use Rattle.halyardfig.proofs.halyardfig_write_xml
 use Rattle.halyardfig.proofs.halyardfig_height
 use Rattle.halyardfig.proofs.halyardfig_paths
 use Rattle.halyardfig.proofs.halyardfig_scratch
@@ -44,6 +46,9 @@ ReadXmlUnique =
     Unique read_xml.Kinds.ps read_xml.Kinds.r read_xml.Reads.Pre read_xml.Reads.Post
     (λ κs x. now (x .1 .1 .0) ∷ now (x .1 .1 .1 .0) ∷ now (x .1 .1 .1 .1 .0) ∷ now (x .1 .1 .1 .1 .1 .0) ∷ [])
 
+abbrev pub WriteXmlUnique : Type 0
+WriteXmlUnique = Unique write_xml.Kinds.ps write_xml.Kinds.r write_xml.Reads.Pre write_xml.Reads.Post (λ κs x. now (x .1 .1 .1 .1 .1 .1 .1 .0) ∷ [])
+
 abbrev pub ReadForCUnique : Type 0
 ReadForCUnique = Unique halyardfig_read.Kinds.ps halyardfig_read.Kinds.r halyardfig_read.Reads.Pre halyardfig_read.Reads.Post (λ κs x. now (x .1 .1 .0) ∷ [])
 
@@ -68,6 +73,11 @@ abbrev pub ReadXmlForCUnique : Type 0
 ReadXmlForCUnique =
     Unique halyardfig_read_xml.Kinds.ps halyardfig_read_xml.Kinds.r halyardfig_read_xml.Reads.Pre halyardfig_read_xml.Reads.Post
     (λ κs x. now (x .1 .1 .0) ∷ now (x .1 .1 .1 .0) ∷ now (x .1 .1 .1 .1 .0) ∷ now (x .1 .1 .1 .1 .1 .0) ∷ [])
+
+abbrev pub WriteXmlForCUnique : Type 0
+WriteXmlForCUnique =
+    Unique halyardfig_write_xml.Kinds.ps halyardfig_write_xml.Kinds.r halyardfig_write_xml.Reads.Pre halyardfig_write_xml.Reads.Post
+    (λ κs x. now (x .1 .1 .1 .1 .1 .1 .1 .0) ∷ [])
 
 abbrev pub ReportUnique : Type 0
 ReportUnique = Unique report.Kinds.ps report.Kinds.r report.Reads.Pre report.Reads.Post (λ κs x. now (x .1 .0) ∷ [])

@@ -40,6 +40,7 @@ use Rattle.line_tests.proofs.says
 use Rattle.line_tests.proofs.kind_is
 use Rattle.line_tests.proofs.begins_line
 use Rattle.match_xml.proofs.reads_as
+use Rattle.put_xml.proofs.write_kept
 use Rattle.token.proofs.white_space
 use Rattle.token.proofs.skip as skip_space
 use Rattle.token.proofs.run_end
@@ -446,3 +447,7 @@ BeginsLineUnique = UniqueAnswer begins_line.Kinds.ps begins_line.Kinds.r begins_
 
 abbrev pub ReadsAsUnique : Type 0
 ReadsAsUnique = UniqueAnswer reads_as.Kinds.ps reads_as.Kinds.r reads_as.Reads.Pre reads_as.Reads.Post
+
+-- THE KEPT PART PUT AS XML.
+abbrev pub WriteKeptUnique : Type 0
+WriteKeptUnique = Unique write_kept.Kinds.ps write_kept.Kinds.r write_kept.Reads.Pre write_kept.Reads.Post (λ κs x. now (x .1 .1 .1 .1 .1 .1 .0) ∷ [])

@@ -1,6 +1,6 @@
--- A text put byte by byte: `text-none`, `text-more`, `text-done`, `text-room`; the count of `]`: `no-square`, `first-square`, `next-square`.
-pub mod Texts
--- End tags put one by one: `closing-start`, `known`, `closing-more`, `closing-done`, `closing-room`.
-pub mod Closing
--- The walk over the nodes: `walk-start`, `walk-node`, `walk-pass`, `walk-done`; where it may begin: `walk-lent`.
-pub mod Walking
+-- The lines of writing XML in their order: `too-long`, `lengths`, `bad-list`, `bad-table`, `bad-marks`, `no-element`, `other-text`, `filed`.
+pub mod Lines
+-- An element is looked for among the nodes: `Looked`, `one-looked`, `all-looked`.
+pub mod Elements
+-- Line 10 and the file: `lacking`, `wrote`.
+pub mod Room

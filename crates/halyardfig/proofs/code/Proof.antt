@@ -81,6 +81,18 @@ enum-known-answer-12 c = search needs
 refused-requires-12 : tie.Need-refused-requires-12
 refused-requires-12 c κs = search needs
 
+enum-told-2 : tie.Need-enum-told-2
+enum-told-2 c = search needs
+
+refused-requires-13 : tie.Need-refused-requires-13
+refused-requires-13 c κs = search needs
+
+enum-told-3 : tie.Need-enum-told-3
+enum-told-3 c = search needs
+
+refused-requires-14 : tie.Need-refused-requires-14
+refused-requires-14 c κs = search needs
+
 returns : tie.Need-returns
 returns c = value-code _ _ _ (ap told (c .before .answer .given .1)) refl
 
@@ -120,6 +132,12 @@ returns-12 c = refusal-code _ 11 _ _ (ap told (c .before .before .answer11 .give
 returns-13 : tie.Need-returns-13
 returns-13 c = refusal-code _ 12 _ _ (ap told (c .before .before .answer12 .given .1)) (c .refused12 .ensures)
 
+returns-14 : tie.Need-returns-14
+returns-14 c = refusal-code _ 13 0 _ (ap told (c .before .enum-told2 .given .1)) (c .refused13 .ensures)
+
+returns-15 : tie.Need-returns-15
+returns-15 c = refusal-code _ 14 0 _ (ap told (c .before .enum-told3 .given .1)) (c .refused14 .ensures)
+
 pub code-spec : {M : Type 1} → statement M
 code-spec =
     tie.close
@@ -149,6 +167,10 @@ code-spec =
     refused-requires-11
     enum-known-answer-12
     refused-requires-12
+    enum-told-2
+    refused-requires-13
+    enum-told-3
+    refused-requires-14
     returns
     returns-2
     returns-3
@@ -161,4 +183,6 @@ code-spec =
     returns-10
     returns-11
     returns-12
-    returns-13)
+    returns-13
+    returns-14
+    returns-15)

@@ -13,7 +13,7 @@ use Rattle.paper.specs.Names.{namesOf}
 use Rattle.paper.specs.Items.{decode}
 use Rattle.paper.specs.Answers.{unknownFrom, textGot}
 use Rattle.names.specs.Listing.{faultOf}
-use Rattle.print.proofs.Room.{puts-written, puts-nothing}
+use Rattle.pen.proofs.Room.{puts-written, puts-nothing}
 use Rattle.print.proofs.Answering.{shape-none, shape-some, Ready, refuses, accepts, long-query, long-list, bad-list, bad-query, unknown-name, can-print, short-room, value-told}
 use Rattle.print.proofs.print.Statement.{statement}
 use Rattle.print.proofs.print.Tie as tie
