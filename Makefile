@@ -1,7 +1,7 @@
 # Builds and installs the C library and the printing program; `make install PREFIX=/usr/local`.
 PREFIX ?= /usr/local
 DESTDIR ?=
-VERSION = 1.0.0
+VERSION = 2.0.0
 
 LIBRARY = target/staticlib/libhalyardfig.a
 PROGRAM = target/bin/compose_main

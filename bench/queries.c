@@ -33,8 +33,8 @@ uint32_t accepted(uint64_t answer, const char *what)
 
 void read_query(const struct document *document, const char *text, struct query *query)
 {
-    query->count = accepted(halyardfig_read((const uint8_t *)text, strlen(text), document->list, document->list_length,
-                                            query->items, ITEM_ROOM),
+    query->count = accepted(halyardfig_read((const uint8_t *)text, strlen(text), HALYARDFIG_XPATH_1, document->list,
+                                            document->list_length, query->items, ITEM_ROOM),
                             text);
     snprintf(query->text, sizeof query->text, "%s", text);
 }

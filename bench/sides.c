@@ -175,8 +175,8 @@ static void read_own(void *with)
     static uint32_t items[ITEM_ROOM];
     const struct side *side = with;
     const struct document *document = side->document;
-    accepted(halyardfig_read((const uint8_t *)side->query->text, strlen(side->query->text), document->list,
-                             document->list_length, items, ITEM_ROOM),
+    accepted(halyardfig_read((const uint8_t *)side->query->text, strlen(side->query->text), HALYARDFIG_XPATH_1,
+                             document->list, document->list_length, items, ITEM_ROOM),
              side->query->text);
 }
 

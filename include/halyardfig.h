@@ -1,5 +1,5 @@
 /*
- * Halyardfig: queries in a part of XPath 1.0, run over node tables as subtree queries, and composed;
+ * Halyardfig: queries in a part of XPath 1.0 and 2.0, run over node tables as subtree queries, and composed;
  * and XML text read into such tables, and what is kept of it written back.
  *
  * A query in memory is an array of 32-bit items, made by halyardfig_read or halyardfig_compose.
@@ -24,7 +24,8 @@
  * its number times 2^32, plus its place.
  *
  *   1   a length is over its limit, two lengths that must agree do not,
- *       or a number that tells the scratch is 0 or over 4,096                place 0
+ *       a number that tells the scratch is 0 or over 4,096,
+ *       or a version of XPath is neither 1 nor 2                             place 0
  *   2   name list: a line is no name, is over 64 bytes, has no LF,
  *       is the 257th, or repeats an earlier line                             start of that line
  *   3   text: no query begins like this, or the text ends too early          the token, the byte, or the length
@@ -41,6 +42,10 @@
  *   13  marks: no element is marked                                          0
  *   14  XML text: read with this list it is refused, or does not give
  *       exactly these nodes, parents, kinds and places                       0
+ */
+/*
+ * Version 2.0.0 of the library: halyardfig_read takes the version of XPath after the text, 1 or 2.
+ * What was read before is read as before by version 1; every other call is as it was.
  */
 #ifndef HALYARDFIG_H
 #define HALYARDFIG_H
@@ -61,6 +66,10 @@
 
 /* The stack that a call uses, at most. */
 #define HALYARDFIG_STACK_BYTES 65536
+
+/* The versions of XPath by which a text is read. */
+#define HALYARDFIG_XPATH_1 1
+#define HALYARDFIG_XPATH_2 2
 
 /* The kinds of nodes; an element with the name v has the kind HALYARDFIG_KIND_ELEMENT + v. */
 #define HALYARDFIG_KIND_ROOT 0
@@ -106,13 +115,15 @@ static inline uint32_t halyardfig_value(uint64_t answer)
 }
 
 /*
- * Reads a query text with the names of a list and writes the query's items to out.
+ * Reads a query text by a version of XPath, 1 or 2, with the names of a list and writes the query's items to out.
+ * By version 2 predicates may stand after . and .., and between absolute paths the word union for |, except after
+ * a / that no step follows, where a word is a name. What version 1 accepts means the same in version 2.
  * Value: the number of items; out past it is untouched.
- * Refuses, in this order: 1 (text over 32,768 bytes, list over 8,192), 2,
+ * Refuses, in this order: 1 (text over 32,768 bytes, list over 8,192, another version), 2,
  * then 3 or 4, whichever place comes first (3 if they are equal), 5, 10 (place: the items needed).
  */
-uint64_t halyardfig_read(const uint8_t *text, size_t text_len, const uint8_t *names, size_t names_len, uint32_t *out,
-                         size_t out_len);
+uint64_t halyardfig_read(const uint8_t *text, size_t text_len, uint32_t version, const uint8_t *names, size_t names_len,
+                         uint32_t *out, size_t out_len);
 
 /*
  * Writes a query's text to out, axes written out, with the names of a list.

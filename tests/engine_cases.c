@@ -1,7 +1,8 @@
 /*
  * Writes cases for an independent XPath engine, with what the library keeps of each.
  * A line starts with a letter: C case, N names, P parents, K kinds, G given marks,
- * Q a query text, each run inside the marks left by the one before it, and E the marks expected.
+ * Q a query text, each run inside the marks left by the one before it, V such a text of XPath 2.0,
+ * and E the marks expected.
  */
 #include "cases.h"
 #include "halyardfig.h"
@@ -17,9 +18,9 @@ static struct query query, outer, inner, composed;
 static uint8_t kept[NODE_ROOM];
 
 /* A text on one line: tab, LF and CR become \t, \n and \r. */
-static void write_text(const uint8_t *bytes, size_t length)
+static void write_text(char letter, const uint8_t *bytes, size_t length)
 {
-    printf("Q ");
+    printf("%c ", letter);
     for (size_t i = 0; i < length; i++)
         switch (bytes[i]) {
         case '\t':
@@ -53,7 +54,7 @@ static bool write_printed(const struct query *printing)
         halyardfig_print(printing->items, printing->count, list.bytes, list.length, printed, sizeof printed);
     if (halyardfig_refused(answer) != 0)
         return complain("a good query is not printed");
-    write_text(printed, halyardfig_value(answer));
+    write_text('Q', printed, halyardfig_value(answer));
     return true;
 }
 
@@ -87,19 +88,23 @@ static void make_single(struct dice *dice)
         make_query(dice, &query, (struct bounds){between(dice, 1, 30), (unsigned)below(dice, 5), 3, list.count});
         if (chance(dice, 50))
             mix_axes(dice, &query);
+        if (chance(dice, 40))
+            mix_dots(dice, &query);
         if (run_query(&query) && kept_some())
             return;
     }
 }
 
-/* One query, as printed and as a loose text that the library reads. */
+/* One query, as printed and as a loose text of one of the versions that the library reads. */
 static bool single_query(struct dice *dice)
 {
     static struct text text;
+    uint32_t version = any_version(dice);
     make_document(dice, 40);
     make_single(dice);
-    make_text(dice, &text, &query, &list);
-    uint64_t answer = halyardfig_read(text.bytes, text.length, list.bytes, list.length, query.items, ITEM_ROOM);
+    make_text(dice, &text, &query, &list, version);
+    uint64_t answer =
+        halyardfig_read(text.bytes, text.length, version, list.bytes, list.length, query.items, ITEM_ROOM);
     if (halyardfig_refused(answer) != 0)
         return complain("a good text is refused");
     if (!run_query(&query))
@@ -108,7 +113,7 @@ static bool single_query(struct dice *dice)
     bool printed = write_printed(&query);
     write_marks('E', kept, table.nodes);
     write_document("query as it was read");
-    write_text(text.bytes, text.length);
+    write_text(version == HALYARDFIG_XPATH_2 ? 'V' : 'Q', text.bytes, text.length);
     write_marks('E', kept, table.nodes);
     return printed;
 }

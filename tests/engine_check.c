@@ -123,6 +123,54 @@ static void unescape(char *text)
     *to = 0;
 }
 
+static bool in_name(char byte)
+{
+    return (byte >= 'a' && byte <= 'z') || (byte >= 'A' && byte <= 'Z') || (byte >= '0' && byte <= '9') ||
+           byte == '_' || byte == '-' || byte == '.';
+}
+
+static size_t token_length(const char *text)
+{
+    size_t length = 1;
+    if (in_name(text[0]) && text[0] != '.')
+        while (in_name(text[length]))
+            length++;
+    else if (text[0] == text[1] && strchr("/.:", text[0]) != NULL)
+        length = 2;
+    return length;
+}
+
+static bool token_is(const char *token, size_t length, const char *other)
+{
+    return length == strlen(other) && memcmp(token, other, length) == 0;
+}
+
+/* A text of XPath 2.0 in XPath 1.0: `.` and `..` written out, so that predicates may follow, and outside brackets `|`
+   for the word `union` where an operand has just ended. */
+static char *in_first_version(const char *text)
+{
+    char *made = calloc(strlen(text) + 1, sizeof "parent::node()"), *to = made;
+    unsigned open = 0;
+    bool operand = false;
+    for (size_t length; *text != 0; text += length) {
+        length = token_length(text);
+        if (token_is(text, length, "."))
+            to += sprintf(to, "self::node()");
+        else if (token_is(text, length, ".."))
+            to += sprintf(to, "parent::node()");
+        else if (operand && open == 0 && token_is(text, length, "union"))
+            to += sprintf(to, "|");
+        else
+            to += sprintf(to, "%.*s", (int)length, text);
+        if (strchr(" \t\n\r", text[0]) != NULL)
+            continue;
+        open += text[0] == '[' || text[0] == '(';
+        open -= text[0] == ']' || text[0] == ')';
+        operand = strchr("/:|[(", text[0]) == NULL && !(operand && open == 0 && token_is(text, length, "union"));
+    }
+    return made;
+}
+
 static void take_line(char letter, char *rest)
 {
     switch (letter) {
@@ -139,6 +187,12 @@ static void take_line(char letter, char *rest)
     case 'Q':
         unescape(rest);
         run_query(rest);
+        return;
+    case 'V':
+        unescape(rest);
+        char *first = in_first_version(rest);
+        run_query(first);
+        free(first);
         return;
     case 'E':
         compare(rest);

@@ -192,6 +192,13 @@ void mix_axes(struct dice *dice, struct query *query)
     }
 }
 
+void mix_dots(struct dice *dice, struct query *query)
+{
+    for (size_t i = 0; i < query->count; i++)
+        if ((query->items[i] & 7) == 1 && chance(dice, 30))
+            query->items[i] = STEP_ITEM(chance(dice, 50) ? SELF : PARENT, NODE_TEST, query->items[i] >> PREDICATES_BIT);
+}
+
 void make_axis_query(struct dice *dice, struct query *query, unsigned axis, unsigned names)
 {
     struct making making = {dice, query, {ITEM_ROOM, 1, 1, names}};
@@ -390,6 +397,7 @@ struct writing {
     const struct list *list;
     size_t at;
     unsigned loose;
+    uint32_t version;
     bool after_word;
 };
 
@@ -457,13 +465,14 @@ static void write_step(struct writing *writing, uint32_t item)
 {
     unsigned axis = item >> AXIS_BIT & MOST_AXIS, test = item >> TEST_BIT & MOST_TEST,
              predicates = item >> PREDICATES_BIT;
-    bool shortens = test == NODE_TEST && predicates == 0 && chance(writing->dice, 70);
-    if (shortens && (axis == SELF || axis == PARENT)) {
+    bool shortens = test == NODE_TEST && (predicates == 0 || writing->version == HALYARDFIG_XPATH_2) &&
+                    (axis == SELF || axis == PARENT) && chance(writing->dice, 70);
+    if (shortens) {
         put_token(writing, axis == SELF ? "." : "..");
-        return;
+    } else {
+        write_axis(writing, axis);
+        write_test(writing, test);
     }
-    write_axis(writing, axis);
-    write_test(writing, test);
     for (; predicates > 0; predicates--) {
         put_token(writing, "[");
         write_expr(writing);
@@ -522,17 +531,24 @@ static void write_expr(struct writing *writing)
     }
 }
 
-void make_text(struct dice *dice, struct text *text, const struct query *query, const struct list *list)
+uint32_t any_version(struct dice *dice)
 {
-    struct writing writing = {dice, text, query, list, 0, chance(dice, 50) ? 20 : 0, false};
+    return chance(dice, 50) ? HALYARDFIG_XPATH_1 : HALYARDFIG_XPATH_2;
+}
+
+void make_text(struct dice *dice, struct text *text, const struct query *query, const struct list *list,
+               uint32_t version)
+{
+    struct writing writing = {dice, text, query, list, 0, chance(dice, 50) ? 20 : 0, version, false};
     clear_text(text);
     while (writing.at < query->count) {
         unsigned steps = query->items[writing.at++] >> 3;
         if (steps == 0)
             put_token(&writing, "/");
         write_steps(&writing, steps, true);
+        bool by_word = version == HALYARDFIG_XPATH_2 && steps > 0 && chance(dice, 50);
         if (writing.at < query->count)
-            put_token(&writing, "|");
+            put_token(&writing, by_word ? "union" : "|");
     }
     put_space(&writing, false);
 }
@@ -642,7 +658,8 @@ void make_token_soup(struct dice *dice, struct text *text, size_t tokens)
     static const char *const soup[] = {
         "/", "/",  "//",  ".",     "..",   "::",     "|",    "[",    "]", "(",         ")",        "*",
         "a", "b",  "and", "or",    "not",  "node",   "text", "self", "[", "]",         "(",        ")",
-        " ", "\t", "\n",  "child", "not(", "node()", "a",    ":",    "-", "following", "ancestor", "preceding-sibling"};
+        " ", "\t", "\n",  "child", "not(", "node()", "a",    ":",    "-", "following", "ancestor", "preceding-sibling",
+        ".[", "..[", "union", " union /"};
     clear_text(text);
     put_byte(text, '/');
     put_soup(dice, text, soup, sizeof soup / sizeof soup[0], tokens);

@@ -76,6 +76,9 @@ void make_query(struct dice *dice, struct query *query, struct bounds bounds);
 /* Gives each step another axis, all axes alike probable. */
 void mix_axes(struct dice *dice, struct query *query);
 
+/* Makes some steps self and parent steps with node(), which `.` and `..` are short for. */
+void mix_dots(struct dice *dice, struct query *query);
+
 /* Nodes of some test anywhere, then one step along one axis, or such a step in a predicate. */
 void make_axis_query(struct dice *dice, struct query *query, unsigned axis, unsigned names);
 
@@ -108,8 +111,12 @@ void put_white(struct dice *dice, struct text *text, unsigned percent, bool need
 /* Parts of a choice in any order, so many times. */
 void put_soup(struct dice *dice, struct text *text, const char *const *soup, size_t parts, size_t times);
 
-/* A text of the query with random abbreviations, white space and superfluous brackets. */
-void make_text(struct dice *dice, struct text *text, const struct query *query, const struct list *list);
+/* A text of the query with random abbreviations, white space and superfluous brackets, for this version of XPath. */
+void make_text(struct dice *dice, struct text *text, const struct query *query, const struct list *list,
+               uint32_t version);
+
+/* One of the versions of XPath. */
+uint32_t any_version(struct dice *dice);
 
 /* The bytes of name v and their number. */
 const uint8_t *name_at(const struct list *list, unsigned v, size_t *length);

@@ -116,10 +116,11 @@ static bool read_anything(struct dice *dice)
     any_text(dice);
     any_list(dice);
     size_t room = any_length(dice, 100, ITEM_ROOM);
-    if (!twin_read(dice, text.bytes, text.length, list.bytes, list.length, room))
+    uint32_t version = chance(dice, 90) ? any_version(dice) : (uint32_t)roll(dice);
+    if (!twin_read(dice, text.bytes, text.length, version, list.bytes, list.length, room))
         return false;
     uint64_t first = twin_answer;
-    return twin_read(dice, text.bytes, text.length, list.bytes, list.length, room) &&
+    return twin_read(dice, text.bytes, text.length, version, list.bytes, list.length, room) &&
            in_range("read", first, room, HALYARDFIG_REFUSED_ROOM);
 }
 

@@ -41,9 +41,12 @@ static bool reads_good_text(struct dice *dice)
 {
     make_any_list(dice);
     make_any_query(dice, &query, list.count);
-    make_text(dice, &text, &query, &list);
+    if (chance(dice, 30))
+        mix_dots(dice, &query);
+    uint32_t version = any_version(dice);
+    make_text(dice, &text, &query, &list, version);
     size_t room = near(dice, query.count);
-    if (!twin_read(dice, text.bytes, text.length, list.bytes, list.length, room))
+    if (!twin_read(dice, text.bytes, text.length, version, list.bytes, list.length, room))
         return false;
     if (text.overflowed || halyardfig_refused(twin_answer) == HALYARDFIG_REFUSED_BRACKET || room < query.count)
         return true;
@@ -57,23 +60,53 @@ static bool reads_damaged_text(struct dice *dice)
 {
     make_any_list(dice);
     make_any_query(dice, &query, list.count);
-    make_text(dice, &text, &query, &list);
+    if (chance(dice, 30))
+        mix_dots(dice, &query);
+    make_text(dice, &text, &query, &list, any_version(dice));
     damage_text(dice, &text);
     if (chance(dice, 10))
         damage_list(dice, &list);
-    return twin_read(dice, text.bytes, text.length, list.bytes, list.length, ITEM_ROOM);
+    return twin_read(dice, text.bytes, text.length, any_version(dice), list.bytes, list.length, ITEM_ROOM);
 }
 
 static bool reads_token_soup(struct dice *dice)
 {
-    list_of(&list, chance(dice, 50) ? "a b and or not node text self child" : "a");
+    list_of(&list, chance(dice, 50) ? "a b and or not node text self child union" : "a");
     make_token_soup(dice, &text, between(dice, 0, 12));
-    return twin_read(dice, text.bytes, text.length, list.bytes, list.length, ITEM_ROOM);
+    return twin_read(dice, text.bytes, text.length, any_version(dice), list.bytes, list.length, ITEM_ROOM);
+}
+
+/* What version 1 accepts, version 2 reads as the same items; and where version 2 refuses, so does version 1. */
+static bool reads_alike_by_both(struct dice *dice)
+{
+    static uint32_t first[ITEM_ROOM];
+    list_of(&list, "a b and or not node text self child union");
+    if (chance(dice, 50)) {
+        make_query(dice, &query, (struct bounds){between(dice, 1, 20), (unsigned)below(dice, 4), 4, list.count});
+        if (chance(dice, 50))
+            mix_dots(dice, &query);
+        make_text(dice, &text, &query, &list, any_version(dice));
+        if (chance(dice, 50))
+            damage_text(dice, &text);
+    } else {
+        make_token_soup(dice, &text, between(dice, 0, 8));
+    }
+    if (!twin_read(dice, text.bytes, text.length, HALYARDFIG_XPATH_1, list.bytes, list.length, ITEM_ROOM))
+        return false;
+    uint64_t answer = twin_answer;
+    if (halyardfig_refused(answer) == 0)
+        memcpy(first, twin_items(), answer * sizeof first[0]);
+    if (!twin_read(dice, text.bytes, text.length, HALYARDFIG_XPATH_2, list.bytes, list.length, ITEM_ROOM))
+        return false;
+    if (halyardfig_refused(answer) != 0)
+        return true;
+    return (twin_answer == answer && memcmp(first, twin_items(), answer * sizeof first[0]) == 0) ||
+           complain("version 2 reads otherwise what version 1 accepts");
 }
 
 static bool reads_many_brackets(struct dice *dice)
 {
-    static const char *const opens[] = {"(", "not(", "a[", "a and (", "a or not(", "a[a][a or b["};
+    static const char *const opens[] = {"(", "not(", "a[", "a and (", "a or not(", "a[a][a or b[", ".[", "..[a]["};
     list_of(&list, "a b");
     memcpy(text.bytes, "/a[", 3);
     text.length = 3;
@@ -88,7 +121,7 @@ static bool reads_many_brackets(struct dice *dice)
             text.bytes[text.length++] = text.bytes[i - 1] == '[' ? ']' : ')';
     if (chance(dice, 50))
         damage_text(dice, &text);
-    return twin_read(dice, text.bytes, text.length, list.bytes, list.length, ITEM_ROOM);
+    return twin_read(dice, text.bytes, text.length, any_version(dice), list.bytes, list.length, ITEM_ROOM);
 }
 
 static bool prints_and_reads_back(struct dice *dice)
@@ -102,7 +135,7 @@ static bool prints_and_reads_back(struct dice *dice)
         return complain("a good query is not printed");
     if (need <= TEXT_ROOM) {
         memcpy(text.bytes, twin_bytes(), need);
-        if (!twin_read(dice, text.bytes, need, list.bytes, list.length, query.count))
+        if (!twin_read(dice, text.bytes, need, any_version(dice), list.bytes, list.length, query.count))
             return false;
         if (twin_answer != query.count || memcmp(twin_items(), query.items, query.count * sizeof(uint32_t)) != 0)
             return complain("what was printed is read as another query");
@@ -499,6 +532,7 @@ int main(void)
     try_cases("read good text", 3000, reads_good_text);
     try_cases("read damaged text", 6000, reads_damaged_text);
     try_cases("read token soup", 20000, reads_token_soup);
+    try_cases("texts by both versions", 20000, reads_alike_by_both);
     try_cases("read many brackets", 2000, reads_many_brackets);
     try_cases("print and read back", 2000, prints_and_reads_back);
     try_cases("print damaged query", 3000, prints_damaged_query);

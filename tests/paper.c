@@ -209,6 +209,7 @@ enum state {
 
 struct scan {
     enum state state;
+    uint32_t version;
     bool axis_word;
     bool call_word;
     bool not_word;
@@ -267,7 +268,9 @@ static bool take_after_operand(struct scan *scan, const struct token *token)
     case BAR:
         return scan->open == 0 && go(scan, PATH_DUE);
     case WORD:
-        return scan->open > 0 && (word_is(token, "and") || word_is(token, "or")) && go(scan, OPERAND_DUE);
+        if (scan->open == 0)
+            return scan->version == HALYARDFIG_XPATH_2 && word_is(token, "union") && go(scan, PATH_DUE);
+        return (word_is(token, "and") || word_is(token, "or")) && go(scan, OPERAND_DUE);
     case CLOSE_SQUARE:
         return close_bracket(scan, OPEN_SQUARE, TEST_READ);
     case CLOSE_ROUND:
@@ -340,7 +343,7 @@ static bool take(struct scan *scan, const struct token *token)
     case TEST_READ:
         return take_after_test(scan, token);
     case ABBREVIATION_READ:
-        return take_after_step(scan, token);
+        return scan->version == HALYARDFIG_XPATH_2 ? take_after_test(scan, token) : take_after_step(scan, token);
     case OPERAND_READ:
         return take_after_operand(scan, token);
     }
@@ -348,9 +351,9 @@ static bool take(struct scan *scan, const struct token *token)
 }
 
 /* Lines 3 and 4; answers 0 or the refusal. */
-static uint64_t check_syntax(const uint8_t *text, size_t length)
+static uint64_t check_syntax(const uint8_t *text, size_t length, uint32_t version)
 {
-    struct scan scan = {.state = PATH_DUE};
+    struct scan scan = {.state = PATH_DUE, .version = version};
     struct token token;
     size_t place = 0;
     do {
@@ -425,7 +428,7 @@ static struct step *parse_step(struct parse *parse)
     struct token token = parse->token;
     if (token.sort == DOT || token.sort == DOTS) {
         advance(parse);
-        return new_step(token.sort == DOT ? AXIS_SELF : AXIS_PARENT, TEST_NODE, NULL);
+        return new_step(token.sort == DOT ? AXIS_SELF : AXIS_PARENT, TEST_NODE, parse_predicates(parse));
     }
     enum axis axis = AXIS_CHILD;
     if (after(parse, &token).sort == COLONS) {
@@ -507,7 +510,7 @@ static struct expr *parse_top_path(struct parse *parse)
 static struct expr *parse_query(struct parse *parse)
 {
     struct expr *first = parse_top_path(parse);
-    for (struct expr *last = first; parse->token.sort == BAR; last = last->next) {
+    for (struct expr *last = first; parse->token.sort != END; last = last->next) {
         advance(parse);
         last->next = parse_top_path(parse);
     }
@@ -1188,15 +1191,16 @@ static size_t keep_subtrees(const struct document *document, const uint8_t *sele
 
 /* The five calls, each with its refusals in the order of docs/SCOPE.md, "Numbers refused". */
 
-uint64_t model_read(const uint8_t *text, size_t text_len, const uint8_t *names, size_t names_len, uint32_t *out,
-                    size_t out_len)
+uint64_t model_read(const uint8_t *text, size_t text_len, uint32_t version, const uint8_t *names, size_t names_len,
+                    uint32_t *out, size_t out_len)
 {
     static struct names taken;
     uint64_t refusal;
     pool_used = 0;
-    if (text_len > HALYARDFIG_TEXT_BYTES || names_len > HALYARDFIG_NAMES_BYTES)
+    if (text_len > HALYARDFIG_TEXT_BYTES || names_len > HALYARDFIG_NAMES_BYTES || version < HALYARDFIG_XPATH_1 ||
+        version > HALYARDFIG_XPATH_2)
         return REFUSED(1, 0);
-    if ((refusal = take_names(&taken, names, names_len)) != 0 || (refusal = check_syntax(text, text_len)) != 0)
+    if ((refusal = take_names(&taken, names, names_len)) != 0 || (refusal = check_syntax(text, text_len, version)) != 0)
         return refusal;
     struct parse parse = {.text = text, .length = text_len, .names = &taken, .token = next_token(text, text_len, 0)};
     struct expr *query = parse_query(&parse);

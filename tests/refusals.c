@@ -27,18 +27,33 @@ static void expect(const char *what, uint64_t answer, uint64_t expected, const s
 
 static const char abcd[] = "a\nb\nc\nd\n";
 
-static void read_bytes(const char *what, const void *text, size_t text_len, const void *names, size_t names_len,
-                       size_t room, uint64_t expected)
+static void read_by(const char *what, uint32_t version, const void *text, size_t text_len, const void *names,
+                    size_t names_len, size_t room, uint64_t expected)
 {
     const uint8_t *our_text = offer(text, text_len), *our_names = offer(names, names_len);
     uint32_t *out = offer(NULL, room * sizeof *out);
-    uint64_t answer = halyardfig_read(our_text, text_len, our_names, names_len, out, room);
+    uint64_t answer = halyardfig_read(our_text, text_len, version, our_names, names_len, out, room);
     expect(what, answer, expected, (size_t[]){0, 0, halyardfig_value(answer) * sizeof *out});
+}
+
+/* The same by both versions. */
+static void read_bytes(const char *what, const void *text, size_t text_len, const void *names, size_t names_len,
+                       size_t room, uint64_t expected)
+{
+    read_by(what, HALYARDFIG_XPATH_1, text, text_len, names, names_len, room, expected);
+    read_by(what, HALYARDFIG_XPATH_2, text, text_len, names, names_len, room, expected);
 }
 
 static void read_is(const char *text, const char *names, size_t room, uint64_t expected)
 {
     read_bytes(text, text, strlen(text), names, strlen(names), room, expected);
+}
+
+/* Other answers by the two versions. */
+static void read_versions_are(const char *text, const char *names, size_t room, uint64_t first, uint64_t second)
+{
+    read_by(text, HALYARDFIG_XPATH_1, text, strlen(text), names, strlen(names), room, first);
+    read_by(text, HALYARDFIG_XPATH_2, text, strlen(text), names, strlen(names), room, second);
 }
 
 /* Appends one string so many times. */
@@ -163,8 +178,6 @@ static void read_syntax(void)
         {"/node()()", 3, 7},
         {"/node(a)", 3, 6},
         {"/a/node", 5, 3},
-        {"/..[a]", 3, 3},
-        {"/.[a]", 3, 2},
         {"/...", 3, 3},
         {"/.a", 3, 2},
         {"/**", 3, 2},
@@ -182,7 +195,6 @@ static void read_syntax(void)
         {"/a/(b)", 3, 3},
         {"/a[/b]", 3, 3},
         {"/a[//b]", 3, 3},
-        {"/a[.[b]]", 3, 4},
         {"/a[(b)[c]]", 3, 6},
         {"/a[(b)/c]", 3, 6},
         {"/a[(b)(c)]", 3, 6},
@@ -294,6 +306,70 @@ static void read_brackets(void)
     enum { DEEPEST = HALYARDFIG_NESTING, OVER = HALYARDFIG_NESTING + 1 };
     read_is(add(add(add(fresh(), "/a", 1), "[a", DEEPEST), "]", DEEPEST), abcd, 999, 2 + 2 * DEEPEST);
     read_is(add(add(add(fresh(), "/a", 1), "[a", OVER), "]", OVER), abcd, 999, REFUSED(4, 2 + 2 * DEEPEST));
+}
+
+/* 02, 2026-08: what only version 2 reads, where a word is a name, and versions that there are not. */
+static void read_versions(void)
+{
+    static const char names[] = "a\nb\nunion\n";
+    static const struct {
+        const char *text;
+        uint64_t first, second;
+    } texts[] = {
+        {"/.[a]", REFUSED(3, 2), 4},
+        {"/ . [ a ]", REFUSED(3, 4), 4},
+        {"/..[a]", REFUSED(3, 3), 4},
+        {"/a[.[b]]", REFUSED(3, 4), 6},
+        {"/a/..[b][a]", REFUSED(3, 5), 7},
+        {"/a[.[b]/..[a]]", REFUSED(3, 4), 9},
+        {"/a[not(.[b])]", REFUSED(3, 8), 7},
+        {"/.[", REFUSED(3, 2), REFUSED(3, 3)},
+        {"/.[a", REFUSED(3, 2), REFUSED(3, 4)},
+        {"/.[e]", REFUSED(3, 2), REFUSED(5, 3)},
+        {"/.[]", REFUSED(3, 2), REFUSED(3, 3)},
+        {"/a union /b", REFUSED(3, 3), 4},
+        {"/a union//b", REFUSED(3, 3), 5},
+        {"//*union/", REFUSED(3, 3), 4},
+        {"/a[b]union/b", REFUSED(3, 5), 6},
+        {"/.union/..", REFUSED(3, 2), 4},
+        {"/..union/", REFUSED(3, 3), 3},
+        {"/node() union /text()", REFUSED(3, 8), 4},
+        {"/ union /b", 3, 3},
+        {"/ union /", REFUSED(3, 9), REFUSED(3, 9)},
+        {"/union", 2, 2},
+        {"/union union /union", REFUSED(3, 7), 4},
+        {"/ union union //union", REFUSED(3, 8), 5},
+        {"/ union union union", REFUSED(3, 8), REFUSED(3, 14)},
+        {"/a union", REFUSED(3, 3), REFUSED(3, 8)},
+        {"/a union a", REFUSED(3, 3), REFUSED(3, 9)},
+        {"/a union | /b", REFUSED(3, 3), REFUSED(3, 9)},
+        {"/a | union /b", REFUSED(3, 5), REFUSED(3, 5)},
+        {"/a unions /b", REFUSED(3, 3), REFUSED(3, 3)},
+        {"/a Union /b", REFUSED(3, 3), REFUSED(3, 3)},
+        {"/a and /b", REFUSED(3, 3), REFUSED(3, 3)},
+        {"/a/union/b", 4, 4},
+        {"/a/child::union", 3, 3},
+        {"/a[union]", 4, 4},
+        {"/a[a union b]", REFUSED(3, 5), REFUSED(3, 5)},
+        {"/a[. union b]", REFUSED(3, 5), REFUSED(3, 5)},
+        {"/a[(a) union b]", REFUSED(3, 7), REFUSED(3, 7)},
+        {"/a[a | b]", REFUSED(3, 5), REFUSED(3, 5)},
+        {"/a[union or union]", 7, 7},
+        {"union", REFUSED(3, 0), REFUSED(3, 0)},
+    };
+    for (size_t i = 0; i < sizeof texts / sizeof texts[0]; i++)
+        read_versions_are(texts[i].text, names, ITEM_ROOM, texts[i].first, texts[i].second);
+    enum { DEEPEST = HALYARDFIG_NESTING, OVER = DEEPEST + 1 };
+    read_versions_are(add(add(add(fresh(), "/.", 1), "[.", DEEPEST), "]", DEEPEST), abcd, 999, REFUSED(3, 2),
+                      2 + 2 * DEEPEST);
+    read_versions_are(add(add(add(fresh(), "/.", 1), "[.", OVER), "]", OVER), abcd, 999, REFUSED(3, 2),
+                      REFUSED(4, 2 + 2 * DEEPEST));
+    static const uint32_t others[] = {0, 3, 4, 257, 258, 65537, 65538, UINT32_MAX};
+    for (size_t i = 0; i < sizeof others / sizeof others[0]; i++) {
+        read_by("another version", others[i], "/a", 2, abcd, strlen(abcd), 2, REFUSED(1, 0));
+        read_by("another version before a bad list", others[i], "/a", 2, "1", 1, 2, REFUSED(1, 0));
+        read_by("another version before a bad text", others[i], "[", 1, abcd, strlen(abcd), 2, REFUSED(1, 0));
+    }
 }
 
 static void read_rooms(void)
@@ -837,9 +913,9 @@ static void huge_lengths(void)
     uint32_t items[9];
     uint8_t marks[1], room[9];
     uint16_t parents[1], kinds[1], begins[1], ends[1], *columns = memory;
-    answer_is("huge text", halyardfig_read(memory, huge, slash, 0, items, 9), REFUSED(1, 0));
-    answer_is("huge list", halyardfig_read(slash, 1, memory, huge, items, 9), REFUSED(1, 0));
-    answer_is("huge room for items", halyardfig_read(slash, 1, slash, 0, memory, huge), 1);
+    answer_is("huge text", halyardfig_read(memory, huge, HALYARDFIG_XPATH_1, slash, 0, items, 9), REFUSED(1, 0));
+    answer_is("huge list", halyardfig_read(slash, 1, HALYARDFIG_XPATH_1, memory, huge, items, 9), REFUSED(1, 0));
+    answer_is("huge room for items", halyardfig_read(slash, 1, HALYARDFIG_XPATH_2, slash, 0, memory, huge), 1);
     answer_is("huge query printed", halyardfig_print(memory, huge, slash, 0, room, 9), REFUSED(1, 0));
     answer_is("huge list printed", halyardfig_print(root_query, 1, memory, huge, room, 9), REFUSED(1, 0));
     answer_is("huge room for text", halyardfig_print(root_query, 1, slash, 0, memory, huge), 1);
@@ -890,6 +966,7 @@ int main(void)
     read_lengths();
     read_lists();
     read_syntax();
+    read_versions();
     read_brackets();
     read_rooms();
     malformed_items();

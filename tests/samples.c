@@ -15,8 +15,8 @@ static const uint16_t sample_kind[SAMPLE_NODES] = {0, 2, 3, 4, 1, 3, 5};
 /* Reads a text with the names a b c d. */
 static uint64_t read_text(struct query *query, const char *text)
 {
-    return halyardfig_read((const uint8_t *)text, strlen(text), (const uint8_t *)sample_names, strlen(sample_names),
-                           query->items, ITEM_ROOM);
+    return halyardfig_read((const uint8_t *)text, strlen(text), HALYARDFIG_XPATH_1, (const uint8_t *)sample_names,
+                           strlen(sample_names), query->items, ITEM_ROOM);
 }
 
 static void read_good(struct query *query, const char *text)
@@ -461,8 +461,9 @@ static void chain_samples(void)
     struct query *const queries[] = {&a, &b, &c};
     for (size_t i = 0; i < sizeof samples / sizeof samples[0]; i++) {
         for (size_t j = 0; j < 3; j++)
-            queries[j]->count = halyardfig_read((const uint8_t *)samples[i].texts[j], strlen(samples[i].texts[j]),
-                                                (const uint8_t *)names, strlen(names), queries[j]->items, ITEM_ROOM);
+            queries[j]->count =
+                halyardfig_read((const uint8_t *)samples[i].texts[j], strlen(samples[i].texts[j]), HALYARDFIG_XPATH_1,
+                                (const uint8_t *)names, strlen(names), queries[j]->items, ITEM_ROOM);
         half.count = halyardfig_compose(b.items, b.count, c.items, c.count, half.items, ITEM_ROOM);
         answer_is("A on (B on C)",
                   halyardfig_compose(a.items, a.count, half.items, half.count, whole.items, ITEM_ROOM),

@@ -26,6 +26,7 @@ static struct {
 
 /* What the calls are lent. */
 static char text[TEXT_ROOM + 1];
+static uint32_t version;
 static size_t text_length;
 static struct list list;
 static struct query query, outer, inner, made;
@@ -43,7 +44,8 @@ static void call_nothing(void)
 
 static void call_read(void)
 {
-    answer = halyardfig_read((const uint8_t *)text, text_length, list.bytes, list.length, query.items, ITEM_ROOM);
+    answer =
+        halyardfig_read((const uint8_t *)text, text_length, version, list.bytes, list.length, query.items, ITEM_ROOM);
 }
 
 static void call_print(void)
@@ -191,9 +193,12 @@ static void measure_query(const char *input)
     measure_call(COMPOSE, input);
 }
 
-/* Reads the text, and where that is accepted goes on with its query. */
+/* Reads the text by both versions, and where the second accepts it goes on with its query. */
 static void measure_text(void)
 {
+    version = HALYARDFIG_XPATH_1;
+    measure_call(READ, text);
+    version = HALYARDFIG_XPATH_2;
     measure_call(READ, text);
     query.count = halyardfig_value(answer);
     if (halyardfig_refused(answer) == 0)
@@ -251,6 +256,9 @@ static const char *const openings[] = {
     "preceding-sibling::a[",
     "descendant::a/ancestor::b[",
     "following-sibling::a or preceding::b/following::a[",
+    ".[",
+    "a/..[",
+    "a and (a or ..[.[",
 };
 enum { OPENINGS = sizeof openings / sizeof openings[0] };
 

@@ -81,18 +81,19 @@ const uint8_t *twin_marks(void)
     return written_first;
 }
 
-bool twin_read(struct dice *dice, const uint8_t *text, size_t text_len, const uint8_t *names, size_t names_len,
-               size_t room)
+bool twin_read(struct dice *dice, const uint8_t *text, size_t text_len, uint32_t version, const uint8_t *names,
+               size_t names_len, size_t room)
 {
     piece_count = 0;
     const uint8_t *our_text = lend_read(text, text_len);
     const uint8_t *our_names = lend_read(names, names_len);
     uint32_t *out = lend_write(dice, room * sizeof *out);
     written_first = out;
-    uint64_t ours = halyardfig_read(our_text, text_len, our_names, names_len, out, room);
-    uint64_t models = model_read(model_piece(0), text_len, model_piece(1), names_len, model_piece(2), room);
+    uint64_t ours = halyardfig_read(our_text, text_len, version, our_names, names_len, out, room);
+    uint64_t models = model_read(model_piece(0), text_len, version, model_piece(1), names_len, model_piece(2), room);
     if (compare("read", ours, models))
         return true;
+    complain("by version %u", (unsigned)version);
     show_text("text", text, text_len);
     show_text("names", names, names_len);
     return false;

@@ -44,13 +44,13 @@ fn code(answer: Answer) -> u64
     }
 }
 
-// Reads a query: `read::read` for C.
+// Reads a query by a version of XPath: `read::read` for C.
 #[no_mangle]
-pub extern "C" fn halyardfig_read(text: &[u8], names: &[u8], out: &mut [u32]) -> u64
-    ensures { λ r. ⌜ r ≡ codeOf (readAnswer (now (text .entry)) (now (names .entry)) (length (now (out .entry)))) ⌝ }
-    ensures { λ _. ⌜ now (out .exit) ≡ readOut (now (text .entry)) (now (names .entry)) (now (out .entry)) ⌝ }
+pub extern "C" fn halyardfig_read(text: &[u8], version: u32, names: &[u8], out: &mut [u32]) -> u64
+    ensures { λ r. ⌜ r ≡ codeOf (readAnswer (now (text .entry)) version (now (names .entry)) (length (now (out .entry)))) ⌝ }
+    ensures { λ _. ⌜ now (out .exit) ≡ readOut (now (text .entry)) version (now (names .entry)) (now (out .entry)) ⌝ }
 {
-    code(read::read(text, names, out))
+    code(read::read(text, version, names, out))
 }
 
 // Prints a query: `print::print` for C.

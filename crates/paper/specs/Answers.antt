@@ -53,7 +53,14 @@ short room needed = when (ltb room needed) needed
 abbrev pub shortOfItems : ℕ → ℕ → Option ℕ
 shortOfItems room needed = when (ltb room needed || ltb itemLimit needed) needed
 
--- READ. What the syntax says of a text, with any names: refusal 3 or 4 by place.
+-- READ, by the version of XPath that the caller names (02, 2026-08). There are two; another is refusal 1.
+abbrev pub isNewer : ℕ → Bool
+isNewer version = eqb version 2
+
+abbrev pub noVersion : ℕ → Bool
+noVersion version = not (eqb version 1 || isNewer version)
+
+-- What the syntax says of a text, with any names: refusal 3 or 4 by place.
 abbrev pub anyName : List ℕ → Option ℕ
 anyName word = some 0
 
@@ -62,27 +69,27 @@ lineGot (refused number place) later = refusal number place
 lineGot (got q left) later = later q
 
 -- Lines 5 and 10 of a text whose syntax is right.
-abbrev pub readLast : List ℕ → List ℕ → ℕ → Answer
-readLast text list room =
-    lineGot (readText (numberOf (namesOf list)) text) (λ q. line 10 (shortOfItems room (size q)) (value (size q)))
+abbrev pub readLast : Bool → List ℕ → List ℕ → ℕ → Answer
+readLast newer text list room =
+    lineGot (readText newer (numberOf (namesOf list)) text) (λ q. line 10 (shortOfItems room (size q)) (value (size q)))
 
 -- Read: 1, 2, then 3 or 4 by place, 5, 10; it answers the number of items.
-unfoldable pub readAnswer : List ℕ → List ℕ → ℕ → Answer
-readAnswer text list room =
-    line 1 (when (tooLong text textLimit || tooLong list listLimit) 0)
+unfoldable pub readAnswer : List ℕ → ℕ → List ℕ → ℕ → Answer
+readAnswer text version list room =
+    line 1 (when (tooLong text textLimit || tooLong list listLimit || noVersion version) 0)
     (line 2 (namesFault list)
-    (lineGot (readText anyName text) (λ q. readLast text list room)))
+    (lineGot (readText (isNewer version) anyName text) (λ q. readLast (isNewer version) text list room)))
 
 -- The items of a text.
 abbrev pub itemsGot : Got Query → List ℕ
 itemsGot (refused number place) = []
 itemsGot (got q left) = encode q
 
-unfoldable pub readItems : List ℕ → List ℕ → List ℕ
-readItems text list = itemsGot (readText (numberOf (namesOf list)) text)
+unfoldable pub readItems : List ℕ → ℕ → List ℕ → List ℕ
+readItems text version list = itemsGot (readText (isNewer version) (numberOf (namesOf list)) text)
 
-unfoldable pub readOut : List ℕ → List ℕ → List ℕ → List ℕ
-readOut text list out = atExit (readAnswer text list (length out)) (readItems text list) out
+unfoldable pub readOut : List ℕ → ℕ → List ℕ → List ℕ → List ℕ
+readOut text version list out = atExit (readAnswer text version list (length out)) (readItems text version list) out
 
 -- PRINT. Does the item name what the list has no name for?
 abbrev pub unknownTest : ℕ → Test → Bool

@@ -66,11 +66,11 @@ unfoldable pub queriesPrint : List ℕ → List ℕ → List ℕ → List ℕ
 queriesPrint outer inner list =
     unlessRefused "compose" (composeAnswer outer inner itemLimit) (queryPrints (composedGot (decode outer) (decode inner)) list)
 
--- What is printed of the two texts.
+-- What is printed of the two texts, which are read by version 1 of XPath.
 unfoldable pub textsPrint : List ℕ → List ℕ → List ℕ → List ℕ
 textsPrint outer inner list =
-    unlessRefused "outer" (readAnswer outer list itemLimit)
-    (unlessRefused "inner" (readAnswer inner list itemLimit) (queriesPrint (readItems outer list) (readItems inner list) list))
+    unlessRefused "outer" (readAnswer outer 1 list itemLimit)
+    (unlessRefused "inner" (readAnswer inner 1 list itemLimit) (queriesPrint (readItems outer 1 list) (readItems inner 1 list) list))
 
 -- Input over 49,152 bytes is refused: input gives 1 and 0.
 abbrev pub inputAnswer : List ℕ → Answer

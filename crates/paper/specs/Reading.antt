@@ -84,8 +84,12 @@ deep rest = step descendantOrSelf anyNode bare rest
 abbrev pub startsStep : Token → Bool
 startsStep t = is (word []) t || is star t || is dot t || is dots t
 
--- The names are looked up by `look`; `within` reads the expression in a bracket that stands at a place.
-module _ (look : List ℕ → Option ℕ) (within : ℕ → List Placed → Got Expr) where
+-- 02, 2026-08: does a token join absolute paths? `|` does, and in version 2 of XPath the word `union`, where `newer` holds.
+abbrev pub joins : Bool → List Placed → Bool
+joins newer ts = sees bar ts || (says (ascii "union") ts && newer)
+
+-- `newer` says that the text is read by version 2; the names are looked up by `look`; `within` reads the expression in a bracket that stands at a place.
+module _ (newer : Bool) (look : List ℕ → Option ℕ) (within : ℕ → List Placed → Got Expr) where
   -- Any number of predicates, at most n.
   abbrev pub readPreds : ℕ → List Placed → Got Preds
   readPreds zero ts = got bare ts
@@ -119,12 +123,16 @@ module _ (look : List ℕ → Option ℕ) (within : ℕ → List Placed → Got 
   readAxis none ts = readTested child ts
   readAxis (some a) ts = readTested a (drop 2 ts)
 
-  -- One step. `.` and `..` are self and parent with `node()`, and take no predicate; no axis means child.
+  -- What follows `.` or `..`, which are self and parent with `node()`: no predicate in version 1, any number in version 2.
+  abbrev pub readDot : Axis → List Placed → Got Step
+  readDot a ts = let tail = readTail a anyNode ts in cond newer tail (got (record { axis = a; test = anyNode; preds = bare }) ts)
+
+  -- One step; no axis means child.
   unfoldable pub readStep : List Placed → Got Step
   readStep ts =
       let full = readAxis (axisAhead ts) ts in
-      cond (sees dot ts) (got (record { axis = self; test = anyNode; preds = bare }) (drop 1 ts))
-      (cond (sees dots ts) (got (record { axis = parent; test = anyNode; preds = bare }) (drop 1 ts))
+      cond (sees dot ts) (readDot self (drop 1 ts))
+      (cond (sees dots ts) (readDot parent (drop 1 ts))
       full)
 
   -- One step, and after each `/` or `//` another, at most n; `//` is `/descendant-or-self::node()/`.
@@ -179,21 +187,21 @@ module _ (look : List ℕ → Option ℕ) (within : ℕ → List Placed → Got 
       (cond (sees slash ts) (cond (startsStep (next after)) steps (got stop after))
       (wrong ts))
 
-  -- Absolute paths joined by `|`, at most n, to the end of the text.
+  -- Absolute paths joined, at most n, to the end of the text.
   abbrev pub readPaths : ℕ → List Placed → Got Query
   readPaths zero ts = wrong ts
   readPaths (suc n) ts =
       then (readPath ts)
       (λ p left.
       let more = then (readPaths n (drop 1 left)) (λ q. got (record { first = p; others = paths q })) in
-      cond (sees bar left) more
+      cond (joins newer left) more
       (pass finish (record { first = p; others = [] }) left))
 
 -- The expression in a bracket, where so many brackets may still be opened. Refusal 4: a bracket too many.
-abbrev pub readWithin : (List ℕ → Option ℕ) → ℕ → ℕ → List Placed → Got Expr
-readWithin look zero place ts = refused 4 place
-readWithin look (suc depth) place ts = readExpr look (readWithin look depth) ts
+abbrev pub readWithin : Bool → (List ℕ → Option ℕ) → ℕ → ℕ → List Placed → Got Expr
+readWithin newer look zero place ts = refused 4 place
+readWithin newer look (suc depth) place ts = readExpr newer look (readWithin newer look depth) ts
 
 -- The query that a text is.
-unfoldable pub readText : (List ℕ → Option ℕ) → List ℕ → Got Query
-readText look text = let ts = tokens text in readPaths look (readWithin look bracketLimit) (length ts) ts
+unfoldable pub readText : Bool → (List ℕ → Option ℕ) → List ℕ → Got Query
+readText newer look text = let ts = tokens text in readPaths newer look (readWithin newer look bracketLimit) (length ts) ts

@@ -37,7 +37,7 @@ blank = replicate 100 7
 
 -- The items of a text, those of a composition, and the marks that a run writes where all given marks are 1.
 abbrev pub itemsOf : String → List ℕ
-itemsOf text = counted (readAnswer (ascii text) names 100) (readOut (ascii text) names blank)
+itemsOf text = counted (readAnswer (ascii text) 1 names 100) (readOut (ascii text) 1 names blank)
 
 abbrev pub joinedItems : List ℕ → List ℕ → List ℕ
 joinedItems outer inner = counted (composeAnswer outer inner 100) (composeOut outer inner blank)
@@ -121,12 +121,12 @@ printedItems list query = counted (printAnswer query list 400) (printOut query l
 
 abbrev pub composedText : String → String → String → List ℕ
 composedText list outer inner =
-    let items : String → List ℕ = λ text. counted (readAnswer (ascii text) (ascii list) 100) (readOut (ascii text) (ascii list) blank) in
+    let items : String → List ℕ = λ text. counted (readAnswer (ascii text) 1 (ascii list) 100) (readOut (ascii text) 1 (ascii list) blank) in
     printedItems (ascii list) (joinedItems (items outer) (items inner))
 
--- Does reading the text, with the names a b c d, answer so?
+-- Does reading the text by version 1, with the names a b c d, answer so?
 abbrev pub reads : List ℕ → List ℕ → Bool
-reads text expected = same (numbers (readAnswer text names 100)) expected
+reads text expected = same (numbers (readAnswer text 1 names 100)) expected
 
 -- 01's texts, each with its answer, and the printed sample.
 abbrev pub textsRead : Bool
@@ -260,7 +260,7 @@ denied n = deniedTimes n (ascii "b")
 
 -- What composing an outer text with `/b` answers.
 abbrev pub onB : List ℕ → List ℕ
-onB outer = numbers (composeAnswer (counted (readAnswer outer names 100) (readOut outer names blank)) (itemsOf "/b") 200)
+onB outer = numbers (composeAnswer (counted (readAnswer outer 1 names 100) (readOut outer 1 names blank)) (itemsOf "/b") 200)
 
 -- Nesting 64 by steps that get no guard is accepted, and 61 is refused where a guarded step stands in the deepest bracket; a guarded step further out counts where it stands.
 abbrev pub nestings : Bool
@@ -328,3 +328,45 @@ scratchTold =
 pub scratchHolds : T scratchTold
 unfolding measureAnswer scratchAnswer height over goodNode tableFault goodMark marksFault reaches selects keeps kept runAnswer readAnswer readOut readItems composeAnswer composeOut namesFault namesOf badLine tokens tokenAt readText readTail readTested readStep readOperand readTerm readExpr readPath pathAt stepAt encode decode takeOperand takeTerm takeExpr size nesting reversed selectedBy visible lastStep composedPath composed
 scratchHolds = tt
+
+-- 02, 2026-08: does reading the text, with the names a, b and union, answer so by version 1, and so by version 2?
+abbrev pub readsBy : String → List ℕ → List ℕ → Bool
+readsBy text first second =
+    let answers : ℕ → List ℕ = λ version. numbers (readAnswer (ascii text) version (ascii "a\nb\nunion\n") 100) in
+    same (answers 1) first && same (answers 2) second
+
+-- The items of a text read by version 2, with those names; of two texts, are they the same?
+abbrev pub itemsBy : String → List ℕ
+itemsBy text = readItems (ascii text) 2 (ascii "a\nb\nunion\n")
+
+abbrev pub meansBy : String → String → Bool
+meansBy text other = same (itemsBy text) (itemsBy other)
+
+-- Predicates after `.` and `..`; `union` between paths, as a name and in a predicate; versions that there are not.
+abbrev pub versionsRead : Bool
+versionsRead =
+    readsBy "/.[a]" (3 ∷ 2 ∷ []) (4 ∷ []) &&
+    readsBy "/a/..[b][a]" (3 ∷ 5 ∷ []) (7 ∷ []) &&
+    readsBy "/a[.[b]/..[a]]" (3 ∷ 4 ∷ []) (9 ∷ []) &&
+    readsBy "/.[a" (3 ∷ 2 ∷ []) (3 ∷ 4 ∷ []) &&
+    readsBy "/a union /b" (3 ∷ 3 ∷ []) (4 ∷ []) &&
+    readsBy "/ union /b" (3 ∷ []) (3 ∷ []) &&
+    readsBy "/ union /" (3 ∷ 9 ∷ []) (3 ∷ 9 ∷ []) &&
+    readsBy "//union union /union" (3 ∷ 8 ∷ []) (5 ∷ []) &&
+    readsBy "/a | / union union //union" (3 ∷ 13 ∷ []) (7 ∷ []) &&
+    readsBy "/a union" (3 ∷ 3 ∷ []) (3 ∷ 8 ∷ []) &&
+    readsBy "/a unions /b" (3 ∷ 3 ∷ []) (3 ∷ 3 ∷ []) &&
+    readsBy "/a[a union b]" (3 ∷ 5 ∷ []) (3 ∷ 5 ∷ []) &&
+    readsBy "/a[. | b]" (3 ∷ 5 ∷ []) (3 ∷ 5 ∷ []) &&
+    readsBy "/a[union]" (4 ∷ []) (4 ∷ []) &&
+    meansBy "/.[a]" "/self::node()[a]" &&
+    meansBy "/a/..[b][a]" "/a/parent::node()[b][a]" &&
+    meansBy "/a union /b" "/a | /b" &&
+    meansBy "/ union /b" "/union/b" &&
+    same (numbers (readAnswer (ascii "/") 0 names 100)) (1 ∷ 0 ∷ []) &&
+    same (numbers (readAnswer (ascii "/") 3 names 100)) (1 ∷ 0 ∷ [])
+
+-- All of this holds, by computation.
+pub versionsHold : T versionsRead
+unfolding readAnswer readItems namesFault namesOf badLine tokens tokenAt readText readTail readTested readStep readOperand readTerm readExpr readPath encode size
+versionsHold = tt

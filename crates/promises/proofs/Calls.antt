@@ -109,14 +109,14 @@ extraction query parents kinds given outParents outKinds ps ks qs ls n c v w =
 
 -- ROUND TRIP.
 pub round-trip : RoundTrip
-round-trip query list text old out n answer p most room r =
+round-trip query list text old out n version answer fine p most room r =
     let print-value : printAnswer query list (length (now (p .args .1 .1 .0))) ≡ value n = rw (p .query-lent, p .list-lent) at (sym (p .met .0)) in
     let print-left : text ≡ printOut query list (now (p .args .1 .1 .0)) = sym (p .out-left) ∙ (rw (p .query-lent, p .list-lent) at (p .met .1)) in
-    let read-said : told answer ≡ readAnswer (take n text) list (length old) = rw (r .text-lent, r .list-lent, r .out-lent) at (r .met .0) in
-    let read-left : out ≡ readOut (take n text) list old = sym (r .out-left) ∙ (rw (r .text-lent, r .list-lent, r .out-lent) at (r .met .1)) in
-    let back = entries.round-trip query list (now (p .args .1 .1 .0)) old n print-value most room in (
-      told-same answer (Value (length query)) (read-said ∙ ap (λ ws. readAnswer (take n ws) list (length old)) print-left ∙ back .0),
-      ap (take (length query)) (read-left ∙ ap (λ ws. readOut (take n ws) list old) print-left) ∙ back .1,
+    let read-said : told answer ≡ readAnswer (take n text) version list (length old) = rw (r .text-lent, r .version-given, r .list-lent, r .out-lent) at (r .met .0) in
+    let read-left : out ≡ readOut (take n text) version list old = sym (r .out-left) ∙ (rw (r .text-lent, r .version-given, r .list-lent, r .out-lent) at (r .met .1)) in
+    let back = entries.round-trip query list (now (p .args .1 .1 .0)) old n version fine print-value most room in (
+      told-same answer (Value (length query)) (read-said ∙ ap (λ ws. readAnswer (take n ws) version list (length old)) print-left ∙ back .0),
+      ap (take (length query)) (read-left ∙ ap (λ ws. readOut (take n ws) version list old) print-left) ∙ back .1,
     )
 
 -- SCRATCH.

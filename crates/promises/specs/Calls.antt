@@ -1,6 +1,7 @@
 -- The demands of docs/SCOPE.md over calls. Each record `..Call` is a call of an entry point that met its contract, by what it was lent, what it answered and what it left.
 use Prim.Native.Nat.{ℕ, _≤_}
 use mathlib.Core.Path.{_≡_}
+use mathlib.Core.Bool.{false}
 use mathlib.Core.List.{List}
 use lib.ListN.{length, take, replicate}
 use contract.Lifetimes.{Lfts}
@@ -10,6 +11,7 @@ use borrow.Fn.Kinds.{Dens, endedOf}
 use Rattle.paper.specs.Limits.{textLimit}
 use Rattle.paper.specs.Document.{tableOf}
 use Rattle.paper.specs.Cut.{marksOf, numbersOf}
+use Rattle.paper.specs.Answers.{noVersion}
 use Rattle.paper.specs.declared.Answer.{Answer}
 use Rattle.paper.specs.declared.Answer.the-variants.{Value, Short, BadMarks}
 use Rattle.read.proofs.read
@@ -23,15 +25,16 @@ use Rattle.room.proofs.scratch
 use Rattle.cut.proofs.is_cut
 
 -- A call of `read::read`, which held `old` in the slice for items.
-pub record ReadCall (text list old : List ℕ) (answer : Answer) (out : List ℕ) : Type 0 where
+pub record ReadCall (text : List ℕ) (version : ℕ) (list old : List ℕ) (answer : Answer) (out : List ℕ) : Type 0 where
   pub κs : Lfts 3
   pub args : Dens κs read.Kinds.ps
   pub exit : AtExit (endedOf 3 read.Kinds.ps read.Kinds.r) κs
   pub met : read.Reads.Post κs args answer exit
   pub text-lent : now (args .0) ≡ text
-  pub list-lent : now (args .1 .0) ≡ list
-  pub out-lent : now (args .1 .1 .0) ≡ old
-  pub out-left : now (exit .1 .1 .0) ≡ out
+  pub version-given : args .1 .0 ≡ version
+  pub list-lent : now (args .1 .1 .0) ≡ list
+  pub out-lent : now (args .1 .1 .1 .0) ≡ old
+  pub out-left : now (exit .1 .1 .1 .0) ≡ out
 
 -- A call of `print::print`.
 pub record PrintCall (query list : List ℕ) (answer : Answer) (out : List ℕ) : Type 0 where
@@ -115,11 +118,11 @@ Extraction =
     → View query parents kinds given ps ks → View query (take n outParents) (take n outKinds) (ones (take n outParents)) qs ls
     → (ps ≡ qs) × (ks ≡ ls)
 
--- ROUND TRIP: reading what was printed, at most 32,768 bytes, with the same list and room enough, is accepted and leaves the items that were printed.
+-- ROUND TRIP: reading what was printed, at most 32,768 bytes, by either version, with the same list and room enough, is accepted and leaves the items that were printed.
 abbrev pub RoundTrip : Type 0
 RoundTrip =
-    (query list text old out : List ℕ) (n : ℕ) (answer : Answer) → PrintCall query list (Value n) text → n ≤ textLimit → length query ≤ length old
-    → ReadCall (take n text) list old answer out
+    (query list text old out : List ℕ) (n version : ℕ) (answer : Answer) → noVersion version ≡ false → PrintCall query list (Value n) text → n ≤ textLimit → length query ≤ length old
+    → ReadCall (take n text) version list old answer out
     → (answer ≡ Value (length query)) × (take (length query) out ≡ query)
 
 -- A call of `room::height` and one of `room::paths`.

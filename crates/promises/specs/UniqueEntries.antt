@@ -27,7 +27,7 @@ use Rattle.halyardfig.proofs.halyardfig_is_cut
 use Rattle.promises.specs.Uniqueness.{Unique, UniqueAnswer}
 
 abbrev pub ReadUnique : Type 0
-ReadUnique = Unique read.Kinds.ps read.Kinds.r read.Reads.Pre read.Reads.Post (λ κs x. now (x .1 .1 .0) ∷ [])
+ReadUnique = Unique read.Kinds.ps read.Kinds.r read.Reads.Pre read.Reads.Post (λ κs x. now (x .1 .1 .1 .0) ∷ [])
 
 abbrev pub PrintUnique : Type 0
 PrintUnique = Unique print.Kinds.ps print.Kinds.r print.Reads.Pre print.Reads.Post (λ κs x. now (x .1 .1 .0) ∷ [])
@@ -50,7 +50,7 @@ abbrev pub WriteXmlUnique : Type 0
 WriteXmlUnique = Unique write_xml.Kinds.ps write_xml.Kinds.r write_xml.Reads.Pre write_xml.Reads.Post (λ κs x. now (x .1 .1 .1 .1 .1 .1 .1 .0) ∷ [])
 
 abbrev pub ReadForCUnique : Type 0
-ReadForCUnique = Unique halyardfig_read.Kinds.ps halyardfig_read.Kinds.r halyardfig_read.Reads.Pre halyardfig_read.Reads.Post (λ κs x. now (x .1 .1 .0) ∷ [])
+ReadForCUnique = Unique halyardfig_read.Kinds.ps halyardfig_read.Kinds.r halyardfig_read.Reads.Pre halyardfig_read.Reads.Post (λ κs x. now (x .1 .1 .1 .0) ∷ [])
 
 abbrev pub PrintForCUnique : Type 0
 PrintForCUnique = Unique halyardfig_print.Kinds.ps halyardfig_print.Kinds.r halyardfig_print.Reads.Pre halyardfig_print.Reads.Post (λ κs x. now (x .1 .1 .0) ∷ [])

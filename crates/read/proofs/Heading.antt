@@ -1,7 +1,7 @@
 -- The head of a step: its axis, its test, and what the paper's reader makes of them. Assumes nothing.
 use Prim.Native.Nat.{ℕ, _+_, _≤_, _<_}
 use native.Mathlib.Omega.{arith}
-use mathlib.Core.Path.{_≡_, refl, sym, _∙_, ap}
+use mathlib.Core.Path.{_≡_, refl, sym, _∙_, ap, subst}
 use mathlib.Core.Bool.{Bool, true, false, cond}
 use mathlib.Core.List.{List, []}
 use mathlib.Core.Option.{Option, none, some}
@@ -16,14 +16,15 @@ use Rattle.paper.specs.Tokens as paper
 use Rattle.paper.specs.Tokens.{Placed, sort, letters}
 use Rattle.paper.specs.Query.{Axis, self, child, parent, Test, anyNode, textNode, named, anyElement, Expr}
 use Rattle.paper.specs.Items.{axisNumber, testNumber, namedFrom, axisBound}
-use Rattle.paper.specs.Reading.{Got, got, refused, then, next, at, sees, says, axisAhead, Step, readName, readTested, readStep, readTail}
+use Rattle.paper.specs.Reading.{Got, got, refused, then, next, at, sees, says, axisAhead, Step, readName, readTested, readDot, readStep, readTail}
 use Rattle.paper.proofs.Tests.{decide}
+use Rattle.token.specs.declared.Cursor.{Cursor}
 use Rattle.ahead.specs.declared.Call.the-variants.{NoCall}
 use Rattle.ahead.specs.Looking.{tokensAt, Past, AxisWritten, callCode, Calls}
 use Rattle.ahead.proofs.Beginning.{and-false}
 use Rattle.read.specs.declared.Head.{Head}
 use Rattle.read.specs.declared.Head.the-variants.{Plain, Tested, Wrong, Unknown}
-use Rattle.read.specs.Parts.{Closes, PlainStep, TestedStep, Heads}
+use Rattle.read.specs.Parts.{Closes, TestedStep, dottedHead, Heads}
 
 -- The number of an axis fits into an item.
 pub axis-small : (a : Axis) (n : ℕ) → n ≡ axisNumber a → n < axisBound
@@ -33,9 +34,9 @@ axis-small a n e = omega (arith, axis-below a)
 abbrev Outcome : Type 0
 Outcome = (ℕ → List Placed → Got Expr) → Got Step
 
-module _ (look : List ℕ → Option ℕ) (text : List ℕ) (from axis : ℕ) (a : Axis) (number : axis ≡ axisNumber a) where
+module _ (newer : Bool) (look : List ℕ → Option ℕ) (text : List ℕ) (from axis : ℕ) (a : Axis) (number : axis ≡ axisNumber a) where
   pub tested-star : (past : ℕ) → sees paper.star (tokensAt text from) ≡ true → Past text from past
-      → TestedStep look text from axis (testNumber anyElement) past (λ within. readTested look within a (tokensAt text from))
+      → TestedStep newer look text from axis (testNumber anyElement) past (λ within. readTested newer look within a (tokensAt text from))
   unfolding readTested
   tested-star past s p =
       record {
@@ -52,7 +53,7 @@ module _ (look : List ℕ → Option ℕ) (text : List ℕ) (from axis : ℕ) (a
 
   -- Neither `*` nor a word.
   pub tested-wrong : (place : ℕ) → sees paper.star (tokensAt text from) ≡ false → sees (paper.word []) (tokensAt text from) ≡ false → letters (next (tokensAt text from)) ≡ []
-      → place ≡ at (tokensAt text from) → (within : ℕ → List Placed → Got Expr) → readTested look within a (tokensAt text from) ≡ refused 3 place
+      → place ≡ at (tokensAt text from) → (within : ℕ → List Placed → Got Expr) → readTested newer look within a (tokensAt text from) ≡ refused 3 place
   unfolding readTested
   tested-wrong place s w l e within =
       let call = sees paper.openRound (drop 1 (tokensAt text from)) in
@@ -81,7 +82,7 @@ module _ (look : List ℕ → Option ℕ) (text : List ℕ) (from axis : ℕ) (a
         pub kind : Test
         pub tested : test ≡ testNumber kind
         pub reads : (within : ℕ → List Placed → Got Expr)
-            → readTested look within a (tokensAt text from) ≡ then (cond (sees paper.closeRound (tokensAt text inner)) (got kind (drop 1 (tokensAt text inner))) (refused 3 (at (tokensAt text inner)))) (readTail look within a)
+            → readTested newer look within a (tokensAt text from) ≡ then (cond (sees paper.closeRound (tokensAt text inner)) (got kind (drop 1 (tokensAt text inner))) (refused 3 (at (tokensAt text inner)))) (readTail newer look within a)
 
       which : Called
       unfolding readTested
@@ -95,7 +96,7 @@ module _ (look : List ℕ → Option ℕ) (text : List ℕ) (from axis : ℕ) (a
           (decide (same (ascii "text") w)))
           (decide (same (ascii "node") w))
 
-      pub tested-call : (r : Head) → Closes text inner axis test r → Heads look text from (λ within. readTested look within a (tokensAt text from)) r
+      pub tested-call : (r : Head) → Closes text inner axis test r → Heads newer look text from (λ within. readTested newer look within a (tokensAt text from)) r
       tested-call (Plain axis′ past) h = absurd h
       tested-call (Tested axis′ test′ past) h =
           record {
@@ -114,7 +115,7 @@ module _ (look : List ℕ → Option ℕ) (text : List ℕ) (from axis : ℕ) (a
 
     -- A name.
     module _ (none-called : Calls text w mid NoCall) where
-      named-next : (within : ℕ → List Placed → Got Expr) → readTested look within a (tokensAt text from) ≡ readName look within (look w) a (tokensAt text from)
+      named-next : (within : ℕ → List Placed → Got Expr) → readTested newer look within a (tokensAt text from) ≡ readName newer look within (look w) a (tokensAt text from)
       unfolding readTested
       named-next within =
           ⊎-elim
@@ -129,7 +130,7 @@ module _ (look : List ℕ → Option ℕ) (text : List ℕ) (from axis : ℕ) (a
           (decide (same (ascii "node") w)))
           (λ (closed : sees paper.openRound (tokensAt text mid) ≡ false). rw (no-star, p .rest, closed, a-word, l)) none-called
 
-      pub tested-name : (v : ℕ) → look w ≡ some v → v < namesLimit → TestedStep look text from axis (v + namedFrom) mid (λ within. readTested look within a (tokensAt text from))
+      pub tested-name : (v : ℕ) → look w ≡ some v → v < namesLimit → TestedStep newer look text from axis (v + namedFrom) mid (λ within. readTested newer look within a (tokensAt text from))
       tested-name v h small =
           record {
             way = a;
@@ -143,13 +144,13 @@ module _ (look : List ℕ → Option ℕ) (text : List ℕ) (from axis : ℕ) (a
             fewer = omega (arith, p .fewer);
           }
 
-      pub tested-unknown : (place : ℕ) → look w ≡ none → place ≡ at (tokensAt text from) → (within : ℕ → List Placed → Got Expr) → readTested look within a (tokensAt text from) ≡ refused 5 place
+      pub tested-unknown : (place : ℕ) → look w ≡ none → place ≡ at (tokensAt text from) → (within : ℕ → List Placed → Got Expr) → readTested newer look within a (tokensAt text from) ≡ refused 5 place
       tested-unknown place h e within = named-next within ∙ rw (h, ← e)
 
 -- THE HEAD. What is read from a later place on is what is read from here.
-heads-from : (look : List ℕ → Option ℕ) (text : List ℕ) (from mid : ℕ) (o p : Outcome) (r : Head) → ((within : ℕ → List Placed → Got Expr) → o within ≡ p within) → from ≤ mid
-    → length (tokensAt text mid) ≤ length (tokensAt text from) → Heads look text mid p r → Heads look text from o r
-heads-from look text from mid o p (Plain axis past) e l f h =
+heads-from : (newer : Bool) (look : List ℕ → Option ℕ) (text : List ℕ) (from mid : ℕ) (o p : Outcome) (r : Head) → ((within : ℕ → List Placed → Got Expr) → o within ≡ p within) → from ≤ mid
+    → length (tokensAt text mid) ≤ length (tokensAt text from) → Heads newer look text mid p r → Heads newer look text from o r
+heads-from newer look text from mid o p (Plain axis past) e l f h =
     record {
       way = h .way;
       number = h .number;
@@ -158,7 +159,7 @@ heads-from look text from mid o p (Plain axis past) e l f h =
       inside = h .inside;
       fewer = omega (arith, h .fewer);
     }
-heads-from look text from mid o p (Tested axis test past) e l f h =
+heads-from newer look text from mid o p (Tested axis test past) e l f h =
     record {
       way = h .way;
       kind = h .kind;
@@ -170,46 +171,67 @@ heads-from look text from mid o p (Tested axis test past) e l f h =
       inside = h .inside;
       fewer = omega (arith, h .fewer);
     }
-heads-from look text from mid o p (Wrong place) e l f h = λ within. e within ∙ h within
-heads-from look text from mid o p (Unknown place) e l f h = λ within. e within ∙ h within
+heads-from newer look text from mid o p (Wrong place) e l f h = λ within. e within ∙ h within
+heads-from newer look text from mid o p (Unknown place) e l f h = λ within. e within ∙ h within
 
-module _ (look : List ℕ → Option ℕ) (text : List ℕ) (from : ℕ) where
-  pub head-dot : (past : ℕ) → sees paper.dot (tokensAt text from) ≡ true → Past text from past → PlainStep look text from 0 past (λ within. readStep look within (tokensAt text from))
-  unfolding readStep
-  head-dot past s p =
-      record {
-        way = self;
-        number = refl;
-        reads = λ within. rw (s, p .rest);
-        onward = p .onward;
-        inside = p .inside;
-        fewer = omega (arith, p .fewer);
-      }
+-- `.` and `..`, of which the reader knows the axis a: by version 2 their predicates follow, by version 1 none.
+pub dotted-on : (newer : Bool) (axis : ℕ) (past : Cursor) → newer ≡ true → Tested axis (testNumber anyNode) past ≡ dottedHead newer axis past
+dotted-on newer axis past n = rw n
 
-  pub head-dots : (past : ℕ) → sees paper.dot (tokensAt text from) ≡ false → sees paper.dots (tokensAt text from) ≡ true → Past text from past
-      → PlainStep look text from 2 past (λ within. readStep look within (tokensAt text from))
+pub dotted-off : (newer : Bool) (axis : ℕ) (past : Cursor) → newer ≡ false → Plain axis past ≡ dottedHead newer axis past
+dotted-off newer axis past n = rw n
+
+dotted-head : (newer : Bool) (look : List ℕ → Option ℕ) (text : List ℕ) (from axis : ℕ) (a : Axis) (past : Cursor) (o : Outcome) → axis ≡ axisNumber a
+    → ((within : ℕ → List Placed → Got Expr) → o within ≡ readDot newer look within a (tokensAt text (past .at))) → Past text from (past .at)
+    → Heads newer look text from o (dottedHead newer axis past)
+dotted-head true look text from axis a past o number s p =
+    record {
+      way = a;
+      kind = anyNode;
+      number = number;
+      tested = refl;
+      small = omega arith;
+      reads = s;
+      onward = p .onward;
+      inside = p .inside;
+      fewer = omega (arith, p .fewer);
+    }
+dotted-head false look text from axis a past o number s p =
+    record {
+      way = a;
+      number = number;
+      reads = s;
+      onward = p .onward;
+      inside = p .inside;
+      fewer = omega (arith, p .fewer);
+    }
+
+module _ (newer : Bool) (look : List ℕ → Option ℕ) (text : List ℕ) (from : ℕ) where
+  pub head-dot : (past : Cursor) (r : Head) → r ≡ dottedHead newer 0 past → sees paper.dot (tokensAt text from) ≡ true → Past text from (past .at)
+      → Heads newer look text from (λ within. readStep newer look within (tokensAt text from)) r
   unfolding readStep
-  head-dots past d s p =
-      record {
-        way = parent;
-        number = refl;
-        reads = λ within. rw (d, s, p .rest);
-        onward = p .onward;
-        inside = p .inside;
-        fewer = omega (arith, p .fewer);
-      }
+  head-dot past r e s p =
+      subst (λ h. Heads newer look text from (λ within. readStep newer look within (tokensAt text from)) h) (sym e)
+      (dotted-head newer look text from 0 self past _ refl (λ within. rw (s, p .rest)) p)
+
+  pub head-dots : (past : Cursor) (r : Head) → r ≡ dottedHead newer 2 past → sees paper.dot (tokensAt text from) ≡ false → sees paper.dots (tokensAt text from) ≡ true
+      → Past text from (past .at) → Heads newer look text from (λ within. readStep newer look within (tokensAt text from)) r
+  unfolding readStep
+  head-dots past r e d s p =
+      subst (λ h. Heads newer look text from (λ within. readStep newer look within (tokensAt text from)) h) (sym e)
+      (dotted-head newer look text from 2 parent past _ refl (λ within. rw (d, s, p .rest)) p)
 
   module _ (no-dot : sees paper.dot (tokensAt text from) ≡ false) (no-dots : sees paper.dots (tokensAt text from) ≡ false) (r : Head) where
-    pub head-axis : (axis past : ℕ) (w : AxisWritten text from axis past) → Heads look text past (λ within. readTested look within (w .way) (tokensAt text past)) r
-        → Heads look text from (λ within. readStep look within (tokensAt text from)) r
+    pub head-axis : (axis past : ℕ) (w : AxisWritten text from axis past) → Heads newer look text past (λ within. readTested newer look within (w .way) (tokensAt text past)) r
+        → Heads newer look text from (λ within. readStep newer look within (tokensAt text from)) r
     unfolding readStep
     head-axis axis past w h =
-        heads-from look text from past _ (λ within. readTested look within (w .way) (tokensAt text past)) r
+        heads-from newer look text from past _ (λ within. readTested newer look within (w .way) (tokensAt text past)) r
         (λ within. rw (no-dot, no-dots, w .ahead, w .rest)) (omega (arith, w .onward)) (w .fewer) h
 
-    pub head-child : axisAhead (tokensAt text from) ≡ none → Heads look text from (λ within. readTested look within child (tokensAt text from)) r
-        → Heads look text from (λ within. readStep look within (tokensAt text from)) r
+    pub head-child : axisAhead (tokensAt text from) ≡ none → Heads newer look text from (λ within. readTested newer look within child (tokensAt text from)) r
+        → Heads newer look text from (λ within. readStep newer look within (tokensAt text from)) r
     unfolding readStep
     head-child n h =
-        heads-from look text from from _ (λ within. readTested look within child (tokensAt text from)) r
+        heads-from newer look text from from _ (λ within. readTested newer look within child (tokensAt text from)) r
         (λ within. rw (no-dot, no-dots, n)) (omega arith) (omega arith) h

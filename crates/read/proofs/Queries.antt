@@ -2,13 +2,13 @@
 use Prim.Native.Nat.{ℕ, suc, _+_, _*_, _≤_, _<_}
 use native.Mathlib.Omega.{arith}
 use mathlib.Core.Path.{_≡_, refl, sym, _∙_, ap, subst}
-use mathlib.Core.Bool.{Bool, true, false, cond}
+use mathlib.Core.Bool.{Bool, true, false, _&&_, cond}
 use mathlib.Core.List.{List, [], _∷_, _++_, append-assoc, append-nil}
 use mathlib.Core.Option.{Option, none, some}
 use lib.ListN.{length, take, drop, length-append, take-append-drop}
 use lib.Seq.{length-take-le, take-at}
 use borrow.Author.Tests.{lt-ltb, le-ltb}
-use Rattle.paper.specs.Tools.{written}
+use Rattle.paper.specs.Tools.{ascii, written}
 use Rattle.paper.specs.Tokens as paper
 use Rattle.paper.specs.Tokens.{Placed, tokens}
 use Rattle.paper.specs.Limits.{textLimit, listLimit, itemLimit, bracketLimit}
@@ -16,8 +16,8 @@ use Rattle.paper.specs.Names.{namesFault, namesOf, numberOf}
 use Rattle.paper.specs.Query.{Expr, Steps, stop, Query, paths}
 use Rattle.paper.specs.Items.{packPath, encode}
 use Rattle.paper.specs.Measures.{size}
-use Rattle.paper.specs.Reading.{Got, got, refused, then, at, sees, readSteps, readPath, readPaths, readWithin, readText}
-use Rattle.paper.specs.Answers.{value, refusal, line, lineGot, anyName, shortOfItems, readLast, readAnswer, itemsGot, readItems, readOut, atExit}
+use Rattle.paper.specs.Reading.{Got, got, refused, then, at, sees, says, joins, readSteps, readPath, readPaths, readWithin, readText}
+use Rattle.paper.specs.Answers.{value, refusal, line, lineGot, isNewer, noVersion, anyName, shortOfItems, readLast, readAnswer, itemsGot, readItems, readOut, atExit}
 use Rattle.paper.specs.Answers.{Answer as Told}
 use Rattle.paper.specs.Told.{told}
 use Rattle.paper.specs.declared.Answer.{Answer}
@@ -27,7 +27,9 @@ use Rattle.paper.proofs.Refusing.{Refuses, refused-keeps}
 use Rattle.theorems.proofs.Exactly.{read-any-names}
 use Rattle.token.specs.declared.Cursor.{Cursor}
 use Rattle.ahead.specs.declared.Lead.the-variants.{Alone, Before, NoPath}
-use Rattle.ahead.specs.Looking.{tokensAt, Past, Leads}
+use Rattle.ahead.specs.declared.Ahead.{Ahead}
+use Rattle.ahead.specs.Looking.{tokensAt, Past, Looks, Leads}
+use Rattle.ahead.proofs.Beginning.{and-false}
 use Rattle.item.specs.Placed.{placed}
 use Rattle.item.proofs.Placing.{placed-first}
 use Rattle.read.specs.declared.Part.{Part}
@@ -40,9 +42,9 @@ use Rattle.read.proofs.Rows.{then-then, then-got}
 use Rattle.read.proofs.Operands.{reads-from}
 
 -- AN ABSOLUTE PATH.
-module _ (look : List ℕ → Option ℕ) (within : ℕ → List Placed → Got Expr) (text old new : List ℕ) (from slot : ℕ) where
+module _ (newer : Bool) (look : List ℕ → Option ℕ) (within : ℕ → List Placed → Got Expr) (text old new : List ℕ) (from slot : ℕ) where
   pub path-alone : (made : ℕ) (past : Cursor) → Leads text from (Alone past) → made ≡ packPath 0 → Wrote old new slot (made ∷ [])
-      → Gives text old new from slot (3 * from) slot (readPath look within (tokensAt text from)) pathItems (past .at) (slot + 1)
+      → Gives text old new from slot (3 * from) slot (readPath newer look within (tokensAt text from)) pathItems (past .at) (slot + 1)
   unfolding readPath
   path-alone made past l e v =
       record {
@@ -58,18 +60,18 @@ module _ (look : List ℕ → Option ℕ) (within : ℕ → List Placed → Got 
 
   pub path-before : (past : Cursor) (lead : Bool) (r : Part) → Leads text from (Before past lead)
       → Reads text old new (past .at) slot (3 * past .at) slot
-      (then (readSteps look within (length (tokensAt text (past .at))) (tokensAt text (past .at))) (λ s. got (deepIf lead s))) pathItems r
-      → Reads text old new from slot (3 * from) slot (readPath look within (tokensAt text from)) pathItems r
+      (then (readSteps newer look within (length (tokensAt text (past .at))) (tokensAt text (past .at))) (λ s. got (deepIf lead s))) pathItems r
+      → Reads text old new from slot (3 * from) slot (readPath newer look within (tokensAt text from)) pathItems r
   unfolding readPath
   path-before past true r l g =
       reads-from text old new from (past .at) slot (3 * past .at) slot (3 * from) slot _ _ pathItems r (rw (l .0, l .1 .rest)) (omega (arith, l .1 .onward)) (omega (arith, l .1 .fewer))
       (omega (arith, l .1 .onward)) g
   path-before past false r l g =
       reads-from text old new from (past .at) slot (3 * past .at) slot (3 * from) slot _ _ pathItems r
-      (rw (l .0, l .1, l .2 .rest, l .3) (then-got (readSteps look within (length (tokensAt text (past .at))) (tokensAt text (past .at))))) (omega (arith, l .2 .onward))
+      (rw (l .0, l .1, l .2 .rest, l .3) (then-got (readSteps newer look within (length (tokensAt text (past .at))) (tokensAt text (past .at))))) (omega (arith, l .2 .onward))
       (omega (arith, l .2 .fewer)) (omega (arith, l .2 .onward)) g
 
-  pub path-none : (place : ℕ) → Leads text from (NoPath place) → readPath look within (tokensAt text from) ≡ refused 3 place
+  pub path-none : (place : ℕ) → Leads text from (NoPath place) → readPath newer look within (tokensAt text from) ≡ refused 3 place
   unfolding readPath
   path-none place l = rw (l .0, l .1, ← l .2)
 
@@ -78,27 +80,27 @@ leads-past text from past true l = l .1
 leads-past text from past false l = l .2
 
 -- ABSOLUTE PATHS, one after the other.
-pub record PathRow (look : List ℕ → Option ℕ) (within : ℕ → List Placed → Got Expr) (text old out : List ℕ) (all : Got Query) (here filled : ℕ) : Type 0 where
+pub record PathRow (newer : Bool) (look : List ℕ → Option ℕ) (within : ℕ → List Placed → Got Expr) (text old out : List ℕ) (all : Got Query) (here filled : ℕ) : Type 0 where
   pub build : Query → Query
   pub fuel : ℕ
   pub raw : List ℕ
   pub codes : (q : Query) → encode (build q) ≡ raw ++ encode q
-  pub goes-on : all ≡ then (readPaths look within fuel (tokensAt text here)) (λ q. got (build q))
+  pub goes-on : all ≡ then (readPaths newer look within fuel (tokensAt text here)) (λ q. got (build q))
   pub enough : length (tokensAt text here) ≤ fuel
   pub wrote : Wrote old out 0 raw
   pub ends : filled ≡ length raw
   pub inside : here ≤ length text
   pub grows : filled ≤ 3 * here
 
-pub paths-start : (look : List ℕ → Option ℕ) (text old : List ℕ) → PathRow look (readWithin look bracketLimit) text old old (readText look text) 0 0
+pub paths-start : (newer : Bool) (look : List ℕ → Option ℕ) (text old : List ℕ) → PathRow newer look (readWithin newer look bracketLimit) text old old (readText newer look text) 0 0
 unfolding readText tokens tokensAt
-paths-start look text old =
+paths-start newer look text old =
     record {
       build = λ q. q;
       fuel = length (tokens text);
       raw = [];
       codes = λ q. refl;
-      goes-on = then-got (readPaths look (readWithin look bracketLimit) (length (tokens text)) (tokens text));
+      goes-on = then-got (readPaths newer look (readWithin newer look bracketLimit) (length (tokens text)) (tokens text));
       enough = omega arith;
       wrote = wrote-nothing old 0;
       ends = refl;
@@ -114,26 +116,26 @@ only-code : (p : Steps) → encode (record { first = p; others = [] }) ≡ pathI
 unfolding encode
 only-code p = append-nil (pathItems p)
 
-module _ (look : List ℕ → Option ℕ) (within : ℕ → List Placed → Got Expr) (text old out : List ℕ) (all : Got Query) (here filled : ℕ) (l : PathRow look within text old out all here filled) where
-  pub paths-stuck : (n place : ℕ) → readPath look within (tokensAt text here) ≡ refused n place → all ≡ refused n place
+module _ (newer : Bool) (look : List ℕ → Option ℕ) (within : ℕ → List Placed → Got Expr) (text old out : List ℕ) (all : Got Query) (here filled : ℕ) (l : PathRow newer look within text old out all here filled) where
+  pub paths-stuck : (n place : ℕ) → readPath newer look within (tokensAt text here) ≡ refused n place → all ≡ refused n place
   paths-stuck n place h =
       some-fuel (l .fuel) (omega (arith, l .enough, some-token text here))
-      (λ f z. l .goes-on ∙ ap (λ k. then (readPaths look within k (tokensAt text here)) (λ q. got (l .build q))) z ∙ rw h)
+      (λ f z. l .goes-on ∙ ap (λ k. then (readPaths newer look within k (tokensAt text here)) (λ q. got (l .build q))) z ∙ rw h)
 
-  module _ (new : List ℕ) (past end : ℕ) (g : Gives text out new here filled (3 * here) filled (readPath look within (tokensAt text here)) pathItems past end) where
+  module _ (new : List ℕ) (past end : ℕ) (g : Gives text out new here filled (3 * here) filled (readPath newer look within (tokensAt text here)) pathItems past end) where
     -- What has been read of the first path.
     after : (f : ℕ) → l .fuel ≡ suc f
         → all
         ≡ then
-        (cond (sees paper.bar (tokensAt text past)) (then (readPaths look within f (drop 1 (tokensAt text past))) (λ q. got (record { first = g .what; others = paths q })))
+        (cond (joins newer (tokensAt text past)) (then (readPaths newer look within f (drop 1 (tokensAt text past))) (λ q. got (record { first = g .what; others = paths q })))
         (cond (sees paper.finish (tokensAt text past)) (got (record { first = g .what; others = [] }) (drop 1 (tokensAt text past))) (refused 3 (at (tokensAt text past)))))
         (λ q. got (l .build q))
-    after f z = l .goes-on ∙ ap (λ k. then (readPaths look within k (tokensAt text here)) (λ q. got (l .build q))) z ∙ rw (g .reads)
+    after f z = l .goes-on ∙ ap (λ k. then (readPaths newer look within k (tokensAt text here)) (λ q. got (l .build q))) z ∙ rw (g .reads)
 
     all-wrote : Wrote old new 0 (l .raw ++ pathItems (g .what))
     all-wrote = wrote-more old out new 0 filled (l .raw) (pathItems (g .what)) (l .wrote) (omega (arith, l .ends)) (g .wrote)
 
-    pub paths-more : (mid : ℕ) → sees paper.bar (tokensAt text past) ≡ true → Past text past mid → PathRow look within text old new all mid end
+    pub paths-more : (mid : ℕ) → joins newer (tokensAt text past) ≡ true → Past text past mid → PathRow newer look within text old new all mid end
     paths-more mid s p =
         some-fuel (l .fuel) (omega (arith, l .enough, some-token text here))
         (λ f z.
@@ -147,7 +149,7 @@ module _ (look : List ℕ → Option ℕ) (within : ℕ → List Placed → Got 
           goes-on =
               after f z ∙
               rw (s, p .rest)
-              (then-then (readPaths look within f (tokensAt text mid)) (λ (q : Query). record { first = g .what; others = paths q }) (l .build));
+              (then-then (readPaths newer look within f (tokensAt text mid)) (λ (q : Query). record { first = g .what; others = paths q }) (l .build));
           enough = omega (arith, l .enough, g .fewer, p .fewer);
           wrote = all-wrote;
           ends = omega (arith, g .ends, l .ends, length-append (l .raw) (pathItems (g .what)));
@@ -155,7 +157,7 @@ module _ (look : List ℕ → Option ℕ) (within : ℕ → List Placed → Got 
           grows = omega (arith, l .grows, g .grows, p .onward);
         })
 
-    pub paths-done : (r : Part) → sees paper.bar (tokensAt text past) ≡ false → Finishes text past end r → ReadsAll old new all r
+    pub paths-done : (r : Part) → joins newer (tokensAt text past) ≡ false → Finishes text past end r → ReadsAll old new all r
     paths-done (Done last end′) s h =
         some-fuel (l .fuel) (omega (arith, l .enough, some-token text here))
         (λ f z.
@@ -172,6 +174,24 @@ module _ (look : List ℕ → Option ℕ) (within : ℕ → List Placed → Got 
         some-fuel (l .fuel) (omega (arith, l .enough, some-token text here)) (λ f z. after f z ∙ rw (s, h .0, ← h .1))
     paths-done (TooDeep place) s h = absurd h
     paths-done (UnknownName place) s h = absurd h
+
+-- WHAT JOINS PATHS, by the version.
+pub looks-same : (text : List ℕ) (from : ℕ) (a b : Bool) (r : Ahead) → a ≡ b → Looks text from a r → Looks text from b r
+looks-same text from a b r e h = subst (λ x. Looks text from x r) e h
+
+and-true : (b : Bool) → (b && true) ≡ b
+and-true true = refl
+and-true false = refl
+
+module _ (newer : Bool) (ts : List Placed) where
+  pub joins-bar : sees paper.bar ts ≡ true → joins newer ts ≡ true
+  joins-bar h = rw h
+
+  pub joins-word : newer ≡ true → sees paper.bar ts ≡ false → says (ascii "union") ts ≡ joins newer ts
+  joins-word n h = sym (rw (n, h) (and-true (says (ascii "union") ts)))
+
+  pub joins-none : newer ≡ false → sees paper.bar ts ≡ false → sees paper.bar ts ≡ joins newer ts
+  joins-none n h = h ∙ sym (rw (n, h) (and-false (says (ascii "union") ts)))
 
 -- A refused path, passed upward.
 pub all-refused : {A : Type 0} (text old new old′ new′ : List ℕ) (from slot low high : ℕ) (o : Got A) (items : A → List ℕ) (o′ : Got Query) (r : Part) → Refused r
@@ -205,8 +225,8 @@ pub goes-later : (o : Got Query) (end : ℕ) (later : Told) → Sized o end → 
 goes-later o end later m = rw (m .reads)
 
 -- What is read with the names of a list is read with any names.
-pub any-later : (look : List ℕ → Option ℕ) (text : List ℕ) (end : ℕ) (later : Told) → Sized (readText look text) end → later ≡ lineGot (readText anyName text) (λ q. later)
-any-later look text end later m = sym (ap (λ o. lineGot o (λ q. later)) (read-any-names look text (m .what) (m .left) (m .reads) .1))
+pub any-later : (newer : Bool) (look : List ℕ → Option ℕ) (text : List ℕ) (end : ℕ) (later : Told) → Sized (readText newer look text) end → later ≡ lineGot (readText newer anyName text) (λ q. later)
+any-later newer look text end later m = sym (ap (λ o. lineGot o (λ q. later)) (read-any-names newer look text (m .what) (m .left) (m .reads) .1))
 
 module _ (o : Got Query) (room end : ℕ) (m : Sized o end) where
   pub short-room : room < end → told (Short end) ≡ lineGot o (last-line room)
@@ -219,32 +239,38 @@ module _ (o : Got Query) (room end : ℕ) (m : Sized o end) where
   enough-room f l = rw (m .reads, ← m .ends, le-ltb room end f, le-ltb itemLimit end l)
 
 -- READ: the lines in their order.
-module _ (text list : List ℕ) (room : ℕ) where
-  pub text-long : textLimit < length text → told TooLong ≡ readAnswer text list room
+module _ (text : List ℕ) (version : ℕ) (list : List ℕ) (room : ℕ) where
+  pub text-long : textLimit < length text → told TooLong ≡ readAnswer text version list room
   unfolding readAnswer
   text-long l = rw (lt-ltb textLimit (length text) l)
 
-  pub list-long : length text ≤ textLimit → listLimit < length list → told TooLong ≡ readAnswer text list room
+  pub list-long : length text ≤ textLimit → listLimit < length list → told TooLong ≡ readAnswer text version list room
   unfolding readAnswer
   list-long t l = rw (le-ltb textLimit (length text) t, lt-ltb listLimit (length list) l)
 
   module _ (t : length text ≤ textLimit) (l : length list ≤ listLimit) where
-    pub bad-list : (start : ℕ) → some start ≡ namesFault list → told (BadName start) ≡ readAnswer text list room
+    pub no-version : noVersion version ≡ true → told TooLong ≡ readAnswer text version list room
     unfolding readAnswer
-    bad-list start h = rw (le-ltb textLimit (length text) t, le-ltb listLimit (length list) l, ← h)
+    no-version v = rw (le-ltb textLimit (length text) t, le-ltb listLimit (length list) l, v)
 
-    pub good-list : none ≡ namesFault list → lineGot (readText anyName text) (λ q. readLast text list room) ≡ readAnswer text list room
-    unfolding readAnswer
-    good-list h = rw (le-ltb textLimit (length text) t, le-ltb listLimit (length list) l, ← h)
+    module _ (v : noVersion version ≡ false) where
+      pub bad-list : (start : ℕ) → some start ≡ namesFault list → told (BadName start) ≡ readAnswer text version list room
+      unfolding readAnswer
+      bad-list start h = rw (le-ltb textLimit (length text) t, le-ltb listLimit (length list) l, v, ← h)
+
+      pub good-list : none ≡ namesFault list
+          → lineGot (readText (isNewer version) anyName text) (λ q. readLast (isNewer version) text list room) ≡ readAnswer text version list room
+      unfolding readAnswer
+      good-list h = rw (le-ltb textLimit (length text) t, le-ltb listLimit (length list) l, v, ← h)
 
 -- A refused call leaves what is lent as it was.
-pub kept : (text list old : List ℕ) (a : Answer) → Refuses a → told a ≡ readAnswer text list (length old) → old ≡ readOut text list old
+pub kept : (text : List ℕ) (version : ℕ) (list old : List ℕ) (a : Answer) → Refuses a → told a ≡ readAnswer text version list (length old) → old ≡ readOut text version list old
 unfolding readOut
-kept text list old a r h = sym (ap (λ x. atExit x (readItems text list) old) (sym h) ∙ refused-keeps a (readItems text list) old r)
+kept text version list old a r h = sym (ap (λ x. atExit x (readItems text version list) old) (sym h) ∙ refused-keeps a (readItems text version list) old r)
 
-pub kept-refusal : (text list old : List ℕ) (number place : ℕ) → refusal number place ≡ readAnswer text list (length old) → old ≡ readOut text list old
+pub kept-refusal : (text : List ℕ) (version : ℕ) (list old : List ℕ) (number place : ℕ) → refusal number place ≡ readAnswer text version list (length old) → old ≡ readOut text version list old
 unfolding readOut
-kept-refusal text list old number place h = ap (λ x. atExit x (readItems text list) old) h
+kept-refusal text version list old number place h = ap (λ x. atExit x (readItems text version list) old) h
 
 -- A query was read that fits.
 record Fits (o : Got Query) (room : ℕ) : Type 0 where
@@ -318,6 +344,7 @@ refused-value (UnknownName place) a m h n e = refusal-value 5 place n (sym h ∙
 pub value-same : (m n : ℕ) → Value m ≡ Value n → m ≡ n
 value-same m n e = cc
 
-pub accepted : (text list old new : List ℕ) (n : ℕ) → readAnswer text list (length old) ≡ value n → new ≡ written (itemsGot (readText (numberOf (namesOf list)) text)) old → new ≡ readOut text list old
+pub accepted : (text : List ℕ) (version : ℕ) (list old new : List ℕ) (n : ℕ) → readAnswer text version list (length old) ≡ value n
+    → new ≡ written (itemsGot (readText (isNewer version) (numberOf (namesOf list)) text)) old → new ≡ readOut text version list old
 unfolding readOut readItems
-accepted text list old new n a w = w ∙ sym (ap (λ x. atExit x (itemsGot (readText (numberOf (namesOf list)) text)) old) a)
+accepted text version list old new n a w = w ∙ sym (ap (λ x. atExit x (itemsGot (readText (isNewer version) (numberOf (namesOf list)) text)) old) a)

@@ -35,13 +35,13 @@ expr-some (both a b) = omega arith
 expr-some (either a b) = omega arith
 expr-some (negated a) = omega arith
 
-pub record PredRow (look : List ℕ → Option ℕ) (within : ℕ → List Placed → Got Expr) (text old out : List ℕ) (from slot here filled taken : ℕ) : Type 0 where
+pub record PredRow (newer : Bool) (look : List ℕ → Option ℕ) (within : ℕ → List Placed → Got Expr) (text old out : List ℕ) (from slot here filled taken : ℕ) : Type 0 where
   pub build : Preds → Preds
   pub fuel : ℕ
   pub raw : List ℕ
   pub counts : (ps : Preds) → predCount (build ps) ≡ taken + predCount ps
   pub codes : (ps : Preds) → encodePreds (build ps) ≡ raw ++ encodePreds ps
-  pub goes-on : readPreds look within (length (tokensAt text from)) (tokensAt text from) ≡ then (readPreds look within fuel (tokensAt text here)) (λ ps. got (build ps))
+  pub goes-on : readPreds newer look within (length (tokensAt text from)) (tokensAt text from) ≡ then (readPreds newer look within fuel (tokensAt text here)) (λ ps. got (build ps))
   pub enough : length (tokensAt text here) ≤ fuel
   pub wrote : Wrote old out (slot + 1) raw
   pub ends : filled ≡ slot + 1 + length raw
@@ -51,8 +51,8 @@ pub record PredRow (look : List ℕ → Option ℕ) (within : ℕ → List Place
   pub fewer : length (tokensAt text here) ≤ length (tokensAt text from)
   pub grows : filled + 3 * from ≤ slot + 1 + 3 * here
 
-module _ (look : List ℕ → Option ℕ) (within : ℕ → List Placed → Got Expr) (text old : List ℕ) (from slot : ℕ) where
-  pub preds-start : from ≤ length text → PredRow look within text old old from slot from (slot + 1) 0
+module _ (newer : Bool) (look : List ℕ → Option ℕ) (within : ℕ → List Placed → Got Expr) (text old : List ℕ) (from slot : ℕ) where
+  pub preds-start : from ≤ length text → PredRow newer look within text old old from slot from (slot + 1) 0
   preds-start inside =
       record {
         build = λ ps. ps;
@@ -60,7 +60,7 @@ module _ (look : List ℕ → Option ℕ) (within : ℕ → List Placed → Got 
         raw = [];
         counts = λ ps. omega arith;
         codes = λ ps. refl;
-        goes-on = then-got (readPreds look within (length (tokensAt text from)) (tokensAt text from));
+        goes-on = then-got (readPreds newer look within (length (tokensAt text from)) (tokensAt text from));
         enough = omega arith;
         wrote = wrote-nothing old (slot + 1);
         ends = omega arith;
@@ -71,18 +71,18 @@ module _ (look : List ℕ → Option ℕ) (within : ℕ → List Placed → Got 
         grows = omega arith;
       }
 
-  module _ (out : List ℕ) (here filled taken : ℕ) (l : PredRow look within text old out from slot here filled taken) where
+  module _ (out : List ℕ) (here filled taken : ℕ) (l : PredRow newer look within text old out from slot here filled taken) where
     -- A `[` comes next.
     module _ (mid bracket : ℕ) (s : sees paper.openSquare (tokensAt text here) ≡ true) (e : bracket ≡ at (tokensAt text here)) (p : Past text here mid) where
       abbrev inner : Got Expr
       inner = then (within bracket (tokensAt text mid)) (passSort 7)
 
       there : (f : ℕ) → l .fuel ≡ suc f
-          → readPreds look within (l .fuel) (tokensAt text here) ≡ then inner (λ e left. then (readPreds look within f left) (λ ps. got (pred e ps)))
-      there f z = ap (λ n. readPreds look within n (tokensAt text here)) z ∙ rw (s, ← e, p .rest)
+          → readPreds newer look within (l .fuel) (tokensAt text here) ≡ then inner (λ e left. then (readPreds newer look within f left) (λ ps. got (pred e ps)))
+      there f z = ap (λ n. readPreds newer look within n (tokensAt text here)) z ∙ rw (s, ← e, p .rest)
 
       pub preds-more : (out′ : List ℕ) (past end : ℕ) → Gives text out out′ mid filled (3 * mid) filled inner encodeExpr past end
-          → PredRow look within text old out′ from slot past end (taken + 1)
+          → PredRow newer look within text old out′ from slot past end (taken + 1)
       preds-more out′ past end g =
           some-fuel (l .fuel) (omega (arith, l .enough, p .fewer))
           (λ f z.
@@ -94,8 +94,8 @@ module _ (look : List ℕ → Option ℕ) (within : ℕ → List Placed → Got 
             counts = λ ps. l .counts (pred (g .what) ps) ∙ (omega arith);
             codes = λ ps. l .codes (pred (g .what) ps) ∙ sym (append-assoc (l .raw) code (encodePreds ps));
             goes-on =
-                l .goes-on ∙ ap (λ o. then o (λ ps. got (l .build ps))) (there f z ∙ ap (λ o. then o (λ e left. then (readPreds look within f left) (λ ps. got (pred e ps)))) (g .reads)) ∙
-                then-then (readPreds look within f (tokensAt text past)) (pred (g .what)) (l .build);
+                l .goes-on ∙ ap (λ o. then o (λ ps. got (l .build ps))) (there f z ∙ ap (λ o. then o (λ e left. then (readPreds newer look within f left) (λ ps. got (pred e ps)))) (g .reads)) ∙
+                then-then (readPreds newer look within f (tokensAt text past)) (pred (g .what)) (l .build);
             enough = omega (arith, l .enough, p .fewer, g .fewer);
             wrote = wrote-more old out out′ (slot + 1) filled (l .raw) code (l .wrote) (l .ends) (g .wrote);
             ends = omega (arith, g .ends, l .ends, length-append (l .raw) code);
@@ -106,18 +106,18 @@ module _ (look : List ℕ → Option ℕ) (within : ℕ → List Placed → Got 
             grows = omega (arith, l .grows, g .grows, p .onward);
           })
 
-      pub preds-stuck : (a : Axis) (t : Test) (n place : ℕ) → inner ≡ refused n place → readTail look within a t (tokensAt text from) ≡ refused n place
+      pub preds-stuck : (a : Axis) (t : Test) (n place : ℕ) → inner ≡ refused n place → readTail newer look within a t (tokensAt text from) ≡ refused n place
       unfolding readTail
       preds-stuck a t n place h =
           some-fuel (l .fuel) (omega (arith, l .enough, p .fewer))
           (λ f z.
           ap (λ o. then o (λ ps. got (record { axis = a; test = t; preds = ps })))
-          (l .goes-on ∙ ap (λ o. then o (λ ps. got (l .build ps))) (there f z ∙ ap (λ o. then o (λ e left. then (readPreds look within f left) (λ ps. got (pred e ps)))) h)))
+          (l .goes-on ∙ ap (λ o. then o (λ ps. got (l .build ps))) (there f z ∙ ap (λ o. then o (λ e left. then (readPreds newer look within f left) (λ ps. got (pred e ps)))) h)))
 
     -- None comes: the step's item is put before its predicates.
     pub preds-done : (new : List ℕ) (axis test made : ℕ) (a : Axis) (t : Test) → axis ≡ axisNumber a → test ≡ testNumber t → sees paper.openSquare (tokensAt text here) ≡ false
         → (taken < countBound → made ≡ packed (record { axis = axis; test = test; count = taken })) → Wrote out new slot (made ∷ [])
-        → Gives text old new from slot (3 * from) (slot + 1) (readTail look within a t (tokensAt text from)) stepItems here filled
+        → Gives text old new from slot (3 * from) (slot + 1) (readTail newer look within a t (tokensAt text from)) stepItems here filled
     unfolding readTail
     preds-done new axis test made a t ea et s right v =
         let ps = l .build bare in
@@ -136,7 +136,7 @@ module _ (look : List ℕ → Option ℕ) (within : ℕ → List Placed → Got 
           grows = omega (arith, l .grows);
         }
       where
-        over : (n : ℕ) → readPreds look within n (tokensAt text here) ≡ got bare (tokensAt text here)
+        over : (n : ℕ) → readPreds newer look within n (tokensAt text here) ≡ got bare (tokensAt text here)
         over zero = refl
         over (suc n) = rw s
 
@@ -154,13 +154,13 @@ deep-few true = omega arith
 deep-few false = omega arith
 
 -- At the head of a turn; `lead` tells whether `//` stands before the next step.
-pub record StepRow (look : List ℕ → Option ℕ) (within : ℕ → List Placed → Got Expr) (text old out : List ℕ) (from slot : ℕ) (all : Got Steps) (here filled : ℕ) (lead : Bool) (taken : ℕ) : Type 0 where
+pub record StepRow (newer : Bool) (look : List ℕ → Option ℕ) (within : ℕ → List Placed → Got Expr) (text old out : List ℕ) (from slot : ℕ) (all : Got Steps) (here filled : ℕ) (lead : Bool) (taken : ℕ) : Type 0 where
   pub build : Steps → Steps
   pub fuel : ℕ
   pub raw : List ℕ
   pub counts : (s : Steps) → stepCount (build s) ≡ taken + stepCount s
   pub codes : (s : Steps) → encodeSteps (build s) ≡ raw ++ encodeSteps s
-  pub goes-on : all ≡ then (readSteps look within fuel (tokensAt text here)) (λ s. got (build (deepIf lead s)))
+  pub goes-on : all ≡ then (readSteps newer look within fuel (tokensAt text here)) (λ s. got (build (deepIf lead s)))
   pub enough : length (tokensAt text here) ≤ fuel
   pub wrote : Wrote old out (slot + 1) raw
   pub ends : filled ≡ slot + 1 + length raw
@@ -171,15 +171,15 @@ pub record StepRow (look : List ℕ → Option ℕ) (within : ℕ → List Place
   pub grows : filled + 3 * from ≤ slot + 1 + 3 * here
 
 -- After a step was read, before what stands after it is lookup.
-pub record Stepped (look : List ℕ → Option ℕ) (within : ℕ → List Placed → Got Expr) (text old out : List ℕ) (from slot : ℕ) (all : Got Steps) (past filled taken : ℕ) : Type 0 where
+pub record Stepped (newer : Bool) (look : List ℕ → Option ℕ) (within : ℕ → List Placed → Got Expr) (text old out : List ℕ) (from slot : ℕ) (all : Got Steps) (past filled taken : ℕ) : Type 0 where
   pub build : Steps → Steps
   pub fuel : ℕ
   pub raw : List ℕ
   pub counts : (s : Steps) → stepCount (build s) ≡ taken + stepCount s
   pub codes : (s : Steps) → encodeSteps (build s) ≡ raw ++ encodeSteps s
   pub goes-on : all
-      ≡ cond (sees paper.slash (tokensAt text past)) (then (readSteps look within fuel (drop 1 (tokensAt text past))) (λ s. got (build s)))
-      (cond (sees paper.slashes (tokensAt text past)) (then (readSteps look within fuel (drop 1 (tokensAt text past))) (λ s. got (build (deep s)))) (got (build stop) (tokensAt text past)))
+      ≡ cond (sees paper.slash (tokensAt text past)) (then (readSteps newer look within fuel (drop 1 (tokensAt text past))) (λ s. got (build s)))
+      (cond (sees paper.slashes (tokensAt text past)) (then (readSteps newer look within fuel (drop 1 (tokensAt text past))) (λ s. got (build (deep s)))) (got (build stop) (tokensAt text past)))
   pub enough : length (tokensAt text past) ≤ suc fuel
   pub wrote : Wrote old out (slot + 1) raw
   pub ends : filled ≡ slot + 1 + length raw
@@ -196,11 +196,11 @@ spread true c o f g k x ts = then-then o f k
 spread false true o f g k x ts = then-then o g k
 spread false false o f g k x ts = refl
 
-module _ (look : List ℕ → Option ℕ) (within : ℕ → List Placed → Got Expr) (text old : List ℕ) (from slot : ℕ) (deep′ : Bool) where
+module _ (newer : Bool) (look : List ℕ → Option ℕ) (within : ℕ → List Placed → Got Expr) (text old : List ℕ) (from slot : ℕ) (deep′ : Bool) where
   abbrev all-steps : Got Steps
-  all-steps = then (readSteps look within (length (tokensAt text from)) (tokensAt text from)) (λ s. got (deepIf deep′ s))
+  all-steps = then (readSteps newer look within (length (tokensAt text from)) (tokensAt text from)) (λ s. got (deepIf deep′ s))
 
-  pub steps-start : from ≤ length text → StepRow look within text old old from slot all-steps from (slot + 1) deep′ 0
+  pub steps-start : from ≤ length text → StepRow newer look within text old old from slot all-steps from (slot + 1) deep′ 0
   steps-start inside =
       record {
         build = λ s. s;
@@ -219,12 +219,12 @@ module _ (look : List ℕ → Option ℕ) (within : ℕ → List Placed → Got 
         grows = omega arith;
       }
 
-module _ (look : List ℕ → Option ℕ) (within : ℕ → List Placed → Got Expr) (text old : List ℕ) (from slot : ℕ) (all : Got Steps) where
-  module _ (out : List ℕ) (here filled : ℕ) (lead : Bool) (taken : ℕ) (l : StepRow look within text old out from slot all here filled lead taken) where
+module _ (newer : Bool) (look : List ℕ → Option ℕ) (within : ℕ → List Placed → Got Expr) (text old : List ℕ) (from slot : ℕ) (all : Got Steps) where
+  module _ (out : List ℕ) (here filled : ℕ) (lead : Bool) (taken : ℕ) (l : StepRow newer look within text old out from slot all here filled lead taken) where
     -- One step is read, behind the step of `//` where that is written.
     pub step-more : (mid out′ : List ℕ) (start past end : ℕ) → Wrote out mid filled (deepItems lead) → start ≡ filled + length (deepItems lead)
-        → Gives text mid out′ here start (3 * here + 2) start (readStep look within (tokensAt text here)) stepItems past end
-        → Stepped look within text old out′ from slot all past end (taken + (start - filled + 1))
+        → Gives text mid out′ here start (3 * here + 2) start (readStep newer look within (tokensAt text here)) stepItems past end
+        → Stepped newer look within text old out′ from slot all past end (taken + (start - filled + 1))
     step-more mid out′ start past end w e g =
         some-fuel (l .fuel) (omega (arith, l .enough, some-token text here))
         (λ f z.
@@ -238,9 +238,9 @@ module _ (look : List ℕ → Option ℕ) (within : ℕ → List Placed → Got 
           counts = λ rest. omega (arith, l .counts (deepIf lead (before s rest)), before-count lead s rest);
           codes = λ rest. l .codes (deepIf lead (before s rest)) ∙ ap (λ x. l .raw ++ x) (before-code lead s rest) ∙ sym (append-assoc (l .raw) code (encodeSteps rest));
           goes-on =
-              l .goes-on ∙ ap (λ n. then (readSteps look within n (tokensAt text here)) (λ r. got (l .build (deepIf lead r)))) z ∙
+              l .goes-on ∙ ap (λ n. then (readSteps newer look within n (tokensAt text here)) (λ r. got (l .build (deepIf lead r)))) z ∙
               rw (g .reads)
-              (spread (sees paper.slash (tokensAt text past)) (sees paper.slashes (tokensAt text past)) (readSteps look within f (drop 1 (tokensAt text past))) (before s)
+              (spread (sees paper.slash (tokensAt text past)) (sees paper.slashes (tokensAt text past)) (readSteps newer look within f (drop 1 (tokensAt text past))) (before s)
               (λ rest. before s (deep rest)) (λ r. l .build (deepIf lead r)) (before s stop) (tokensAt text past));
           enough = omega (arith, l .enough, g .fewer);
           wrote =
@@ -254,14 +254,14 @@ module _ (look : List ℕ → Option ℕ) (within : ℕ → List Placed → Got 
           grows = omega (arith, l .grows, g .grows, deep-few lead);
         })
 
-    pub step-stuck : (n place : ℕ) → readStep look within (tokensAt text here) ≡ refused n place → all ≡ refused n place
+    pub step-stuck : (n place : ℕ) → readStep newer look within (tokensAt text here) ≡ refused n place → all ≡ refused n place
     step-stuck n place h =
         some-fuel (l .fuel) (omega (arith, l .enough, some-token text here))
-        (λ f z. l .goes-on ∙ ap (λ n. then (readSteps look within n (tokensAt text here)) (λ r. got (l .build (deepIf lead r)))) z ∙ rw h)
+        (λ f z. l .goes-on ∙ ap (λ n. then (readSteps newer look within n (tokensAt text here)) (λ r. got (l .build (deepIf lead r)))) z ∙ rw h)
 
-  module _ (out : List ℕ) (past filled taken : ℕ) (l : Stepped look within text old out from slot all past filled taken) where
+  module _ (out : List ℕ) (past filled taken : ℕ) (l : Stepped newer look within text old out from slot all past filled taken) where
     -- `/` or `//` comes next.
-    pub steps-more : (here : Cursor) (lead : Bool) → Joins text past (Next here lead) → StepRow look within text old out from slot all (here .at) filled lead taken
+    pub steps-more : (here : Cursor) (lead : Bool) → Joins text past (Next here lead) → StepRow newer look within text old out from slot all (here .at) filled lead taken
     steps-more here true j =
         record {
           build = l .build;

@@ -64,11 +64,11 @@ pub record Operator : Type 0 where
   pub goes : (n : ℕ) (e : Expr) (ts : List Placed) → more (suc n) e ts ≡ cond (says word ts) (then (one (drop 1 ts)) (λ b. more n (join e b))) (got e ts)
   pub codes : (a b : Expr) → encodeExpr (join a b) ≡ item ∷ (encodeExpr a ++ encodeExpr b)
 
-abbrev pub ands : (List ℕ → Option ℕ) → (ℕ → List Placed → Got Expr) → Operator
-ands look within =
+abbrev pub ands : Bool → (List ℕ → Option ℕ) → (ℕ → List Placed → Got Expr) → Operator
+ands newer look within =
     record {
-      one = readOperand look within;
-      more = readAnds look within;
+      one = readOperand newer look within;
+      more = readAnds newer look within;
       join = both;
       item = andItem;
       word = ascii "and";
@@ -77,11 +77,11 @@ ands look within =
       codes = λ a b. refl;
     }
 
-abbrev pub ors : (List ℕ → Option ℕ) → (ℕ → List Placed → Got Expr) → Operator
-ors look within =
+abbrev pub ors : Bool → (List ℕ → Option ℕ) → (ℕ → List Placed → Got Expr) → Operator
+ors newer look within =
     record {
-      one = readTerm look within;
-      more = readOrs look within;
+      one = readTerm newer look within;
+      more = readOrs newer look within;
       join = either;
       item = orItem;
       word = ascii "or";
@@ -94,13 +94,13 @@ ors look within =
 abbrev pub whole : Operator → List Placed → Got Expr
 whole op ts = then (op .one ts) (λ a left. op .more (length left) a left)
 
-pub term-whole : (look : List ℕ → Option ℕ) (within : ℕ → List Placed → Got Expr) (ts : List Placed) → readTerm look within ts ≡ whole (ands look within) ts
+pub term-whole : (newer : Bool) (look : List ℕ → Option ℕ) (within : ℕ → List Placed → Got Expr) (ts : List Placed) → readTerm newer look within ts ≡ whole (ands newer look within) ts
 unfolding readTerm
-term-whole look within ts = refl
+term-whole newer look within ts = refl
 
-pub expr-whole : (look : List ℕ → Option ℕ) (within : ℕ → List Placed → Got Expr) (ts : List Placed) → readExpr look within ts ≡ whole (ors look within) ts
+pub expr-whole : (newer : Bool) (look : List ℕ → Option ℕ) (within : ℕ → List Placed → Got Expr) (ts : List Placed) → readExpr newer look within ts ≡ whole (ors newer look within) ts
 unfolding readExpr
-expr-whole look within ts = refl
+expr-whole newer look within ts = refl
 
 -- What has been read of the run, and its operands written one behind the other.
 pub record Left (op : Operator) (text old out : List ℕ) (from slot : ℕ) (all : Got Expr) (here filled run : ℕ) : Type 0 where
@@ -227,29 +227,29 @@ awaits-next op text old from slot all out here filled run l mid s p =
     }
 
 -- AN EXPRESSION: an operand of `and` is to be read, in a term that an `or` awaits; the term began at `since` in the text and at `begun` in the items.
-module _ (look : List ℕ → Option ℕ) (within : ℕ → List Placed → Got Expr) (text old : List ℕ) (from slot : ℕ) where
+module _ (newer : Bool) (look : List ℕ → Option ℕ) (within : ℕ → List Placed → Got Expr) (text old : List ℕ) (from slot : ℕ) where
   pub record Turn (out : List ℕ) (here filled begun anded ored : ℕ) : Type 0 where
     pub since : ℕ
     pub mid : List ℕ
-    pub outer : Awaits (ors look within) text old mid from slot (readExpr look within (tokensAt text from)) since begun ored
-    pub inner : Awaits (ands look within) text mid out since begun (readTerm look within (tokensAt text since)) here filled anded
+    pub outer : Awaits (ors newer look within) text old mid from slot (readExpr newer look within (tokensAt text from)) since begun ored
+    pub inner : Awaits (ands newer look within) text mid out since begun (readTerm newer look within (tokensAt text since)) here filled anded
 
   pub turn-start : from ≤ length text → Turn old from slot slot 0 0
   turn-start inside =
       record {
         since = from;
         mid = old;
-        outer = awaits-first (ors look within) text old from slot _ (expr-whole look within (tokensAt text from)) inside;
-        inner = awaits-first (ands look within) text old from slot _ (term-whole look within (tokensAt text from)) inside;
+        outer = awaits-first (ors newer look within) text old from slot _ (expr-whole newer look within (tokensAt text from)) inside;
+        inner = awaits-first (ands newer look within) text old from slot _ (term-whole newer look within (tokensAt text from)) inside;
       }
 
   module _ (out : List ℕ) (here filled begun anded ored : ℕ) (t : Turn out here filled begun anded ored) where
-    pub turn-stuck : (n place : ℕ) → readOperand look within (tokensAt text here) ≡ refused n place → readExpr look within (tokensAt text from) ≡ refused n place
+    pub turn-stuck : (n place : ℕ) → readOperand newer look within (tokensAt text here) ≡ refused n place → readExpr newer look within (tokensAt text from) ≡ refused n place
     turn-stuck n place h = t .outer .stuck n place (t .inner .stuck n place h)
 
     -- The operand is read.
-    module _ (out′ : List ℕ) (past end : ℕ) (g : Gives text out out′ here filled (3 * here) filled (readOperand look within (tokensAt text here)) encodeExpr past end) where
-      pub operands : Left (ands look within) text (t .mid) out′ (t .since) begun (readTerm look within (tokensAt text (t .since))) past end anded
+    module _ (out′ : List ℕ) (past end : ℕ) (g : Gives text out out′ here filled (3 * here) filled (readOperand newer look within (tokensAt text here)) encodeExpr past end) where
+      pub operands : Left (ands newer look within) text (t .mid) out′ (t .since) begun (readTerm newer look within (tokensAt text (t .since))) past end anded
       operands = t .inner .gives out′ past end g
 
       pub turn-and : (next : ℕ) → says (ascii "and") (tokensAt text past) ≡ true → Past text past next → Turn out′ next end begun (anded + 1) ored
@@ -258,24 +258,24 @@ module _ (look : List ℕ → Option ℕ) (within : ℕ → List Placed → Got 
             since = t .since;
             mid = t .mid;
             outer = t .outer;
-            inner = awaits-next (ands look within) text (t .mid) (t .since) begun _ out′ past end anded operands next s p;
+            inner = awaits-next (ands newer look within) text (t .mid) (t .since) begun _ out′ past end anded operands next s p;
           }
 
       -- The term is read.
       module _ (new : List ℕ) (s : says (ascii "and") (tokensAt text past) ≡ false) (m : Grouped out′ new begun end anded andItem) where
-        pub terms : Left (ors look within) text old new from slot (readExpr look within (tokensAt text from)) past (end + anded) ored
+        pub terms : Left (ors newer look within) text old new from slot (readExpr newer look within (tokensAt text from)) past (end + anded) ored
         terms =
-            t .outer .gives new past (end + anded) (left-done (ands look within) text (t .mid) (t .since) begun _ out′ past end anded operands new s m)
+            t .outer .gives new past (end + anded) (left-done (ands newer look within) text (t .mid) (t .since) begun _ out′ past end anded operands new s m)
 
         pub turn-or : (next : ℕ) → says (ascii "or") (tokensAt text past) ≡ true → Past text past next → Turn new next (end + anded) (end + anded) 0 (ored + 1)
         turn-or next s′ p =
             record {
               since = next;
               mid = new;
-              outer = awaits-next (ors look within) text old from slot _ new past (end + anded) ored terms next s′ p;
-              inner = awaits-first (ands look within) text new next (end + anded) _ (term-whole look within (tokensAt text next)) (p .inside);
+              outer = awaits-next (ors newer look within) text old from slot _ new past (end + anded) ored terms next s′ p;
+              inner = awaits-first (ands newer look within) text new next (end + anded) _ (term-whole newer look within (tokensAt text next)) (p .inside);
             }
 
         pub turn-done : (last : List ℕ) → says (ascii "or") (tokensAt text past) ≡ false → Grouped new last slot (end + anded) ored orItem
-            → Gives text old last from slot (3 * from) slot (readExpr look within (tokensAt text from)) encodeExpr past (end + anded + ored)
-        turn-done last s′ m′ = left-done (ors look within) text old from slot _ new past (end + anded) ored terms last s′ m′
+            → Gives text old last from slot (3 * from) slot (readExpr newer look within (tokensAt text from)) encodeExpr past (end + anded + ored)
+        turn-done last s′ m′ = left-done (ors newer look within) text old from slot _ new past (end + anded) ored terms last s′ m′

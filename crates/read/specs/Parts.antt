@@ -17,6 +17,7 @@ use Rattle.paper.specs.Measures.{size}
 use Rattle.paper.specs.Answers.{anyName, value, refusal}
 use Rattle.paper.specs.Told.{told}
 use Rattle.paper.specs.declared.Answer.{Answer}
+use Rattle.token.specs.declared.Cursor.{Cursor}
 use Rattle.names.specs.Listing.{Indexed}
 use Rattle.names.specs.declared.Found.{Found}
 use Rattle.names.specs.declared.Found.the-variants.{At, Nothing}
@@ -83,8 +84,8 @@ Reads text old new from slot low high outcome items (UnknownName place) = outcom
 abbrev pub passSort : {A : Type 0} → ℕ → A → List Placed → Got A
 passSort wanted a ts = cond (eqb wanted (sort (next ts))) (got a (drop 1 ts)) (wrong ts)
 
--- A STEP'S HEAD: axis and test, after which predicates may stand; or `.` and `..`, after which none may.
-pub record PlainStep (look : List ℕ → Option ℕ) (text : List ℕ) (from axis past : ℕ) (outcome : (ℕ → List Placed → Got Expr) → Got Step) : Type 0 where
+-- A STEP'S HEAD: axis and test, after which predicates may stand; or `.` and `..` of version 1, after which none may.
+pub record PlainStep (newer : Bool) (look : List ℕ → Option ℕ) (text : List ℕ) (from axis past : ℕ) (outcome : (ℕ → List Placed → Got Expr) → Got Step) : Type 0 where
   pub way : Axis
   pub number : axis ≡ axisNumber way
   pub reads : (within : ℕ → List Placed → Got Expr) → outcome within ≡ got (record { axis = way; test = anyNode; preds = bare }) (tokensAt text past)
@@ -92,22 +93,26 @@ pub record PlainStep (look : List ℕ → Option ℕ) (text : List ℕ) (from ax
   pub inside : past ≤ length text
   pub fewer : length (tokensAt text past) ≤ length (tokensAt text from)
 
-pub record TestedStep (look : List ℕ → Option ℕ) (text : List ℕ) (from axis test past : ℕ) (outcome : (ℕ → List Placed → Got Expr) → Got Step) : Type 0 where
+pub record TestedStep (newer : Bool) (look : List ℕ → Option ℕ) (text : List ℕ) (from axis test past : ℕ) (outcome : (ℕ → List Placed → Got Expr) → Got Step) : Type 0 where
   pub way : Axis
   pub kind : Test
   pub number : axis ≡ axisNumber way
   pub tested : test ≡ testNumber kind
   pub small : test < 512
-  pub reads : (within : ℕ → List Placed → Got Expr) → outcome within ≡ readTail look within way kind (tokensAt text past)
+  pub reads : (within : ℕ → List Placed → Got Expr) → outcome within ≡ readTail newer look within way kind (tokensAt text past)
   pub onward : from < past
   pub inside : past ≤ length text
   pub fewer : length (tokensAt text past) ≤ length (tokensAt text from)
 
-abbrev pub Heads : (List ℕ → Option ℕ) → List ℕ → ℕ → ((ℕ → List Placed → Got Expr) → Got Step) → Head → Type 0
-Heads look text from outcome (Plain axis past) = PlainStep look text from axis (past .at) outcome
-Heads look text from outcome (Tested axis test past) = TestedStep look text from axis test (past .at) outcome
-Heads look text from outcome (Wrong place) = (within : ℕ → List Placed → Got Expr) → outcome within ≡ refused 3 place
-Heads look text from outcome (Unknown place) = (within : ℕ → List Placed → Got Expr) → outcome within ≡ refused 5 place
+abbrev pub Heads : Bool → (List ℕ → Option ℕ) → List ℕ → ℕ → ((ℕ → List Placed → Got Expr) → Got Step) → Head → Type 0
+Heads newer look text from outcome (Plain axis past) = PlainStep newer look text from axis (past .at) outcome
+Heads newer look text from outcome (Tested axis test past) = TestedStep newer look text from axis test (past .at) outcome
+Heads newer look text from outcome (Wrong place) = (within : ℕ → List Placed → Got Expr) → outcome within ≡ refused 3 place
+Heads newer look text from outcome (Unknown place) = (within : ℕ → List Placed → Got Expr) → outcome within ≡ refused 5 place
+
+-- The head that `.` or `..` is, by its axis.
+abbrev pub dottedHead : Bool → ℕ → Cursor → Head
+dottedHead newer axis past = cond newer (Tested axis (testNumber anyNode) past) (Plain axis past)
 
 -- The `)` of a test that is called.
 abbrev pub Closes : List ℕ → ℕ → ℕ → ℕ → Head → Type 0

@@ -1,6 +1,7 @@
 // The reader: from text to query. One pass measures the text and keeps its items if they are few; those are then copied, or the same functions write into the output.
 // A `place` is a byte of the text, a `slot` an item of the output.
 // Recursion opens a bracket each time, so it goes one deeper than the limit on brackets.
+// `newer` says that the text is read by version 2 of XPath.
 // The list, its starts and their count are arguments of their own, since every function over a struct that holds a reference is proved by hand; `lookup` says whether names are looked up in the list.
 use ahead::Ahead;
 use ahead::AxisAhead;
@@ -22,21 +23,21 @@ use token::Cursor;
 use token::Token;
 ghost use Prim.Native.Nat.{ℕ, _+_, _*_, _≤_, _<_};
 ghost use mathlib.Core.Path.{_≡_};
-ghost use mathlib.Core.Bool.{true, false};
+ghost use mathlib.Core.Bool.{Bool, true, false};
 ghost use mathlib.Core.List.{[], _∷_};
 ghost use lib.ListN.{length, take, drop};
 ghost use Rattle.paper.specs.Tools.{written};
 ghost use Rattle.paper.specs.Limits.{bracketLimit};
 ghost use Rattle.paper.specs.Query.{Axis, Test};
 ghost use Rattle.paper.specs.Items.{axisNumber, testNumber, packPath, encodeExpr, axisBound, testBound, countBound};
-ghost use Rattle.paper.specs.Reading.{then, got, readTail, readTested, readStep, readSteps, readOperand, readExpr, readPath, readWithin, readText};
+ghost use Rattle.paper.specs.Reading.{then, got, joins, readTail, readTested, readStep, readSteps, readOperand, readExpr, readPath, readWithin, readText};
 ghost use Rattle.paper.specs.Answers.{readAnswer, readOut, readLast, lineGot, itemsGot};
 ghost use Rattle.paper.specs.Told.{told};
 ghost use Rattle.paper.specs.declared.Answer.the-variants.{Value};
 ghost use Rattle.item.specs.Unpacked.{packed};
 ghost use Rattle.names.specs.Listing.{Indexed};
-ghost use Rattle.ahead.specs.Looking.{tokensAt, markSorts};
-ghost use Rattle.read.specs.Parts.{lookOf, Wrote, Grouped, deepItems, deepIf, stepItems, Reads, passSort, Heads, Closes, Numbered, Moved, Ready, pathItems, Finishes, ReadsAll, Kept, Measures, AnswerOf, slotBound};
+ghost use Rattle.ahead.specs.Looking.{tokensAt, markSorts, Looks};
+ghost use Rattle.read.specs.Parts.{lookOf, Wrote, Grouped, deepItems, deepIf, stepItems, Reads, passSort, dottedHead, Heads, Closes, Numbered, Moved, Ready, pathItems, Finishes, ReadsAll, Kept, Measures, AnswerOf, slotBound};
 
 // What reading a part of a query comes to: the cursor past it and the slot past its items, or a refusal with its place in the text.
 pub enum Part {
@@ -46,7 +47,7 @@ pub enum Part {
     UnknownName(usize),
 }
 
-// Axis and test of a step, after which predicates may stand; or `.` and `..`, after which none may.
+// Axis and test of a step, after which predicates may stand; or `.` and `..` of version 1, after which none may.
 pub enum Head {
     Plain { axis: u32, next: Cursor },
     Tested { axis: u32, test: u32, next: Cursor },
@@ -104,7 +105,7 @@ fn tested(
 ) -> Head
     requires { ⌜ Indexed (now list) (now starts) count ⌝ }
     requires { ⌜ cursor .at ≤ length (now text) ⌝ }
-    ensures { λ r. ⌜ ((a : Axis) → axis ≡ axisNumber a → Heads (lookOf lookup (now (list .entry))) (now (text .entry)) (cursor .at) (λ within. readTested (lookOf lookup (now (list .entry))) within a (tokensAt (now (text .entry)) (cursor .at))) r) ⌝ }
+    ensures { λ r. ⌜ ((newer : Bool) (a : Axis) → axis ≡ axisNumber a → Heads newer (lookOf lookup (now (list .entry))) (now (text .entry)) (cursor .at) (λ within. readTested newer (lookOf lookup (now (list .entry))) within a (tokensAt (now (text .entry)) (cursor .at))) r) ⌝ }
 {
     let taken = cursor.take(text);
     let place = taken.place;
@@ -135,6 +136,21 @@ fn tested(
     }
 }
 
+// The head that `.` or `..` is, by its axis: predicates may stand after it in version 2.
+fn dotted(axis: u32, next: Cursor, newer: bool) -> Head
+    ensures { λ r. ⌜ r ≡ dottedHead newer axis next ⌝ }
+{
+    if newer {
+        Head::Tested {
+            axis,
+            test: item::ANY_NODE,
+            next,
+        }
+    } else {
+        Head::Plain { axis, next }
+    }
+}
+
 // The head of a step: `.`, `..`, or axis and test; no axis means child.
 fn step_head(
     text: &[u8],
@@ -143,24 +159,19 @@ fn step_head(
     count: usize,
     lookup: bool,
     cursor: Cursor,
+    newer: bool,
 ) -> Head
     requires { ⌜ Indexed (now list) (now starts) count ⌝ }
     requires { ⌜ cursor .at ≤ length (now text) ⌝ }
-    ensures { λ r. ⌜ Heads (lookOf lookup (now (list .entry))) (now (text .entry)) (cursor .at) (λ within. readStep (lookOf lookup (now (list .entry))) within (tokensAt (now (text .entry)) (cursor .at))) r ⌝ }
+    ensures { λ r. ⌜ Heads newer (lookOf lookup (now (list .entry))) (now (text .entry)) (cursor .at) (λ within. readStep newer (lookOf lookup (now (list .entry))) within (tokensAt (now (text .entry)) (cursor .at))) r ⌝ }
 {
     let dot = mark(text, cursor, ahead::DOT);
     if let Ahead::There { place: _, next } = dot {
-        return Head::Plain {
-            axis: item::SELF,
-            next,
-        };
+        return dotted(item::SELF, next, newer);
     }
     let dots = mark(text, cursor, ahead::DOTS);
     if let Ahead::There { place: _, next } = dots {
-        return Head::Plain {
-            axis: item::PARENT,
-            next,
-        };
+        return dotted(item::PARENT, next, newer);
     }
     let leading = axis_ahead(text, cursor);
     match leading {
@@ -259,10 +270,11 @@ fn expression(
     depth: usize,
     out: &mut [u32],
     slot: usize,
+    newer: bool,
 ) -> Part
     requires { ⌜ Ready (now text) (now list) (now starts) count (cursor .at) depth ⌝ }
     requires { ⌜ slot ≤ 3 * cursor .at ⌝ }
-    ensures { λ r. ⌜ Reads (now (text .entry)) (now (out .entry)) (now (out .exit)) (cursor .at) slot (3 * cursor .at) slot (readExpr (lookOf lookup (now (list .entry))) (readWithin (lookOf lookup (now (list .entry))) depth) (tokensAt (now (text .entry)) (cursor .at))) encodeExpr r ⌝ }
+    ensures { λ r. ⌜ Reads (now (text .entry)) (now (out .entry)) (now (out .exit)) (cursor .at) slot (3 * cursor .at) slot (readExpr newer (lookOf lookup (now (list .entry))) (readWithin newer (lookOf lookup (now (list .entry))) depth) (tokensAt (now (text .entry)) (cursor .at))) encodeExpr r ⌝ }
 {
     let mut here = cursor;
     let mut filled = slot;
@@ -270,7 +282,18 @@ fn expression(
     let mut ands: usize = 0;
     let mut ors: usize = 0;
     loop {
-        let one = operand(text, list, starts, count, lookup, here, depth, out, filled);
+        let one = operand(
+            text,
+            list,
+            starts,
+            count,
+            lookup,
+            here,
+            depth,
+            out,
+            filled,
+            newer,
+        );
         let Part::Done { next, end } = one else {
             return one;
         };
@@ -320,10 +343,11 @@ fn operand(
     depth: usize,
     out: &mut [u32],
     slot: usize,
+    newer: bool,
 ) -> Part
     requires { ⌜ Ready (now text) (now list) (now starts) count (cursor .at) depth ⌝ }
     requires { ⌜ slot ≤ 3 * cursor .at ⌝ }
-    ensures { λ r. ⌜ Reads (now (text .entry)) (now (out .entry)) (now (out .exit)) (cursor .at) slot (3 * cursor .at) slot (readOperand (lookOf lookup (now (list .entry))) (readWithin (lookOf lookup (now (list .entry))) depth) (tokensAt (now (text .entry)) (cursor .at))) encodeExpr r ⌝ }
+    ensures { λ r. ⌜ Reads (now (text .entry)) (now (out .entry)) (now (out .exit)) (cursor .at) slot (3 * cursor .at) slot (readOperand newer (lookOf lookup (now (list .entry))) (readWithin newer (lookOf lookup (now (list .entry))) depth) (tokensAt (now (text .entry)) (cursor .at))) encodeExpr r ⌝ }
 {
     let opens = opening(text, cursor);
     match opens {
@@ -343,6 +367,7 @@ fn operand(
                 slot + 1,
                 bracket,
                 ahead::CLOSE_ROUND,
+                newer,
             );
             let Part::Done { next, end } = inner else {
                 return inner;
@@ -366,6 +391,7 @@ fn operand(
                 slot,
                 bracket,
                 ahead::CLOSE_ROUND,
+                newer,
             )
         }
         Opens::Path => steps(
@@ -379,6 +405,7 @@ fn operand(
             out,
             slot,
             false,
+            newer,
         ),
     }
 }
@@ -396,10 +423,11 @@ fn bracketed(
     slot: usize,
     bracket: usize,
     closer: usize,
+    newer: bool,
 ) -> Part
     requires { ⌜ Ready (now text) (now list) (now starts) count (cursor .at) depth ⌝ }
     requires { ⌜ (slot ≤ 3 * cursor .at) × (closer < markSorts) ⌝ }
-    ensures { λ r. ⌜ Reads (now (text .entry)) (now (out .entry)) (now (out .exit)) (cursor .at) slot (3 * cursor .at) slot (then (readWithin (lookOf lookup (now (list .entry))) depth bracket (tokensAt (now (text .entry)) (cursor .at))) (passSort closer)) encodeExpr r ⌝ }
+    ensures { λ r. ⌜ Reads (now (text .entry)) (now (out .entry)) (now (out .exit)) (cursor .at) slot (3 * cursor .at) slot (then (readWithin newer (lookOf lookup (now (list .entry))) depth bracket (tokensAt (now (text .entry)) (cursor .at))) (passSort closer)) encodeExpr r ⌝ }
 {
     if depth == 0 {
         return Part::TooDeep(bracket);
@@ -414,6 +442,7 @@ fn bracketed(
         depth - 1,
         out,
         slot,
+        newer,
     );
     let Part::Done { next, end } = inner else {
         return inner;
@@ -437,10 +466,11 @@ fn steps(
     out: &mut [u32],
     slot: usize,
     deep: bool,
+    newer: bool,
 ) -> Part
     requires { ⌜ Ready (now text) (now list) (now starts) count (cursor .at) depth ⌝ }
     requires { ⌜ slot ≤ 3 * cursor .at ⌝ }
-    ensures { λ r. ⌜ Reads (now (text .entry)) (now (out .entry)) (now (out .exit)) (cursor .at) slot (3 * cursor .at) slot (then (readSteps (lookOf lookup (now (list .entry))) (readWithin (lookOf lookup (now (list .entry))) depth) (length (tokensAt (now (text .entry)) (cursor .at))) (tokensAt (now (text .entry)) (cursor .at))) (λ s. got (deepIf deep s))) pathItems r ⌝ }
+    ensures { λ r. ⌜ Reads (now (text .entry)) (now (out .entry)) (now (out .exit)) (cursor .at) slot (3 * cursor .at) slot (then (readSteps newer (lookOf lookup (now (list .entry))) (readWithin newer (lookOf lookup (now (list .entry))) depth) (length (tokensAt (now (text .entry)) (cursor .at))) (tokensAt (now (text .entry)) (cursor .at))) (λ s. got (deepIf deep s))) pathItems r ⌝ }
 {
     let mut here = cursor;
     let mut filled = slot + 1;
@@ -448,7 +478,18 @@ fn steps(
     let mut taken: usize = 0;
     loop {
         let from = put_deep(out, filled, lead);
-        let one = step(text, list, starts, count, lookup, here, depth, out, from);
+        let one = step(
+            text,
+            list,
+            starts,
+            count,
+            lookup,
+            here,
+            depth,
+            out,
+            from,
+            newer,
+        );
         let Part::Done { next, end } = one else {
             return one;
         };
@@ -479,12 +520,13 @@ fn step(
     depth: usize,
     out: &mut [u32],
     slot: usize,
+    newer: bool,
 ) -> Part
     requires { ⌜ Ready (now text) (now list) (now starts) count (cursor .at) depth ⌝ }
     requires { ⌜ slot ≤ 3 * cursor .at + 2 ⌝ }
-    ensures { λ r. ⌜ Reads (now (text .entry)) (now (out .entry)) (now (out .exit)) (cursor .at) slot (3 * cursor .at + 2) slot (readStep (lookOf lookup (now (list .entry))) (readWithin (lookOf lookup (now (list .entry))) depth) (tokensAt (now (text .entry)) (cursor .at))) stepItems r ⌝ }
+    ensures { λ r. ⌜ Reads (now (text .entry)) (now (out .entry)) (now (out .exit)) (cursor .at) slot (3 * cursor .at + 2) slot (readStep newer (lookOf lookup (now (list .entry))) (readWithin newer (lookOf lookup (now (list .entry))) depth) (tokensAt (now (text .entry)) (cursor .at))) stepItems r ⌝ }
 {
-    let head = step_head(text, list, starts, count, lookup, cursor);
+    let head = step_head(text, list, starts, count, lookup, cursor, newer);
     match head {
         Head::Plain { axis, next } => {
             put(out, slot, item_of_step(axis, item::ANY_NODE, 0));
@@ -506,6 +548,7 @@ fn step(
                 slot,
                 axis,
                 test,
+                newer,
             )
         }
         Head::Wrong(place) => Part::NoQuery(place),
@@ -526,10 +569,11 @@ fn predicates(
     slot: usize,
     axis: u32,
     test: u32,
+    newer: bool,
 ) -> Part
     requires { ⌜ Ready (now text) (now list) (now starts) count (cursor .at) depth ⌝ }
     requires { ⌜ (slot < 3 * cursor .at) × (axis < axisBound) × (test < testBound) ⌝ }
-    ensures { λ r. ⌜ ((a : Axis) (t : Test) → axis ≡ axisNumber a → test ≡ testNumber t → Reads (now (text .entry)) (now (out .entry)) (now (out .exit)) (cursor .at) slot (3 * cursor .at) (slot + 1) (readTail (lookOf lookup (now (list .entry))) (readWithin (lookOf lookup (now (list .entry))) depth) a t (tokensAt (now (text .entry)) (cursor .at))) stepItems r) ⌝ }
+    ensures { λ r. ⌜ ((a : Axis) (t : Test) → axis ≡ axisNumber a → test ≡ testNumber t → Reads (now (text .entry)) (now (out .entry)) (now (out .exit)) (cursor .at) slot (3 * cursor .at) (slot + 1) (readTail newer (lookOf lookup (now (list .entry))) (readWithin newer (lookOf lookup (now (list .entry))) depth) a t (tokensAt (now (text .entry)) (cursor .at))) stepItems r) ⌝ }
 {
     let mut here = cursor;
     let mut filled = slot + 1;
@@ -555,6 +599,7 @@ fn predicates(
             filled,
             bracket,
             ahead::CLOSE_SQUARE,
+            newer,
         );
         let Part::Done { next, end } = one else {
             return one;
@@ -582,10 +627,11 @@ fn path(
     cursor: Cursor,
     out: &mut [u32],
     slot: usize,
+    newer: bool,
 ) -> Part
     requires { ⌜ Ready (now text) (now list) (now starts) count (cursor .at) bracketLimit ⌝ }
     requires { ⌜ slot ≤ 3 * cursor .at ⌝ }
-    ensures { λ r. ⌜ Reads (now (text .entry)) (now (out .entry)) (now (out .exit)) (cursor .at) slot (3 * cursor .at) slot (readPath (lookOf lookup (now (list .entry))) (readWithin (lookOf lookup (now (list .entry))) bracketLimit) (tokensAt (now (text .entry)) (cursor .at))) pathItems r ⌝ }
+    ensures { λ r. ⌜ Reads (now (text .entry)) (now (out .entry)) (now (out .exit)) (cursor .at) slot (3 * cursor .at) slot (readPath newer (lookOf lookup (now (list .entry))) (readWithin newer (lookOf lookup (now (list .entry))) bracketLimit) (tokensAt (now (text .entry)) (cursor .at))) pathItems r ⌝ }
 {
     let lead = path_lead(text, cursor);
     match lead {
@@ -608,6 +654,7 @@ fn path(
                 out,
                 slot,
                 deep,
+                newer,
             )
         }
         Lead::NoPath(place) => Part::NoQuery(place),
@@ -630,7 +677,23 @@ fn finished(text: &[u8], cursor: Cursor, end: usize) -> Part
     }
 }
 
-// Absolute paths joined by `|`, to the end of the text.
+// Is the next token one that joins absolute paths: `|`, or in version 2 the word `union`?
+fn joins_ahead(text: &[u8], cursor: Cursor, newer: bool) -> Ahead
+    requires { ⌜ cursor .at ≤ length (now text) ⌝ }
+    ensures { λ r. ⌜ Looks (now (text .entry)) (cursor .at) (joins newer (tokensAt (now (text .entry)) (cursor .at))) r ⌝ }
+{
+    let bar = mark(text, cursor, ahead::BAR);
+    if let Ahead::There { place, next } = bar {
+        return Ahead::There { place, next };
+    }
+    if newer {
+        word_ahead(text, cursor, b"union")
+    } else {
+        bar
+    }
+}
+
+// Absolute paths, joined, to the end of the text.
 fn paths(
     text: &[u8],
     list: &[u8],
@@ -638,18 +701,19 @@ fn paths(
     count: usize,
     lookup: bool,
     out: &mut [u32],
+    newer: bool,
 ) -> Part
     requires { ⌜ Ready (now text) (now list) (now starts) count 0 bracketLimit ⌝ }
-    ensures { λ r. ⌜ ReadsAll (now (out .entry)) (now (out .exit)) (readText (lookOf lookup (now (list .entry))) (now (text .entry))) r ⌝ }
+    ensures { λ r. ⌜ ReadsAll (now (out .entry)) (now (out .exit)) (readText newer (lookOf lookup (now (list .entry))) (now (text .entry))) r ⌝ }
 {
     let mut here = Cursor { at: 0 };
     let mut filled: usize = 0;
     loop {
-        let one = path(text, list, starts, count, lookup, here, out, filled);
+        let one = path(text, list, starts, count, lookup, here, out, filled, newer);
         let Part::Done { next, end } = one else {
             return one;
         };
-        let bar = mark(text, next, ahead::BAR);
+        let bar = joins_ahead(text, next, newer);
         match bar {
             Ahead::There { place: _, next } => {
                 here = next;
@@ -667,12 +731,13 @@ fn measure(
     starts: &[u16; names::STARTS],
     count: usize,
     lookup: bool,
+    newer: bool,
 ) -> Part
     requires { ⌜ Ready (now text) (now list) (now starts) count 0 bracketLimit ⌝ }
-    ensures { λ r. ⌜ Measures (readText (lookOf lookup (now (list .entry))) (now (text .entry))) r ⌝ }
+    ensures { λ r. ⌜ Measures (readText newer (lookOf lookup (now (list .entry))) (now (text .entry))) r ⌝ }
 {
     let mut scratch = [0u32; 1];
-    paths(text, list, starts, count, lookup, &mut scratch)
+    paths(text, list, starts, count, lookup, &mut scratch, newer)
 }
 
 // What a part comes to, as an answer: its end as a value, or its refusal.
@@ -696,14 +761,15 @@ fn answer(
     count: usize,
     few: &mut [u32],
     room: usize,
+    newer: bool,
 ) -> Answer
     requires { ⌜ Ready (now text) (now list) (now starts) count 0 bracketLimit ⌝ }
-    ensures { λ r. ⌜ told r ≡ lineGot (readText (lookOf false (now (list .entry))) (now (text .entry))) (λ q. readLast (now (text .entry)) (now (list .entry)) room) ⌝ }
-    ensures { λ r. ⌜ ((n : ℕ) → r ≡ Value n → (n ≤ room) × (Kept (now (few .exit)) (readText (lookOf true (now (list .entry))) (now (text .entry))) n)) ⌝ }
+    ensures { λ r. ⌜ told r ≡ lineGot (readText newer (lookOf false (now (list .entry))) (now (text .entry))) (λ q. readLast newer (now (text .entry)) (now (list .entry)) room) ⌝ }
+    ensures { λ r. ⌜ ((n : ℕ) → r ≡ Value n → (n ≤ room) × (Kept (now (few .exit)) (readText newer (lookOf true (now (list .entry))) (now (text .entry))) n)) ⌝ }
 {
-    let whole = paths(text, list, starts, count, true, few);
+    let whole = paths(text, list, starts, count, true, few, newer);
     let Part::Done { next: _, end } = whole else {
-        let syntax = measure(text, list, starts, count, false);
+        let syntax = measure(text, list, starts, count, false, newer);
         let Part::Done { next: _, end: _ } = syntax else {
             return answer_of(syntax);
         };
@@ -727,27 +793,32 @@ fn write(
     few: &[u32],
     end: usize,
     out: &mut [u32],
+    newer: bool,
 )
     requires { ⌜ Ready (now text) (now list) (now starts) count 0 bracketLimit ⌝ }
-    requires { ⌜ (end ≤ length (now out)) × (Kept (now few) (readText (lookOf true (now list)) (now text)) end) ⌝ }
-    ensures { λ _. ⌜ now (out .exit) ≡ written (itemsGot (readText (lookOf true (now (list .entry))) (now (text .entry)))) (now (out .entry)) ⌝ }
+    requires { ⌜ (end ≤ length (now out)) × (Kept (now few) (readText newer (lookOf true (now list)) (now text)) end) ⌝ }
+    ensures { λ _. ⌜ now (out .exit) ≡ written (itemsGot (readText newer (lookOf true (now (list .entry))) (now (text .entry)))) (now (out .entry)) ⌝ }
 {
     if end <= few.len() {
         item::put_items(&few[..end], out, 0);
     } else {
-        paths(text, list, starts, count, true, out);
+        paths(text, list, starts, count, true, out, newer);
     }
 }
 
-// Reads a query: writes its items and answers their number, or refuses and writes nothing.
-pub fn read(text: &[u8], list: &[u8], out: &mut [u32]) -> Answer
-    ensures { λ r. ⌜ told r ≡ readAnswer (now (text .entry)) (now (list .entry)) (length (now (out .entry))) ⌝ }
-    ensures { λ _. ⌜ now (out .exit) ≡ readOut (now (text .entry)) (now (list .entry)) (now (out .entry)) ⌝ }
+// Reads a query by a version of XPath, 1 or 2: writes its items and answers their number, or refuses and writes nothing.
+pub fn read(text: &[u8], version: u32, list: &[u8], out: &mut [u32]) -> Answer
+    ensures { λ r. ⌜ told r ≡ readAnswer (now (text .entry)) version (now (list .entry)) (length (now (out .entry))) ⌝ }
+    ensures { λ _. ⌜ now (out .exit) ≡ readOut (now (text .entry)) version (now (list .entry)) (now (out .entry)) ⌝ }
 {
     if paper::TEXT_LIMIT < text.len() {
         return Answer::TooLong;
     }
     if paper::LIST_LIMIT < list.len() {
+        return Answer::TooLong;
+    }
+    let known = (version == 1) | (version == 2);
+    if !known {
         return Answer::TooLong;
     }
     let mut starts = [0u16; names::STARTS];
@@ -756,9 +827,10 @@ pub fn read(text: &[u8], list: &[u8], out: &mut [u32]) -> Answer
         Listed::Bad(start) => Answer::BadName(start),
         Listed::Good(count) => {
             let mut few = [0u32; FEW];
-            let said = answer(text, list, &starts, count, &mut few, out.len());
+            let newer = version == 2;
+            let said = answer(text, list, &starts, count, &mut few, out.len(), newer);
             if let Answer::Value(end) = said {
-                write(text, list, &starts, count, &few, end, out);
+                write(text, list, &starts, count, &few, end, out, newer);
             }
             said
         }

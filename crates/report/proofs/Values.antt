@@ -94,12 +94,12 @@ module _ (n : ℕ) (old out : List ℕ) where
         starts = starts;
       }
 
-  pub read-gives : (text list : List ℕ) → value n ≡ readAnswer text list (length old) → out ≡ readOut text list old → Gives (readItems text list) n (length old) out
+  pub read-gives : (text list : List ℕ) → value n ≡ readAnswer text 1 list (length old) → out ≡ readOut text 1 list old → Gives (readItems text 1 list) n (length old) out
   unfolding readAnswer readItems readOut
   read-gives text list e w =
-      let second = line-value 1 n (when (tooLong text textLimit || tooLong list listLimit) 0) _ (sym e) .1 in
+      let second = line-value 1 n (when (tooLong text textLimit || tooLong list listLimit || false) 0) _ (sym e) .1 in
       let third = line-value 2 n (namesFault list) _ second .1 in
-      gives (readItems text list) (read-lines n (length old) (readText (numberOf (namesOf list)) text) (got-value n (readText anyName text) _ third)) (rw (sym e) at w)
+      gives (readItems text 1 list) (read-lines n (length old) (readText false (numberOf (namesOf list)) text) (got-value n (readText false anyName text) _ third)) (rw (sym e) at w)
 
   pub compose-gives : (outer inner : List ℕ) → value n ≡ composeAnswer outer inner (length old) → out ≡ composeOut outer inner old
       → Gives (composedGot (decode outer) (decode inner)) n (length old) out

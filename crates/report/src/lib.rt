@@ -9,6 +9,8 @@ ghost use Rattle.lines.specs.Lines.{reportLimit, Reports};
 
 // The most bytes of an input.
 pub const INPUT_LIMIT: usize = 49152;
+// The version of XPath that the program reads by.
+const VERSION: u32 = 1;
 // No report has more bytes beside the text of a query.
 const LINE_ROOM: usize = 64;
 // No report has more bytes.
@@ -62,12 +64,12 @@ fn report_texts(outer: &[u8], inner: &[u8], list: &[u8], out: &mut [u8]) -> usiz
     ensures { λ r. ⌜ Reports (textsPrint (now (outer .entry)) (now (inner .entry)) (now (list .entry))) reportLimit (now (out .entry)) (now (out .exit)) r ⌝ }
 {
     let mut outer_room = [0u32; paper::ITEM_LIMIT];
-    let outer_answer = read::read(outer, list, &mut outer_room);
+    let outer_answer = read::read(outer, VERSION, list, &mut outer_room);
     let Answer::Value(outer_size) = outer_answer else {
         return lines::put_refusal(out, b"outer", outer_answer);
     };
     let mut inner_room = [0u32; paper::ITEM_LIMIT];
-    let inner_answer = read::read(inner, list, &mut inner_room);
+    let inner_answer = read::read(inner, VERSION, list, &mut inner_room);
     let Answer::Value(inner_size) = inner_answer else {
         return lines::put_refusal(out, b"inner", inner_answer);
     };

@@ -30,30 +30,30 @@ at-end (t ∷ []) h s = ap (λ x. tok (t .place) x ∷ []) (sym (same-sort finis
 at-end (t ∷ u ∷ us) h s = absurd (false≢true (rw s at h))
 
 -- ACCEPTED EXACTLY IF DERIVED.
-pub derived-if : (look : List ℕ → Option ℕ) (d : ℕ) (ts : List Placed) (q : Query) (left : List Placed) → ended ts ≡ true → reading look d ts ≡ got q left
-    → Derives look d ts q × (left ≡ [])
-derived-if look d ts q left n h =
-    let r = paths-got look (readWithin look d) (Within look d) (within-got look d) (length ts) ts q left h in
-    let e : r .0 ≡ tok (at (r .0)) finish ∷ [] = at-end (r .0) (sym (leaves-ended (query-leaves look (Within look d) (within-leaves look d) (r .1))) ∙ n) (r .2) in
-    ((at (r .0), subst (λ m. QueryIn look (Within look d) ts q m) e (r .1)), sym (r .3) ∙ ap (drop 1) e)
+pub derived-if : (newer : Bool) (look : List ℕ → Option ℕ) (d : ℕ) (ts : List Placed) (q : Query) (left : List Placed) → ended ts ≡ true → reading newer look d ts ≡ got q left
+    → Derives newer look d ts q × (left ≡ [])
+derived-if newer look d ts q left n h =
+    let r = paths-got newer look (readWithin newer look d) (Within newer look d) (within-got newer look d) (length ts) ts q left h in
+    let e : r .0 ≡ tok (at (r .0)) finish ∷ [] = at-end (r .0) (sym (leaves-ended (query-leaves newer look (Within newer look d) (within-leaves newer look d) (r .1))) ∙ n) (r .2) in
+    ((at (r .0), subst (λ m. QueryIn newer look (Within newer look d) ts q m) e (r .1)), sym (r .3) ∙ ap (drop 1) e)
 
-pub read-if : (look : List ℕ → Option ℕ) (d most : ℕ) (ts : List Placed) (q : Query) → d ≤ most → Derives look d ts q → reading look most ts ≡ got q []
+pub read-if : (newer : Bool) (look : List ℕ → Option ℕ) (d most : ℕ) (ts : List Placed) (q : Query) → d ≤ most → Derives newer look d ts q → reading newer look most ts ≡ got q []
 unfolding allPaths
-read-if look d most ts q l (p, i) =
+read-if newer look d most ts q l (p, i) =
     exactly
-    (query-read ⊥ look (readWithin look most) (Within look d) (Within look most) (within-got look most) (within-leaves look most)
-    (λ p us e rest j c. within-read ⊥ look d most p (inr l) us e rest j c) i p [] refl)
+    (query-read ⊥ newer look (readWithin newer look most) (Within newer look d) (Within newer look most) (within-got newer look most) (within-leaves newer look most)
+    (λ p us e rest j c. within-read ⊥ newer look d most p (inr l) us e rest j c) i p [] refl)
   where
-    exactly : Comes ⊥ (reading look most ts) (got q []) → reading look most ts ≡ got q []
+    exactly : Comes ⊥ (reading newer look most ts) (got q []) → reading newer look most ts ≡ got q []
     exactly (comes e) = e
     exactly (runs-short n e) = absurd n
 
 pub accepted : Accepted
-accepted look d ts q n = (λ h. derived-if look d ts q [] n h .0, λ i. read-if look d d ts q (omega arith) i)
+accepted newer look d ts q n = (λ h. derived-if newer look d ts q [] n h .0, λ i. read-if newer look d d ts q (omega arith) i)
 
 -- UNIQUE.
 pub unique : Unique
-unique look c d ts q r i j = got-value (sym (read-if look c (max c d) ts q (omega arith) i) ∙ read-if look d (max c d) ts r (omega arith) j)
+unique newer look c d ts q r i j = got-value (sym (read-if newer look c (max c d) ts q (omega arith) i) ∙ read-if newer look d (max c d) ts r (omega arith) j)
 
 -- The end of the text is the last of its tokens, and no other.
 pub either-way : {A : Type 0} (P : A → Type 0) (b : Bool) {x y : A} → P x → P y → P (cond b x y)
@@ -88,8 +88,8 @@ tokens-ended text = from-ended 0 0 text
 -- So with texts.
 pub accepted-text : AcceptedText
 unfolding readText
-accepted-text look text q = accepted look bracketLimit (tokens text) q (tokens-ended text)
+accepted-text newer look text q = accepted newer look bracketLimit (tokens text) q (tokens-ended text)
 
 pub all-read : AllRead
 unfolding readText
-all-read look text q left h = derived-if look bracketLimit (tokens text) q left (tokens-ended text) h .1
+all-read newer look text q left h = derived-if newer look bracketLimit (tokens text) q left (tokens-ended text) h .1

@@ -20,7 +20,7 @@ use Rattle.paper.specs.Document.{Table, nodes, goodNode, tableFault, goodMark, 
 use Rattle.paper.specs.Selection.{kept}
 use Rattle.paper.specs.Reading.{Got, got, refused, readText}
 use Rattle.paper.specs.Composition.{composed}
-use Rattle.paper.specs.Answers.{Answer, value, line, lineQuery, lineGot, tooLong, anyName, readAnswer, unknownFrom, printAnswer, composeAnswer, scratchOf, markedCount, runAnswer, extractAnswer}
+use Rattle.paper.specs.Answers.{Answer, value, line, lineQuery, lineGot, tooLong, isNewer, noVersion, anyName, readAnswer, unknownFrom, printAnswer, composeAnswer, scratchOf, markedCount, runAnswer, extractAnswer}
 use Rattle.paper.specs.Room.{measureAnswer, heightAnswer, pathCount, pathsAnswer, scratchAnswer}
 use Rattle.paper.proofs.Tests.{none-some, some-inj}
 use Rattle.paper.proofs.Refusing.{or-none}
@@ -148,16 +148,20 @@ print-small query list room =
     (small-room needed (ltb room needed) few))))
 
 -- READ.
-pub read-small : (text list : List ℕ) (room : ℕ) → Small (readAnswer text list room)
+pub read-small : (text : List ℕ) (version : ℕ) (list : List ℕ) (room : ℕ) → Small (readAnswer text version list room)
 unfolding readAnswer
-read-small text list room =
-    small-lists text list textLimit listLimit _
-    (λ few bytes.
+read-small text version list room =
+    let newer = isNewer version in
+    small-when 1 0 (tooLong text textLimit || tooLong list listLimit || noVersion version) _ (omega arith)
+    (λ h.
+    let lists = or-none (tooLong text textLimit || tooLong list listLimit) (noVersion version) h .0 in
+    let few = ltb-false textLimit (length text) (or-none (tooLong text textLimit) (tooLong list listLimit) lists .0) in
+    let bytes = ltb-false listLimit (length list) (or-none (tooLong text textLimit) (tooLong list listLimit) lists .1) in
     let look = numberOf (namesOf list) in
     small-line 2 (namesFault list) _ (λ p e. omega (arith, fault-within list p e))
-    (small-got text (readText anyName text) _ few (text-bounded anyName text)
+    (small-got text (readText newer anyName text) _ few (text-bounded newer anyName text)
     (λ any a.
-    small-got text (readText look text) _ few (text-bounded look text)
+    small-got text (readText newer look text) _ few (text-bounded newer look text)
     (λ q b.
     let sized : size q < 4294967296 = omega arith in
     small-room (size q) (ltb room (size q) || ltb itemLimit (size q)) sized))))

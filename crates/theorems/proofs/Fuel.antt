@@ -7,46 +7,46 @@ use mathlib.Core.Bool.{Bool, true, false, cond}
 use mathlib.Core.List.{List, [], _∷_}
 use mathlib.Core.Option.{Option}
 use lib.ListN.{length, drop, length-drop}
-use Rattle.paper.specs.Tokens.{slash, slashes, bar, openSquare, closeSquare, finish, Placed}
+use Rattle.paper.specs.Tokens.{slash, slashes, openSquare, closeSquare, finish, Placed}
 use Rattle.paper.specs.Query.{Expr, Steps, stop, Preds, bare, pred, Query, paths}
-use Rattle.paper.specs.Reading.{Got, got, refused, then, at, sees, says, pass, before, deep}
+use Rattle.paper.specs.Reading.{Got, got, refused, then, at, sees, says, pass, before, deep, joins}
 use Rattle.paper.specs.Reading.{readPreds, readTested, readStep, readSteps, readPath, readPaths}
 use Rattle.theorems.proofs.Leaving.{Leaves, leaves-less, step-leaves, operand-leaves, term-leaves, path-leaves}
 use Rattle.theorems.proofs.Runs.{Run, spelling, andRun, orRun}
 use Rattle.theorems.proofs.Sound.{closed-got, step-got, operand-got, term-got, path-got}
 
 -- The readers with a bound of all tokens left.
-module _ (look : List ℕ → Option ℕ) (within : ℕ → List Placed → Got Expr) where
+module _ (newer : Bool) (look : List ℕ → Option ℕ) (within : ℕ → List Placed → Got Expr) where
   unfoldable pub allPreds : List Placed → Got Preds
-  allPreds ts = readPreds look within (length ts) ts
+  allPreds ts = readPreds newer look within (length ts) ts
 
   unfoldable pub allSteps : List Placed → Got Steps
-  allSteps ts = readSteps look within (length ts) ts
+  allSteps ts = readSteps newer look within (length ts) ts
 
   unfoldable pub allPaths : List Placed → Got Query
-  allPaths ts = readPaths look within (length ts) ts
+  allPaths ts = readPaths newer look within (length ts) ts
 
 unfoldable pub allRun : Run → Expr → List Placed → Got Expr
 allRun run a ts = run .more (length ts) a ts
 
 -- One turn of each, which goes on with another reader.
-module _ (look : List ℕ → Option ℕ) (within : ℕ → List Placed → Got Expr) where
+module _ (newer : Bool) (look : List ℕ → Option ℕ) (within : ℕ → List Placed → Got Expr) where
   abbrev pub predsTurn : (List Placed → Got Preds) → List Placed → Got Preds
   predsTurn more ts =
       cond (sees openSquare ts) (then (then (within (at ts) (drop 1 ts)) (pass closeSquare)) (λ e left. then (more left) (λ ps. got (pred e ps)))) (got bare ts)
 
   abbrev pub stepsTurn : (List Placed → Got Steps) → List Placed → Got Steps
   stepsTurn more ts =
-      then (readStep look within ts)
+      then (readStep newer look within ts)
       (λ s left.
       cond (sees slash left) (then (more (drop 1 left)) (λ rest. got (before s rest)))
       (cond (sees slashes left) (then (more (drop 1 left)) (λ rest. got (before s (deep rest)))) (got (before s stop) left)))
 
   abbrev pub pathsTurn : (List Placed → Got Query) → List Placed → Got Query
   pathsTurn more ts =
-      then (readPath look within ts)
+      then (readPath newer look within ts)
       (λ p left.
-      cond (sees bar left) (then (more (drop 1 left)) (λ q. got (record { first = p; others = paths q }))) (pass finish (record { first = p; others = [] }) left))
+      cond (joins newer left) (then (more (drop 1 left)) (λ q. got (record { first = p; others = paths q }))) (pass finish (record { first = p; others = [] }) left))
 
 abbrev pub runTurn : Run → (Expr → List Placed → Got Expr) → Expr → List Placed → Got Expr
 runTurn run more a ts = cond (says (spelling run) ts) (then (run .one (drop 1 ts)) (λ b. more (run .join a b))) (got a ts)
@@ -91,60 +91,60 @@ run-on run less =
     (then-same (run .one (drop 1 ts)) _ _ (λ b left u. same (run .join a b) left (omega (arith, less (drop 1 ts) b left u, length-drop 1 ts))))
     refl)
 
-module _ (look : List ℕ → Option ℕ) (within : ℕ → List Placed → Got Expr) (Inside : List Placed → Expr → List Placed → Type 0)
+module _ (newer : Bool) (look : List ℕ → Option ℕ) (within : ℕ → List Placed → Got Expr) (Inside : List Placed → Expr → List Placed → Type 0)
     (sound : (p : ℕ) (ts : List Placed) (e : Expr) (left : List Placed) → within p ts ≡ got e left → Inside ts e left)
     (leaves : (ts : List Placed) (e : Expr) (rest : List Placed) → Inside ts e rest → Leaves ts rest) where
   -- A turn goes on with fewer tokens than it was given.
-  preds-same : (f g : List Placed → Got Preds) (ts : List Placed) → ((left : List Placed) → length left ≤ length ts - 1 → f left ≡ g left) → predsTurn look within f ts ≡ predsTurn look within g ts
+  preds-same : (f g : List Placed → Got Preds) (ts : List Placed) → ((left : List Placed) → length left ≤ length ts - 1 → f left ≡ g left) → predsTurn newer look within f ts ≡ predsTurn newer look within g ts
   preds-same f g ts same =
       cond-same (sees openSquare ts)
       (then-same (then (within (at ts) (drop 1 ts)) (pass closeSquare)) _ _
       (λ e left u.
-      let i = closed-got look within Inside sound closeSquare refl (λ w. refl) (at ts) (drop 1 ts) e left u in
+      let i = closed-got newer look within Inside sound closeSquare refl (λ w. refl) (at ts) (drop 1 ts) e left u in
       let less : suc (length left) ≤ length (drop 1 ts) = leaves-less (leaves _ _ _ (i .1)) in
       let one : length (drop 1 ts) ≡ length ts - 1 = length-drop 1 ts in
       ap (λ r. then r (λ ps. got (pred e ps))) (same left (omega arith))))
       refl
 
-  steps-same : (f g : List Placed → Got Steps) (ts : List Placed) → ((left : List Placed) → length left ≤ length ts - 1 → f left ≡ g left) → stepsTurn look within f ts ≡ stepsTurn look within g ts
+  steps-same : (f g : List Placed → Got Steps) (ts : List Placed) → ((left : List Placed) → length left ≤ length ts - 1 → f left ≡ g left) → stepsTurn newer look within f ts ≡ stepsTurn newer look within g ts
   steps-same f g ts same =
-      then-same (readStep look within ts) _ _
+      then-same (readStep newer look within ts) _ _
       (λ s left u.
-      let less : length left ≤ length ts = leaves-less (step-leaves look Inside leaves (step-got look within Inside sound ts s left u)) in
+      let less : length left ≤ length ts = leaves-less (step-leaves newer look Inside leaves (step-got newer look within Inside sound ts s left u)) in
       let one : length (drop 1 left) ≡ length left - 1 = length-drop 1 left in
       let e = same (drop 1 left) (omega arith) in
       cond-same (sees slash left) (ap (λ r. then r (λ rest. got (before s rest))) e)
       (cond-same (sees slashes left) (ap (λ r. then r (λ rest. got (before s (deep rest)))) e) refl))
 
-  paths-same : (f g : List Placed → Got Query) (ts : List Placed) → ((left : List Placed) → length left ≤ length ts - 1 → f left ≡ g left) → pathsTurn look within f ts ≡ pathsTurn look within g ts
+  paths-same : (f g : List Placed → Got Query) (ts : List Placed) → ((left : List Placed) → length left ≤ length ts - 1 → f left ≡ g left) → pathsTurn newer look within f ts ≡ pathsTurn newer look within g ts
   paths-same f g ts same =
-      then-same (readPath look within ts) _ _
+      then-same (readPath newer look within ts) _ _
       (λ p left u.
-      let less : length left ≤ length ts = leaves-less (path-leaves look Inside leaves (path-got look within Inside sound ts p left u)) in
+      let less : length left ≤ length ts = leaves-less (path-leaves newer look Inside leaves (path-got newer look within Inside sound ts p left u)) in
       let one : length (drop 1 left) ≡ length left - 1 = length-drop 1 left in
-      cond-same (sees bar left) (ap (λ r. then r (λ q. got (record { first = p; others = paths q }))) (same (drop 1 left) (omega arith))) refl)
+      cond-same (joins newer left) (ap (λ r. then r (λ q. got (record { first = p; others = paths q }))) (same (drop 1 left) (omega arith))) refl)
 
   -- How each goes on.
-  pub preds-on : (ts : List Placed) → allPreds look within ts ≡ predsTurn look within (allPreds look within) ts
+  pub preds-on : (ts : List Placed) → allPreds newer look within ts ≡ predsTurn newer look within (allPreds newer look within) ts
   unfolding allPreds
   preds-on ts =
-      unbounded {X = Unit {0}} (λ n x us. readPreds look within n us) (λ f x us. predsTurn look within (f tt) us) (λ n x us. refl) (λ n x. refl)
+      unbounded {X = Unit {0}} (λ n x us. readPreds newer look within n us) (λ f x us. predsTurn newer look within (f tt) us) (λ n x us. refl) (λ n x. refl)
       (λ f g x us same. preds-same (f tt) (g tt) us (λ left l. same tt left l)) tt ts
 
-  pub steps-on : (ts : List Placed) → allSteps look within ts ≡ stepsTurn look within (allSteps look within) ts
+  pub steps-on : (ts : List Placed) → allSteps newer look within ts ≡ stepsTurn newer look within (allSteps newer look within) ts
   unfolding allSteps readStep readTested
   steps-on ts =
-      unbounded {X = Unit {0}} (λ n x us. readSteps look within n us) (λ f x us. stepsTurn look within (f tt) us) (λ n x us. refl) (λ n x. refl)
+      unbounded {X = Unit {0}} (λ n x us. readSteps newer look within n us) (λ f x us. stepsTurn newer look within (f tt) us) (λ n x us. refl) (λ n x. refl)
       (λ f g x us same. steps-same (f tt) (g tt) us (λ left l. same tt left l)) tt ts
 
-  pub ands-on : (a : Expr) (ts : List Placed) → allRun (andRun look within) a ts ≡ runTurn (andRun look within) (allRun (andRun look within)) a ts
-  ands-on = run-on (andRun look within) (λ ts b left u. leaves-less (operand-leaves look Inside leaves (operand-got look within Inside sound ts b left u)))
+  pub ands-on : (a : Expr) (ts : List Placed) → allRun (andRun newer look within) a ts ≡ runTurn (andRun newer look within) (allRun (andRun newer look within)) a ts
+  ands-on = run-on (andRun newer look within) (λ ts b left u. leaves-less (operand-leaves newer look Inside leaves (operand-got newer look within Inside sound ts b left u)))
 
-  pub ors-on : (a : Expr) (ts : List Placed) → allRun (orRun look within) a ts ≡ runTurn (orRun look within) (allRun (orRun look within)) a ts
-  ors-on = run-on (orRun look within) (λ ts b left u. leaves-less (term-leaves look Inside leaves (term-got look within Inside sound ts b left u)))
+  pub ors-on : (a : Expr) (ts : List Placed) → allRun (orRun newer look within) a ts ≡ runTurn (orRun newer look within) (allRun (orRun newer look within)) a ts
+  ors-on = run-on (orRun newer look within) (λ ts b left u. leaves-less (term-leaves newer look Inside leaves (term-got newer look within Inside sound ts b left u)))
 
-  pub paths-on : (ts : List Placed) → allPaths look within ts ≡ pathsTurn look within (allPaths look within) ts
+  pub paths-on : (ts : List Placed) → allPaths newer look within ts ≡ pathsTurn newer look within (allPaths newer look within) ts
   unfolding allPaths readPath
   paths-on ts =
-      unbounded {X = Unit {0}} (λ n x us. readPaths look within n us) (λ f x us. pathsTurn look within (f tt) us) (λ n x us. refl) (λ n x. refl)
+      unbounded {X = Unit {0}} (λ n x us. readPaths newer look within n us) (λ f x us. pathsTurn newer look within (f tt) us) (λ n x us. refl) (λ n x. refl)
       (λ f g x us same. paths-same (f tt) (g tt) us (λ left l. same tt left l)) tt ts

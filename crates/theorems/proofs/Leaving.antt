@@ -3,7 +3,7 @@
 use Prim.Native.Nat.{ℕ, zero, suc, _≤_}
 use native.Mathlib.Omega.{arith}
 use mathlib.Core.Path.{_≡_, refl}
-use mathlib.Core.Bool.{false}
+use mathlib.Core.Bool.{Bool, false}
 use mathlib.Core.List.{List, _∷_}
 use mathlib.Core.Option.{Option}
 use lib.ListN.{length}
@@ -11,9 +11,9 @@ use Rattle.paper.specs.Tokens.{finish, is, Placed}
 use Rattle.paper.specs.Query.{Test, Expr, Steps, Preds, Query}
 use Rattle.paper.specs.Reading.{Step}
 use Rattle.theorems.specs.Grammar.{PredsIn, no-pred, one-pred, TestIn, star-test, node-test, text-test, name-test}
-use Rattle.theorems.specs.Grammar.{StepIn, dot-step, dots-step, child-step, axis-step, StepsIn, last-step, slash-step, slashes-step}
+use Rattle.theorems.specs.Grammar.{DotIn, dot-alone, dot-preds, StepIn, dot-step, dots-step, child-step, axis-step, StepsIn, last-step, slash-step, slashes-step}
 use Rattle.theorems.specs.Grammar.{OperandIn, path-operand, round-operand, not-operand, TermIn, one-operand, and-operand, ExprIn, one-term, or-term}
-use Rattle.theorems.specs.Grammar.{PathIn, root-path, slash-path, slashes-path, QueryIn, one-path, bar-path, Within, ended}
+use Rattle.theorems.specs.Grammar.{PathIn, root-path, slash-path, slashes-path, bar-joins, union-joins, QueryIn, one-path, join-path, Within, ended}
 
 -- Tokens taken off the front, and no end of the text among them, leave the rest.
 pub data Leaves : List Placed → List Placed → Type 0 where
@@ -33,51 +33,56 @@ pub leaves-ended : {ts rest : List Placed} → Leaves ts rest → ended ts ≡ e
 leaves-ended nothing = refl
 leaves-ended (token n l) = rw n (leaves-ended l)
 
-module _ (look : List ℕ → Option ℕ) (Inside : List Placed → Expr → List Placed → Type 0)
+module _ (newer : Bool) (look : List ℕ → Option ℕ) (Inside : List Placed → Expr → List Placed → Type 0)
     (inside : (ts : List Placed) (e : Expr) (rest : List Placed) → Inside ts e rest → Leaves ts rest) where
-  preds-leaves : {ts rest : List Placed} {ps : Preds} → PredsIn look Inside ts ps rest → Leaves ts rest
+  preds-leaves : {ts rest : List Placed} {ps : Preds} → PredsIn newer look Inside ts ps rest → Leaves ts rest
   preds-leaves no-pred = nothing
   preds-leaves (one-pred i d) = token refl (leaves-then (inside _ _ _ i) (token refl (preds-leaves d)))
 
-  test-leaves : {ts rest : List Placed} {t : Test} → TestIn look Inside ts t rest → Leaves ts rest
+  test-leaves : {ts rest : List Placed} {t : Test} → TestIn newer look Inside ts t rest → Leaves ts rest
   test-leaves star-test = token refl nothing
   test-leaves node-test = token refl (token refl (token refl nothing))
   test-leaves text-test = token refl (token refl (token refl nothing))
   test-leaves (name-test h) = token refl nothing
 
-  pub step-leaves : {ts rest : List Placed} {s : Step} → StepIn look Inside ts s rest → Leaves ts rest
-  step-leaves dot-step = token refl nothing
-  step-leaves dots-step = token refl nothing
+  dot-leaves : {ts rest : List Placed} {ps : Preds} → DotIn newer look Inside ts ps rest → Leaves ts rest
+  dot-leaves dot-alone = nothing
+  dot-leaves (dot-preds n d) = preds-leaves d
+
+  pub step-leaves : {ts rest : List Placed} {s : Step} → StepIn newer look Inside ts s rest → Leaves ts rest
+  step-leaves (dot-step d) = token refl (dot-leaves d)
+  step-leaves (dots-step d) = token refl (dot-leaves d)
   step-leaves (child-step d f) = leaves-then (test-leaves d) (preds-leaves f)
   step-leaves (axis-step n d f) = token refl (token refl (leaves-then (test-leaves d) (preds-leaves f)))
 
-  steps-leaves : {ts rest : List Placed} {s : Steps} → StepsIn look Inside ts s rest → Leaves ts rest
+  steps-leaves : {ts rest : List Placed} {s : Steps} → StepsIn newer look Inside ts s rest → Leaves ts rest
   steps-leaves (last-step d) = step-leaves d
   steps-leaves (slash-step d f) = leaves-then (step-leaves d) (token refl (steps-leaves f))
   steps-leaves (slashes-step d f) = leaves-then (step-leaves d) (token refl (steps-leaves f))
 
-  pub operand-leaves : {ts rest : List Placed} {e : Expr} → OperandIn look Inside ts e rest → Leaves ts rest
+  pub operand-leaves : {ts rest : List Placed} {e : Expr} → OperandIn newer look Inside ts e rest → Leaves ts rest
   operand-leaves (path-operand d) = steps-leaves d
   operand-leaves (round-operand i) = token refl (leaves-then (inside _ _ _ i) (token refl nothing))
   operand-leaves (not-operand i) = token refl (token refl (leaves-then (inside _ _ _ i) (token refl nothing)))
 
-  pub term-leaves : {ts rest : List Placed} {e : Expr} → TermIn look Inside ts e rest → Leaves ts rest
+  pub term-leaves : {ts rest : List Placed} {e : Expr} → TermIn newer look Inside ts e rest → Leaves ts rest
   term-leaves (one-operand d) = operand-leaves d
   term-leaves (and-operand d f) = leaves-then (term-leaves d) (token refl (operand-leaves f))
 
-  expr-leaves : {ts rest : List Placed} {e : Expr} → ExprIn look Inside ts e rest → Leaves ts rest
+  expr-leaves : {ts rest : List Placed} {e : Expr} → ExprIn newer look Inside ts e rest → Leaves ts rest
   expr-leaves (one-term d) = term-leaves d
   expr-leaves (or-term d f) = leaves-then (expr-leaves d) (token refl (term-leaves f))
 
-  pub path-leaves : {ts rest : List Placed} {s : Steps} → PathIn look Inside ts s rest → Leaves ts rest
+  pub path-leaves : {ts rest : List Placed} {s : Steps} → PathIn newer look Inside ts s rest → Leaves ts rest
   path-leaves root-path = token refl nothing
   path-leaves (slash-path d) = token refl (steps-leaves d)
   path-leaves (slashes-path d) = token refl (steps-leaves d)
 
-  pub query-leaves : {ts rest : List Placed} {q : Query} → QueryIn look Inside ts q rest → Leaves ts rest
+  pub query-leaves : {ts rest : List Placed} {q : Query} → QueryIn newer look Inside ts q rest → Leaves ts rest
   query-leaves (one-path d) = path-leaves d
-  query-leaves (bar-path d f) = leaves-then (path-leaves d) (token refl (query-leaves f))
+  query-leaves (join-path bar-joins d f) = leaves-then (path-leaves d) (token refl (query-leaves f))
+  query-leaves (join-path (union-joins n l) d f) = leaves-then (path-leaves d) (token refl (query-leaves f))
 
-pub within-leaves : (look : List ℕ → Option ℕ) (d : ℕ) (ts : List Placed) (e : Expr) (rest : List Placed) → Within look d ts e rest → Leaves ts rest
-within-leaves look zero ts e rest i = absurd i
-within-leaves look (suc d) ts e rest i = expr-leaves look (Within look d) (within-leaves look d) i
+pub within-leaves : (newer : Bool) (look : List ℕ → Option ℕ) (d : ℕ) (ts : List Placed) (e : Expr) (rest : List Placed) → Within newer look d ts e rest → Leaves ts rest
+within-leaves newer look zero ts e rest i = absurd i
+within-leaves newer look (suc d) ts e rest i = expr-leaves newer look (Within newer look d) (within-leaves newer look d) i

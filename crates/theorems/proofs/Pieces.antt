@@ -3,6 +3,7 @@
 use Prim.Native.Nat.{ℕ, zero, suc, _+_}
 use native.Mathlib.Omega.{arith}
 use mathlib.Core.Path.{_≡_, refl, sym, _∙_, ap}
+use mathlib.Core.Bool.{Bool}
 use mathlib.Core.List.{List, [], _∷_, _++_, append-assoc}
 use mathlib.Core.Option.{Option}
 use Rattle.paper.specs.Tools.{ascii}
@@ -10,7 +11,7 @@ use Rattle.paper.specs.Tokens.{slash, slashes, dot, dots, colons, openSquare, c
 use Rattle.paper.specs.Query.{Test, Expr, Steps, Preds}
 use Rattle.paper.specs.Reading.{Step}
 use Rattle.theorems.specs.Grammar.{tok, PredsIn, no-pred, one-pred, TestIn, star-test, node-test, text-test, name-test}
-use Rattle.theorems.specs.Grammar.{StepIn, dot-step, dots-step, child-step, axis-step, StepsIn, last-step, slash-step, slashes-step}
+use Rattle.theorems.specs.Grammar.{DotIn, dot-alone, dot-preds, StepIn, dot-step, dots-step, child-step, axis-step, StepsIn, last-step, slash-step, slashes-step}
 use Rattle.theorems.specs.Grammar.{OperandIn, path-operand, round-operand, not-operand, TermIn, one-operand, and-operand, ExprIn, one-term, or-term}
 use Rattle.theorems.specs.Grammar.{PathIn, root-path, slash-path, slashes-path, Within, opened, closed}
 
@@ -78,9 +79,9 @@ two-pieces between f made made′ a b =
       deeper = λ us. made′ (a .put (between (b .put us))) (b .put us) us (a .deeper (between (b .put us))) (b .deeper us);
     }
 
-module _ (look : List ℕ → Option ℕ) (Inside More : List Placed → Expr → List Placed → Type 0)
+module _ (newer : Bool) (look : List ℕ → Option ℕ) (Inside More : List Placed → Expr → List Placed → Type 0)
     (inside : (ts : List Placed) (e : Expr) (rest : List Placed) → Inside ts e rest → Piece Inside More ts e rest) where
-  pub preds-piece : {ts rest : List Placed} {ps : Preds} → PredsIn look Inside ts ps rest → Piece (PredsIn look Inside) (PredsIn look More) ts ps rest
+  pub preds-piece : {ts rest : List Placed} {ps : Preds} → PredsIn newer look Inside ts ps rest → Piece (PredsIn newer look Inside) (PredsIn newer look More) ts ps rest
   preds-piece no-pred = record { put = λ us. us; front = front-none; split = refl; here = λ us. no-pred; deeper = λ us. no-pred }
   preds-piece (one-pred {p = p} {q = q} i d) =
       let e = inside _ _ _ i in
@@ -93,9 +94,9 @@ module _ (look : List ℕ → Option ℕ) (Inside More : List Placed → Expr �
         deeper = λ us. one-pred (e .deeper (tok q closeSquare ∷ f .put us)) (f .deeper us);
       }
 
-  call-piece : {rest : List Placed} {t : Test} (w : List ℕ) (p q r : ℕ) → ((us : List Placed) → TestIn look Inside (tok p (word w) ∷ tok q openRound ∷ tok r closeRound ∷ us) t us)
-      → ((us : List Placed) → TestIn look More (tok p (word w) ∷ tok q openRound ∷ tok r closeRound ∷ us) t us)
-      → Piece (TestIn look Inside) (TestIn look More) (tok p (word w) ∷ tok q openRound ∷ tok r closeRound ∷ rest) t rest
+  call-piece : {rest : List Placed} {t : Test} (w : List ℕ) (p q r : ℕ) → ((us : List Placed) → TestIn newer look Inside (tok p (word w) ∷ tok q openRound ∷ tok r closeRound ∷ us) t us)
+      → ((us : List Placed) → TestIn newer look More (tok p (word w) ∷ tok q openRound ∷ tok r closeRound ∷ us) t us)
+      → Piece (TestIn newer look Inside) (TestIn newer look More) (tok p (word w) ∷ tok q openRound ∷ tok r closeRound ∷ rest) t rest
   call-piece w p q r here deeper =
       record {
         put = λ us. tok p (word w) ∷ tok q openRound ∷ tok r closeRound ∷ us;
@@ -105,16 +106,22 @@ module _ (look : List ℕ → Option ℕ) (Inside More : List Placed → Expr �
         deeper = deeper;
       }
 
-  test-piece : {ts rest : List Placed} {t : Test} → TestIn look Inside ts t rest → Piece (TestIn look Inside) (TestIn look More) ts t rest
+  test-piece : {ts rest : List Placed} {t : Test} → TestIn newer look Inside ts t rest → Piece (TestIn newer look Inside) (TestIn newer look More) ts t rest
   test-piece (star-test {p = p}) = record { put = λ us. tok p star ∷ us; front = front-cons (tok p star) refl refl front-none; split = refl; here = λ us. star-test; deeper = λ us. star-test }
   test-piece (node-test {p = p} {q = q} {r = r}) = call-piece (ascii "node") p q r (λ us. node-test) (λ us. node-test)
   test-piece (text-test {p = p} {q = q} {r = r}) = call-piece (ascii "text") p q r (λ us. text-test) (λ us. text-test)
   test-piece (name-test {p = p} {w = w} h) =
       record { put = λ us. tok p (word w) ∷ us; front = front-cons (tok p (word w)) refl refl front-none; split = refl; here = λ us. name-test h; deeper = λ us. name-test h }
 
-  pub step-piece : {ts rest : List Placed} {s : Step} → StepIn look Inside ts s rest → Piece (StepIn look Inside) (StepIn look More) ts s rest
-  step-piece (dot-step {p = p}) = record { put = λ us. tok p dot ∷ us; front = front-cons (tok p dot) refl refl front-none; split = refl; here = λ us. dot-step; deeper = λ us. dot-step }
-  step-piece (dots-step {p = p}) = record { put = λ us. tok p dots ∷ us; front = front-cons (tok p dots) refl refl front-none; split = refl; here = λ us. dots-step; deeper = λ us. dots-step }
+  dot-piece : {ts rest : List Placed} {ps : Preds} → DotIn newer look Inside ts ps rest → Piece (DotIn newer look Inside) (DotIn newer look More) ts ps rest
+  dot-piece dot-alone = record { put = λ us. us; front = front-none; split = refl; here = λ us. dot-alone; deeper = λ us. dot-alone }
+  dot-piece (dot-preds v d) = wrapped-piece (λ us. us) (λ us. us) (λ h f. f) (λ us vs a. dot-preds v a) (λ us vs a. dot-preds v a) (preds-piece d)
+
+  pub step-piece : {ts rest : List Placed} {s : Step} → StepIn newer look Inside ts s rest → Piece (StepIn newer look Inside) (StepIn newer look More) ts s rest
+  step-piece (dot-step {p = p} d) =
+      wrapped-piece (λ us. tok p dot ∷ us) (λ us. us) (λ h f. front-cons (tok p dot) refl refl f) (λ us vs a. dot-step a) (λ us vs a. dot-step a) (dot-piece d)
+  step-piece (dots-step {p = p} d) =
+      wrapped-piece (λ us. tok p dots ∷ us) (λ us. us) (λ h f. front-cons (tok p dots) refl refl f) (λ us vs a. dots-step a) (λ us vs a. dots-step a) (dot-piece d)
   step-piece (child-step d f) = two-pieces (λ us. us) front-none (λ vs ws rs a b. child-step a b) (λ vs ws rs a b. child-step a b) (test-piece d) (preds-piece f)
   step-piece (axis-step {p = p} {q = q} {w = w} n d f) =
       let a = test-piece d in
@@ -127,14 +134,14 @@ module _ (look : List ℕ → Option ℕ) (Inside More : List Placed → Expr �
         deeper = λ us. axis-step n (a .deeper (b .put us)) (b .deeper us);
       }
 
-  pub steps-piece : {ts rest : List Placed} {s : Steps} → StepsIn look Inside ts s rest → Piece (StepsIn look Inside) (StepsIn look More) ts s rest
+  pub steps-piece : {ts rest : List Placed} {s : Steps} → StepsIn newer look Inside ts s rest → Piece (StepsIn newer look Inside) (StepsIn newer look More) ts s rest
   steps-piece (last-step d) = wrapped-piece (λ us. us) (λ us. us) (λ h f. f) (λ us vs a. last-step a) (λ us vs a. last-step a) (step-piece d)
   steps-piece (slash-step {p = p} d f) =
       two-pieces (λ us. tok p slash ∷ us) (front-cons (tok p slash) refl refl front-none) (λ vs ws rs a b. slash-step a b) (λ vs ws rs a b. slash-step a b) (step-piece d) (steps-piece f)
   steps-piece (slashes-step {p = p} d f) =
       two-pieces (λ us. tok p slashes ∷ us) (front-cons (tok p slashes) refl refl front-none) (λ vs ws rs a b. slashes-step a b) (λ vs ws rs a b. slashes-step a b) (step-piece d) (steps-piece f)
 
-  pub operand-piece : {ts rest : List Placed} {e : Expr} → OperandIn look Inside ts e rest → Piece (OperandIn look Inside) (OperandIn look More) ts e rest
+  pub operand-piece : {ts rest : List Placed} {e : Expr} → OperandIn newer look Inside ts e rest → Piece (OperandIn newer look Inside) (OperandIn newer look More) ts e rest
   operand-piece (path-operand d) = wrapped-piece (λ us. us) (λ us. us) (λ h f. f) (λ us vs a. path-operand a) (λ us vs a. path-operand a) (steps-piece d)
   operand-piece (round-operand {p = p} {q = q} i) =
       wrapped-piece (λ us. tok p openRound ∷ us) (λ us. tok q closeRound ∷ us) (λ h f. front-close (tok q closeRound) refl refl (front-open (tok p openRound) refl refl f))
@@ -144,25 +151,25 @@ module _ (look : List ℕ → Option ℕ) (Inside More : List Placed → Expr �
       (λ h f. front-cons (tok p (word (ascii "not"))) refl refl (front-close (tok r closeRound) refl refl (front-open (tok q openRound) refl refl f)))
       (λ us vs a. not-operand a) (λ us vs a. not-operand a) (inside _ _ _ i)
 
-  pub term-piece : {ts rest : List Placed} {e : Expr} → TermIn look Inside ts e rest → Piece (TermIn look Inside) (TermIn look More) ts e rest
+  pub term-piece : {ts rest : List Placed} {e : Expr} → TermIn newer look Inside ts e rest → Piece (TermIn newer look Inside) (TermIn newer look More) ts e rest
   term-piece (one-operand d) = wrapped-piece (λ us. us) (λ us. us) (λ h f. f) (λ us vs a. one-operand a) (λ us vs a. one-operand a) (operand-piece d)
   term-piece (and-operand {p = p} d f) =
       two-pieces (λ us. tok p (word (ascii "and")) ∷ us) (front-cons (tok p (word (ascii "and"))) refl refl front-none)
       (λ vs ws rs a b. and-operand a b) (λ vs ws rs a b. and-operand a b) (term-piece d) (operand-piece f)
 
-  pub expr-piece : {ts rest : List Placed} {e : Expr} → ExprIn look Inside ts e rest → Piece (ExprIn look Inside) (ExprIn look More) ts e rest
+  pub expr-piece : {ts rest : List Placed} {e : Expr} → ExprIn newer look Inside ts e rest → Piece (ExprIn newer look Inside) (ExprIn newer look More) ts e rest
   expr-piece (one-term d) = wrapped-piece (λ us. us) (λ us. us) (λ h f. f) (λ us vs a. one-term a) (λ us vs a. one-term a) (term-piece d)
   expr-piece (or-term {p = p} d f) =
       two-pieces (λ us. tok p (word (ascii "or")) ∷ us) (front-cons (tok p (word (ascii "or"))) refl refl front-none)
       (λ vs ws rs a b. or-term a b) (λ vs ws rs a b. or-term a b) (expr-piece d) (term-piece f)
 
-  pub path-piece : {ts rest : List Placed} {s : Steps} → PathIn look Inside ts s rest → Piece (PathIn look Inside) (PathIn look More) ts s rest
+  pub path-piece : {ts rest : List Placed} {s : Steps} → PathIn newer look Inside ts s rest → Piece (PathIn newer look Inside) (PathIn newer look More) ts s rest
   path-piece (root-path {p = p}) = record { put = λ us. tok p slash ∷ us; front = front-cons (tok p slash) refl refl front-none; split = refl; here = λ us. root-path; deeper = λ us. root-path }
   path-piece (slash-path {p = p} d) =
       wrapped-piece (λ us. tok p slash ∷ us) (λ us. us) (λ h f. front-cons (tok p slash) refl refl f) (λ us vs a. slash-path a) (λ us vs a. slash-path a) (steps-piece d)
   path-piece (slashes-path {p = p} d) =
       wrapped-piece (λ us. tok p slashes ∷ us) (λ us. us) (λ h f. front-cons (tok p slashes) refl refl f) (λ us vs a. slashes-path a) (λ us vs a. slashes-path a) (steps-piece d)
 
-pub within-piece : (look : List ℕ → Option ℕ) (d : ℕ) (ts : List Placed) (e : Expr) (rest : List Placed) → Within look d ts e rest → Piece (Within look d) (Within look (suc d)) ts e rest
-within-piece look zero ts e rest i = absurd i
-within-piece look (suc d) ts e rest i = expr-piece look (Within look d) (Within look (suc d)) (within-piece look d) i
+pub within-piece : (newer : Bool) (look : List ℕ → Option ℕ) (d : ℕ) (ts : List Placed) (e : Expr) (rest : List Placed) → Within newer look d ts e rest → Piece (Within newer look d) (Within newer look (suc d)) ts e rest
+within-piece newer look zero ts e rest i = absurd i
+within-piece newer look (suc d) ts e rest i = expr-piece newer look (Within newer look d) (Within newer look (suc d)) (within-piece newer look d) i

@@ -3,20 +3,20 @@
 use Prim.Native.Nat.{ℕ, zero, suc, _<_}
 use native.Mathlib.Omega.{arith}
 use mathlib.Core.Path.{_≡_, refl, sym, _∙_, ap, subst, subst₂}
-use mathlib.Core.Bool.{true, false≢true}
+use mathlib.Core.Bool.{Bool, true, false≢true}
 use mathlib.Core.List.{List, [], _∷_, _++_}
 use mathlib.Core.Logic.{_⊎_, inl}
 use mathlib.Core.Option.{Option}
 use Rattle.paper.specs.Limits.{bracketLimit}
 use Rattle.paper.specs.Answers.{anyName}
-use Rattle.paper.specs.Tokens.{finish, Placed, white, tokenAt, beyond, tokensFrom, tokens}
+use Rattle.paper.specs.Tokens.{Token, finish, Placed, white, tokenAt, beyond, tokensFrom, tokens}
 use Rattle.paper.specs.Query.{Test, Expr, Steps, Preds, Query}
 use Rattle.paper.specs.Reading.{Got, got, refused, at, Step, readWithin, readText}
-use Rattle.theorems.specs.Grammar.{tok, PredsIn, no-pred, one-pred, TestIn, star-test, node-test, text-test, name-test}
-use Rattle.theorems.specs.Grammar.{StepIn, dot-step, dots-step, child-step, axis-step, StepsIn, last-step, slash-step, slashes-step}
+use Rattle.theorems.specs.Grammar.{tok, lone, PredsIn, no-pred, one-pred, TestIn, star-test, node-test, text-test, name-test}
+use Rattle.theorems.specs.Grammar.{DotIn, dot-alone, dot-preds, StepIn, dot-step, dots-step, child-step, axis-step, StepsIn, last-step, slash-step, slashes-step}
 use Rattle.theorems.specs.Grammar.{OperandIn, path-operand, round-operand, not-operand, TermIn, one-operand, and-operand, ExprIn, one-term, or-term}
-use Rattle.theorems.specs.Grammar.{PathIn, root-path, slash-path, slashes-path, QueryIn, one-path, bar-path, Within, Derives, ended, reading, AllKnown, allBeyond, Rising, RefusedWrong, RefusedWrongText, RefusedDeep, RefusedDeepText}
-use Rattle.theorems.proofs.Sound.{within-got}
+use Rattle.theorems.specs.Grammar.{PathIn, root-path, slash-path, slashes-path, Joins, bar-joins, union-joins, QueryIn, one-path, join-path, Within, Derives, ended, reading, AllKnown, allBeyond, Rising, RefusedWrong, RefusedWrongText, RefusedDeep, RefusedDeepText}
+use Rattle.theorems.proofs.Sound.{steps-long, within-got}
 use Rattle.theorems.proofs.Leaving.{within-leaves}
 use Rattle.theorems.proofs.Fuel.{allPaths}
 use Rattle.theorems.proofs.Complete.{Comes, comes, runs-short, within-read, query-read}
@@ -26,71 +26,79 @@ use Rattle.theorems.proofs.Deep.{reached}
 use Rattle.theorems.proofs.Stands.{Bracket, opens, too-many, local-expr, Stops, Verdict, gets, stops, verdict}
 
 -- What is derived with some names is derived, as another query, with names that are all known.
-module _ (names look : List ℕ → Option ℕ) (known : AllKnown look) (Inside Other : List Placed → Expr → List Placed → Type 0)
+module _ (newer : Bool) (names look : List ℕ → Option ℕ) (known : AllKnown look) (Inside Other : List Placed → Expr → List Placed → Type 0)
     (inside : (ts : List Placed) (e : Expr) (rest : List Placed) → Inside ts e rest → (x : Expr) × Other ts x rest) where
-  preds-known : {ts rest : List Placed} {ps : Preds} → PredsIn names Inside ts ps rest → (x : Preds) × PredsIn look Other ts x rest
+  preds-known : {ts rest : List Placed} {ps : Preds} → PredsIn newer names Inside ts ps rest → (x : Preds) × PredsIn newer look Other ts x rest
   preds-known no-pred = (_, no-pred)
   preds-known (one-pred i d) = (_, one-pred (inside _ _ _ i .1) (preds-known d .1))
 
-  test-known : {ts rest : List Placed} {t : Test} → TestIn names Inside ts t rest → (x : Test) × TestIn look Other ts x rest
+  test-known : {ts rest : List Placed} {t : Test} → TestIn newer names Inside ts t rest → (x : Test) × TestIn newer look Other ts x rest
   test-known star-test = (_, star-test)
   test-known node-test = (_, node-test)
   test-known text-test = (_, text-test)
   test-known (name-test {w = w} h) = (_, name-test (known w .1))
 
-  step-known : {ts rest : List Placed} {s : Step} → StepIn names Inside ts s rest → (x : Step) × StepIn look Other ts x rest
-  step-known dot-step = (_, dot-step)
-  step-known dots-step = (_, dots-step)
+  dot-known : {ts rest : List Placed} {ps : Preds} → DotIn newer names Inside ts ps rest → (x : Preds) × DotIn newer look Other ts x rest
+  dot-known dot-alone = (_, dot-alone)
+  dot-known (dot-preds n d) = (_, dot-preds n (preds-known d .1))
+
+  step-known : {ts rest : List Placed} {s : Step} → StepIn newer names Inside ts s rest → (x : Step) × StepIn newer look Other ts x rest
+  step-known (dot-step d) = (_, dot-step (dot-known d .1))
+  step-known (dots-step d) = (_, dots-step (dot-known d .1))
   step-known (child-step d f) = (_, child-step (test-known d .1) (preds-known f .1))
   step-known (axis-step n d f) = (_, axis-step n (test-known d .1) (preds-known f .1))
 
-  steps-known : {ts rest : List Placed} {s : Steps} → StepsIn names Inside ts s rest → (x : Steps) × StepsIn look Other ts x rest
+  steps-known : {ts rest : List Placed} {s : Steps} → StepsIn newer names Inside ts s rest → (x : Steps) × StepsIn newer look Other ts x rest
   steps-known (last-step d) = (_, last-step (step-known d .1))
   steps-known (slash-step d f) = (_, slash-step (step-known d .1) (steps-known f .1))
   steps-known (slashes-step d f) = (_, slashes-step (step-known d .1) (steps-known f .1))
 
-  operand-known : {ts rest : List Placed} {e : Expr} → OperandIn names Inside ts e rest → (x : Expr) × OperandIn look Other ts x rest
+  operand-known : {ts rest : List Placed} {e : Expr} → OperandIn newer names Inside ts e rest → (x : Expr) × OperandIn newer look Other ts x rest
   operand-known (path-operand d) = (_, path-operand (steps-known d .1))
   operand-known (round-operand i) = (_, round-operand (inside _ _ _ i .1))
   operand-known (not-operand i) = (_, not-operand (inside _ _ _ i .1))
 
-  term-known : {ts rest : List Placed} {e : Expr} → TermIn names Inside ts e rest → (x : Expr) × TermIn look Other ts x rest
+  term-known : {ts rest : List Placed} {e : Expr} → TermIn newer names Inside ts e rest → (x : Expr) × TermIn newer look Other ts x rest
   term-known (one-operand d) = (_, one-operand (operand-known d .1))
   term-known (and-operand d f) = (_, and-operand (term-known d .1) (operand-known f .1))
 
-  expr-known : {ts rest : List Placed} {e : Expr} → ExprIn names Inside ts e rest → (x : Expr) × ExprIn look Other ts x rest
+  expr-known : {ts rest : List Placed} {e : Expr} → ExprIn newer names Inside ts e rest → (x : Expr) × ExprIn newer look Other ts x rest
   expr-known (one-term d) = (_, one-term (term-known d .1))
   expr-known (or-term d f) = (_, or-term (expr-known d .1) (term-known f .1))
 
-  path-known : {ts rest : List Placed} {s : Steps} → PathIn names Inside ts s rest → (x : Steps) × PathIn look Other ts x rest
-  path-known root-path = (_, root-path)
-  path-known (slash-path d) = (_, slash-path (steps-known d .1))
-  path-known (slashes-path d) = (_, slashes-path (steps-known d .1))
+  path-known : {ts rest : List Placed} {s : Steps} → PathIn newer names Inside ts s rest → (x : Steps) × PathIn newer look Other ts x rest × (lone x ≡ lone s)
+  path-known root-path = (_, root-path, refl)
+  path-known (slash-path d) = let k = steps-known d in (_, slash-path (k .1), steps-long newer look Other (k .1) ∙ sym (steps-long newer names Inside d))
+  path-known (slashes-path d) = (_, slashes-path (steps-known d .1), refl)
 
-  query-known : {ts rest : List Placed} {q : Query} → QueryIn names Inside ts q rest → (x : Query) × QueryIn look Other ts x rest
+  joins-known : {s x : Steps} {t : Token} → Joins newer s t → lone x ≡ lone s → Joins newer x t
+  joins-known bar-joins e = bar-joins
+  joins-known (union-joins n l) e = union-joins n (e ∙ l)
+
+  query-known : {ts rest : List Placed} {q : Query} → QueryIn newer names Inside ts q rest → (x : Query) × QueryIn newer look Other ts x rest
   query-known (one-path d) = (_, one-path (path-known d .1))
-  query-known (bar-path d f) = (_, bar-path (path-known d .1) (query-known f .1))
+  query-known (join-path j d f) = let k = path-known d in (_, join-path (joins-known j (k .2)) (k .1) (query-known f .1))
 
-within-known : (names look : List ℕ → Option ℕ) → AllKnown look → (d : ℕ) (ts : List Placed) (e : Expr) (rest : List Placed) → Within names d ts e rest → (x : Expr) × Within look d ts x rest
-within-known names look known zero ts e rest i = absurd i
-within-known names look known (suc d) ts e rest i = expr-known names look known (Within names d) (Within look d) (within-known names look known d) i
+within-known : (newer : Bool) (names look : List ℕ → Option ℕ) → AllKnown look → (d : ℕ) (ts : List Placed) (e : Expr) (rest : List Placed) → Within newer names d ts e rest → (x : Expr) × Within newer look d ts x rest
+within-known newer names look known zero ts e rest i = absurd i
+within-known newer names look known (suc d) ts e rest i = expr-known newer names look known (Within newer names d) (Within newer look d) (within-known newer names look known d) i
 
 -- Each bracket is read by the tokens in it, or is one too many.
-pub bracket : (look : List ℕ → Option ℕ) → AllKnown look → (d p : ℕ) (ts : List Placed) → Bracket (readWithin look d) p ts
-bracket look known zero p ts = too-many (λ us. refl)
-bracket look known (suc d) p ts = opens (local-expr look known (readWithin look d) (Within look d) (within-got look d) (within-leaves look d) (bracket look known d) ts)
+pub bracket : (newer : Bool) (look : List ℕ → Option ℕ) → AllKnown look → (d p : ℕ) (ts : List Placed) → Bracket (readWithin newer look d) p ts
+bracket newer look known zero p ts = too-many (λ us. refl)
+bracket newer look known (suc d) p ts = opens (local-expr newer look known (readWithin newer look d) (Within newer look d) (within-got newer look d) (within-leaves newer look d) (bracket newer look known d) ts)
 
 -- Where tokens are refused with 3, no query is derived from them.
-pub refused-never : (look : List ℕ → Option ℕ) → AllKnown look → (d p : ℕ) (ts : List Placed) → reading look d ts ≡ refused 3 p
-    → (names : List ℕ → Option ℕ) (depth : ℕ) (q : Query) → Derives names depth ts q → ⊥
+pub refused-never : (newer : Bool) (look : List ℕ → Option ℕ) → AllKnown look → (d p : ℕ) (ts : List Placed) → reading newer look d ts ≡ refused 3 p
+    → (names : List ℕ → Option ℕ) (depth : ℕ) (q : Query) → Derives newer names depth ts q → ⊥
 unfolding allPaths
-refused-never look known d p ts h names depth q (end, i) =
-    let k = query-known names look known (Within names depth) (Within look depth) (within-known names look known depth) i in
+refused-never newer look known d p ts h names depth q (end, i) =
+    let k = query-known newer names look known (Within newer names depth) (Within newer look depth) (within-known newer names look known depth) i in
     no
-    (query-read (Unit {0}) look (readWithin look d) (Within look depth) (Within look d) (within-got look d) (within-leaves look d)
-    (λ r us e rest j c. within-read (Unit {0}) look depth d r (inl tt) us e rest j c) (k .1) end [] refl)
+    (query-read (Unit {0}) newer look (readWithin newer look d) (Within newer look depth) (Within newer look d) (within-got newer look d) (within-leaves newer look d)
+    (λ r us e rest j c. within-read (Unit {0}) newer look depth d r (inl tt) us e rest j c) (k .1) end [] refl)
   where
-    no : {x : Query} → Comes (Unit {0}) (reading look d ts) (got x []) → ⊥
+    no : {x : Query} → Comes (Unit {0}) (reading newer look d ts) (got x []) → ⊥
     no (comes e) = let f = sym h ∙ e in let z : _≡_ {A = ℕ} 0 1 = cc in omega arith
     no (runs-short s e) = let f = sym h ∙ e in let z : _≡_ {A = ℕ} 3 4 = cc in omega arith
 
@@ -140,34 +148,34 @@ unfolding tokens
 tokens-rising text = from-rising 0 0 text
 
 -- Where tokens are refused with 4, no query with so few brackets is derived from them.
-deep-never : (look : List ℕ → Option ℕ) → AllKnown look → (d p : ℕ) (ts : List Placed) → reading look d ts ≡ refused 4 p
-    → (names : List ℕ → Option ℕ) (q : Query) → Derives names d ts q → ⊥
-deep-never look known d p ts h names q (end, i) =
-    let k = query-known names look known (Within names d) (Within look d) (within-known names look known d) i in
-    let f = sym h ∙ read-if look d d ts (k .0) (omega arith) (end, k .1) in
+deep-never : (newer : Bool) (look : List ℕ → Option ℕ) → AllKnown look → (d p : ℕ) (ts : List Placed) → reading newer look d ts ≡ refused 4 p
+    → (names : List ℕ → Option ℕ) (q : Query) → Derives newer names d ts q → ⊥
+deep-never newer look known d p ts h names q (end, i) =
+    let k = query-known newer names look known (Within newer names d) (Within newer look d) (within-known newer names look known d) i in
+    let f = sym h ∙ read-if newer look d d ts (k .0) (omega arith) (end, k .1) in
     let z : _≡_ {A = ℕ} 0 1 = cc in
     omega arith
 
 -- Where reading stops, and with which number.
-pub record StopsAt (look : List ℕ → Option ℕ) (d : ℕ) (ts : List Placed) (n p : ℕ) : Type 0 where
+pub record StopsAt (newer : Bool) (look : List ℕ → Option ℕ) (d : ℕ) (ts : List Placed) (n p : ℕ) : Type 0 where
   pub before : List Placed
   pub token : Placed
   pub after : List Placed
   pub split : ts ≡ before ++ (token ∷ after)
   pub place : token .place ≡ p
   pub number : (n ≡ 3) ⊎ (n ≡ 4)
-  pub stands : (more : List Placed) → reading look d (before ++ (token ∷ more)) ≡ refused n p
-  pub completed : n ≡ 3 → (more : List Placed) × (q : Query) × Derives look d (before ++ more) q
+  pub stands : (more : List Placed) → reading newer look d (before ++ (token ∷ more)) ≡ refused n p
+  pub completed : n ≡ 3 → (more : List Placed) × (q : Query) × Derives newer look d (before ++ more) q
 
-pub stops-at : (look : List ℕ → Option ℕ) (d : ℕ) (ts : List Placed) (n p : ℕ) → AllKnown look → ended ts ≡ true → reading look d ts ≡ refused n p → StopsAt look d ts n p
+pub stops-at : (newer : Bool) (look : List ℕ → Option ℕ) (d : ℕ) (ts : List Placed) (n p : ℕ) → AllKnown look → ended ts ≡ true → reading newer look d ts ≡ refused n p → StopsAt newer look d ts n p
 unfolding allPaths
-stops-at look d ts n p known fin h =
-    judged (verdict look known (readWithin look d) (Within look d) (within-got look d) (within-leaves look d) (bracket look known d) ts)
+stops-at newer look d ts n p known fin h =
+    judged (verdict newer look known (readWithin newer look d) (Within newer look d) (within-got newer look d) (within-leaves newer look d) (bracket newer look known d) ts)
   where
     Stopped : ℕ → ℕ → Type 0
-    Stopped m r = Stops look known (readWithin look d) (Within look d) (within-got look d) (within-leaves look d) (bracket look known d) ts m r
+    Stopped m r = Stops newer look known (readWithin newer look d) (Within newer look d) (within-got newer look d) (within-leaves newer look d) (bracket newer look known d) ts m r
 
-    stopped : (m r : ℕ) (x : Stopped m r) (left : List Placed) → x .left ≡ left → StopsAt look d ts m r
+    stopped : (m r : ℕ) (x : Stopped m r) (left : List Placed) → x .left ≡ left → StopsAt newer look d ts m r
     stopped m r x [] e = absurd (false≢true (sym (ap ended (x .split) ∙ x .unended (x .left) ∙ ap ended e) ∙ fin))
     stopped m r x (t ∷ after) e =
         record {
@@ -181,21 +189,21 @@ stops-at look d ts n p known fin h =
           completed = λ three.
               let c = x .completion three in
               let all = c .0 ++ (tok 0 finish ∷ []) in
-              (all, c .1, derived-if look d (x .used ++ all) (c .1) [] (x .unended all ∙ c .2 (tok 0 finish ∷ [])) (c .3) .0);
+              (all, c .1, derived-if newer look d (x .used ++ all) (c .1) [] (x .unended all ∙ c .2 (tok 0 finish ∷ [])) (c .3) .0);
         }
 
-    judged : Verdict look known (readWithin look d) (Within look d) (within-got look d) (within-leaves look d) (bracket look known d) ts → StopsAt look d ts n p
+    judged : Verdict newer look known (readWithin newer look d) (Within newer look d) (within-got newer look d) (within-leaves newer look d) (bracket newer look known d) ts → StopsAt newer look d ts n p
     judged (gets q left e) = absurd (let f = sym h ∙ e in let z : _≡_ {A = ℕ} 0 1 = cc in omega arith)
     judged (stops m r x) =
-        let same : _≡_ {A = Got Query} (refused m r) (refused n p) = sym (ap (reading look d) (x .split) ∙ x .stands (x .left) (record { token = refl; place = refl })) ∙ h in
+        let same : _≡_ {A = Got Query} (refused m r) (refused n p) = sym (ap (reading newer look d) (x .split) ∙ x .stands (x .left) (record { token = refl; place = refl })) ∙ h in
         let number : m ≡ n = cc in
         let place : r ≡ p = cc in
-        subst₂ (λ k l. StopsAt look d ts k l) number place (stopped m r x (x .left) refl)
+        subst₂ (λ k l. StopsAt newer look d ts k l) number place (stopped m r x (x .left) refl)
 
 -- REFUSAL 3.
 pub refused-wrong : RefusedWrong
-refused-wrong look d ts p known fin h =
-    let x = stops-at look d ts 3 p known fin h in
+refused-wrong newer look d ts p known fin h =
+    let x = stops-at newer look d ts 3 p known fin h in
     record {
       before = x .before;
       token = x .token;
@@ -203,18 +211,18 @@ refused-wrong look d ts p known fin h =
       split = x .split;
       place = x .place;
       completed = x .completed refl;
-      never = λ names depth more q i. refused-never look known d p (x .before ++ (x .token ∷ more)) (x .stands more) names depth q i;
+      never = λ names depth more q i. refused-never newer look known d p (x .before ++ (x .token ∷ more)) (x .stands more) names depth q i;
     }
 
 pub refused-wrong-text : RefusedWrongText
 unfolding readText
-refused-wrong-text text p h = refused-wrong anyName bracketLimit (tokens text) p (λ w. (0, refl)) (tokens-ended text) h
+refused-wrong-text newer text p h = refused-wrong newer anyName bracketLimit (tokens text) p (λ w. (0, refl)) (tokens-ended text) h
 
 -- REFUSAL 4.
 pub refused-deep : RefusedDeep
-refused-deep look d ts p known fin rise h =
-    let x = stops-at look d ts 4 p known fin h in
-    let y = reached look d ts p known h in
+refused-deep newer look d ts p known fin rise h =
+    let x = stops-at newer look d ts 4 p known fin h in
+    let y = reached newer look d ts p known h in
     let same : y .before ≡ x .before =
     same-place (y .before) (x .before) (y .token) (x .token) (y .after) (x .after) (subst Rising (y .split) rise) (sym (y .split) ∙ x .split) (y .place ∙ sym (x .place)) in
     let rest : y .before ++ (y .token ∷ y .after) ≡ y .before ++ (x .token ∷ x .after) = sym (y .split) ∙ x .split ∙ ap (λ l. l ++ (x .token ∷ x .after)) (sym same) in
@@ -222,9 +230,9 @@ refused-deep look d ts p known fin rise h =
     record {
       reached = y;
       never = λ names more q i.
-          deep-never look known d p (y .before ++ (y .token ∷ more)) (subst₂ (λ b t. reading look d (b ++ (t ∷ more)) ≡ refused 4 p) (sym same) (sym token) (x .stands more)) names q i;
+          deep-never newer look known d p (y .before ++ (y .token ∷ more)) (subst₂ (λ b t. reading newer look d (b ++ (t ∷ more)) ≡ refused 4 p) (sym same) (sym token) (x .stands more)) names q i;
     }
 
 pub refused-deep-text : RefusedDeepText
 unfolding readText
-refused-deep-text text p h = refused-deep anyName bracketLimit (tokens text) p (λ w. (0, refl)) (tokens-ended text) (tokens-rising text) h
+refused-deep-text newer text p h = refused-deep newer anyName bracketLimit (tokens text) p (λ w. (0, refl)) (tokens-ended text) (tokens-rising text) h

@@ -4,7 +4,7 @@
 use Prim.Native.Nat.{ℕ, zero, suc, _+_, _-_, _≤_, _<_}
 use native.Mathlib.Omega.{arith}
 use mathlib.Core.Path.{_≡_, refl, sym, _∙_, ap, ap₂}
-use mathlib.Core.Bool.{false, _||_}
+use mathlib.Core.Bool.{Bool, false, _||_}
 use mathlib.Core.List.{List, [], _∷_, _++_, append-assoc, map}
 use mathlib.Core.Option.{Option, some}
 use lib.ListN.{length, getD, drop, length-append}
@@ -156,13 +156,13 @@ run-whole run n e ts rest r h = rw (r .reads) (go (length (r .left)) (r .long))
         let k : m ≡ n + (m - n) = omega arith in
         rw k (r .chain (m - n) ∙ run-ends run (m - n) e rest h)
 
-module _ (P : ℕ → Type 0) (names : List (List ℕ)) (look : List ℕ → Option ℕ) (f : ℕ → ℕ) (finds : (v : ℕ) → P v → look (getD names v []) ≡ some (f v)) where
+module _ (P : ℕ → Type 0) (names : List (List ℕ)) (newer : Bool) (look : List ℕ → Option ℕ) (f : ℕ → ℕ) (finds : (v : ℕ) → P v → look (getD names v []) ≡ some (f v)) where
   -- An expression as a run of `or`, and as a run of `and`.
   abbrev OrsRead : ℕ → Expr → List Placed → List Placed → Type 0
-  OrsRead d e ts rest = RunRead (orRun look (readWithin look d)) (orCount e) (newExpr f e) ts rest
+  OrsRead d e ts rest = RunRead (orRun newer look (readWithin newer look d)) (orCount e) (newExpr f e) ts rest
 
   abbrev AndsRead : ℕ → Expr → List Placed → List Placed → Type 0
-  AndsRead d e ts rest = RunRead (andRun look (readWithin look d)) (andCount e) (newExpr f e) ts rest
+  AndsRead d e ts rest = RunRead (andRun newer look (readWithin newer look d)) (andCount e) (newExpr f e) ts rest
 
   -- What reading makes of a printed expression, on the three levels.
   record Reads (e : Expr) : Type 0 where
@@ -171,27 +171,27 @@ module _ (P : ℕ → Type 0) (names : List (List ℕ)) (look : List ℕ → Opt
     term : (d : ℕ) (places : List ℕ) (rest : List Placed) → inBrackets (isOr e) (nestExpr e) ≤ d → Calm rest
         → AndsRead d e (laid places (tokensOf names (termPieces e)) rest) rest
     operand : (d : ℕ) (places : List ℕ) (rest : List Placed) → inBrackets (isOr e || isAnd e) (nestExpr e) ≤ d → Calm rest
-        → readOperand look (readWithin look d) (laid places (tokensOf names (operandPieces e)) rest) ≡ got (newExpr f e) rest
+        → readOperand newer look (readWithin newer look d) (laid places (tokensOf names (operandPieces e)) rest) ≡ got (newExpr f e) rest
 
   -- The whole of it is read where its word does not follow.
-  whole-read : (d : ℕ) (e : Expr) (ts rest : List Placed) → OrsRead d e ts rest → says (ascii "or") rest ≡ false → readExpr look (readWithin look d) ts ≡ got (newExpr f e) rest
+  whole-read : (d : ℕ) (e : Expr) (ts rest : List Placed) → OrsRead d e ts rest → says (ascii "or") rest ≡ false → readExpr newer look (readWithin newer look d) ts ≡ got (newExpr f e) rest
   unfolding readExpr
-  whole-read d e ts rest o h = run-whole (orRun look (readWithin look d)) (orCount e) (newExpr f e) ts rest o h
+  whole-read d e ts rest o h = run-whole (orRun newer look (readWithin newer look d)) (orCount e) (newExpr f e) ts rest o h
 
-  term-read : (d : ℕ) (e : Expr) (ts rest : List Placed) → AndsRead d e ts rest → says (ascii "and") rest ≡ false → readTerm look (readWithin look d) ts ≡ got (newExpr f e) rest
+  term-read : (d : ℕ) (e : Expr) (ts rest : List Placed) → AndsRead d e ts rest → says (ascii "and") rest ≡ false → readTerm newer look (readWithin newer look d) ts ≡ got (newExpr f e) rest
   unfolding readTerm
-  term-read d e ts rest o h = run-whole (andRun look (readWithin look d)) (andCount e) (newExpr f e) ts rest o h
+  term-read d e ts rest o h = run-whole (andRun newer look (readWithin newer look d)) (andCount e) (newExpr f e) ts rest o h
 
   -- A term is an expression, and an operand is a term, each with no operator of its own.
   as-whole : (d : ℕ) (e : Expr) (ts rest : List Placed) → orCount e ≡ 0 → AndsRead d e ts rest → says (ascii "and") rest ≡ false → OrsRead d e ts rest
-  as-whole d e ts rest z t n = run-one (orRun look (readWithin look d)) (orCount e) (newExpr f e) ts rest z (term-read d e ts rest t n)
+  as-whole d e ts rest z t n = run-one (orRun newer look (readWithin newer look d)) (orCount e) (newExpr f e) ts rest z (term-read d e ts rest t n)
 
-  as-term : (d : ℕ) (e : Expr) (ts rest : List Placed) → andCount e ≡ 0 → readOperand look (readWithin look d) ts ≡ got (newExpr f e) rest → AndsRead d e ts rest
-  as-term d e ts rest z h = run-one (andRun look (readWithin look d)) (andCount e) (newExpr f e) ts rest z h
+  as-term : (d : ℕ) (e : Expr) (ts rest : List Placed) → andCount e ≡ 0 → readOperand newer look (readWithin newer look d) ts ≡ got (newExpr f e) rest → AndsRead d e ts rest
+  as-term d e ts rest z h = run-one (andRun newer look (readWithin newer look d)) (andCount e) (newExpr f e) ts rest z h
 
   -- What stands in a bracket that is closed by a token of no word.
   in-bracket : (e : Expr) → Reads e → (d place : ℕ) (places : List ℕ) (rest : List Placed) → suc (nestExpr e) ≤ d → Calm rest → says (ascii "and") rest ≡ false → says (ascii "or") rest ≡ false
-      → readWithin look d place (laid places (tokensOf names (exprPieces e)) rest) ≡ got (newExpr f e) rest
+      → readWithin newer look d place (laid places (tokensOf names (exprPieces e)) rest) ≡ got (newExpr f e) rest
   in-bracket e r zero place places rest h c a o = absurd (omega arith)
   in-bracket e r (suc d) place places rest h c a o = whole-read d e (laid places (tokensOf names (exprPieces e)) rest) rest (r .expr d places rest (omega arith) c a) o
 
@@ -202,7 +202,7 @@ module _ (P : ℕ → Type 0) (names : List (List ℕ)) (look : List ℕ → Opt
   -- What is no operator is read as an operand on each level.
   plain : (e : Expr) → isOr e ≡ false → isAnd e ≡ false → orCount e ≡ 0 → andCount e ≡ 0
       → ((d : ℕ) (places : List ℕ) (rest : List Placed) → nestExpr e ≤ d → Calm rest
-      → readOperand look (readWithin look d) (laid places (tokensOf names (exprPieces e)) rest) ≡ got (newExpr f e) rest) → Reads e
+      → readOperand newer look (readWithin newer look d) (laid places (tokensOf names (exprPieces e)) rest) ≡ got (newExpr f e) rest) → Reads e
   plain e o a oc ac read = record { expr = whole-of; term = term-of; operand = operand-of }
     where
       term-at : (d : ℕ) (places : List ℕ) (rest : List Placed) → nestExpr e ≤ d → Calm rest → AndsRead d e (laid places (tokensOf names (exprPieces e)) rest) rest
@@ -215,13 +215,13 @@ module _ (P : ℕ → Type 0) (names : List (List ℕ)) (look : List ℕ → Opt
       term-of d places rest h c = rw o (term-at d places rest (rw o at h) c)
 
       operand-of : (d : ℕ) (places : List ℕ) (rest : List Placed) → inBrackets (isOr e || isAnd e) (nestExpr e) ≤ d → Calm rest
-          → readOperand look (readWithin look d) (laid places (tokensOf names (operandPieces e)) rest) ≡ got (newExpr f e) rest
+          → readOperand newer look (readWithin newer look d) (laid places (tokensOf names (operandPieces e)) rest) ≡ got (newExpr f e) rest
       operand-of d places rest h c = rw (o, a) (read d places rest (rw (o, a) at h) c)
 
   -- An operator in round brackets.
   group : (e : Expr) → ((d : ℕ) (places : List ℕ) (rest : List Placed) → nestExpr e ≤ d → Calm rest → says (ascii "and") rest ≡ false → OrsRead d e (laid places (tokensOf names (exprPieces e)) rest) rest)
       → (d : ℕ) (places : List ℕ) (rest : List Placed) → 1 + nestExpr e ≤ d
-      → readOperand look (readWithin look d) (laid places (tokensOf names (openGroup ∷ exprPieces e ++ (closeSign ∷ []))) rest) ≡ got (newExpr f e) rest
+      → readOperand newer look (readWithin newer look d) (laid places (tokensOf names (openGroup ∷ exprPieces e ++ (closeSign ∷ []))) rest) ≡ got (newExpr f e) rest
   unfolding readOperand
   group e r zero places rest h = absurd (omega arith)
   group e r (suc d) places rest h =
@@ -260,7 +260,7 @@ module _ (P : ℕ → Type 0) (names : List (List ℕ)) (look : List ℕ → Opt
           let tb = term-read d b (laid (drop 1 there) (tokensOf names (termPieces b)) rest) rest (rb .term d (drop 1 there) rest (omega arith) c) n in
           let us = laid (drop 1 there) (tokensOf names (termPieces b)) rest in
           rw (shown names places (exprPieces a) (orWord ∷ termPieces b) rest)
-          (run-more (orRun look (readWithin look d)) (orCount a) (firstPlace there) (newExpr f a) (newExpr f b) (laid places (tokensOf names (exprPieces a)) tail) us rest oa tb
+          (run-more (orRun newer look (readWithin newer look d)) (orCount a) (firstPlace there) (newExpr f a) (newExpr f b) (laid places (tokensOf names (exprPieces a)) tail) us rest oa tb
           (omega (arith, laid-long (drop 1 there) (tokensOf names (termPieces b)) rest)))
 
       term-of : (d : ℕ) (places : List ℕ) (rest : List Placed) → 1 + nestExpr e ≤ d → Calm rest → AndsRead d e (laid places (tokensOf names (termPieces e)) rest) rest
@@ -281,7 +281,7 @@ module _ (P : ℕ → Type 0) (names : List (List ℕ)) (look : List ℕ → Opt
           let ob = rb .operand d (drop 1 there) rest (omega arith) c in
           let us = laid (drop 1 there) (tokensOf names (operandPieces b)) rest in
           rw (shown names places (termPieces a) (andWord ∷ operandPieces b) rest)
-          (run-more (andRun look (readWithin look d)) (andCount a) (firstPlace there) (newExpr f a) (newExpr f b) (laid places (tokensOf names (termPieces a)) tail) us rest oa ob
+          (run-more (andRun newer look (readWithin newer look d)) (andCount a) (firstPlace there) (newExpr f a) (newExpr f b) (laid places (tokensOf names (termPieces a)) tail) us rest oa ob
           (omega (arith, laid-long (drop 1 there) (tokensOf names (operandPieces b)) rest)))
 
       whole-of : (d : ℕ) (places : List ℕ) (rest : List Placed) → nestExpr e ≤ d → Calm rest → says (ascii "and") rest ≡ false → OrsRead d e (laid places (tokensOf names (exprPieces e)) rest) rest
@@ -291,12 +291,12 @@ module _ (P : ℕ → Type 0) (names : List (List ℕ)) (look : List ℕ → Opt
   abbrev ReadsPreds : Preds → Type 0
   ReadsPreds ps =
       (d n : ℕ) (places : List ℕ) (rest : List Placed) → nestPreds ps ≤ d → predCount ps ≤ n → sees openSquare rest ≡ false
-      → readPreds look (readWithin look d) n (laid places (tokensOf names (predsPieces ps)) rest) ≡ got (newPreds f ps) rest
+      → readPreds newer look (readWithin newer look d) n (laid places (tokensOf names (predsPieces ps)) rest) ≡ got (newPreds f ps) rest
 
   abbrev ReadsSteps : Steps → Type 0
   ReadsSteps s =
       (d n : ℕ) (places : List ℕ) (rest : List Placed) → nestSteps s ≤ d → 1 ≤ stepCount s → stepCount s ≤ n → Calm rest
-      → readSteps look (readWithin look d) n (laid places (tokensOf names (relativePieces s)) rest) ≡ got (newSteps f s) rest
+      → readSteps newer look (readWithin newer look d) n (laid places (tokensOf names (relativePieces s)) rest) ≡ got (newSteps f s) rest
 
   read-bare : ReadsPreds bare
   read-bare d zero places rest h l c = refl
@@ -316,7 +316,7 @@ module _ (P : ℕ → Type 0) (names : List (List ℕ)) (look : List ℕ → Opt
 
   -- A test, where no round bracket follows.
   test-read : (a : Axis) (t : Test) (within : ℕ → List Placed → Got Expr) (places : List ℕ) (left : List Placed) → Spelt P t → sees openRound left ≡ false
-      → readTested look within a (laid places (testTokens names t) left) ≡ readTail look within a (newTest f t) left
+      → readTested newer look within a (laid places (testTokens names t) left) ≡ readTail newer look within a (newTest f t) left
   unfolding readTested
   test-read a anyNode within places left k c = refl
   test-read a textNode within places left k c = refl
@@ -369,14 +369,14 @@ module _ (P : ℕ → Type 0) (names : List (List ℕ)) (look : List ℕ → Opt
         ap (laid (drop 1 (drop 1 places)) (testTokens names t)) (shown names (after (drop 1 (drop 1 places)) (testTokens names t)) (predsPieces ps) (laterPieces s) rest)
 
     step-read : (d : ℕ) → Spelt P t → ReadsPreds ps → nestPreds ps ≤ d → Calm rest
-        → readStep look (readWithin look d) (laid places (tokensOf names (relativePieces (step a t ps s))) rest)
+        → readStep newer look (readWithin newer look d) (laid places (tokensOf names (relativePieces (step a t ps s))) rest)
         ≡ got (record { axis = a; test = newTest f t; preds = newPreds f ps }) follows
     unfolding readStep readTail
     step-read d k rp h c =
         rw (
           axis-named a,
           split,
-          test-read a t (readWithin look d) (drop 1 (drop 1 places)) predicates k
+          test-read a t (readWithin newer look d) (drop 1 (drop 1 places)) predicates k
               (preds-round (after (drop 1 (drop 1 places)) (testTokens names t)) ps follows (later-round (after (after (drop 1 (drop 1 places)) (testTokens names t)) (tokensOf names (predsPieces ps))) s rest c)),
           rp d (length predicates) (after (drop 1 (drop 1 places)) (testTokens names t)) follows h
               (omega (arith, pred-tokens ps, laid-long (after (drop 1 (drop 1 places)) (testTokens names t)) (tokensOf names (predsPieces ps)) follows))
@@ -423,7 +423,7 @@ module _ (P : ℕ → Type 0) (names : List (List ℕ)) (look : List ℕ → Opt
 
   -- A top-level path, where another or the end follows.
   read-top : (s : Steps) → StepsOf P s → (d : ℕ) (places : List ℕ) (rest : List Placed) → nestSteps s ≤ d → Calm rest → startsStep (next rest) ≡ false
-      → readPath look (readWithin look d) (laid places (tokensOf names (pathPieces s)) rest) ≡ got (newSteps f s) rest
+      → readPath newer look (readWithin newer look d) (laid places (tokensOf names (pathPieces s)) rest) ≡ got (newSteps f s) rest
   unfolding readPath
   read-top stop k d places rest h c n = rw n
   read-top (step a t ps s) k d places rest h c n =
@@ -433,7 +433,7 @@ module _ (P : ℕ → Type 0) (names : List (List ℕ)) (look : List ℕ → Opt
 
   -- The paths of a query, to the end of the text.
   pub reads-paths : (ps : List Steps) (p : Steps) → StepsOf P p → AllOf P ps → (d n : ℕ) (places : List ℕ) (end : ℕ) → nestPaths (p ∷ ps) ≤ d → length ps < n
-      → readPaths look (readWithin look d) n (laid places (tokensOf names (pathPieces p ++ pathsPieces ps)) (record { place = end; token = finish } ∷ []))
+      → readPaths newer look (readWithin newer look d) n (laid places (tokensOf names (pathPieces p ++ pathsPieces ps)) (record { place = end; token = finish } ∷ []))
       ≡ got (record { first = newSteps f p; others = map (newSteps f) ps }) []
   reads-paths [] p k ks d zero places end h l = absurd (omega arith)
   reads-paths [] p k ks d (suc n) places end h l =

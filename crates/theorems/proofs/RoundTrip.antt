@@ -22,7 +22,7 @@ use Rattle.paper.specs.Measures.{isAnd, isOr, nestPaths, nesting}
 use Rattle.paper.specs.Printing.{Piece, closePred, andWord, orWord}
 use Rattle.paper.specs.Printing.{closeRound as closeSign}
 use Rattle.paper.specs.Printing.{grouped, exprPieces, relativePieces, laterPieces, predsPieces, pathPieces, pathsPieces, pieces, printed}
-use Rattle.paper.specs.Answers.{value, line, lineQuery, tooLong, short, unknownTest, unknownItem, unknownFrom, printAnswer, printOut, anyName, readAnswer, readItems}
+use Rattle.paper.specs.Answers.{value, line, lineQuery, tooLong, short, unknownTest, unknownItem, unknownFrom, printAnswer, printOut, isNewer, anyName, readAnswer, readItems}
 use Rattle.paper.specs.Answers.{Answer as Told}
 use Rattle.paper.proofs.Tests.{and-true, none-some}
 use Rattle.paper.proofs.Fields.{step-at}
@@ -231,22 +231,22 @@ module _ (list : List ℕ) (h : namesFault list ≡ none) where
     all : AllOf P (paths q)
     all = paths-of (length (namesOf list)) (paths q) fine known
 
-    read-back : (look : List ℕ → Option ℕ) (f : ℕ → ℕ) → ((v : ℕ) → P v → look (getD (namesOf list) v []) ≡ some (f v))
-        → readText look (printed (namesOf list) q) ≡ got (record { first = newSteps f (q .first); others = map (newSteps f) (q .others) }) []
+    read-back : (newer : Bool) (look : List ℕ → Option ℕ) (f : ℕ → ℕ) → ((v : ℕ) → P v → look (getD (namesOf list) v []) ≡ some (f v))
+        → readText newer look (printed (namesOf list) q) ≡ got (record { first = newSteps f (q .first); others = map (newSteps f) (q .others) }) []
     unfolding readText tokens printed pieces
-    read-back look f finds =
+    read-back newer look f finds =
         let l =
         lexed P (namesOf list) name-spelt (pathPieces (q .first) ++ pathsPieces (q .others))
         (fine-path P (q .first) (all .0) (pathsPieces (q .others)) (paths-start P (q .others) .0) (paths-start P (q .others) .1) (fine-paths P (q .others) (all .1))) 0 in
         let last : List Placed = record { place = l .end; token = finish } ∷ [] in
         let ts = laid (l .places) (tokensOf (namesOf list) (pathPieces (q .first) ++ pathsPieces (q .others))) last in
-        ap (λ (x : List Placed). readPaths look (readWithin look bracketLimit) (length x) x) (l .are) ∙
-        reads-paths P (namesOf list) look f finds (q .others) (q .first) (all .0) (all .1) bracketLimit (length ts) (l .places) (l .end) nest
-        (enough-tokens P (namesOf list) look f finds (q .first) (q .others) (l .places) last)
+        ap (λ (x : List Placed). readPaths newer look (readWithin newer look bracketLimit) (length x) x) (l .are) ∙
+        reads-paths P (namesOf list) newer look f finds (q .others) (q .first) (all .0) (all .1) bracketLimit (length ts) (l .places) (l .end) nest
+        (enough-tokens P (namesOf list) newer look f finds (q .first) (q .others) (l .places) last)
 
-    same-query : readText (numberOf (namesOf list)) (printed (namesOf list) q) ≡ got q []
-    same-query =
-        read-back (numberOf (namesOf list)) (λ v. v) name-found ∙
+    same-query : (newer : Bool) → readText newer (numberOf (namesOf list)) (printed (namesOf list) q) ≡ got q []
+    same-query newer =
+        read-back newer (numberOf (namesOf list)) (λ v. v) name-found ∙
         ap (λ (x : Query). got x []) (ap₂ (λ (s : Steps) (ss : List Steps). record { first = s; others = ss }) (same-steps (q .first)) (same-paths (q .others)))
 
 -- WHAT AN ACCEPTED PRINT SAYS.
@@ -311,17 +311,17 @@ nest-of q e = e
 -- ROUND TRIP.
 pub round-trip : RoundTrip
 unfolding readAnswer readItems
-round-trip query list out n room h most fits =
+round-trip query list out n room version fine h most fits =
     let a = accepted query list (length out) n h in
     let text = printed (namesOf list) (a .is) in
     let d = encode-decode query (a .is) (a .decoded) in
     let known : Known (length (namesOf list)) (encodePaths (paths (a .is))) = subst (Known (length (namesOf list))) (items-of query (a .is) (d .items)) (all-known (length (namesOf list)) query 0 (a .all-found)) in
     let good-one = fine-of (a .is) (d .fine) in
     let nest-one = nest-of (a .is) (d .nested) in
-    let any = read-back list (a .no-fault) (a .is) good-one nest-one known anyName (λ v. 0) (λ v l. refl) in
-    let own = same-query list (a .no-fault) (a .is) good-one nest-one known in
+    let any = read-back list (a .no-fault) (a .is) good-one nest-one known (isNewer version) anyName (λ v. 0) (λ v l. refl) in
+    let own = same-query list (a .no-fault) (a .is) good-one nest-one known (isNewer version) in
     let s = size-decoded query (a .is) (a .decoded) in
     rw (text-left query list out n h a) (
-      rw (le-ltb textLimit (length text) (omega (arith, a .counted)), le-ltb listLimit (length list) (a .few-bytes), a .no-fault, any, own, s, le-ltb room (length query) fits, le-ltb itemLimit (length query) (a .few-items)),
+      rw (le-ltb textLimit (length text) (omega (arith, a .counted)), le-ltb listLimit (length list) (a .few-bytes), fine, a .no-fault, any, own, s, le-ltb room (length query) fits, le-ltb itemLimit (length query) (a .few-items)),
       rw own (sym (d .items)),
     )

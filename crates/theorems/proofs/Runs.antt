@@ -2,7 +2,7 @@
 -- A run is a record of its parts and of how it goes on; by induction over the most operands that may come. Assumes nothing.
 use Prim.Native.Nat.{ℕ, zero, suc}
 use mathlib.Core.Path.{_≡_, refl, sym, subst}
-use mathlib.Core.Bool.{cond}
+use mathlib.Core.Bool.{Bool, cond}
 use mathlib.Core.List.{List, _∷_}
 use mathlib.Core.Option.{Option}
 use lib.ListN.{drop}
@@ -28,14 +28,14 @@ abbrev pub spelling : Run → List ℕ
 spelling run = run .initial ∷ run .others
 
 -- The two runs.
-module _ (look : List ℕ → Option ℕ) (within : ℕ → List Placed → Got Expr) where
+module _ (newer : Bool) (look : List ℕ → Option ℕ) (within : ℕ → List Placed → Got Expr) where
   abbrev pub andRun : Run
   andRun =
-      record { one = readOperand look within; initial = 97; others = ascii "nd"; join = both; more = readAnds look within; stops = λ a ts. refl; goes = λ n a ts. refl }
+      record { one = readOperand newer look within; initial = 97; others = ascii "nd"; join = both; more = readAnds newer look within; stops = λ a ts. refl; goes = λ n a ts. refl }
 
   abbrev pub orRun : Run
   orRun =
-      record { one = readTerm look within; initial = 111; others = ascii "r"; join = either; more = readOrs look within; stops = λ a ts. refl; goes = λ n a ts. refl }
+      record { one = readTerm newer look within; initial = 111; others = ascii "r"; join = either; more = readOrs newer look within; stops = λ a ts. refl; goes = λ n a ts. refl }
 
 -- What holds of the operands read so far and the tokens left, and is kept by each operand more, says what becomes of the run.
 module _ (run : Run) (I : Expr → List Placed → Type 0) (P : Got Expr → Type 0) (stops : (a : Expr) (ts : List Placed) → I a ts → P (got a ts))

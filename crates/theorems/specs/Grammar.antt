@@ -1,4 +1,4 @@
--- docs/SCOPE.md, "The part of XPath" and demand 2: the grammar of queries over tokens, as 01 and XPath 1.0 have it, and what reading owes to it; the proofs are in proofs/. A token stands with its place, which plays no part (`PlacesApart`).
+-- docs/SCOPE.md, "The part of XPath" and demand 2: the grammar of queries over tokens, as 01 and XPath 1.0 have it and, where `newer` holds, as 02 has it of XPath 2.0 (2026-08), and what reading owes to it; the proofs are in proofs/. A token stands with its place, which plays no part (`PlacesApart`).
 -- Each relation `XIn ts x rest` says: the tokens ts are those of x, then rest. No relation looks ahead.
 use Prim.Native.Nat.{ℕ, zero, suc, _+_, _<_}
 use mathlib.Core.Path.{_≡_}
@@ -11,7 +11,7 @@ use Rattle.paper.specs.Tools.{ascii}
 use Rattle.paper.specs.Limits.{bracketLimit}
 use Rattle.paper.specs.Tokens.{Token, slash, slashes, dot, dots, colons, bar, openSquare, closeSquare, openRound, closeRound, star, finish, stray, word, is, Placed, tokens}
 use Rattle.paper.specs.Query.{Axis, self, child, parent, Test, anyNode, textNode, named, anyElement}
-use Rattle.paper.specs.Query.{Expr, path, both, either, negated, Steps, stop, Preds, bare, pred, Query, paths}
+use Rattle.paper.specs.Query.{Expr, path, both, either, negated, Steps, stop, step, Preds, bare, pred, Query, paths}
 use Rattle.paper.specs.Answers.{anyName}
 use Rattle.paper.specs.Reading.{Got, got, refused, sees, axisNamed, axisAhead, Step, before, deep, readStep, readPaths, readWithin, readText}
 
@@ -19,8 +19,18 @@ use Rattle.paper.specs.Reading.{Got, got, refused, sees, axisNamed, axisAhead, 
 abbrev pub tok : ℕ → Token → Placed
 tok p t = record { place = p; token = t }
 
--- The names are looked up by `look`; `Inside` says what stands in a bracket.
-module _ (look : List ℕ → Option ℕ) (Inside : List Placed → Expr → List Placed → Type 0) where
+-- Is a path `/` alone?
+abbrev pub lone : Steps → Bool
+lone stop = true
+lone (step a t ps rest) = false
+
+-- The tokens that join a path to the next: `|`, and by version 2 the word `union`, but not behind `/` alone, after which a word is a name.
+pub data Joins (newer : Bool) (s : Steps) : Token → Type 0 where
+  bar-joins : Joins newer s bar
+  union-joins : newer ≡ true → lone s ≡ false → Joins newer s (word (ascii "union"))
+
+-- `newer` says that the version is 2; the names are looked up by `look`; `Inside` says what stands in a bracket.
+module _ (newer : Bool) (look : List ℕ → Option ℕ) (Inside : List Placed → Expr → List Placed → Type 0) where
   -- Predicates: any number of `[` expression `]`.
   pub data PredsIn : List Placed → Preds → List Placed → Type 0 where
     no-pred : {ts : List Placed} → PredsIn ts bare ts
@@ -34,10 +44,15 @@ module _ (look : List ℕ → Option ℕ) (Inside : List Placed → Expr → Lis
     text-test : {p q r : ℕ} {ts : List Placed} → TestIn (tok p (word (ascii "text")) ∷ tok q openRound ∷ tok r closeRound ∷ ts) textNode ts
     name-test : {p v : ℕ} {w : List ℕ} {ts : List Placed} → look w ≡ some v → TestIn (tok p (word w) ∷ ts) (named v) ts
 
+  -- What follows `.` and `..`: nothing, or by version 2 predicates.
+  pub data DotIn : List Placed → Preds → List Placed → Type 0 where
+    dot-alone : {ts : List Placed} → DotIn ts bare ts
+    dot-preds : {ts rest : List Placed} {ps : Preds} → newer ≡ true → PredsIn ts ps rest → DotIn ts ps rest
+
   -- A step: `.`, `..`, or test and predicates, after an axis and `::` or alone.
   pub data StepIn : List Placed → Step → List Placed → Type 0 where
-    dot-step : {p : ℕ} {ts : List Placed} → StepIn (tok p dot ∷ ts) (record { axis = self; test = anyNode; preds = bare }) ts
-    dots-step : {p : ℕ} {ts : List Placed} → StepIn (tok p dots ∷ ts) (record { axis = parent; test = anyNode; preds = bare }) ts
+    dot-step : {p : ℕ} {ts rest : List Placed} {ps : Preds} → DotIn ts ps rest → StepIn (tok p dot ∷ ts) (record { axis = self; test = anyNode; preds = ps }) rest
+    dots-step : {p : ℕ} {ts rest : List Placed} {ps : Preds} → DotIn ts ps rest → StepIn (tok p dots ∷ ts) (record { axis = parent; test = anyNode; preds = ps }) rest
     child-step : {ts us rest : List Placed} {t : Test} {ps : Preds} → TestIn ts t us → PredsIn us ps rest
         → StepIn ts (record { axis = child; test = t; preds = ps }) rest
     axis-step : {p q : ℕ} {w : List ℕ} {a : Axis} {ts us rest : List Placed} {t : Test} {ps : Preds} → axisNamed w ≡ some a → TestIn ts t us → PredsIn us ps rest
@@ -73,20 +88,20 @@ module _ (look : List ℕ → Option ℕ) (Inside : List Placed → Expr → Lis
     slash-path : {p : ℕ} {ts rest : List Placed} {s : Steps} → StepsIn ts s rest → PathIn (tok p slash ∷ ts) s rest
     slashes-path : {p : ℕ} {ts rest : List Placed} {s : Steps} → StepsIn ts s rest → PathIn (tok p slashes ∷ ts) (deep s) rest
 
-  -- Absolute paths joined by `|`.
+  -- Absolute paths, joined.
   pub data QueryIn : List Placed → Query → List Placed → Type 0 where
     one-path : {ts rest : List Placed} {s : Steps} → PathIn ts s rest → QueryIn ts (record { first = s; others = [] }) rest
-    bar-path : {p : ℕ} {ts us rest : List Placed} {s : Steps} {q : Query} → PathIn ts s (tok p bar ∷ us) → QueryIn us q rest
+    join-path : {p : ℕ} {t : Token} {ts us rest : List Placed} {s : Steps} {q : Query} → Joins newer s t → PathIn ts s (tok p t ∷ us) → QueryIn us q rest
         → QueryIn ts (record { first = s; others = paths q }) rest
 
 -- What stands in a bracket, where so many brackets may be open at once, this one counted.
-abbrev pub Within : (List ℕ → Option ℕ) → ℕ → List Placed → Expr → List Placed → Type 0
-Within look zero ts e rest = ⊥
-Within look (suc d) ts e rest = ExprIn look (Within look d) ts e rest
+abbrev pub Within : Bool → (List ℕ → Option ℕ) → ℕ → List Placed → Expr → List Placed → Type 0
+Within newer look zero ts e rest = ⊥
+Within newer look (suc d) ts e rest = ExprIn newer look (Within newer look d) ts e rest
 
 -- DERIVED: the tokens are those of a query with at most d brackets open at once, then the end of the text.
-abbrev pub Derives : (List ℕ → Option ℕ) → ℕ → List Placed → Query → Type 0
-Derives look d ts q = (p : ℕ) × QueryIn look (Within look d) ts q (tok p finish ∷ [])
+abbrev pub Derives : Bool → (List ℕ → Option ℕ) → ℕ → List Placed → Query → Type 0
+Derives newer look d ts q = (p : ℕ) × QueryIn newer look (Within newer look d) ts q (tok p finish ∷ [])
 
 -- The tokens without their places.
 abbrev pub bareTokens : List Placed → List Token
@@ -95,7 +110,7 @@ bareTokens (t ∷ ts) = t .token ∷ bareTokens ts
 
 -- PLACES: they play no part in what is derived.
 abbrev pub PlacesApart : Type 0
-PlacesApart = (look : List ℕ → Option ℕ) (d : ℕ) (ts us : List Placed) (q : Query) → bareTokens ts ≡ bareTokens us → Derives look d ts q → Derives look d us q
+PlacesApart = (newer : Bool) (look : List ℕ → Option ℕ) (d : ℕ) (ts us : List Placed) (q : Query) → bareTokens ts ≡ bareTokens us → Derives newer look d ts q → Derives newer look d us q
 
 -- Is the end of the text the last token, and no other?
 abbrev pub ended : List Placed → Bool
@@ -116,45 +131,45 @@ Rising [] = Unit {0}
 Rising (t ∷ ts) = allBeyond (t .place) ts × Rising ts
 
 -- Reading the tokens of a query, where at most d brackets may be open at once.
-abbrev pub reading : (List ℕ → Option ℕ) → ℕ → List Placed → Got Query
-reading look d ts = readPaths look (readWithin look d) (length ts) ts
+abbrev pub reading : Bool → (List ℕ → Option ℕ) → ℕ → List Placed → Got Query
+reading newer look d ts = readPaths newer look (readWithin newer look d) (length ts) ts
 
 -- ACCEPTED: tokens are read as a query exactly if it is derived from them;
 abbrev pub Accepted : Type 0
-Accepted = (look : List ℕ → Option ℕ) (d : ℕ) (ts : List Placed) (q : Query) → ended ts ≡ true → (reading look d ts ≡ got q []) ↔ Derives look d ts q
+Accepted = (newer : Bool) (look : List ℕ → Option ℕ) (d : ℕ) (ts : List Placed) (q : Query) → ended ts ≡ true → (reading newer look d ts ≡ got q []) ↔ Derives newer look d ts q
 
 -- a text is read as a query exactly if it is derived from the text's tokens, with at most as many brackets open at once as the limit allows;
 abbrev pub AcceptedText : Type 0
-AcceptedText = (look : List ℕ → Option ℕ) (text : List ℕ) (q : Query) → (readText look text ≡ got q []) ↔ Derives look bracketLimit (tokens text) q
+AcceptedText = (newer : Bool) (look : List ℕ → Option ℕ) (text : List ℕ) (q : Query) → (readText newer look text ≡ got q []) ↔ Derives newer look bracketLimit (tokens text) q
 
 -- what is read of a text is all of it;
 abbrev pub AllRead : Type 0
-AllRead = (look : List ℕ → Option ℕ) (text : List ℕ) (q : Query) (left : List Placed) → readText look text ≡ got q left → left ≡ []
+AllRead = (newer : Bool) (look : List ℕ → Option ℕ) (text : List ℕ) (q : Query) (left : List Placed) → readText newer look text ≡ got q left → left ≡ []
 
 -- UNIQUE: from the same tokens no two queries are derived, however many brackets may be open.
 abbrev pub Unique : Type 0
-Unique = (look : List ℕ → Option ℕ) (c d : ℕ) (ts : List Placed) (q r : Query) → Derives look c ts q → Derives look d ts r → q ≡ r
+Unique = (newer : Bool) (look : List ℕ → Option ℕ) (c d : ℕ) (ts : List Placed) (q r : Query) → Derives newer look c ts q → Derives newer look d ts r → q ≡ r
 
 -- Every name is known, as where only the syntax is judged.
 abbrev pub AllKnown : (List ℕ → Option ℕ) → Type 0
 AllKnown look = (w : List ℕ) → (v : ℕ) × (look w ≡ some v)
 
 -- The token at place p goes on with no query: those before it can be completed to one, and with it they cannot, with any names, at any nesting, whatever follows.
-pub record Wrong (look : List ℕ → Option ℕ) (d : ℕ) (ts : List Placed) (p : ℕ) : Type 0 where
+pub record Wrong (newer : Bool) (look : List ℕ → Option ℕ) (d : ℕ) (ts : List Placed) (p : ℕ) : Type 0 where
   pub before : List Placed
   pub token : Placed
   pub after : List Placed
   pub split : ts ≡ before ++ (token ∷ after)
   pub place : token .place ≡ p
-  pub completed : (more : List Placed) × (q : Query) × Derives look d (before ++ more) q
-  pub never : (names : List ℕ → Option ℕ) (depth : ℕ) (more : List Placed) (q : Query) → Derives names depth (before ++ (token ∷ more)) q → ⊥
+  pub completed : (more : List Placed) × (q : Query) × Derives newer look d (before ++ more) q
+  pub never : (names : List ℕ → Option ℕ) (depth : ℕ) (more : List Placed) (q : Query) → Derives newer names depth (before ++ (token ∷ more)) q → ⊥
 
 -- REFUSAL 3: tokens are refused with 3 only at the token that goes on with no query; so with texts, where a byte that starts no token and the end of the text are tokens too.
 abbrev pub RefusedWrong : Type 0
-RefusedWrong = (look : List ℕ → Option ℕ) (d : ℕ) (ts : List Placed) (p : ℕ) → AllKnown look → ended ts ≡ true → reading look d ts ≡ refused 3 p → Wrong look d ts p
+RefusedWrong = (newer : Bool) (look : List ℕ → Option ℕ) (d : ℕ) (ts : List Placed) (p : ℕ) → AllKnown look → ended ts ≡ true → reading newer look d ts ≡ refused 3 p → Wrong newer look d ts p
 
 abbrev pub RefusedWrongText : Type 0
-RefusedWrongText = (text : List ℕ) (p : ℕ) → readText anyName text ≡ refused 3 p → Wrong anyName bracketLimit (tokens text) p
+RefusedWrongText = (newer : Bool) (text : List ℕ) (p : ℕ) → readText newer anyName text ≡ refused 3 p → Wrong newer anyName bracketLimit (tokens text) p
 
 -- The brackets that tokens open, and those that they close.
 abbrev pub opening : Token → ℕ
@@ -198,7 +213,7 @@ closed [] = 0
 closed (t ∷ ts) = closing (t .token) + closed ts
 
 -- With the bracket at place p d + 1 are open: d are before it, and the tokens before it can be completed to a query with at most d open at once, and with it to one with d + 1.
-pub record Reached (look : List ℕ → Option ℕ) (d : ℕ) (ts : List Placed) (p : ℕ) : Type 0 where
+pub record Reached (newer : Bool) (look : List ℕ → Option ℕ) (d : ℕ) (ts : List Placed) (p : ℕ) : Type 0 where
   pub before : List Placed
   pub token : Placed
   pub after : List Placed
@@ -206,41 +221,41 @@ pub record Reached (look : List ℕ → Option ℕ) (d : ℕ) (ts : List Placed)
   pub place : token .place ≡ p
   pub bracket : opening (token .token) ≡ 1
   pub count : opened before ≡ closed before + d
-  pub fits : (more : List Placed) × (q : Query) × Derives look d (before ++ more) q
-  pub deeper : (more : List Placed) × (q : Query) × Derives look (suc d) (before ++ (token ∷ more)) q
+  pub fits : (more : List Placed) × (q : Query) × Derives newer look d (before ++ more) q
+  pub deeper : (more : List Placed) × (q : Query) × Derives newer look (suc d) (before ++ (token ∷ more)) q
 
 -- It is one too many: with it no query has at most d open at once, whatever names are known and whatever follows.
-pub record TooDeep (look : List ℕ → Option ℕ) (d : ℕ) (ts : List Placed) (p : ℕ) : Type 0 where
-  pub reached : Reached look d ts p
-  pub never : (names : List ℕ → Option ℕ) (more : List Placed) (q : Query) → Derives names d (reached .before ++ (reached .token ∷ more)) q → ⊥
+pub record TooDeep (newer : Bool) (look : List ℕ → Option ℕ) (d : ℕ) (ts : List Placed) (p : ℕ) : Type 0 where
+  pub reached : Reached newer look d ts p
+  pub never : (names : List ℕ → Option ℕ) (more : List Placed) (q : Query) → Derives newer names d (reached .before ++ (reached .token ∷ more)) q → ⊥
 
 -- REFUSAL 4: tokens are refused with 4 only at the bracket that is one too many, where the tokens up to it begin a query.
 abbrev pub RefusedDeep : Type 0
-RefusedDeep = (look : List ℕ → Option ℕ) (d : ℕ) (ts : List Placed) (p : ℕ) → AllKnown look → ended ts ≡ true → Rising ts → reading look d ts ≡ refused 4 p → TooDeep look d ts p
+RefusedDeep = (newer : Bool) (look : List ℕ → Option ℕ) (d : ℕ) (ts : List Placed) (p : ℕ) → AllKnown look → ended ts ≡ true → Rising ts → reading newer look d ts ≡ refused 4 p → TooDeep newer look d ts p
 
 abbrev pub RefusedDeepText : Type 0
-RefusedDeepText = (text : List ℕ) (p : ℕ) → readText anyName text ≡ refused 4 p → TooDeep anyName bracketLimit (tokens text) p
+RefusedDeepText = (newer : Bool) (text : List ℕ) (p : ℕ) → readText newer anyName text ≡ refused 4 p → TooDeep newer anyName bracketLimit (tokens text) p
 
 -- EXACTLY: each of the two is given wherever its line holds;
 abbrev pub WrongRefused : Type 0
-WrongRefused = (look : List ℕ → Option ℕ) (d : ℕ) (ts : List Placed) (p : ℕ) → AllKnown look → ended ts ≡ true → Rising ts → Wrong look d ts p → reading look d ts ≡ refused 3 p
+WrongRefused = (newer : Bool) (look : List ℕ → Option ℕ) (d : ℕ) (ts : List Placed) (p : ℕ) → AllKnown look → ended ts ≡ true → Rising ts → Wrong newer look d ts p → reading newer look d ts ≡ refused 3 p
 
 abbrev pub DeepRefused : Type 0
-DeepRefused = (look : List ℕ → Option ℕ) (d : ℕ) (ts : List Placed) (p : ℕ) → AllKnown look → ended ts ≡ true → Rising ts → TooDeep look d ts p → reading look d ts ≡ refused 4 p
+DeepRefused = (newer : Bool) (look : List ℕ → Option ℕ) (d : ℕ) (ts : List Placed) (p : ℕ) → AllKnown look → ended ts ≡ true → Rising ts → TooDeep newer look d ts p → reading newer look d ts ≡ refused 4 p
 
 abbrev pub ExactText : Type 0
 ExactText =
-    (text : List ℕ) (p : ℕ)
-    → ((readText anyName text ≡ refused 3 p) ↔ Wrong anyName bracketLimit (tokens text) p) × ((readText anyName text ≡ refused 4 p) ↔ TooDeep anyName bracketLimit (tokens text) p)
+    (newer : Bool) (text : List ℕ) (p : ℕ)
+    → ((readText newer anyName text ≡ refused 3 p) ↔ Wrong newer anyName bracketLimit (tokens text) p) × ((readText newer anyName text ≡ refused 4 p) ↔ TooDeep newer anyName bracketLimit (tokens text) p)
 
 -- and with any names a text is read whole, refused with 3 or refused with 4.
 abbrev pub Settled : Type 0
 Settled =
-    (text : List ℕ) → ((q : Query) × (readText anyName text ≡ got q [])) ⊎ ((p : ℕ) × ((readText anyName text ≡ refused 3 p) ⊎ (readText anyName text ≡ refused 4 p)))
+    (newer : Bool) (text : List ℕ) → ((q : Query) × (readText newer anyName text ≡ got q [])) ⊎ ((p : ℕ) × ((readText newer anyName text ≡ refused 3 p) ⊎ (readText newer anyName text ≡ refused 4 p)))
 
 -- ANY NAMES: a text that is read with some names is read where every name is known.
 abbrev pub ReadAnyNames : Type 0
-ReadAnyNames = (look : List ℕ → Option ℕ) (text : List ℕ) (q : Query) (left : List Placed) → readText look text ≡ got q left → (r : Query) × (readText anyName text ≡ got r [])
+ReadAnyNames = (newer : Bool) (look : List ℕ → Option ℕ) (text : List ℕ) (q : Query) (left : List Placed) → readText newer look text ≡ got q left → (r : Query) × (readText newer anyName text ≡ got r [])
 
 -- A token at a place written out: `//` as `/descendant-or-self::node()/`, `.` as `self::node()`, `..` as `parent::node()`.
 abbrev pub nodesAlong : ℕ → List ℕ → List Placed → List Placed
@@ -269,13 +284,13 @@ spelt (t ∷ ts) = spell (t .token) (t .place) (spelt ts)
 
 -- ABBREVIATIONS: the query derived from tokens is derived from them with every `//`, `.` and `..` written out, and so it is read;
 abbrev pub SpeltDerived : Type 0
-SpeltDerived = (look : List ℕ → Option ℕ) (d : ℕ) (ts : List Placed) (q : Query) → Derives look d ts q → Derives look d (spelt ts) q
+SpeltDerived = (newer : Bool) (look : List ℕ → Option ℕ) (d : ℕ) (ts : List Placed) (q : Query) → Derives newer look d ts q → Derives newer look d (spelt ts) q
 
 abbrev pub SpeltRead : Type 0
-SpeltRead = (look : List ℕ → Option ℕ) (d : ℕ) (ts : List Placed) (q : Query) → ended ts ≡ true → reading look d ts ≡ got q [] → reading look d (spelt ts) ≡ got q []
+SpeltRead = (newer : Bool) (look : List ℕ → Option ℕ) (d : ℕ) (ts : List Placed) (q : Query) → ended ts ≡ true → reading newer look d ts ≡ got q [] → reading newer look d (spelt ts) ≡ got q []
 
 -- and wherever a step is read that is no `.` or `..` and has no axis, it is read, or refused, as with `child::` before it.
 abbrev pub ChildRead : Type 0
 ChildRead =
-    (look : List ℕ → Option ℕ) (d p q : ℕ) (ts : List Placed) → sees dot ts ≡ false → sees dots ts ≡ false → axisAhead ts ≡ none
-    → readStep look (readWithin look d) (tok p (word (ascii "child")) ∷ tok q colons ∷ ts) ≡ readStep look (readWithin look d) ts
+    (newer : Bool) (look : List ℕ → Option ℕ) (d p q : ℕ) (ts : List Placed) → sees dot ts ≡ false → sees dots ts ≡ false → axisAhead ts ≡ none
+    → readStep newer look (readWithin newer look d) (tok p (word (ascii "child")) ∷ tok q colons ∷ ts) ≡ readStep newer look (readWithin newer look d) ts

@@ -2,3 +2,4 @@ pub mod Demands
 pub mod Grammar
 pub mod RoundTrip
 pub mod Bounds
+pub mod Versions

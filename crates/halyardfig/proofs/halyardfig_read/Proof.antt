@@ -17,7 +17,7 @@ same-length c = search needs
 returns : tie.Need-returns
 returns c =
     let said = c .before .before .before .read .ensures in
-    (coded (said .0) (read-small _ _ _) (c .code .ensures), said .1)
+    (coded (said .0) (read-small _ _ _ _) (c .code .ensures), said .1)
 
 pub halyardfig-read-spec : {M : Type 1} → statement M
 halyardfig-read-spec = tie.close (tie.spec read-requires code-requires same-length returns)

@@ -119,7 +119,7 @@ bracketed-claims t = (
 
 bracketed-returns : (t : ℕ) → bracketed-lts.Need-returns (bracketed-claims t) (bracketed-at t) bracketed.Post
 bracketed-returns t c =
-    too-deep (lookOf (c .before .before .before .before .args .lookup) (now (c .before .before .before .before .args .list))) (c .before .before .before .before .args .depth) (c .before .before .before .before .args .bracket) (c .before .before .before .before .args .closer) (tokensAt (now (c .before .before .before .before .args .text)) (c .before .before .before .before .args .cursor .at)) (c .if1 .taken)
+    too-deep (c .before .before .before .before .args .newer) (lookOf (c .before .before .before .before .args .lookup) (now (c .before .before .before .before .args .list))) (c .before .before .before .before .args .depth) (c .before .before .before .before .args .bracket) (c .before .before .before .before .args .closer) (tokensAt (now (c .before .before .before .before .args .text)) (c .before .before .before .before .args .cursor .at)) (c .if1 .taken)
 
 bracketed-sub-expression : (t : ℕ) → bracketed-lts.Need-sub-expression (bracketed-claims t) (bracketed-at t) bracketed.Post
 bracketed-sub-expression t c = search needs
@@ -138,9 +138,10 @@ bracketed-same-length t c = search needs
 bracketed-returns-2 : (t : ℕ) → bracketed-lts.Need-returns-2 (bracketed-claims t) (bracketed-at t) bracketed.Post
 bracketed-returns-2 t c =
     let s = c .before .before .before .before .before .before .before .before .before in
+    let newer = s .args .newer in
     let look = lookOf (s .args .lookup) (now (s .args .list)) in
     passed-on _ _ _ _ _ _ _ _ _ _ _ _ _ _ _ _ _ _ (c .before .before .before .expression .result) (c .match .keys2) (c .before .before .before .expression .ensures)
-    (λ n place h. ap (λ x. then x (passSort (s .args .closer))) (opened look (s .args .depth) (s .args .bracket) (tokensAt (now (s .args .text)) (s .args .cursor .at)) (c .before .before .before .before .before .if1 .left) ∙ h))
+    (λ n place h. ap (λ x. then x (passSort (s .args .closer))) (opened newer look (s .args .depth) (s .args .bracket) (tokensAt (now (s .args .text)) (s .args .cursor .at)) (c .before .before .before .before .before .if1 .left) ∙ h))
 
 bracketed-mark-requires : (t : ℕ) → bracketed-lts.Need-mark-requires (bracketed-claims t) (bracketed-at t) bracketed.Post
 bracketed-mark-requires t c κs =
@@ -158,10 +159,11 @@ bracketed-same-length-2 t c = search needs
 bracketed-returns-3 : (t : ℕ) → bracketed-lts.Need-returns-3 (bracketed-claims t) (bracketed-at t) bracketed.Post
 bracketed-returns-3 t c =
     let s = c .before .before .before .before .before .before .before .before .before .before .before .before .before .before .before in
+    let newer = s .args .newer in
     let look = lookOf (s .args .lookup) (now (s .args .list)) in
     let g = rw (c .before .before .before .before .before .inner .given .1) at (c .before .before .before .before .before .before .before .before .before .expression .ensures) in
     let m = rw (c .before .close .given .1) at (c .before .before .before .mark .ensures) in
-    closed _ _ _ _ _ (s .args .closer) _ _ (opened look (s .args .depth) (s .args .bracket) (tokensAt (now (s .args .text)) (s .args .cursor .at)) (c .before .before .before .before .before .before .before .before .before .before .before .if1 .left)) _ _ _ g (m .0) (m .2)
+    closed _ _ _ _ _ (s .args .closer) _ _ (opened newer look (s .args .depth) (s .args .bracket) (tokensAt (now (s .args .text)) (s .args .cursor .at)) (c .before .before .before .before .before .before .before .before .before .before .before .if1 .left)) _ _ _ g (m .0) (m .2)
 
 bracketed-same-length-3 : (t : ℕ) → bracketed-lts.Need-same-length-3 (bracketed-claims t) (bracketed-at t) bracketed.Post
 bracketed-same-length-3 t c = search needs
@@ -169,10 +171,11 @@ bracketed-same-length-3 t c = search needs
 bracketed-returns-4 : (t : ℕ) → bracketed-lts.Need-returns-4 (bracketed-claims t) (bracketed-at t) bracketed.Post
 bracketed-returns-4 t c =
     let s = c .before .before .before .before .before .before .before .before .before .before .before .before .before .before .before in
+    let newer = s .args .newer in
     let look = lookOf (s .args .lookup) (now (s .args .list)) in
     let g = rw (c .before .before .before .before .before .inner .given .1) at (c .before .before .before .before .before .before .before .before .before .expression .ensures) in
     let m = rw (c .before .close2 .given .1) at (c .before .before .before .mark .ensures) in
-    unclosed _ _ _ _ _ (s .args .closer) _ _ (opened look (s .args .depth) (s .args .bracket) (tokensAt (now (s .args .text)) (s .args .cursor .at)) (c .before .before .before .before .before .before .before .before .before .before .before .if1 .left)) _ _ _ g (m .0) (m .1)
+    unclosed _ _ _ _ _ (s .args .closer) _ _ (opened newer look (s .args .depth) (s .args .bracket) (tokensAt (now (s .args .text)) (s .args .cursor .at)) (c .before .before .before .before .before .before .before .before .before .before .before .if1 .left)) _ _ _ g (m .0) (m .1)
 
 -- What `expression` knows of the functions it calls.
 abbrev expression-claims : ℕ → expression-lts.Claims
@@ -186,17 +189,17 @@ expression-claims t = (
 )
 
 abbrev expression-Inv-loop : expression-lts.InvT-loop
-expression-Inv-loop text list starts count lookup depth out₀ slot here₀ filled₀ begun₀ ands₀ ors₀ t23 t24 out here filled begun ands ors =
-    (length out ≡ length out₀) × Turn (lookOf lookup list) (readWithin (lookOf lookup list) depth) text out₀ (here₀ .at) slot out (here .at) filled begun ands ors
+expression-Inv-loop text list starts count lookup depth out₀ slot newer here₀ filled₀ begun₀ ands₀ ors₀ t23 t24 out here filled begun ands ors =
+    (length out ≡ length out₀) × Turn newer (lookOf lookup list) (readWithin newer (lookOf lookup list) depth) text out₀ (here₀ .at) slot out (here .at) filled begun ands ors
 
 abbrev expression-μ-loop : expression-lts.MeasureT-loop
-expression-μ-loop text list starts count lookup depth out₀ slot here₀ filled₀ begun₀ ands₀ ors₀ t23 t24 out here filled begun ands ors =
+expression-μ-loop text list starts count lookup depth out₀ slot newer here₀ filled₀ begun₀ ands₀ ors₀ t23 t24 out here filled begun ands ors =
     length text - here .at
 
 expression-loop-holds : (t : ℕ) → expression-lts.Need-loop-holds (expression-claims t) (expression-at t) expression.Post expression-Inv-loop expression-μ-loop
 expression-loop-holds t c =
     let s = c .before .before .before in
-    (search needs, turn-start (lookOf (s .args .lookup) (now (s .args .list))) (readWithin (lookOf (s .args .lookup) (now (s .args .list))) (s .args .depth)) (now (s .args .text)) (now (s .args .out)) (s .args .cursor .at) (s .args .slot) (s .pre .1 .0 .inside))
+    (search needs, turn-start (s .args .newer) (lookOf (s .args .lookup) (now (s .args .list))) (readWithin (s .args .newer) (lookOf (s .args .lookup) (now (s .args .list))) (s .args .depth)) (now (s .args .text)) (now (s .args .out)) (s .args .cursor .at) (s .args .slot) (s .pre .1 .0 .inside))
 
 expression-operand-requires : (t : ℕ) → expression-lts.Need-operand-requires (expression-claims t) (expression-at t) expression.Post expression-Inv-loop expression-μ-loop
 expression-operand-requires t c κs =
@@ -213,10 +216,11 @@ expression-same-length t c = search needs
 expression-returns : (t : ℕ) → expression-lts.Need-returns (expression-claims t) (expression-at t) expression.Post expression-Inv-loop expression-μ-loop
 expression-returns t c =
     let s = c .before .before .before .before .before .before .before .before .before in
+    let newer = s .args .newer in
     let look = lookOf (s .args .lookup) (now (s .args .list)) in
-    let within = readWithin look (s .args .depth) in
+    let within = readWithin newer look (s .args .depth) in
     let turn = c .before .before .before .before .before .loop .inv .1 in
-    passed-on _ _ _ _ _ _ _ _ _ _ _ _ _ _ _ _ _ _ (c .before .before .before .operand .result) (c .match .keys2) (c .before .before .before .operand .ensures) (turn-stuck look within _ _ _ _ _ _ _ _ _ _ turn)
+    passed-on _ _ _ _ _ _ _ _ _ _ _ _ _ _ _ _ _ _ (c .before .before .before .operand .result) (c .match .keys2) (c .before .before .before .operand .ensures) (turn-stuck newer look within _ _ _ _ _ _ _ _ _ _ turn)
 
 expression-slice-aggregate-word-ahead : (t : ℕ) → expression-lts.Need-slice-aggregate-word-ahead (expression-claims t) (expression-at t) expression.Post expression-Inv-loop expression-μ-loop
 expression-slice-aggregate-word-ahead t c = search needs
@@ -233,11 +237,12 @@ expression-enum-known-and t c = search needs
 expression-add-ands : (t : ℕ) → expression-lts.Need-add-ands (expression-claims t) (expression-at t) expression.Post expression-Inv-loop expression-μ-loop
 expression-add-ands t c =
     let s = c .before .before .before .before .before .before .before .before .before .before .before .before .before .before .before .before in
+    let newer = s .args .newer in
     let look = lookOf (s .args .lookup) (now (s .args .list)) in
-    let within = readWithin look (s .args .depth) in
+    let within = readWithin newer look (s .args .depth) in
     let turn = c .before .before .before .before .before .before .before .before .before .before .before .before .loop .inv .1 in
     let g = rw (c .before .before .before .before .before .before .one .given .1) at (c .before .before .before .before .before .before .before .before .before .before .operand .ensures) in
-    let l = operands look within _ _ _ _ _ _ _ _ _ _ turn _ _ _ g in
+    let l = operands newer look within _ _ _ _ _ _ _ _ _ _ turn _ _ _ g in
     omega (arith, l .grows, l .inside, turn .outer .grows, s .pre .1 .0 .short, s .pre .1 .1)
 
 expression-loop-less : (t : ℕ) → expression-lts.Need-loop-less (expression-claims t) (expression-at t) expression.Post expression-Inv-loop expression-μ-loop
@@ -249,12 +254,13 @@ expression-loop-less t c =
 expression-loop-again : (t : ℕ) → expression-lts.Need-loop-again (expression-claims t) (expression-at t) expression.Post expression-Inv-loop expression-μ-loop
 expression-loop-again t c =
     let s = c .before .before .before .before .before .before .before .before .before .before .before .before .before .before .before .before in
+    let newer = s .args .newer in
     let look = lookOf (s .args .lookup) (now (s .args .list)) in
-    let within = readWithin look (s .args .depth) in
+    let within = readWithin newer look (s .args .depth) in
     let turn = c .before .before .before .before .before .before .before .before .before .before .before .before .loop .inv .1 in
     let g = rw (c .before .before .before .before .before .before .one .given .1) at (c .before .before .before .before .before .before .before .before .before .before .operand .ensures) in
     let and = rw (c .before .and .given .1) at (c .before .before .before .word-ahead .ensures) in
-    (search needs, turn-and look within _ _ _ _ _ _ _ _ _ _ turn _ _ _ g _ (and .0) (and .2))
+    (search needs, turn-and newer look within _ _ _ _ _ _ _ _ _ _ turn _ _ _ g _ (and .0) (and .2))
 
 expression-enum-told : (t : ℕ) → expression-lts.Need-enum-told (expression-claims t) (expression-at t) expression.Post expression-Inv-loop expression-μ-loop
 expression-enum-told t c = search needs
@@ -262,21 +268,23 @@ expression-enum-told t c = search needs
 expression-group-requires : (t : ℕ) → expression-lts.Need-group-requires (expression-claims t) (expression-at t) expression.Post expression-Inv-loop expression-μ-loop
 expression-group-requires t c κs =
     let s = c .before .before .before .before .before .before .before .before .before .before .before .before .before .before .before .before in
+    let newer = s .args .newer in
     let look = lookOf (s .args .lookup) (now (s .args .list)) in
-    let within = readWithin look (s .args .depth) in
+    let within = readWithin newer look (s .args .depth) in
     let turn = c .before .before .before .before .before .before .before .before .before .before .before .before .loop .inv .1 in
     let g = rw (c .before .before .before .before .before .before .one .given .1) at (c .before .before .before .before .before .before .before .before .before .before .operand .ensures) in
-    let l = operands look within _ _ _ _ _ _ _ _ _ _ turn _ _ _ g in
+    let l = operands newer look within _ _ _ _ _ _ _ _ _ _ turn _ _ _ g in
     (omega (arith, l .ends), omega (arith, l .grows, l .inside, turn .outer .grows, s .pre .1 .0 .short, s .pre .1 .1), omega (arith, l .grows, l .inside, turn .outer .grows, s .pre .1 .0 .short, s .pre .1 .1))
 
 expression-add-closed : (t : ℕ) → expression-lts.Need-add-closed (expression-claims t) (expression-at t) expression.Post expression-Inv-loop expression-μ-loop
 expression-add-closed t c =
     let s = c .before .before .before .before .before .before .before .before .before .before .before .before .before .before .before .before .before .before .before in
+    let newer = s .args .newer in
     let look = lookOf (s .args .lookup) (now (s .args .list)) in
-    let within = readWithin look (s .args .depth) in
+    let within = readWithin newer look (s .args .depth) in
     let turn = c .before .before .before .before .before .before .before .before .before .before .before .before .before .before .before .loop .inv .1 in
     let g = rw (c .before .before .before .before .before .before .before .before .before .one .given .1) at (c .before .before .before .before .before .before .before .before .before .before .before .before .before .operand .ensures) in
-    let l = operands look within _ _ _ _ _ _ _ _ _ _ turn _ _ _ g in
+    let l = operands newer look within _ _ _ _ _ _ _ _ _ _ turn _ _ _ g in
     omega (arith, l .grows, l .inside, turn .outer .grows, s .pre .1 .0 .short, s .pre .1 .1)
 
 expression-slice-aggregate-word-ahead-2 :
@@ -304,23 +312,25 @@ expression-enum-told-2 t c = search needs
 expression-group-requires-2 : (t : ℕ) → expression-lts.Need-group-requires-2 (expression-claims t) (expression-at t) expression.Post expression-Inv-loop expression-μ-loop
 expression-group-requires-2 t c κs =
     let s = c .before .before .before .before .before .before .before .before .before .before .before .before .before .before .before .before .before .before .before .before .before .before .before .before in
+    let newer = s .args .newer in
     let look = lookOf (s .args .lookup) (now (s .args .list)) in
-    let within = readWithin look (s .args .depth) in
+    let within = readWithin newer look (s .args .depth) in
     let turn = c .before .before .before .before .before .before .before .before .before .before .before .before .before .before .before .before .before .before .before .before .loop .inv .1 in
     let g = rw (c .before .before .before .before .before .before .before .before .before .before .before .before .before .before .one .given .1) at (c .before .before .before .before .before .before .before .before .before .before .before .before .before .before .before .before .before .before .operand .ensures) in
     let and = rw (c .before .before .before .before .before .before .before .before .before .enum-told .given .1) at (c .before .before .before .before .before .before .before .before .before .before .before .word-ahead .ensures) in
-    let whole = terms look within _ _ _ _ _ _ _ _ _ _ turn _ _ _ g _ (and .0) (c .before .before .before .before .before .before .before .group .ensures) in
+    let whole = terms newer look within _ _ _ _ _ _ _ _ _ _ turn _ _ _ g _ (and .0) (c .before .before .before .before .before .before .before .group .ensures) in
     (omega (arith, whole .ends), omega (arith, whole .grows, whole .inside, s .pre .1 .0 .short, s .pre .1 .1), omega (arith, whole .grows, whole .inside, s .pre .1 .0 .short, s .pre .1 .1))
 
-expression-add-t37 : (t : ℕ) → expression-lts.Need-add-t37 (expression-claims t) (expression-at t) expression.Post expression-Inv-loop expression-μ-loop
-expression-add-t37 t c =
+expression-add-t38 : (t : ℕ) → expression-lts.Need-add-t38 (expression-claims t) (expression-at t) expression.Post expression-Inv-loop expression-μ-loop
+expression-add-t38 t c =
     let s = c .before .before .before .before .before .before .before .before .before .before .before .before .before .before .before .before .before .before .before .before .before .before .before .before .before .before .before in
+    let newer = s .args .newer in
     let look = lookOf (s .args .lookup) (now (s .args .list)) in
-    let within = readWithin look (s .args .depth) in
+    let within = readWithin newer look (s .args .depth) in
     let turn = c .before .before .before .before .before .before .before .before .before .before .before .before .before .before .before .before .before .before .before .before .before .before .before .loop .inv .1 in
     let g = rw (c .before .before .before .before .before .before .before .before .before .before .before .before .before .before .before .before .before .one .given .1) at (c .before .before .before .before .before .before .before .before .before .before .before .before .before .before .before .before .before .before .before .before .before .operand .ensures) in
     let and = rw (c .before .before .before .before .before .before .before .before .before .before .before .before .enum-told .given .1) at (c .before .before .before .before .before .before .before .before .before .before .before .before .before .before .word-ahead .ensures) in
-    let whole = terms look within _ _ _ _ _ _ _ _ _ _ turn _ _ _ g _ (and .0) (c .before .before .before .before .before .before .before .before .before .before .group .ensures) in
+    let whole = terms newer look within _ _ _ _ _ _ _ _ _ _ turn _ _ _ g _ (and .0) (c .before .before .before .before .before .before .before .before .before .before .group .ensures) in
     omega (arith, whole .grows, whole .inside, s .pre .1 .0 .short, s .pre .1 .1)
 
 expression-same-length-2 : (t : ℕ) → expression-lts.Need-same-length-2 (expression-claims t) (expression-at t) expression.Post expression-Inv-loop expression-μ-loop
@@ -329,23 +339,25 @@ expression-same-length-2 t c = search needs
 expression-returns-2 : (t : ℕ) → expression-lts.Need-returns-2 (expression-claims t) (expression-at t) expression.Post expression-Inv-loop expression-μ-loop
 expression-returns-2 t c =
     let s = c .before .before .before .before .before .before .before .before .before .before .before .before .before .before .before .before .before .before .before .before .before .before .before .before .before .before .before in
+    let newer = s .args .newer in
     let look = lookOf (s .args .lookup) (now (s .args .list)) in
-    let within = readWithin look (s .args .depth) in
+    let within = readWithin newer look (s .args .depth) in
     let turn = c .before .before .before .before .before .before .before .before .before .before .before .before .before .before .before .before .before .before .before .before .before .before .before .loop .inv .1 in
     let g = rw (c .before .before .before .before .before .before .before .before .before .before .before .before .before .before .before .before .before .one .given .1) at (c .before .before .before .before .before .before .before .before .before .before .before .before .before .before .before .before .before .before .before .before .before .operand .ensures) in
     let and = rw (c .before .before .before .before .before .before .before .before .before .before .before .before .enum-told .given .1) at (c .before .before .before .before .before .before .before .before .before .before .before .before .before .before .word-ahead .ensures) in
     let or = rw (c .before .before .before .before .enum-told2 .given .1) at (c .before .before .before .before .before .before .word-ahead2 .ensures) in
-    turn-done look within _ _ _ _ _ _ _ _ _ _ turn _ _ _ g _ (and .0) (c .before .before .before .before .before .before .before .before .before .before .group .ensures) _ (or .0) (c .before .before .group2 .ensures)
+    turn-done newer look within _ _ _ _ _ _ _ _ _ _ turn _ _ _ g _ (and .0) (c .before .before .before .before .before .before .before .before .before .before .group .ensures) _ (or .0) (c .before .before .group2 .ensures)
 
 expression-add-ors : (t : ℕ) → expression-lts.Need-add-ors (expression-claims t) (expression-at t) expression.Post expression-Inv-loop expression-μ-loop
 expression-add-ors t c =
     let s = c .before .before .before .before .before .before .before .before .before .before .before .before .before .before .before .before .before .before .before .before .before .before .before .before in
+    let newer = s .args .newer in
     let look = lookOf (s .args .lookup) (now (s .args .list)) in
-    let within = readWithin look (s .args .depth) in
+    let within = readWithin newer look (s .args .depth) in
     let turn = c .before .before .before .before .before .before .before .before .before .before .before .before .before .before .before .before .before .before .before .before .loop .inv .1 in
     let g = rw (c .before .before .before .before .before .before .before .before .before .before .before .before .before .before .one .given .1) at (c .before .before .before .before .before .before .before .before .before .before .before .before .before .before .before .before .before .before .operand .ensures) in
     let and = rw (c .before .before .before .before .before .before .before .before .before .enum-told .given .1) at (c .before .before .before .before .before .before .before .before .before .before .before .word-ahead .ensures) in
-    let whole = terms look within _ _ _ _ _ _ _ _ _ _ turn _ _ _ g _ (and .0) (c .before .before .before .before .before .before .before .group .ensures) in
+    let whole = terms newer look within _ _ _ _ _ _ _ _ _ _ turn _ _ _ g _ (and .0) (c .before .before .before .before .before .before .before .group .ensures) in
     omega (arith, whole .grows, whole .inside, s .pre .1 .0 .short, s .pre .1 .1)
 
 expression-loop-less-2 : (t : ℕ) → expression-lts.Need-loop-less-2 (expression-claims t) (expression-at t) expression.Post expression-Inv-loop expression-μ-loop
@@ -358,13 +370,14 @@ expression-loop-again-2 : (t : ℕ) → expression-lts.Need-loop-again-2 (expres
 expression-loop-again-2 t c = (
   search needs,
   let s = c .before .before .before .before .before .before .before .before .before .before .before .before .before .before .before .before .before .before .before .before .before .before .before .before in
+      let newer = s .args .newer in
       let look = lookOf (s .args .lookup) (now (s .args .list)) in
-      let within = readWithin look (s .args .depth) in
+      let within = readWithin newer look (s .args .depth) in
       let turn = c .before .before .before .before .before .before .before .before .before .before .before .before .before .before .before .before .before .before .before .before .loop .inv .1 in
       let g = rw (c .before .before .before .before .before .before .before .before .before .before .before .before .before .before .one .given .1) at (c .before .before .before .before .before .before .before .before .before .before .before .before .before .before .before .before .before .before .operand .ensures) in
       let and = rw (c .before .before .before .before .before .before .before .before .before .enum-told .given .1) at (c .before .before .before .before .before .before .before .before .before .before .before .word-ahead .ensures) in
       let or = rw (c .before .or .given .1) at (c .before .before .before .word-ahead2 .ensures) in
-      turn-or look within _ _ _ _ _ _ _ _ _ _ turn _ _ _ g _ (and .0) (c .before .before .before .before .before .before .before .group .ensures) _ (or .0) (or .2),
+      turn-or newer look within _ _ _ _ _ _ _ _ _ _ turn _ _ _ g _ (and .0) (c .before .before .before .before .before .before .before .group .ensures) _ (or .0) (or .2),
 )
 
 -- What `operand` knows of the functions it calls.
@@ -404,10 +417,11 @@ operand-same-length t c = search needs
 operand-returns : (t : ℕ) → operand-lts.Need-returns (operand-claims t) (operand-at t) operand.Post
 operand-returns t c =
     let s = c .before .before .before .before .before .before .before .before .before .before .before .before in
+    let newer = s .args .newer in
     let look = lookOf (s .args .lookup) (now (s .args .list)) in
-    let within = readWithin look (s .args .depth) in
+    let within = readWithin newer look (s .args .depth) in
     let n = rw (c .before .before .before .before .before .before .opens .given .1) at (c .before .before .before .before .before .before .before .before .opening .ensures) in
-    passed-on _ _ _ _ _ _ _ _ _ _ _ _ _ _ _ _ _ _ (c .before .before .before .bracketed .result) (c .match2 .keys2) (c .before .before .before .bracketed .ensures) (λ k place h. not-stuck look within _ (s .args .out .now) _ (s .args .slot) _ _ k place n h)
+    passed-on _ _ _ _ _ _ _ _ _ _ _ _ _ _ _ _ _ _ (c .before .before .before .bracketed .result) (c .match2 .keys2) (c .before .before .before .bracketed .ensures) (λ k place h. not-stuck newer look within _ (s .args .out .now) _ (s .args .slot) _ _ k place n h)
 
 operand-put-requires : (t : ℕ) → operand-lts.Need-put-requires (operand-claims t) (operand-at t) operand.Post
 operand-put-requires t c κs = search needs
@@ -433,11 +447,12 @@ operand-same-length-2 t c = search needs
 operand-returns-2 : (t : ℕ) → operand-lts.Need-returns-2 (operand-claims t) (operand-at t) operand.Post
 operand-returns-2 t c =
     let s = c .before .before .before .before .before .before .before .before .before .before .before .before .before .before .before .before .before .before in
+    let newer = s .args .newer in
     let look = lookOf (s .args .lookup) (now (s .args .list)) in
-    let within = readWithin look (s .args .depth) in
+    let within = readWithin newer look (s .args .depth) in
     let n = rw (c .before .before .before .before .before .before .before .before .before .before .before .before .opens .given .1) at (c .before .before .before .before .before .before .before .before .before .before .before .before .before .before .opening .ensures) in
     let g = rw (c .before .before .before .before .before .inner .given .1) at (c .before .before .before .before .before .before .before .before .before .bracketed .ensures) in
-    not-done look within _ _ _ _ _ _ _ _ _ _ n g (c .before .before .put .ensures)
+    not-done newer look within _ _ _ _ _ _ _ _ _ _ n g (c .before .before .put .ensures)
 
 operand-same-length-3 : (t : ℕ) → operand-lts.Need-same-length-3 (operand-claims t) (operand-at t) operand.Post
 operand-same-length-3 t c = search needs
@@ -445,10 +460,11 @@ operand-same-length-3 t c = search needs
 operand-returns-3 : (t : ℕ) → operand-lts.Need-returns-3 (operand-claims t) (operand-at t) operand.Post
 operand-returns-3 t c =
     let s = c .before .before .before .before .before .before .before .before .before .before .before in
+    let newer = s .args .newer in
     let look = lookOf (s .args .lookup) (now (s .args .list)) in
-    let within = readWithin look (s .args .depth) in
+    let within = readWithin newer look (s .args .depth) in
     let o = rw (c .before .before .before .before .before .opens2 .given .1) at (c .before .before .before .before .before .before .before .opening .ensures) in
-    round-done look within _ _ _ _ _ _ _ (c .before .before .bracketed2 .result) o (c .before .before .bracketed2 .ensures)
+    round-done newer look within _ _ _ _ _ _ _ (c .before .before .bracketed2 .result) o (c .before .before .bracketed2 .ensures)
 
 operand-same-length-4 : (t : ℕ) → operand-lts.Need-same-length-4 (operand-claims t) (operand-at t) operand.Post
 operand-same-length-4 t c = search needs
@@ -456,10 +472,11 @@ operand-same-length-4 t c = search needs
 operand-returns-4 : (t : ℕ) → operand-lts.Need-returns-4 (operand-claims t) (operand-at t) operand.Post
 operand-returns-4 t c =
     let s = c .before .before .before .before .before .before .before .before .before .before in
+    let newer = s .args .newer in
     let look = lookOf (s .args .lookup) (now (s .args .list)) in
-    let within = readWithin look (s .args .depth) in
+    let within = readWithin newer look (s .args .depth) in
     let o = rw (c .before .before .before .before .enum-told .given .1) at (c .before .before .before .before .before .before .opening .ensures) in
-    path-done look within _ _ _ _ _ (c .before .before .steps .result) o (c .before .before .steps .ensures)
+    path-done newer look within _ _ _ _ _ (c .before .before .steps .result) o (c .before .before .steps .ensures)
 
 -- What `predicates` knows of the functions it calls.
 abbrev predicates-claims : ℕ → predicates-lts.Claims
@@ -475,11 +492,11 @@ predicates-claims t = (
 )
 
 abbrev predicates-Inv-loop : predicates-lts.InvT-loop
-predicates-Inv-loop text list starts count lookup depth out₀ slot axis test here₀ filled₀ taken₀ out here filled taken =
-    (length out ≡ length out₀) × (PredRow (lookOf lookup list) (readWithin (lookOf lookup list) depth) text out₀ out (here₀ .at) slot (here .at) filled taken)
+predicates-Inv-loop text list starts count lookup depth out₀ slot axis test newer here₀ filled₀ taken₀ out here filled taken =
+    (length out ≡ length out₀) × (PredRow newer (lookOf lookup list) (readWithin newer (lookOf lookup list) depth) text out₀ out (here₀ .at) slot (here .at) filled taken)
 
 abbrev predicates-μ-loop : predicates-lts.MeasureT-loop
-predicates-μ-loop text list starts count lookup depth out₀ slot axis test here₀ filled₀ taken₀ out here filled taken =
+predicates-μ-loop text list starts count lookup depth out₀ slot axis test newer here₀ filled₀ taken₀ out here filled taken =
     length text - here .at
 
 predicates-add-filled : (t : ℕ) → predicates-lts.Need-add-filled (predicates-claims t) (predicates-at t) predicates.Post predicates-Inv-loop predicates-μ-loop
@@ -487,7 +504,7 @@ predicates-add-filled t c = search needs
 
 predicates-loop-holds : (t : ℕ) → predicates-lts.Need-loop-holds (predicates-claims t) (predicates-at t) predicates.Post predicates-Inv-loop predicates-μ-loop
 predicates-loop-holds t c =
-    (refl, preds-start _ _ _ _ _ _ (c .before .before .before .pre .1 .0 .inside))
+    (refl, preds-start _ _ _ _ _ _ _ (c .before .before .before .pre .1 .0 .inside))
 
 predicates-mark-requires : (t : ℕ) → predicates-lts.Need-mark-requires (predicates-claims t) (predicates-at t) predicates.Post predicates-Inv-loop predicates-μ-loop
 predicates-mark-requires t c κs = search needs
@@ -514,12 +531,13 @@ predicates-same-length t c = search needs
 predicates-returns : (t : ℕ) → predicates-lts.Need-returns (predicates-claims t) (predicates-at t) predicates.Post predicates-Inv-loop predicates-μ-loop
 predicates-returns t c =
     let s = c .before .before .before .before .before .before .before .before .before .before .before .before .before in
+    let newer = s .args .newer in
     let look = lookOf (s .args .lookup) (now (s .args .list)) in
-    let within = readWithin look (s .args .depth) in
+    let within = readWithin newer look (s .args .depth) in
     let l = c .before .before .before .before .before .before .before .before .before .loop .inv .1 in
     let m = rw (c .before .before .before .before .before .before .square .given .1) at (c .before .before .before .before .before .before .before .before .mark .ensures) in
     λ a t′ ea et. passed-on _ _ _ _ _ _ _ _ _ _ _ _ _ _ _ _ _ _ (c .before .before .before .bracketed .result) (c .match2 .keys2) (c .before .before .before .bracketed .ensures)
-    (preds-stuck look within _ _ _ _ _ _ _ _ l _ _ (m .0) (m .1) (m .2) a t′)
+    (preds-stuck newer look within _ _ _ _ _ _ _ _ l _ _ (m .0) (m .1) (m .2) a t′)
 
 predicates-add-taken : (t : ℕ) → predicates-lts.Need-add-taken (predicates-claims t) (predicates-at t) predicates.Post predicates-Inv-loop predicates-μ-loop
 predicates-add-taken t c = search needs
@@ -534,12 +552,13 @@ predicates-loop-again : (t : ℕ) → predicates-lts.Need-loop-again (predicates
 predicates-loop-again t c = (
   search needs,
   let s = c .before .before .before .before .before .before .before .before .before .before .before .before .before .before .before in
+      let newer = s .args .newer in
       let look = lookOf (s .args .lookup) (now (s .args .list)) in
-      let within = readWithin look (s .args .depth) in
+      let within = readWithin newer look (s .args .depth) in
       let l = c .before .before .before .before .before .before .before .before .before .before .before .loop .inv .1 in
       let g = rw (c .before .one .given .1) at (c .before .before .before .before .before .bracketed .ensures) in
       let m = rw (c .before .before .before .before .before .before .before .before .square .given .1) at (c .before .before .before .before .before .before .before .before .before .before .mark .ensures) in
-      preds-more look within _ _ _ _ _ _ _ _ l _ _ (m .0) (m .1) (m .2) _ _ _ g,
+      preds-more newer look within _ _ _ _ _ _ _ _ l _ _ (m .0) (m .1) (m .2) _ _ _ g,
 )
 
 predicates-item-of-step-requires : (t : ℕ) → predicates-lts.Need-item-of-step-requires (predicates-claims t) (predicates-at t) predicates.Post predicates-Inv-loop predicates-μ-loop
@@ -554,11 +573,12 @@ predicates-same-length-2 t c = search needs
 predicates-returns-2 : (t : ℕ) → predicates-lts.Need-returns-2 (predicates-claims t) (predicates-at t) predicates.Post predicates-Inv-loop predicates-μ-loop
 predicates-returns-2 t c =
     let s = c .before .before .before .before .before .before .before .before .before .before .before .before in
+    let newer = s .args .newer in
     let look = lookOf (s .args .lookup) (now (s .args .list)) in
-    let within = readWithin look (s .args .depth) in
+    let within = readWithin newer look (s .args .depth) in
     let l = c .before .before .before .before .before .before .before .before .loop .inv .1 in
     let m = rw (c .before .before .before .before .before .enum-told .given .1) at (c .before .before .before .before .before .before .before .mark .ensures) in
-    λ a t′ ea et. preds-done look within _ _ _ _ _ _ _ _ l _ _ _ _ a t′ ea et (m .0) (c .before .before .before .item-of-step .ensures) (c .before .before .put .ensures)
+    λ a t′ ea et. preds-done newer look within _ _ _ _ _ _ _ _ l _ _ _ _ a t′ ea et (m .0) (c .before .before .before .item-of-step .ensures) (c .before .before .put .ensures)
 
 -- What `step` knows of the functions it calls.
 abbrev step-claims : ℕ → step-lts.Claims
@@ -587,8 +607,8 @@ step-item-of-step-requires t c κs =
 step-put-requires : (t : ℕ) → step-lts.Need-put-requires (step-claims t) (step-at t) step.Post
 step-put-requires t c κs = search needs
 
-step-add-t23 : (t : ℕ) → step-lts.Need-add-t23 (step-claims t) (step-at t) step.Post
-step-add-t23 t c = search needs
+step-add-t24 : (t : ℕ) → step-lts.Need-add-t24 (step-claims t) (step-at t) step.Post
+step-add-t24 t c = search needs
 
 step-enum-known-head-2 : (t : ℕ) → step-lts.Need-enum-known-head-2 (step-claims t) (step-at t) step.Post
 step-enum-known-head-2 t c = search needs
@@ -611,10 +631,11 @@ step-same-length t c = search needs
 step-returns : (t : ℕ) → step-lts.Need-returns (step-claims t) (step-at t) step.Post
 step-returns t c =
     let s = c .before .before .before .before .before .before .before .before .before .before .before .before in
+    let newer = s .args .newer in
     let look = lookOf (s .args .lookup) (now (s .args .list)) in
-    let within = readWithin look (s .args .depth) in
+    let within = readWithin newer look (s .args .depth) in
     let h = rw (c .before .before .before .before .before .before .head .given .1) at (c .before .before .before .before .before .before .before .before .step-head .ensures) in
-    plain-done look within _ _ _ _ _ _ _ _ h (c .before .before .before .item-of-step .ensures) (c .before .before .put .ensures)
+    plain-done newer look within _ _ _ _ _ _ _ _ h (c .before .before .before .item-of-step .ensures) (c .before .before .put .ensures)
 
 step-same-length-2 : (t : ℕ) → step-lts.Need-same-length-2 (step-claims t) (step-at t) step.Post
 step-same-length-2 t c = search needs
@@ -622,23 +643,26 @@ step-same-length-2 t c = search needs
 step-returns-2 : (t : ℕ) → step-lts.Need-returns-2 (step-claims t) (step-at t) step.Post
 step-returns-2 t c =
     let s = c .before .before .before .before .before .before .before .before .before .before .before in
+    let newer = s .args .newer in
     let look = lookOf (s .args .lookup) (now (s .args .list)) in
-    let within = readWithin look (s .args .depth) in
+    let within = readWithin newer look (s .args .depth) in
     let h = rw (c .before .before .before .before .before .head2 .given .1) at (c .before .before .before .before .before .before .before .step-head .ensures) in
-    tested-done look within _ _ _ _ _ _ _ _ (c .before .before .predicates .result) h (c .before .before .predicates .ensures (h .way) (h .kind) (h .number) (h .tested))
+    tested-done newer look within _ _ _ _ _ _ _ _ (c .before .before .predicates .result) h (c .before .before .predicates .ensures (h .way) (h .kind) (h .number) (h .tested))
 
 step-returns-3 : (t : ℕ) → step-lts.Need-returns-3 (step-claims t) (step-at t) step.Post
 step-returns-3 t c =
     let s = c .before .before .before .before .before .before .before in
+    let newer = s .args .newer in
     let look = lookOf (s .args .lookup) (now (s .args .list)) in
-    let within = readWithin look (s .args .depth) in
+    let within = readWithin newer look (s .args .depth) in
     (rw (c .before .head3 .given .1) at (c .before .before .before .step-head .ensures)) within
 
 step-returns-4 : (t : ℕ) → step-lts.Need-returns-4 (step-claims t) (step-at t) step.Post
 step-returns-4 t c =
     let s = c .before .before .before .before .before .before .before in
+    let newer = s .args .newer in
     let look = lookOf (s .args .lookup) (now (s .args .list)) in
-    let within = readWithin look (s .args .depth) in
+    let within = readWithin newer look (s .args .depth) in
     (rw (c .before .head4 .given .1) at (c .before .before .before .step-head .ensures)) within
 
 -- What `steps` knows of the functions it calls.
@@ -657,11 +681,11 @@ steps-claims t = (
 )
 
 abbrev steps-Inv-loop : steps-lts.InvT-loop
-steps-Inv-loop text list starts count lookup depth out₀ slot deep here₀ filled₀ lead₀ taken₀ out here filled lead taken =
-    (length out ≡ length out₀) × (StepRow (lookOf lookup list) (readWithin (lookOf lookup list) depth) text out₀ out (here₀ .at) slot (then (readSteps (lookOf lookup list) (readWithin (lookOf lookup list) depth) (length (tokensAt text (here₀ .at))) (tokensAt text (here₀ .at))) (λ s. got (deepIf deep s))) (here .at) filled lead taken)
+steps-Inv-loop text list starts count lookup depth out₀ slot deep newer here₀ filled₀ lead₀ taken₀ out here filled lead taken =
+    (length out ≡ length out₀) × (StepRow newer (lookOf lookup list) (readWithin newer (lookOf lookup list) depth) text out₀ out (here₀ .at) slot (then (readSteps newer (lookOf lookup list) (readWithin newer (lookOf lookup list) depth) (length (tokensAt text (here₀ .at))) (tokensAt text (here₀ .at))) (λ s. got (deepIf deep s))) (here .at) filled lead taken)
 
 abbrev steps-μ-loop : steps-lts.MeasureT-loop
-steps-μ-loop text list starts count lookup depth out₀ slot deep here₀ filled₀ lead₀ taken₀ out here filled lead taken =
+steps-μ-loop text list starts count lookup depth out₀ slot deep newer here₀ filled₀ lead₀ taken₀ out here filled lead taken =
     length text - here .at
 
 steps-add-filled : (t : ℕ) → steps-lts.Need-add-filled (steps-claims t) (steps-at t) steps.Post steps-Inv-loop steps-μ-loop
@@ -669,7 +693,7 @@ steps-add-filled t c = search needs
 
 steps-loop-holds : (t : ℕ) → steps-lts.Need-loop-holds (steps-claims t) (steps-at t) steps.Post steps-Inv-loop steps-μ-loop
 steps-loop-holds t c =
-    (refl, steps-start _ _ _ _ _ _ _ (c .before .before .before .pre .1 .0 .inside))
+    (refl, steps-start _ _ _ _ _ _ _ _ (c .before .before .before .pre .1 .0 .inside))
 
 steps-put-deep-requires : (t : ℕ) → steps-lts.Need-put-deep-requires (steps-claims t) (steps-at t) steps.Post steps-Inv-loop steps-μ-loop
 steps-put-deep-requires t c κs = search needs
@@ -689,10 +713,11 @@ steps-same-length t c = search needs
 steps-returns : (t : ℕ) → steps-lts.Need-returns (steps-claims t) (steps-at t) steps.Post steps-Inv-loop steps-μ-loop
 steps-returns t c =
     let s = c .before .before .before .before .before .before .before .before .before .before .before .before .before in
+    let newer = s .args .newer in
     let look = lookOf (s .args .lookup) (now (s .args .list)) in
-    let within = readWithin look (s .args .depth) in
+    let within = readWithin newer look (s .args .depth) in
     let l = c .before .before .before .before .before .before .before .before .before .loop .inv .1 in
-    passed-on _ _ _ _ _ _ _ _ _ _ _ _ _ _ _ _ _ _ (c .before .before .before .step .result) (c .match .keys2) (c .before .before .before .step .ensures) (step-stuck look within _ _ _ _ _ _ _ _ _ _ l)
+    passed-on _ _ _ _ _ _ _ _ _ _ _ _ _ _ _ _ _ _ (c .before .before .before .step .result) (c .match .keys2) (c .before .before .before .step .ensures) (step-stuck newer look within _ _ _ _ _ _ _ _ _ _ l)
 
 steps-sub-taken : (t : ℕ) → steps-lts.Need-sub-taken (steps-claims t) (steps-at t) steps.Post steps-Inv-loop steps-μ-loop
 steps-sub-taken t c = search needs
@@ -720,11 +745,12 @@ steps-loop-again : (t : ℕ) → steps-lts.Need-loop-again (steps-claims t) (ste
 steps-loop-again t c = (
   search needs,
   let s = c .before .before .before .before .before .before .before .before .before .before .before .before .before .before .before .before .before .before .before in
+      let newer = s .args .newer in
       let look = lookOf (s .args .lookup) (now (s .args .list)) in
-      let within = readWithin look (s .args .depth) in
+      let within = readWithin newer look (s .args .depth) in
       let g = rw (c .before .before .before .before .before .one .given .1) at (c .before .before .before .before .before .before .before .before .before .step .ensures) in
-      let l = step-more look within _ _ _ _ _ _ _ _ _ _ (c .before .before .before .before .before .before .before .before .before .before .before .before .before .before .before .loop .inv .1) _ _ _ _ _ (c .before .before .before .before .before .before .before .before .before .before .before .before .before .put-deep .ensures .0) (c .before .before .before .before .before .before .before .before .before .before .before .before .before .put-deep .ensures .1) g in
-      steps-more look within _ _ _ _ _ _ _ _ _ l _ _ (rw (c .before .joint .given .1) at (c .before .before .before .joined .ensures)),
+      let l = step-more newer look within _ _ _ _ _ _ _ _ _ _ (c .before .before .before .before .before .before .before .before .before .before .before .before .before .before .before .loop .inv .1) _ _ _ _ _ (c .before .before .before .before .before .before .before .before .before .before .before .before .before .put-deep .ensures .0) (c .before .before .before .before .before .before .before .before .before .before .before .before .before .put-deep .ensures .1) g in
+      steps-more newer look within _ _ _ _ _ _ _ _ _ l _ _ (rw (c .before .joint .given .1) at (c .before .before .before .joined .ensures)),
 )
 
 steps-enum-told : (t : ℕ) → steps-lts.Need-enum-told (steps-claims t) (steps-at t) steps.Post steps-Inv-loop steps-μ-loop
@@ -742,11 +768,12 @@ steps-same-length-2 t c = search needs
 steps-returns-2 : (t : ℕ) → steps-lts.Need-returns-2 (steps-claims t) (steps-at t) steps.Post steps-Inv-loop steps-μ-loop
 steps-returns-2 t c =
     let s = c .before .before .before .before .before .before .before .before .before .before .before .before .before .before .before .before .before .before .before .before .before .before .before in
+    let newer = s .args .newer in
     let look = lookOf (s .args .lookup) (now (s .args .list)) in
-    let within = readWithin look (s .args .depth) in
+    let within = readWithin newer look (s .args .depth) in
     let g = rw (c .before .before .before .before .before .before .before .before .before .one .given .1) at (c .before .before .before .before .before .before .before .before .before .before .before .before .before .step .ensures) in
-    let l = step-more look within _ _ _ _ _ _ _ _ _ _ (c .before .before .before .before .before .before .before .before .before .before .before .before .before .before .before .before .before .before .before .loop .inv .1) _ _ _ _ _ (c .before .before .before .before .before .before .before .before .before .before .before .before .before .before .before .before .before .put-deep .ensures .0) (c .before .before .before .before .before .before .before .before .before .before .before .before .before .before .before .before .before .put-deep .ensures .1) g in
-    steps-done look within _ _ _ _ _ _ _ _ _ l _ _ _ (rw (c .before .before .before .before .before .enum-told .given .1) at (c .before .before .before .before .before .before .before .joined .ensures)) (c .before .before .before .item-of-path .ensures) (c .before .before .put .ensures)
+    let l = step-more newer look within _ _ _ _ _ _ _ _ _ _ (c .before .before .before .before .before .before .before .before .before .before .before .before .before .before .before .before .before .before .before .loop .inv .1) _ _ _ _ _ (c .before .before .before .before .before .before .before .before .before .before .before .before .before .before .before .before .before .put-deep .ensures .0) (c .before .before .before .before .before .before .before .before .before .before .before .before .before .before .before .before .before .put-deep .ensures .1) g in
+    steps-done newer look within _ _ _ _ _ _ _ _ _ l _ _ _ (rw (c .before .before .before .before .before .enum-told .given .1) at (c .before .before .before .before .before .before .before .joined .ensures)) (c .before .before .before .item-of-path .ensures) (c .before .before .put .ensures)
 
 pub +bracketed+expression+operand+predicates+step+steps-spec : {M : Type 1} → statement M
 +bracketed+expression+operand+predicates+step+steps-spec =
@@ -790,7 +817,7 @@ pub +bracketed+expression+operand+predicates+step+steps-spec : {M : Type 1} → 
     (expression-enum-known-or t)
     (expression-enum-told-2 t)
     (expression-group-requires-2 t)
-    (expression-add-t37 t)
+    (expression-add-t38 t)
     (expression-same-length-2 t)
     (expression-returns-2 t)
     (expression-add-ors t)
@@ -845,7 +872,7 @@ pub +bracketed+expression+operand+predicates+step+steps-spec : {M : Type 1} → 
     (step-enum-known-head t)
     (step-item-of-step-requires t)
     (step-put-requires t)
-    (step-add-t23 t)
+    (step-add-t24 t)
     (step-enum-known-head-2 t)
     (step-predicates-requires t)
     (step-enum-known-head-3 t)

@@ -50,23 +50,23 @@ returns-2 c =
     )
 
 -- The text was read with the list's names.
-whole : (c : tie.After-known-told) → Whole (now (c .before .before .before .before .before .before .before .before .before .before .args .few)) (c .before .before .before .before .before .paths .last .1 .1 .1 .1 .1 .0) (readText (lookOf true (now (c .before .before .before .before .before .before .before .before .before .before .args .list))) (now (c .before .before .before .before .before .before .before .before .before .before .args .text))) (c .before .whole .given .0 .1 .0)
+whole : (c : tie.After-known-told) → Whole (now (c .before .before .before .before .before .before .before .before .before .before .args .few)) (c .before .before .before .before .before .paths .last .1 .1 .1 .1 .1 .0) (readText (c .before .before .before .before .before .before .before .before .before .before .args .newer) (lookOf true (now (c .before .before .before .before .before .before .before .before .before .before .args .list))) (now (c .before .before .before .before .before .before .before .before .before .before .args .text))) (c .before .whole .given .0 .1 .0)
 whole c = rw (c .before .whole .given .1) at (c .before .before .before .before .before .paths .ensures)
 
-sized : (c : tie.After-known-told) → Sized (readText (lookOf true (now (c .before .before .before .before .before .before .before .before .before .before .args .list))) (now (c .before .before .before .before .before .before .before .before .before .before .args .text))) (c .before .whole .given .0 .1 .0)
+sized : (c : tie.After-known-told) → Sized (readText (c .before .before .before .before .before .before .before .before .before .before .args .newer) (lookOf true (now (c .before .before .before .before .before .before .before .before .before .before .args .list))) (now (c .before .before .before .before .before .before .before .before .before .before .args .text))) (c .before .whole .given .0 .1 .0)
 sized c = whole-sized _ _ _ _ (whole c)
 
 same-length-3 : tie.Need-same-length-3
 same-length-3 c = search needs
 
 returns-3 : tie.Need-returns-3
-returns-3 c = (short-room _ _ _ (sized (c .before)) (c .if1 .taken) ∙ any-later _ _ _ _ (sized (c .before)), λ n e. short-value _ n e)
+returns-3 c = (short-room _ _ _ (sized (c .before)) (c .if1 .taken) ∙ any-later _ _ _ _ _ (sized (c .before)), λ n e. short-value _ n e)
 
 same-length-4 : tie.Need-same-length-4
 same-length-4 c = search needs
 
 returns-4 : tie.Need-returns-4
-returns-4 c = (over-items _ _ _ (sized (c .before .before)) (c .before .if1 .left) (c .if2 .taken) ∙ any-later _ _ _ _ (sized (c .before .before)), λ n e. short-value _ n e)
+returns-4 c = (over-items _ _ _ (sized (c .before .before)) (c .before .if1 .left) (c .if2 .taken) ∙ any-later _ _ _ _ _ (sized (c .before .before)), λ n e. short-value _ n e)
 
 same-length-5 : tie.Need-same-length-5
 same-length-5 c = search needs
@@ -74,8 +74,8 @@ same-length-5 c = search needs
 returns-5 : tie.Need-returns-5
 returns-5 c =
     let few = c .before .before .before .before .before .before .before .paths .last .1 .1 .1 .1 .1 .0 in
-    let o = readText (lookOf true (now (c .before .before .before .before .before .before .before .before .before .before .before .before .args .list))) (now (c .before .before .before .before .before .before .before .before .before .before .before .before .args .text)) in (
-      enough-room _ _ _ (sized (c .before .before)) (c .before .if1 .left) (c .if2 .left) ∙ any-later _ _ _ _ (sized (c .before .before)),
+    let o = readText (c .before .before .before .before .before .before .before .before .before .before .before .before .args .newer) (lookOf true (now (c .before .before .before .before .before .before .before .before .before .before .before .before .args .list))) (now (c .before .before .before .before .before .before .before .before .before .before .before .before .args .text)) in (
+      enough-room _ _ _ (sized (c .before .before)) (c .before .if1 .left) (c .if2 .left) ∙ any-later _ _ _ _ _ (sized (c .before .before)),
       λ n e.
           subst (λ (m : ℕ). (m ≤ c .before .before .before .before .before .before .before .before .before .before .before .before .args .room) × Kept few o m) (value-same _ n e)
           (c .before .if1 .left, kept-few _ _ _ _ (c .before .before .before .before .before .before .before .paths .kept .1 .1 .1 .1 .1 .0) (whole (c .before .before)) (c .if2 .left)),

@@ -21,8 +21,8 @@ pack-path-requires c κs = search needs
 put-requires : tie.Need-put-requires
 put-requires c κs = search needs
 
-add-t19 : tie.Need-add-t19
-add-t19 c = search needs
+add-t20 : tie.Need-add-t20
+add-t20 c = search needs
 
 enum-known-lead-2 : tie.Need-enum-known-lead-2
 enum-known-lead-2 c = search needs
@@ -42,7 +42,7 @@ same-length c = search needs
 returns : tie.Need-returns
 returns c =
     let s = c .before .before .before .before .before .before .before .before .before .before .before .before in
-    path-alone (lookOf (s .args .lookup) (now (s .args .list))) (readWithin (lookOf (s .args .lookup) (now (s .args .list))) bracketLimit) _ _ _ _ _ _ (c .before .before .before .before .before .before .lead .given .0 .0) (rw (c .before .before .before .before .before .before .lead .given .1) at (c .before .before .before .before .before .before .before .before .path-lead .ensures)) (c .before .before .before .pack-path .ensures) (c .before .before .put .ensures)
+    path-alone (s .args .newer) (lookOf (s .args .lookup) (now (s .args .list))) (readWithin (s .args .newer) (lookOf (s .args .lookup) (now (s .args .list))) bracketLimit) _ _ _ _ _ _ (c .before .before .before .before .before .before .lead .given .0 .0) (rw (c .before .before .before .before .before .before .lead .given .1) at (c .before .before .before .before .before .before .before .before .path-lead .ensures)) (c .before .before .before .pack-path .ensures) (c .before .before .put .ensures)
 
 same-length-2 : tie.Need-same-length-2
 same-length-2 c = search needs
@@ -50,12 +50,12 @@ same-length-2 c = search needs
 returns-2 : tie.Need-returns-2
 returns-2 c =
     let s = c .before .before .before .before .before .before .before .before .before .before .before in
-    path-before (lookOf (s .args .lookup) (now (s .args .list))) (readWithin (lookOf (s .args .lookup) (now (s .args .list))) bracketLimit) _ _ _ _ _ (c .before .before .before .before .before .lead2 .given .0 .0) (c .before .before .before .before .before .lead2 .given .0 .1 .0) (c .before .before .steps .result) (rw (c .before .before .before .before .before .lead2 .given .1) at (c .before .before .before .before .before .before .before .path-lead .ensures)) (c .before .before .steps .ensures)
+    path-before (s .args .newer) (lookOf (s .args .lookup) (now (s .args .list))) (readWithin (s .args .newer) (lookOf (s .args .lookup) (now (s .args .list))) bracketLimit) _ _ _ _ _ (c .before .before .before .before .before .lead2 .given .0 .0) (c .before .before .before .before .before .lead2 .given .0 .1 .0) (c .before .before .steps .result) (rw (c .before .before .before .before .before .lead2 .given .1) at (c .before .before .before .before .before .before .before .path-lead .ensures)) (c .before .before .steps .ensures)
 
 returns-3 : tie.Need-returns-3
 returns-3 c =
     let s = c .before .before .before .before .before .before .before in
-    path-none (lookOf (s .args .lookup) (now (s .args .list))) (readWithin (lookOf (s .args .lookup) (now (s .args .list))) bracketLimit) _ (s .args .out .now) (s .args .out .now) _ (s .args .slot) _ (rw (c .before .lead3 .given .1) at (c .before .before .before .path-lead .ensures))
+    path-none (s .args .newer) (lookOf (s .args .lookup) (now (s .args .list))) (readWithin (s .args .newer) (lookOf (s .args .lookup) (now (s .args .list))) bracketLimit) _ (s .args .out .now) (s .args .out .now) _ (s .args .slot) _ (rw (c .before .lead3 .given .1) at (c .before .before .before .path-lead .ensures))
 
 pub path-spec : {M : Type 1} → statement M
 path-spec =
@@ -65,7 +65,7 @@ path-spec =
     enum-known-lead
     pack-path-requires
     put-requires
-    add-t19
+    add-t20
     enum-known-lead-2
     steps-requires
     enum-known-lead-3

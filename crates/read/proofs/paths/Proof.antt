@@ -13,14 +13,14 @@ use Rattle.read.proofs.paths.Statement.{statement}
 use Rattle.read.proofs.paths.Tie as tie
 
 abbrev Inv-loop : tie.InvT-loop
-Inv-loop text list starts count lookup out₀ here₀ filled₀ out here filled =
-    (length out ≡ length out₀) × (PathRow (lookOf lookup list) (readWithin (lookOf lookup list) bracketLimit) text out₀ out (readText (lookOf lookup list) text) (here .at) filled)
+Inv-loop text list starts count lookup out₀ newer here₀ filled₀ out here filled =
+    (length out ≡ length out₀) × (PathRow newer (lookOf lookup list) (readWithin newer (lookOf lookup list) bracketLimit) text out₀ out (readText newer (lookOf lookup list) text) (here .at) filled)
 
 abbrev μ-loop : tie.MeasureT-loop
-μ-loop text list starts count lookup out₀ here₀ filled₀ out here filled = length text - here .at
+μ-loop text list starts count lookup out₀ newer here₀ filled₀ out here filled = length text - here .at
 
 loop-holds : tie.Need-loop-holds Inv-loop μ-loop
-loop-holds c = (refl, paths-start _ _ _)
+loop-holds c = (refl, paths-start _ _ _ _)
 
 path-requires : tie.Need-path-requires Inv-loop μ-loop
 path-requires c κs =
@@ -37,10 +37,10 @@ same-length c = search needs
 returns : tie.Need-returns Inv-loop μ-loop
 returns c =
     let s = c .before .before .before .before .before .before .before .before .before in
-    all-refused _ _ _ _ _ _ _ _ _ _ _ _ (c .before .before .before .path .result) (c .match .keys2) (c .before .before .before .path .ensures) (paths-stuck (lookOf (s .args .lookup) (now (s .args .list))) (readWithin (lookOf (s .args .lookup) (now (s .args .list))) bracketLimit) _ _ _ _ _ _ (c .before .before .before .before .before .loop .inv .1))
+    all-refused _ _ _ _ _ _ _ _ _ _ _ _ (c .before .before .before .path .result) (c .match .keys2) (c .before .before .before .path .ensures) (paths-stuck (s .args .newer) (lookOf (s .args .lookup) (now (s .args .list))) (readWithin (s .args .newer) (lookOf (s .args .lookup) (now (s .args .list))) bracketLimit) _ _ _ _ _ _ (c .before .before .before .before .before .loop .inv .1))
 
-mark-requires : tie.Need-mark-requires Inv-loop μ-loop
-mark-requires c κs = ((rw (c .before .one .given .1) at (c .before .before .before .before .before .path .ensures)) .inside, search needs)
+joins-ahead-requires : tie.Need-joins-ahead-requires Inv-loop μ-loop
+joins-ahead-requires c κs = (rw (c .before .one .given .1) at (c .before .before .before .before .before .path .ensures)) .inside
 
 enum-known-bar : tie.Need-enum-known-bar Inv-loop μ-loop
 enum-known-bar c = search needs
@@ -48,7 +48,7 @@ enum-known-bar c = search needs
 loop-less : tie.Need-loop-less Inv-loop μ-loop
 loop-less c =
     let g = rw (c .before .before .before .before .before .one .given .1) at (c .before .before .before .before .before .before .before .before .before .path .ensures) in
-    let m = rw (c .before .bar .given .1) at (c .before .before .before .mark .ensures) in
+    let m = rw (c .before .bar .given .1) at (c .before .before .before .joins-ahead .ensures) in
     omega (arith, g .onward, m .2 .onward, m .2 .inside)
 
 loop-again : tie.Need-loop-again Inv-loop μ-loop
@@ -56,8 +56,8 @@ loop-again c = (
   search needs,
   let s = c .before .before .before .before .before .before .before .before .before .before .before .before .before .before .before in
       let g = rw (c .before .before .before .before .before .one .given .1) at (c .before .before .before .before .before .before .before .before .before .path .ensures) in
-      let m = rw (c .before .bar .given .1) at (c .before .before .before .mark .ensures) in
-      paths-more (lookOf (s .args .lookup) (now (s .args .list))) (readWithin (lookOf (s .args .lookup) (now (s .args .list))) bracketLimit) _ _ _ _ _ _ (c .before .before .before .before .before .before .before .before .before .before .before .loop .inv .1) _ _ _ g _ (m .0) (m .2),
+      let m = rw (c .before .bar .given .1) at (c .before .before .before .joins-ahead .ensures) in
+      paths-more (s .args .newer) (lookOf (s .args .lookup) (now (s .args .list))) (readWithin (s .args .newer) (lookOf (s .args .lookup) (now (s .args .list))) bracketLimit) _ _ _ _ _ _ (c .before .before .before .before .before .before .before .before .before .before .before .loop .inv .1) _ _ _ g _ (m .0) (m .2),
 )
 
 enum-told : tie.Need-enum-told Inv-loop μ-loop
@@ -73,8 +73,8 @@ returns-2 : tie.Need-returns-2 Inv-loop μ-loop
 returns-2 c =
     let s = c .before .before .before .before .before .before .before .before .before .before .before .before .before .before .before in
     let g = rw (c .before .before .before .before .before .one .given .1) at (c .before .before .before .before .before .before .before .before .before .path .ensures) in
-    let m = rw (c .before .enum-told .given .1) at (c .before .before .before .mark .ensures) in
-    paths-done (lookOf (s .args .lookup) (now (s .args .list))) (readWithin (lookOf (s .args .lookup) (now (s .args .list))) bracketLimit) _ _ _ _ _ _ (c .before .before .before .before .before .before .before .before .before .before .before .loop .inv .1) _ _ _ g (c .finished .result) (m .0) (c .finished .ensures)
+    let m = rw (c .before .enum-told .given .1) at (c .before .before .before .joins-ahead .ensures) in
+    paths-done (s .args .newer) (lookOf (s .args .lookup) (now (s .args .list))) (readWithin (s .args .newer) (lookOf (s .args .lookup) (now (s .args .list))) bracketLimit) _ _ _ _ _ _ (c .before .before .before .before .before .before .before .before .before .before .before .loop .inv .1) _ _ _ g (c .finished .result) (m .0) (c .finished .ensures)
 
 pub paths-spec : {M : Type 1} → statement M
 paths-spec =
@@ -87,7 +87,7 @@ paths-spec =
     enum-known-one
     same-length
     returns
-    mark-requires
+    joins-ahead-requires
     enum-known-bar
     loop-less
     loop-again

@@ -12,10 +12,13 @@ mark-requires c κs = search needs
 enum-known-dot : tie.Need-enum-known-dot
 enum-known-dot c = search needs
 
+dotted-requires : tie.Need-dotted-requires
+dotted-requires c κs = search needs
+
 returns : tie.Need-returns
 returns c =
-    let m = rw (c .before .dot .given .1) at (c .before .before .before .mark .ensures) in
-    head-dot _ _ _ _ (m .0) (m .2)
+    let m = rw (c .before .before .dot .given .1) at (c .before .before .before .before .mark .ensures) in
+    head-dot _ _ _ _ _ (c .dotted .result) (c .dotted .ensures) (m .0) (m .2)
 
 enum-told : tie.Need-enum-told
 enum-told c = search needs
@@ -26,11 +29,14 @@ mark-requires-2 c κs = search needs
 enum-known-dots : tie.Need-enum-known-dots
 enum-known-dots c = search needs
 
+dotted-requires-2 : tie.Need-dotted-requires-2
+dotted-requires-2 c κs = search needs
+
 returns-2 : tie.Need-returns-2
 returns-2 c =
-    let d = rw (c .before .before .before .before .enum-told .given .1) at (c .before .before .before .before .before .before .mark .ensures) in
-    let m = rw (c .before .dots .given .1) at (c .before .before .before .mark2 .ensures) in
-    head-dots _ _ _ _ (d .0) (m .0) (m .2)
+    let d = rw (c .before .before .before .before .before .enum-told .given .1) at (c .before .before .before .before .before .before .before .mark .ensures) in
+    let m = rw (c .before .before .dots .given .1) at (c .before .before .before .before .mark2 .ensures) in
+    head-dots _ _ _ _ _ (c .dotted2 .result) (c .dotted2 .ensures) (d .0) (m .0) (m .2)
 
 enum-told-2 : tie.Need-enum-told-2
 enum-told-2 c = search needs
@@ -55,13 +61,13 @@ returns-3 c =
     let d = rw (c .before .before .before .before .before .before .before .before .enum-told .given .1) at (c .before .before .before .before .before .before .before .before .before .before .mark .ensures) in
     let s = rw (c .before .before .before .before .before .enum-told2 .given .1) at (c .before .before .before .before .before .before .before .mark2 .ensures) in
     let w = rw (c .before .before .leading .given .1) at (c .before .before .before .before .axis-ahead .ensures) in
-    head-axis _ _ _ (d .0) (s .0) (c .tested .result) _ _ w (c .tested .ensures (w .way) (w .number))
+    head-axis _ _ _ _ (d .0) (s .0) (c .tested .result) _ _ w (c .tested .ensures _ (w .way) (w .number))
 
 returns-4 : tie.Need-returns-4
 returns-4 c =
     let d = rw (c .before .before .before .before .before .before .before .enum-told .given .1) at (c .before .before .before .before .before .before .before .before .before .mark .ensures) in
     let s = rw (c .before .before .before .before .enum-told2 .given .1) at (c .before .before .before .before .before .before .mark2 .ensures) in
-    head-child _ _ _ (d .0) (s .0) (c .tested2 .result) (rw (c .before .enum-told3 .given .1) at (c .before .before .before .axis-ahead .ensures)) (c .tested2 .ensures child refl)
+    head-child _ _ _ _ (d .0) (s .0) (c .tested2 .result) (rw (c .before .enum-told3 .given .1) at (c .before .before .before .axis-ahead .ensures)) (c .tested2 .ensures _ child refl)
 
 pub step-head-spec : {M : Type 1} → statement M
 step-head-spec =
@@ -69,10 +75,12 @@ step-head-spec =
     (tie.spec
     mark-requires
     enum-known-dot
+    dotted-requires
     returns
     enum-told
     mark-requires-2
     enum-known-dots
+    dotted-requires-2
     returns-2
     enum-told-2
     axis-ahead-requires

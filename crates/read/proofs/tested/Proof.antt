@@ -17,19 +17,19 @@ enum-told c = search needs
 
 returns : tie.Need-returns
 returns c =
-    λ a e.
+    λ newer a e.
     let t = c .before .before .before .take .ensures in
     let is = c .enum-told .given .1 in
-    tested-star _ _ _ _ a e _ (is-star _ _ _ t is) (taken-past _ _ _ t (ap finished is))
+    tested-star newer _ _ _ _ a e _ (is-star _ _ _ t is) (taken-past _ _ _ t (ap finished is))
 
 enum-known-token : tie.Need-enum-known-token
 enum-known-token c = search needs
 
 returns-2 : tie.Need-returns-2
 returns-2 c =
-    λ a e.
+    λ newer a e.
     let t = c .before .before .before .take .ensures in
-    tested-wrong _ _ _ _ a e _ (not-star _ _ _ t (c .before .match .keys2)) (not-word-sees _ _ _ t (c .match2 .keys2)) (none-letters _ _ _ t (c .match2 .keys2)) (taken-at _ _ _ t)
+    tested-wrong newer _ _ _ _ a e _ (not-star _ _ _ t (c .before .match .keys2)) (not-word-sees _ _ _ t (c .match2 .keys2)) (none-letters _ _ _ t (c .match2 .keys2)) (taken-at _ _ _ t)
 
 test-call-requires : tie.Need-test-call-requires
 test-call-requires c κs = (word-inside _ _ _ (c .before .before .before .before .before .take .ensures) _ (c .before .token .given .1), c .before .before .before .before .before .take .ensures .within)
@@ -42,11 +42,11 @@ called-requires c κs = (rw (c .before .call .given .1) at (c .before .before .b
 
 returns-3 : tie.Need-returns-3
 returns-3 c =
-    λ a e.
+    λ newer a e.
     let t = c .before .before .before .before .before .before .before .before .before .before .take .ensures in
     let is = c .before .before .before .before .before .before .token .given .1 in
     let d = rw (c .before .before .call .given .1) at (c .before .before .before .before .test-call .ensures) in
-    tested-call _ _ _ _ a e _ _ (word-sort _ _ _ t _ is) (word-letters _ _ _ t _ is) (word-past _ _ _ t _ is) _ _ (d .0) (d .1) (d .2) (d .3) (c .called .result) (c .called .ensures)
+    tested-call newer _ _ _ _ a e _ _ (word-sort _ _ _ t _ is) (word-letters _ _ _ t _ is) (word-past _ _ _ t _ is) _ _ (d .0) (d .1) (d .2) (d .3) (c .called .result) (c .called .ensures)
 
 enum-told-2 : tie.Need-enum-told-2
 enum-told-2 c = search needs
@@ -68,20 +68,20 @@ enum-told-3 c = search needs
 
 returns-4 : tie.Need-returns-4
 returns-4 c =
-    λ a e.
+    λ newer a e.
     let t = c .before .before .before .before .before .before .before .before .before .before .before .before .take .ensures in
     let is = c .before .before .before .before .before .before .before .before .token .given .1 in
     let d = rw (c .before .before .before .before .enum-told2 .given .1) at (c .before .before .before .before .before .before .test-call .ensures) in
     let n = rw (c .before .found .given .1) at (c .before .before .before .number .ensures) in
-    tested-name _ _ _ _ a e _ _ (word-sort _ _ _ t _ is) (word-letters _ _ _ t _ is) (word-past _ _ _ t _ is) d _ (n .0) (n .1)
+    tested-name newer _ _ _ _ a e _ _ (word-sort _ _ _ t _ is) (word-letters _ _ _ t _ is) (word-past _ _ _ t _ is) d _ (n .0) (n .1)
 
 returns-5 : tie.Need-returns-5
 returns-5 c =
-    λ a e.
+    λ newer a e.
     let t = c .before .before .before .before .before .before .before .before .before .before .before .take .ensures in
     let is = c .before .before .before .before .before .before .before .token .given .1 in
     let d = rw (c .before .before .before .enum-told2 .given .1) at (c .before .before .before .before .before .test-call .ensures) in
-    tested-unknown _ _ _ _ a e _ _ (word-sort _ _ _ t _ is) (word-letters _ _ _ t _ is) (word-past _ _ _ t _ is) d _ (rw (c .enum-told3 .given .1) at (c .before .before .number .ensures)) (taken-at _ _ _ t)
+    tested-unknown newer _ _ _ _ a e _ _ (word-sort _ _ _ t _ is) (word-letters _ _ _ t _ is) (word-past _ _ _ t _ is) d _ (rw (c .enum-told3 .given .1) at (c .before .before .number .ensures)) (taken-at _ _ _ t)
 
 pub tested-spec : {M : Type 1} → statement M
 tested-spec =

@@ -39,12 +39,12 @@ returns c =
 -- The outer text is read, and its query stands at the start of its room.
 outer-says : (c : tie.After-known-told) →
     let start = c .before .before .before .before .before .before .before .before .before .before in
-    value (c .before .outer-answer .given .0 .0) ≡ readAnswer (now (start .args .outer)) (now (start .args .list)) itemLimit
+    value (c .before .outer-answer .given .0 .0) ≡ readAnswer (now (start .args .outer)) 1 (now (start .args .list)) itemLimit
 outer-says c = ap told (sym (c .before .outer-answer .given .1)) ∙ c .before .before .before .before .read .ensures .0
 
 outer-gives : (c : tie.After-known-told) →
     let start = c .before .before .before .before .before .before .before .before .before .before in
-    Gives (readItems (now (start .args .outer)) (now (start .args .list))) (c .before .outer-answer .given .0 .0) itemLimit (c .before .before .before .before .read .last .1 .1 .0)
+    Gives (readItems (now (start .args .outer)) 1 (now (start .args .list))) (c .before .outer-answer .given .0 .0) itemLimit (c .before .before .before .before .read .last .1 .1 .1 .0)
 outer-gives c =
     let start = c .before .before .before .before .before .before .before .before .before .before in
     read-gives (c .before .outer-answer .given .0 .0) (replicate itemLimit 0) _ (now (start .args .outer)) (now (start .args .list)) (outer-says c) (c .before .before .before .before .read .ensures .1)
@@ -52,12 +52,12 @@ outer-gives c =
 -- The inner text is read, and its query stands at the start of its room.
 inner-says : (c : tie.After-known-told2) →
     let start = c .before .before .before .before .before .before .before .before .before .before .before .before .before .before .before .before in
-    value (c .before .inner-answer .given .0 .0) ≡ readAnswer (now (start .args .inner)) (now (start .args .list)) itemLimit
+    value (c .before .inner-answer .given .0 .0) ≡ readAnswer (now (start .args .inner)) 1 (now (start .args .list)) itemLimit
 inner-says c = ap told (sym (c .before .inner-answer .given .1)) ∙ c .before .before .before .before .read2 .ensures .0
 
 inner-gives : (c : tie.After-known-told2) →
     let start = c .before .before .before .before .before .before .before .before .before .before .before .before .before .before .before .before in
-    Gives (readItems (now (start .args .inner)) (now (start .args .list))) (c .before .inner-answer .given .0 .0) itemLimit (c .before .before .before .before .read2 .last .1 .1 .0)
+    Gives (readItems (now (start .args .inner)) 1 (now (start .args .list))) (c .before .inner-answer .given .0 .0) itemLimit (c .before .before .before .before .read2 .last .1 .1 .1 .0)
 inner-gives c =
     let start = c .before .before .before .before .before .before .before .before .before .before .before .before .before .before .before .before in
     read-gives (c .before .inner-answer .given .0 .0) (replicate itemLimit 0) _ (now (start .args .inner)) (now (start .args .list)) (inner-says c) (c .before .before .before .before .read2 .ensures .1)
