@@ -10,6 +10,9 @@ static const char q1_text[] = "/site/regions/europe";
 static const char q2_text[] = "//item[not(quantity)]|//item/location";
 static const char q3_text[] = "//item[location or desc]";
 
+/* The documents on which the second engine is timed: its time grows with a power of the nodes. */
+enum { LEAST_FOLLOWED = 64, MOST_FOLLOWED = 256 };
+
 static double smaller(double a, double b)
 {
     return a < b ? a : b;
@@ -396,6 +399,31 @@ static void cuts(void)
     rows_of_cuts("chain", make_chain);
 }
 
+/* The second engine. */
+
+static void row_of_engines(const struct document *document, const char *text)
+{
+    static struct query query;
+    double run, follow;
+    read_query(document, text, &query);
+    time_engines(document, &query, &run, &follow);
+    printf("| `%s` | %zu | %.1f | %.1f | %.0f |\n", text, document->nodes, run, follow, follow / run);
+    fflush(stdout);
+}
+
+static void second_engine(void)
+{
+    static struct document document;
+    printf("\n### The two engines, ours alone\n\n");
+    printf("| query | nodes | run, us | follow, us | follow / run |\n|---|---|---|---|---|\n");
+    for (size_t nodes = LEAST_FOLLOWED; nodes <= MOST_FOLLOWED; nodes *= 2) {
+        make_xmark(&document, nodes);
+        row_of_engines(&document, q1_text);
+        row_of_engines(&document, q2_text);
+        row_of_engines(&document, q3_text);
+    }
+}
+
 int main(void)
 {
     static struct document document, small;
@@ -413,5 +441,6 @@ int main(void)
     chains();
     axes();
     cuts();
+    second_engine();
     return 0;
 }

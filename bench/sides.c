@@ -128,6 +128,31 @@ double time_own_run(const struct document *document, const struct query *query)
     return micros;
 }
 
+static void follow_own(void *with)
+{
+    struct side *side = with;
+    const struct document *document = side->document;
+    size_t n = document->nodes;
+    accepted(halyardfig_follow(side->query->items, side->query->count, document->parent, n, document->kind, n, given, n,
+                               side->marks, n),
+             side->query->text);
+}
+
+void time_engines(const struct document *document, const struct query *query, double *run, double *follow)
+{
+    static struct side slow;
+    double micros[2];
+    set_up(document, query);
+    slow = sides[OURS];
+    const struct work works[2] = {{run_own, &sides[OURS]}, {follow_own, &slow}};
+    time_first(works, 2, micros);
+    time_side_by_side(works, 2, micros);
+    if (memcmp(sides[OURS].marks, slow.marks, document->nodes) != 0)
+        fail("the two engines differ", query->text);
+    *run = micros[0];
+    *follow = micros[1];
+}
+
 static void measure_own(void *with)
 {
     const struct side *side = with;

@@ -14,6 +14,10 @@ size_t time_run(const struct document *document, const struct query *query, doub
 /* Times a query on a document for the library alone. */
 double time_own_run(const struct document *document, const struct query *query);
 
+/* Times a query on a document for the two engines of the library, by sets and node by node; both have to make the same
+   marks. */
+void time_engines(const struct document *document, const struct query *query, double *run, double *follow);
+
 /* Times the height and the path count of a query. */
 double time_own_measures(const struct document *document, const struct query *query);
 

@@ -161,6 +161,19 @@ uint64_t halyardfig_run(const uint32_t *query, size_t query_len, const uint16_t 
                         size_t marks_len, uint8_t *scratch, size_t scratch_len);
 
 /*
+ * Runs a query as halyardfig_run does, by a second way, without scratch: for each node the definition of selection is
+ * followed directly, one node and one step at a time. Value and marks are those of halyardfig_run, for every query,
+ * table and marks; that is proved. It is for operators who compare, never for a subscriber's query: every call ends,
+ * but its time has no other bound, and grows at worst as the nodes to the power of the steps of a path, those in its
+ * predicates included. A step along self or parent leads to one node and costs no such power.
+ * Refuses, in this order: 1 (query over 4,096 items, over 4,096 nodes, columns or marks of unequal length),
+ * 6 (place 0), 7 (place: the node), 8 (place: the node); never 10.
+ */
+uint64_t halyardfig_follow(const uint32_t *query, size_t query_len, const uint16_t *parent, size_t parent_len,
+                           const uint16_t *kind, size_t kind_len, const uint8_t *given, size_t given_len,
+                           uint8_t *marks, size_t marks_len);
+
+/*
  * Writes the marked nodes of a document, in order, as a new table with its parents renumbered.
  * Value: the number of nodes written; both columns past it are untouched. All marks zero gives 0.
  * Refuses, in this order: 1 (over 4,096 nodes, columns or marks of unequal length, output columns of

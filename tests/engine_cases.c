@@ -58,12 +58,26 @@ static bool write_printed(const struct query *printing)
     return true;
 }
 
+/* The other engine answers the same and leaves the same marks, where it can be waited for. */
+static bool follow_query(const struct query *running, uint64_t expected)
+{
+    static uint8_t marks[NODE_ROOM];
+    if (!can_follow(running->items, running->count, table.nodes))
+        return true;
+    uint64_t answer = halyardfig_follow(running->items, running->count, table.parent, table.nodes, table.kind,
+                                        table.nodes, table.marks, table.nodes, marks, table.nodes);
+    bool same = answer == expected && memcmp(marks, kept, table.nodes) == 0;
+    return same || complain("the two engines differ");
+}
+
 static bool run_query(const struct query *running)
 {
     static uint8_t scratch[SCRATCH_ROOM];
     uint64_t answer = halyardfig_run(running->items, running->count, table.parent, table.nodes, table.kind, table.nodes,
                                      table.marks, table.nodes, kept, table.nodes, scratch, sizeof scratch);
-    return halyardfig_refused(answer) == 0 || complain("a good run is refused");
+    if (halyardfig_refused(answer) != 0)
+        return complain("a good run is refused");
+    return follow_query(running, answer);
 }
 
 static void make_document(struct dice *dice, size_t most)
@@ -115,6 +129,24 @@ static bool single_query(struct dice *dice)
     write_document("query as it was read");
     write_text(version == HALYARDFIG_XPATH_2 ? 'V' : 'Q', text.bytes, text.length);
     write_marks('E', kept, table.nodes);
+    return printed;
+}
+
+/* A query and a document so small that both engines can be waited for. */
+static bool two_engines(struct dice *dice)
+{
+    make_document(dice, 9);
+    for (unsigned throws = 0; throws < 6; throws++) {
+        make_query(dice, &query, (struct bounds){between(dice, 1, 14), (unsigned)below(dice, 4), 2, list.count});
+        mix_axes(dice, &query);
+        if (!run_query(&query))
+            return false;
+        if (kept_some() && can_follow(query.items, query.count, table.nodes))
+            break;
+    }
+    write_document("two engines");
+    bool printed = write_printed(&query);
+    write_marks('E', kept);
     return printed;
 }
 
@@ -200,6 +232,7 @@ int main(void)
 {
     group_start("engine");
     try_cases("single query", 8000, single_query);
+    try_cases("two engines", 6000, two_engines);
     try_cases("one axis", 5000, one_axis);
     try_cases("composed query", 5000, composed_query);
     try_cases("three views", 1500, three_views);

@@ -664,3 +664,16 @@ void make_token_soup(struct dice *dice, struct text *text, size_t tokens)
     put_byte(text, '/');
     put_soup(dice, text, soup, sizeof soup / sizeof soup[0], tokens);
 }
+
+enum { FOLLOWED_WAYS = 100000 };
+
+bool can_follow(const uint32_t *items, size_t count, size_t nodes)
+{
+    size_t ways = 1;
+    for (size_t i = 0; i < count && ways <= FOLLOWED_WAYS; i++) {
+        unsigned axis = items[i] >> AXIS_BIT & MOST_AXIS;
+        if ((items[i] & 7) == 1 && axis != SELF && axis != PARENT)
+            ways *= nodes;
+    }
+    return ways <= FOLLOWED_WAYS;
+}

@@ -416,6 +416,25 @@ struct lengths {
     size_t parent, kind, given, marks, scratch;
 };
 
+/* The other engine refuses the same, save 10, which it never does. */
+static void follow_is(const char *what, const uint32_t *query, size_t count, const struct table *table,
+                      struct lengths lengths, uint64_t expected)
+{
+    if (!can_follow(query, count, lengths.parent))
+        return;
+    const uint32_t *our_query = offer(query, count * sizeof *query);
+    const uint16_t *parent = offer(table->parent, lengths.parent * sizeof *parent);
+    const uint16_t *kind = offer(table->kind, lengths.kind * sizeof *kind);
+    const uint8_t *given = offer(table->marks, lengths.given);
+    uint8_t *marks = offer(NULL, lengths.marks);
+    uint64_t answer = halyardfig_follow(our_query, count, parent, lengths.parent, kind, lengths.kind, given,
+                                        lengths.given, marks, lengths.marks);
+    bool short_of_room = halyardfig_refused(expected) == HALYARDFIG_REFUSED_ROOM;
+    if (short_of_room)
+        tally(halyardfig_refused(answer) == 0, "%s, followed: refused", what);
+    expect(what, answer, short_of_room ? answer : expected, (size_t[]){0, 0, 0, 0, lengths.marks});
+}
+
 static void run_is(const char *what, const uint32_t *query, size_t count, const struct table *table,
                    struct lengths lengths, uint64_t expected, size_t scratch_used)
 {
@@ -429,6 +448,7 @@ static void run_is(const char *what, const uint32_t *query, size_t count, const 
     if (halyardfig_refused(answer) == 0)
         tally(all_bytes(scratch, scratch_used, 0), "%s: scratch is not zero", what);
     expect(what, answer, expected, (size_t[]){0, 0, 0, 0, lengths.marks, scratch_used});
+    follow_is(what, query, count, table, lengths, expected);
 }
 
 static void extract_is(const char *what, const struct table *table, struct lengths lengths, size_t parent_room,
@@ -933,6 +953,16 @@ static void huge_lengths(void)
     answer_is("huge marks", halyardfig_run(root_query, 1, zero, 1, zero, 1, one, 1, memory, huge, room, 9),
               REFUSED(1, 0));
     answer_is("huge scratch", halyardfig_run(root_query, 1, zero, 1, zero, 1, one, 1, marks, 1, memory, huge), 1);
+    answer_is("huge query followed", halyardfig_follow(memory, huge, zero, 1, zero, 1, one, 1, marks, 1),
+              REFUSED(1, 0));
+    answer_is("huge parent followed", halyardfig_follow(root_query, 1, memory, huge, zero, 1, one, 1, marks, 1),
+              REFUSED(1, 0));
+    answer_is("huge kind followed", halyardfig_follow(root_query, 1, zero, 1, memory, huge, one, 1, marks, 1),
+              REFUSED(1, 0));
+    answer_is("huge given followed", halyardfig_follow(root_query, 1, zero, 1, zero, 1, memory, huge, marks, 1),
+              REFUSED(1, 0));
+    answer_is("huge marks followed", halyardfig_follow(root_query, 1, zero, 1, zero, 1, one, 1, memory, huge),
+              REFUSED(1, 0));
     answer_is("huge marks extracted", halyardfig_extract(zero, 1, zero, 1, memory, huge, parents, 1, kinds, 1),
               REFUSED(1, 0));
     answer_is("huge output column", halyardfig_extract(zero, 1, zero, 1, one, 1, memory, huge, kinds, 1),

@@ -11,11 +11,11 @@
 #include <unistd.h>
 
 enum { STACK_BYTES = 1 << 18, PAINT = 0xC7 };
-enum { SCRATCH_ROOM = 1 << 25, PRINT_ROOM = 1 << 19, MIXED_TEXTS = 60, NAMED_MOST = 100 };
+enum { SCRATCH_ROOM = 1 << 25, PRINT_ROOM = 1 << 19, MIXED_TEXTS = 60, NAMED_MOST = 100, CHAIN_NODES = 80, LONG_ITEMS = 500 };
 
-enum call { READ, PRINT, COMPOSE, RUN, EXTRACT, READ_XML, WRITE_XML, HEIGHT, PATHS, SCRATCH, IS_CUT, CALLS };
+enum call { READ, PRINT, COMPOSE, RUN, EXTRACT, READ_XML, WRITE_XML, HEIGHT, PATHS, SCRATCH, IS_CUT, FOLLOW, CALLS };
 static const char *const call_names[CALLS] = {"read",      "print",  "compose", "run",     "extract", "read_xml",
-                                              "write_xml", "height", "paths",   "scratch", "is_cut"};
+                                              "write_xml", "height", "paths",   "scratch", "is_cut",  "follow"};
 
 static struct {
     size_t bytes;
@@ -100,6 +100,21 @@ static void call_scratch(void)
     answer = halyardfig_scratch(table.nodes, query.count, 1, query.count, 1);
 }
 
+/* On a chain of elements, each with one child, so that a step down leads to one node and every bracket is opened. */
+static void call_follow(void)
+{
+    static uint16_t parent[CHAIN_NODES], kind[CHAIN_NODES];
+    static uint8_t given[CHAIN_NODES];
+    /* A long path goes back over all its steps for each node but one. */
+    size_t nodes = query.count > LONG_ITEMS ? 3 : CHAIN_NODES;
+    for (size_t i = 0; i < nodes; i++) {
+        parent[i] = (uint16_t)(i == 0 ? 0 : i - 1);
+        kind[i] = i == 0 ? HALYARDFIG_KIND_ROOT : HALYARDFIG_KIND_ELEMENT;
+        given[i] = 1;
+    }
+    answer = halyardfig_follow(query.items, query.count, parent, nodes, kind, nodes, given, nodes, kept, nodes);
+}
+
 /* The whole table as a cut of itself. */
 static void call_is_cut(void)
 {
@@ -158,7 +173,7 @@ static void measure_call(enum call which, const char *input)
 {
     static void (*const calls[CALLS])(void) = {call_read,    call_print,    call_compose,   call_run,
                                                call_extract, call_read_xml, call_write_xml, call_height,
-                                               call_paths,   call_scratch,  call_is_cut};
+                                               call_paths,   call_scratch,  call_is_cut,    call_follow};
     static char trying[2 * NAMED_MOST];
     static size_t empty;
     if (empty == 0)
@@ -174,6 +189,17 @@ static void measure_call(enum call which, const char *input)
     snprintf(worst[which].input, NAMED_MOST, "%s", input);
 }
 
+/* Do all steps of the query lead to one node of a chain at most? Then no search of it goes back. */
+static bool leads_to_one(void)
+{
+    for (size_t i = 0; i < query.count; i++) {
+        unsigned axis = query.items[i] >> AXIS_BIT & MOST_AXIS;
+        if ((query.items[i] & 7) == 1 && axis != SELF && axis != PARENT && axis != CHILD)
+            return false;
+    }
+    return true;
+}
+
 /* Tries the query in memory as it is in every call that takes one. */
 static void measure_query(const char *input)
 {
@@ -183,6 +209,8 @@ static void measure_query(const char *input)
     measure_call(HEIGHT, input);
     measure_call(PATHS, input);
     measure_call(SCRATCH, input);
+    if (leads_to_one())
+        measure_call(FOLLOW, input);
     outer = query;
     memcpy(inner.items, simple, sizeof simple);
     inner.count = 2;
@@ -373,6 +401,8 @@ static void long_texts(void)
     measure_run_of("/", "a", "", HALYARDFIG_NAME_BYTES);
     measure_run_of("", " ", "/", 100);
     measure_run_of("/a[", "a/", "a]", 4000);
+    measure_run_of("/a", "/.", "", 4094);
+    measure_run_of("/a[", "./", ".]", 4090);
     measure_run_of("//", ".//", ".", 2000);
 }
 

@@ -133,6 +133,28 @@ bool twin_compose(struct dice *dice, const uint32_t *outer, size_t outer_len, co
     return false;
 }
 
+/* The other engine on the same memory, where it can be waited for: the same answer and marks, unless the run lacked scratch. */
+static bool follows_too(const uint32_t *query, size_t query_len, const uint16_t *parent, size_t parent_len,
+                        const uint16_t *kind, size_t kind_len, const uint8_t *given, size_t given_len,
+                        const uint8_t *kept, size_t marks_len, uint64_t ran)
+{
+    static uint8_t marks[NODE_ROOM + 1];
+    if (marks_len > NODE_ROOM || !can_follow(query, query_len, parent_len))
+        return true;
+    memset(marks, 0xA5, sizeof marks);
+    uint64_t answer = halyardfig_follow(query, query_len, parent, parent_len, kind, kind_len, given, given_len, marks,
+                                        marks_len);
+    size_t untouched = halyardfig_refused(answer) == 0 ? marks_len : 0;
+    for (size_t i = untouched; i < sizeof marks; i++)
+        if (marks[i] != 0xA5)
+            return complain("follow writes where it may not");
+    if (halyardfig_refused(ran) == HALYARDFIG_REFUSED_ROOM)
+        return halyardfig_refused(answer) == 0 || complain("follow is refused where a run lacks scratch");
+    if (answer != ran || (untouched != 0 && memcmp(marks, kept, marks_len) != 0))
+        return complain("follow and run differ");
+    return true;
+}
+
 bool twin_run(struct dice *dice, const uint32_t *query, size_t query_len, const uint16_t *parent, size_t parent_len,
               const uint16_t *kind, size_t kind_len, const uint8_t *given, size_t given_len, size_t marks_len,
               size_t scratch_len)
@@ -149,7 +171,8 @@ bool twin_run(struct dice *dice, const uint32_t *query, size_t query_len, const 
                                    given_len, marks, marks_len, scratch, scratch_len);
     uint64_t models = model_run(model_piece(0), query_len, model_piece(1), parent_len, model_piece(2), kind_len,
                                 model_piece(3), given_len, model_piece(4), marks_len, model_piece(5), scratch_len);
-    if (compare("run", ours, models))
+    if (compare("run", ours, models) && follows_too(query, query_len, parent, parent_len, kind, kind_len, given,
+                                                    given_len, marks, marks_len, ours))
         return true;
     show_items("query", query, query_len);
     show_words("parent", parent, parent_len);

@@ -3,10 +3,12 @@ use paper::Answer;
 ghost use Prim.Native.Nat.{_+_, _*_, _<_};
 ghost use mathlib.Core.Path.{_≡_};
 ghost use lib.ListN.{length};
+ghost use Rattle.paper.specs.Items.{decode};
 ghost use Rattle.paper.specs.Document.{tableOf};
 ghost use Rattle.paper.specs.Answers.{readAnswer, readOut, printAnswer, printOut, composeAnswer, composeOut, runAnswer, runMarks, runScratch, extractAnswer, extractParents, extractKinds, readXmlAnswer, readXmlColumn, parentField, kindField, beginField, endField, isCutAnswer, writeXmlAnswer, writeXmlOut};
 ghost use Rattle.paper.specs.Room.{heightAnswer, pathsAnswer, scratchAnswer};
 ghost use Rattle.paper.specs.Told.{told};
+ghost use Rattle.follow.specs.Follows.{enough};
 ghost use Rattle.theorems.specs.Bounds.{Small};
 ghost use Rattle.halyardfig.specs.Codes.{high, codeOf};
 
@@ -86,6 +88,21 @@ pub extern "C" fn halyardfig_run(
     ensures { λ _. ⌜ now (scratch .exit) ≡ runScratch (now (query .entry)) (tableOf (now (parent .entry)) (now (kind .entry))) (now (given .entry)) (length (now (marks .entry))) (now (scratch .entry)) ⌝ }
 {
     code(run::run(query, parent, kind, given, marks, scratch))
+}
+
+// Runs a query node by node: `follow::follow` for C.
+#[no_mangle]
+pub extern "C" fn halyardfig_follow(
+    query: &[u32],
+    parent: &[u16],
+    kind: &[u16],
+    given: &[u8],
+    marks: &mut [u8],
+) -> u64
+    ensures { λ r. ⌜ r ≡ codeOf (runAnswer (now (query .entry)) (tableOf (now (parent .entry)) (now (kind .entry))) (now (given .entry)) (length (now (marks .entry))) (enough (tableOf (now (parent .entry)) (now (kind .entry))) (decode (now (query .entry))))) ⌝ }
+    ensures { λ _. ⌜ now (marks .exit) ≡ runMarks (now (query .entry)) (tableOf (now (parent .entry)) (now (kind .entry))) (now (given .entry)) (now (marks .entry)) (enough (tableOf (now (parent .entry)) (now (kind .entry))) (decode (now (query .entry)))) ⌝ }
+{
+    code(follow::follow(query, parent, kind, given, marks))
 }
 
 // Writes the marked nodes as a table: `extract::extract` for C.

@@ -16,3 +16,5 @@ pub mod Chains
 pub mod ChainCalls
 -- Files over calls: `read-back`, `file-secrecy`.
 pub mod FileCalls
+-- The two engines answer and leave the same.
+pub mod Engines

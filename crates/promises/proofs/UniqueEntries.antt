@@ -5,6 +5,7 @@ use Rattle.promises.specs.UniqueEntries.{ReadUnique, PrintUnique, Compos
 use Rattle.promises.specs.UniqueEntries.{ReadForCUnique, PrintForCUnique, ComposeForCUnique, RunForCUnique, ExtractForCUnique, ReadXmlForCUnique, WriteXmlForCUnique, ReportUnique}
 use Rattle.promises.specs.UniqueEntries.{HeightUnique, PathsUnique, ScratchUnique, HeightForCUnique, PathsForCUnique, ScratchForCUnique}
 use Rattle.promises.specs.UniqueEntries.{IsCutUnique, IsCutForCUnique}
+use Rattle.promises.specs.UniqueEntries.{FollowUnique, FollowForCUnique}
 use Rattle.promises.proofs.Telling.{same, same-told, same-slice, same-slices, same-more}
 
 pub read-unique : ReadUnique
@@ -79,3 +80,9 @@ is-cut-unique κs a u v x y g p q = same-told p q
 
 pub is-cut-for-c-unique : IsCutForCUnique
 is-cut-for-c-unique κs a u v x y g p q = same p q
+
+pub follow-unique : FollowUnique
+follow-unique κs a u v x y g p q = (same-told (p .0) (q .0), same-slice (p .1) (q .1))
+
+pub follow-for-c-unique : FollowForCUnique
+follow-for-c-unique κs a u v x y g p q = (same (p .0) (q .0), same-slice (p .1) (q .1))

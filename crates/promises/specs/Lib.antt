@@ -6,3 +6,4 @@ pub mod Calls
 pub mod Chains
 pub mod ChainCalls
 pub mod FileCalls
+pub mod Engines

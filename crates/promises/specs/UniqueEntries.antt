@@ -5,6 +5,7 @@ use Rattle.read.proofs.read
 use Rattle.print.proofs.print
 use Rattle.compose.proofs.compose
 use Rattle.run.proofs.run
+use Rattle.follow.proofs.follow
 use Rattle.extract.proofs.extract
 use Rattle.read_xml.proofs.read_xml
 use Rattle.write_xml.proofs.write_xml
@@ -17,6 +18,7 @@ use Rattle.halyardfig.proofs.halyardfig_read
 use Rattle.halyardfig.proofs.halyardfig_print
 use Rattle.halyardfig.proofs.halyardfig_compose
 use Rattle.halyardfig.proofs.halyardfig_run
+use Rattle.halyardfig.proofs.halyardfig_follow
 use Rattle.halyardfig.proofs.halyardfig_extract
 use Rattle.halyardfig.proofs.halyardfig_read_xml
 use Rattle.halyardfig.proofs.halyardfig_write_xml
@@ -105,3 +107,10 @@ IsCutUnique = UniqueAnswer is_cut.Kinds.ps is_cut.Kinds.r is_cut.Reads.Pre is_cu
 
 abbrev pub IsCutForCUnique : Type 0
 IsCutForCUnique = UniqueAnswer halyardfig_is_cut.Kinds.ps halyardfig_is_cut.Kinds.r halyardfig_is_cut.Reads.Pre halyardfig_is_cut.Reads.Post
+
+abbrev pub FollowUnique : Type 0
+FollowUnique = Unique follow.Kinds.ps follow.Kinds.r follow.Reads.Pre follow.Reads.Post (λ κs x. now (x .1 .1 .1 .1 .0) ∷ [])
+
+abbrev pub FollowForCUnique : Type 0
+FollowForCUnique =
+    Unique halyardfig_follow.Kinds.ps halyardfig_follow.Kinds.r halyardfig_follow.Reads.Pre halyardfig_follow.Reads.Post (λ κs x. now (x .1 .1 .1 .1 .0) ∷ [])
