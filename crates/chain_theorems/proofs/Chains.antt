@@ -12,7 +12,7 @@ use Rattle.theorems.proofs.Secrecy.{secrecy}
 use Rattle.chain_theorems.specs.Chains.{keptInTurn, Grouping, alone, onTop, asOne, chain, innermost, InTurn, Secrets, ThreeInTurn, ThreeSecrets}
 
 -- One part of a chain after the other.
-turns-join : (t : Table) (marks : List ℕ) (ps qs : List Query) → keptInTurn t (keptInTurn t marks qs) ps ≡ keptInTurn t marks (ps ++ qs)
+pub turns-join : (t : Table) (marks : List ℕ) (ps qs : List Query) → keptInTurn t (keptInTurn t marks qs) ps ≡ keptInTurn t marks (ps ++ qs)
 turns-join t marks [] qs = refl
 turns-join t marks (p ∷ ps) qs = ap (λ m. kept t m p) (turns-join t marks ps qs)
 

@@ -125,23 +125,32 @@ textGot names (some q) = printed names q
 unfoldable pub printOut : List ℕ → List ℕ → List ℕ → List ℕ
 printOut query list out = atExit (printAnswer query list (length out)) (textGot (namesOf list) (decode query)) out
 
--- COMPOSE: 1, 6 (outer first), 9, 10; it answers the number of items.
-unfoldable pub composeAnswer : List ℕ → List ℕ → ℕ → Answer
-composeAnswer outer inner room =
+-- COMPOSE: 1, 6 (outer first), 9, 10; it answers the number of items. The way to make one query of two is an argument.
+abbrev pub composingAnswer : (Query → Query → Query) → List ℕ → List ℕ → ℕ → Answer
+composingAnswer makes outer inner room =
     line 1 (when (tooLong outer itemLimit || tooLong inner itemLimit) 0)
     (lineQuery 6 0 (decode outer)
     (λ o.
     lineQuery 6 1 (decode inner)
     (λ i.
-    let q = composed o i in
+    let q = makes o i in
     line 9 (when (ltb bracketLimit (nesting q)) (nesting q))
     (line 10 (shortOfItems room (size q)) (value (size q))))))
 
+unfoldable pub composeAnswer : List ℕ → List ℕ → ℕ → Answer
+composeAnswer outer inner room = composingAnswer composed outer inner room
+
 -- The items of a composition.
+abbrev pub madeGot : (Query → Query → Query) → Option Query → Option Query → List ℕ
+madeGot makes none i = []
+madeGot makes (some o) none = []
+madeGot makes (some o) (some i) = encode (makes o i)
+
 abbrev pub composedGot : Option Query → Option Query → List ℕ
-composedGot none i = []
-composedGot (some o) none = []
-composedGot (some o) (some i) = encode (composed o i)
+composedGot o i = madeGot composed o i
+
+abbrev pub composingOut : (Query → Query → Query) → List ℕ → List ℕ → List ℕ → List ℕ
+composingOut makes outer inner out = atExit (composingAnswer makes outer inner (length out)) (madeGot makes (decode outer) (decode inner)) out
 
 unfoldable pub composeOut : List ℕ → List ℕ → List ℕ → List ℕ
 composeOut outer inner out = atExit (composeAnswer outer inner (length out)) (composedGot (decode outer) (decode inner)) out

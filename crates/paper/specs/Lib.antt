@@ -16,10 +16,12 @@ pub mod Measures
 pub mod Printing
 pub mod Composition
 pub mod Answers
+pub mod Lean
 pub mod Room
 pub mod Program
 pub mod Samples
 pub mod XmlSamples
 pub mod CutSamples
+pub mod LeanSamples
 pub mod WriteXmlSamples
 pub mod Told

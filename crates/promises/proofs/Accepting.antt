@@ -42,7 +42,7 @@ no-refusal {ℓ} : {C : Type ℓ} {n number place : ℕ} → value n ≡ refusal
 no-refusal h = absurd (let z : _≡_ {A = ℕ} 0 1 = cc in omega arith)
 
 -- Where a value is answered, there is a query.
-query-value {ℓ} : {C : Type ℓ} (n number place : ℕ) (o : Option Query) (later : Query → Told) → lineQuery number place o later ≡ value n
+pub query-value {ℓ} : {C : Type ℓ} (n number place : ℕ) (o : Option Query) (later : Query → Told) → lineQuery number place o later ≡ value n
     → ((q : Query) → o ≡ some q → later q ≡ value n → C) → C
 query-value n number place none later h next = no-refusal (sym h)
 query-value n number place (some q) later h next = next q refl h
@@ -52,11 +52,11 @@ pub first-written : (new old : List ℕ) (n : ℕ) → n ≡ length new → take
 first-written new old n e = rw e (take-append-seam new (drop (length new) old))
 
 -- COMPOSE. The lines after the two queries.
-abbrev rest : ℕ → Query → Told
+abbrev pub rest : ℕ → Query → Told
 rest room q = line 9 (when (ltb bracketLimit (nesting q)) (nesting q)) (line 10 (shortOfItems room (size q)) (value (size q)))
 
 -- What the lines after the two queries say of an accepted composition.
-fits : (room n : ℕ) (q : Query) → rest room q ≡ value n → (size q ≡ n) × (size q ≤ itemLimit) × (nesting q ≤ bracketLimit)
+pub fits : (room n : ℕ) (q : Query) → rest room q ≡ value n → (size q ≡ n) × (size q ≤ itemLimit) × (nesting q ≤ bracketLimit)
 fits room n q h =
     let nine = line-value 9 n (when (ltb bracketLimit (nesting q)) (nesting q)) (line 10 (shortOfItems room (size q)) (value (size q))) h in
     let ten = line-value 10 n (shortOfItems room (size q)) (value (size q)) (nine .1) in

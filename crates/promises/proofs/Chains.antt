@@ -67,7 +67,7 @@ are g =
     }
 
 -- What an accepted run left and counted.
-runs-is : {query : List ℕ} {t : Table} {given : List ℕ} {n : ℕ} {marks : List ℕ} (q : Query) → decode query ≡ some q → Runs query t given n marks
+pub runs-is : {query : List ℕ} {t : Table} {given : List ℕ} {n : ℕ} {marks : List ℕ} (q : Query) → decode query ≡ some q → Runs query t given n marks
     → (marks ≡ kept t given q) × (n ≡ markedCount t marks) × (tableFault t ≡ none) × (marksFault t given ≡ none)
 runs-is {query} {t} {given} {n} {marks} q d r =
     let k = ran query t given (r .old) (r .room) n (r .accepted) in
@@ -90,7 +90,7 @@ three-in-turn a b c lastTwo firstTwo t given shown sold asked marks marks′ i j
     (last .1 ∙ ap (markedCount t) lasts ∙ sym (three .1), lasts, first .1 ∙ ap (markedCount t) firsts ∙ sym (three .1), firsts)
 
 -- A run that no line refuses can be had, with marks as long as the table and as much scratch as it needs.
-can-run : {query : List ℕ} {t : Table} {given : List ℕ} (q : Query) → length query ≤ itemLimit → nodes t ≤ nodeLimit → length (t .kinds) ≡ nodes t → length given ≡ nodes t
+pub can-run : {query : List ℕ} {t : Table} {given : List ℕ} (q : Query) → length query ≤ itemLimit → nodes t ≤ nodeLimit → length (t .kinds) ≡ nodes t → length given ≡ nodes t
     → decode query ≡ some q → tableFault t ≡ none → marksFault t given ≡ none → Runs query t given (markedCount t (kept t given q)) (kept t given q)
 can-run {query} {t} {given} q few nodes-few kinds-all given-all d ft fm =
     let old : List ℕ = replicate (nodes t) 0 in
@@ -128,7 +128,7 @@ three-together a b c lastTwo firstTwo t given shown i g run-c =
     )
 
 -- What shows two documents alike by the definitions does so by runs and extracts.
-alike : (query : List ℕ) (q : Query) (t u : Table) → decode query ≡ some q → view t q ≡ view u q → AlikeAfter query t (allMarked t) u (allMarked u)
+pub alike : (query : List ℕ) (q : Query) (t u : Table) → decode query ≡ some q → view t q ≡ view u q → AlikeAfter query t (allMarked t) u (allMarked u)
 alike query q t u d same x y l m ps ks ps′ ks′ in-t in-u =
     shown-alike (shown query t (allMarked t) x l ps ks q d in-t) (shown query u (allMarked u) y m ps′ ks′ q d in-u) same
 

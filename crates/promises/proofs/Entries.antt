@@ -58,7 +58,7 @@ not-value : (n wanted place : ℕ) → value n ≡ refusal wanted place → ⊥
 not-value n wanted place e = let z : _≡_ {A = ℕ} 0 1 = cc in omega arith
 
 -- so a run of items that are a query gives no refusal 6,
-well-formed : (query : List ℕ) (q : Query) (t : Table) (given : List ℕ) (marksRoom scratchRoom place : ℕ) → decode query ≡ some q
+pub well-formed : (query : List ℕ) (q : Query) (t : Table) (given : List ℕ) (marksRoom scratchRoom place : ℕ) → decode query ≡ some q
     → runAnswer query t given marksRoom scratchRoom ≡ refusal 6 place → ⊥
 unfolding runAnswer
 well-formed query q t given marksRoom scratchRoom place d r =
@@ -148,7 +148,7 @@ round-trip query list out again n version fine h most room =
     (back .0, rw (back .0, back .1) (first-written query again (length query) refl))
 
 -- SCRATCH. A run with scratch enough gives no 10,
-room-enough : (query : List ℕ) (q : Query) (t : Table) (given : List ℕ) (marksRoom scratchRoom place : ℕ) → decode query ≡ some q → scratchOf t q ≤ scratchRoom
+pub room-enough : (query : List ℕ) (q : Query) (t : Table) (given : List ℕ) (marksRoom scratchRoom place : ℕ) → decode query ≡ some q → scratchOf t q ≤ scratchRoom
     → runAnswer query t given marksRoom scratchRoom ≡ refusal 10 place → ⊥
 unfolding runAnswer
 room-enough query q t given marksRoom scratchRoom place d enough r =

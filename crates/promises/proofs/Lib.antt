@@ -18,3 +18,5 @@ pub mod ChainCalls
 pub mod FileCalls
 -- The two engines answer and leave the same.
 pub mod Engines
+-- Lean compositions over the entry points' definitions: `lean-acceptance`, `no-more-refusals`, `lean-exactness`, `lean-secrecy`, `lean-three-in-turn`.
+pub mod LeanEntries

@@ -7,3 +7,4 @@ pub mod Chains
 pub mod ChainCalls
 pub mod FileCalls
 pub mod Engines
+pub mod LeanEntries

@@ -34,7 +34,7 @@ mutual
   preds-steps bare = omega arith
   preds-steps (pred e ps) = omega (arith, expr-steps e, preds-steps ps)
 
-paths-steps : (ps : List Steps) → guardsInPaths ps + length ps ≤ sizePaths ps
+pub paths-steps : (ps : List Steps) → guardsInPaths ps + length ps ≤ sizePaths ps
 paths-steps [] = omega arith
 paths-steps (p ∷ ps) = omega (arith, steps-steps p, paths-steps ps)
 

@@ -25,7 +25,7 @@ use Rattle.theorems.proofs.Visible.{some-path, selects-marked, selected
 use Rattle.theorems.proofs.Guard.{kept-marked, guarded-steps}
 
 -- A search through composed paths is one through the outer paths.
-some-map : (f : Steps → Bool) (g : Steps → Steps) (ps : List Steps) → someOf f (map g ps) ≡ someOf (λ p. f (g p)) ps
+pub some-map : (f : Steps → Bool) (g : Steps → Steps) (ps : List Steps) → someOf f (map g ps) ≡ someOf (λ p. f (g p)) ps
 some-map f g [] = refl
 some-map f g (p ∷ ps) = ap (λ b. f (g p) || b) (some-map f g ps)
 
@@ -40,7 +40,7 @@ module _ (t : Table) (m : List ℕ) (inner : Query) (ft : tableFault t ≡ none)
       goes t m descendantOrSelf anyNode (pred (someNode ancestorOrSelf (selectedBy inner)) bare) (λ i. eqb i k) j k
       (record { inside = lk; there = h; along = o; met = refl; fine = true-and e refl }) (eq-eqb k k refl)
 
-  last-from {ℓ} : {C : Type ℓ} (j k : ℕ) → arrives t m (lastStep inner) j k ≡ true
+  pub last-from {ℓ} : {C : Type ℓ} (j k : ℕ) → arrives t m (lastStep inner) j k ≡ true
       → (over t k j ≡ true → (s : ℕ) → s < nodes t → over t k s ≡ true → selects t m inner s ≡ true → C) → C
   unfolding lastStep
   last-from j k h next =
@@ -53,7 +53,7 @@ module _ (t : Table) (m : List ℕ) (inner : Query) (ft : tableFault t ≡ none)
       (λ s ls hs o p. next (subst (λ i. over t i j ≡ true) z (g .along)) s ls o (sym (selected t m inner s ft fm ls hs) ∙ p)))
 
   -- The root is kept where the inner query selects something.
-  root-shown : (s : ℕ) → s < nodes t → selects t m inner s ≡ true → marked (kept t m inner) 0 ≡ true
+  pub root-shown : (s : ℕ) → s < nodes t → selects t m inner s ≡ true → marked (kept t m inner) 0 ≡ true
   unfolding selects
   root-shown s l p =
       let w = tree t ft in

@@ -37,15 +37,15 @@ selected-proper q h = joined-proper (reversed (q .first)) (q .others) (reversed-
 some-node-proper : (a : Axis) (e : Expr) → ProperExpr e → ProperExpr (someNode a e)
 some-node-proper a e h = (omega arith, (refl, ((h, tt), tt)))
 
-visible-proper : (q : Query) → Proper q → ProperExpr (visible q)
+pub visible-proper : (q : Query) → Proper q → ProperExpr (visible q)
 unfolding visible
 visible-proper q h = ((omega arith, (refl, ((selected-proper q h, tt), tt))), (omega arith, (refl, ((selected-proper q h, tt), tt))))
 
-last-proper : (q : Query) → Proper q → ProperSteps (lastStep q)
+pub last-proper : (q : Query) → Proper q → ProperSteps (lastStep q)
 unfolding lastStep
 last-proper q h = (refl, ((some-node-proper ancestorOrSelf (selectedBy q) (selected-proper q h), tt), tt))
 
-append-proper : (s last : Steps) → ProperSteps s → ProperSteps last → ProperSteps (append s last)
+pub append-proper : (s last : Steps) → ProperSteps s → ProperSteps last → ProperSteps (append s last)
 append-proper stop last hs hl = hl
 append-proper (step a x ps rest) last hs hl = (hs .0, (hs .1 .0, append-proper rest last (hs .1 .1) hl))
 
@@ -54,7 +54,7 @@ module _ (v : Expr) (hv : ProperExpr v) where
   guard-count stop = refl
   guard-count (step a x ps rest) = ap suc (guard-count rest)
 
-  on-proper : (g : Bool) (ps : Preds) → ProperPreds ps → ProperPreds (cond g (pred v ps) ps)
+  pub on-proper : (g : Bool) (ps : Preds) → ProperPreds ps → ProperPreds (cond g (pred v ps) ps)
   on-proper true ps h = (hv, h)
   on-proper false ps h = h
 

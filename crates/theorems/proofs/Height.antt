@@ -36,23 +36,23 @@ selected-height q =
     omega (arith, joined-height (reversed (q .first)) (q .others) b one (omega arith) (omega arith))
 
 -- The height that the guard brings, and the last step.
-guardHeight : Query → ℕ
+unfoldable pub guardHeight : Query → ℕ
 guardHeight q = max 3 (height q) + length (paths q) + 1
 
-visible-height : (q : Query) → heightExpr (visible q) ≤ guardHeight q
+pub visible-height : (q : Query) → heightExpr (visible q) ≤ guardHeight q
 unfolding visible guardHeight
 visible-height q = omega (arith, selected-height q)
 
-last-height : (q : Query) → heightSteps (lastStep q) ≤ guardHeight q
+pub last-height : (q : Query) → heightSteps (lastStep q) ≤ guardHeight q
 unfolding lastStep guardHeight
 last-height q = omega (arith, selected-height q)
 
-append-height : (s last : Steps) → heightSteps (append s last) ≡ max (heightSteps s) (heightSteps last)
+pub append-height : (s last : Steps) → heightSteps (append s last) ≡ max (heightSteps s) (heightSteps last)
 append-height stop last = omega arith
 append-height (step a x ps rest) last = omega (arith, append-height rest last)
 
 module _ (v : Expr) (d : ℕ) (low : heightExpr v ≤ d) where
-  on-height : (g : Bool) (ps : Preds) → heightPreds (cond g (pred v ps) ps) ≤ max d (heightPreds ps)
+  pub on-height : (g : Bool) (ps : Preds) → heightPreds (cond g (pred v ps) ps) ≤ max d (heightPreds ps)
   on-height true ps = omega arith
   on-height false ps = omega arith
 

@@ -34,18 +34,18 @@ unfolding selectedBy nesting
 selected-nest q = omega (arith, joined-nest (reversed (q .first)) (q .others) (omega (arith, reversed-nest (q .first))), reversed-nest (q .first))
 
 -- The brackets that the guard brings, and the last step.
-guardNest : Query → ℕ
+unfoldable pub guardNest : Query → ℕ
 guardNest q = 2 + max 2 (nesting q)
 
-visible-nest : (q : Query) → 1 + nestExpr (visible q) ≡ guardNest q
+pub visible-nest : (q : Query) → 1 + nestExpr (visible q) ≡ guardNest q
 unfolding visible guardNest
 visible-nest q = omega (arith, selected-nest q)
 
-last-nest : (q : Query) → nestSteps (lastStep q) ≡ guardNest q
+pub last-nest : (q : Query) → nestSteps (lastStep q) ≡ guardNest q
 unfolding lastStep guardNest
 last-nest q = omega (arith, selected-nest q)
 
-append-nest : (s last : Steps) → nestSteps (append s last) ≡ max (nestSteps s) (nestSteps last)
+pub append-nest : (s last : Steps) → nestSteps (append s last) ≡ max (nestSteps s) (nestSteps last)
 append-nest stop last = omega arith
 append-nest (step a x ps rest) last = omega (arith, append-nest rest last)
 
@@ -62,13 +62,13 @@ guard-and (both a b) v = refl
 guard-and (either a b) v = refl
 guard-and (negated a) v = refl
 
-brackets : (b : Bool) (n d : ℕ) → n + inBrackets b d ≡ inBrackets b n + d
+pub brackets : (b : Bool) (n d : ℕ) → n + inBrackets b d ≡ inBrackets b n + d
 brackets true n d = omega arith
 brackets false n d = refl
 
 -- What is guarded is nested as before, or as deep as its deepest guarded step and the guard there, where it is deeper than the guard by itself.
 module _ (d : ℕ) where
-  abbrev Deepens : ℕ → ℕ → ℕ → Type 0
+  abbrev pub Deepens : ℕ → ℕ → ℕ → Type 0
   Deepens new old guards = max new d ≡ max old (guards + d)
 
   apart : (x y : ℕ) → max (max x y) d ≡ max (max x d) (max y d)
@@ -78,11 +78,11 @@ module _ (d : ℕ) where
   together x g y h = omega arith
 
   -- So it is with two parts, if it is so with each.
-  both-deepen : (x x′ g y y′ h : ℕ) → Deepens x′ x g → Deepens y′ y h → Deepens (max x′ y′) (max x y) (max g h)
+  pub both-deepen : (x x′ g y y′ h : ℕ) → Deepens x′ x g → Deepens y′ y h → Deepens (max x′ y′) (max x y) (max g h)
   both-deepen x x′ g y y′ h p q = apart x′ y′ ∙ ap₂ max p q ∙ together x g y h
 
 module _ (v : Expr) (d : ℕ) (deep : 1 + nestExpr v ≡ d) where
-  on-nest : (g : Bool) (n h : ℕ) (ps′ ps : Preds) → Deepens d (n + nestPreds ps′) (n + nestPreds ps) h
+  pub on-nest : (g : Bool) (n h : ℕ) (ps′ ps : Preds) → Deepens d (n + nestPreds ps′) (n + nestPreds ps) h
       → Deepens d (n + nestPreds (cond g (pred v ps′) ps′)) (n + nestPreds ps) (max (cond g n 0) h)
   on-nest true n h ps′ ps i = omega arith
   on-nest false n h ps′ ps i = omega arith

@@ -29,21 +29,21 @@ selected-size : (q : Query) → sizeExpr (selectedBy q) ≡ selectedSize q
 unfolding selectedBy selectedSize size
 selected-size q = omega (arith, joined-size (reversed (q .first)) (q .others), reversed-size (q .first))
 
-visible-size : (q : Query) → sizeExpr (visible q) ≡ 5 + 2 * selectedSize q
+pub visible-size : (q : Query) → sizeExpr (visible q) ≡ 5 + 2 * selectedSize q
 unfolding visible
 visible-size q = omega (arith, selected-size q)
 
-last-size : (q : Query) → sizeSteps (lastStep q) ≡ 3 + selectedSize q
+pub last-size : (q : Query) → sizeSteps (lastStep q) ≡ 3 + selectedSize q
 unfolding lastStep
 last-size q = omega (arith, selected-size q)
 
-append-size : (s last : Steps) → sizeSteps (append s last) ≡ sizeSteps s + sizeSteps last
+pub append-size : (s last : Steps) → sizeSteps (append s last) ≡ sizeSteps s + sizeSteps last
 append-size stop last = omega arith
 append-size (step a x ps rest) last = omega (arith, append-size rest last)
 
 -- Every step along a guarded axis gets the guard.
 module _ (v : Expr) where
-  on-size : (g : Bool) (ps : Preds) → sizePreds (cond g (pred v ps) ps) ≡ cond g 1 0 * sizeExpr v + sizePreds ps
+  pub on-size : (g : Bool) (ps : Preds) → sizePreds (cond g (pred v ps) ps) ≡ cond g 1 0 * sizeExpr v + sizePreds ps
   on-size true ps = omega arith
   on-size false ps = omega arith
 

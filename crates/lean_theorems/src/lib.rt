@@ -1,0 +1,1 @@
+// No code: what a lean composition owes stands in specs/Leans.antt, the proofs in proofs/.
