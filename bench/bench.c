@@ -11,7 +11,7 @@ static const char q2_text[] = "//item[not(quantity)]|//item/location";
 static const char q3_text[] = "//item[location or desc]";
 
 /* The documents on which the second engine is timed: its time grows with a power of the nodes. */
-enum { LEAST_FOLLOWED = 64, MOST_FOLLOWED = 256 };
+enum { LEAST_FOLLOWED = 256, MOST_FOLLOWED = 512 };
 
 static double smaller(double a, double b)
 {
@@ -401,13 +401,13 @@ static void cuts(void)
 
 /* The second engine. */
 
-static void row_of_engines(const struct document *document, const char *text)
+static void row_of_engines(const struct document *document, const char *name, const char *text)
 {
     static struct query query;
     double run, follow;
     read_query(document, text, &query);
     time_engines(document, &query, &run, &follow);
-    printf("| `%s` | %zu | %.1f | %.1f | %.0f |\n", text, document->nodes, run, follow, follow / run);
+    printf("| %s | %zu | %.1f | %.1f | %.0f |\n", name, document->nodes, run, follow, follow / run);
     fflush(stdout);
 }
 
@@ -418,9 +418,9 @@ static void second_engine(void)
     printf("| query | nodes | run, us | follow, us | follow / run |\n|---|---|---|---|---|\n");
     for (size_t nodes = LEAST_FOLLOWED; nodes <= MOST_FOLLOWED; nodes *= 2) {
         make_xmark(&document, nodes);
-        row_of_engines(&document, q1_text);
-        row_of_engines(&document, q2_text);
-        row_of_engines(&document, q3_text);
+        row_of_engines(&document, "Q1", q1_text);
+        row_of_engines(&document, "Q2", q2_text);
+        row_of_engines(&document, "Q3", q3_text);
     }
 }
 

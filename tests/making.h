@@ -73,7 +73,8 @@ void make_table(struct dice *dice, struct table *table, size_t nodes, unsigned n
 void make_marks(struct dice *dice, struct table *table, unsigned percent);
 void make_query(struct dice *dice, struct query *query, struct bounds bounds);
 
-/* Can a call of halyardfig_follow be waited for? Its time grows as the nodes to the power of the steps that lead to several. */
+/* Can a call of halyardfig_follow be waited for? Its time grows as the nodes to the power of the steps that lead to
+   several. */
 bool can_follow(const uint32_t *items, size_t count, size_t nodes);
 
 /* Gives each step another axis, all axes alike probable. */

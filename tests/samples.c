@@ -52,6 +52,13 @@ static void marks_are(const char *name, const struct query *query, const char *e
     }
     tally(answer == kept && strcmp(shown, expected) == 0, "%s: answer %llx, marks %s, expected %s", name,
           (unsigned long long)answer, shown, expected);
+    if (!can_follow(query->items, query->count, SAMPLE_NODES))
+        return;
+    uint8_t followed[SAMPLE_NODES];
+    answer = halyardfig_follow(query->items, query->count, sample_parent, SAMPLE_NODES, sample_kind, SAMPLE_NODES,
+                               given, SAMPLE_NODES, followed, SAMPLE_NODES);
+    tally(answer == kept && memcmp(followed, marks, sizeof marks) == 0, "%s: followed, answer %llx", name,
+          (unsigned long long)answer);
 }
 
 static void run_samples(void)

@@ -11,7 +11,8 @@
 #include <unistd.h>
 
 enum { STACK_BYTES = 1 << 18, PAINT = 0xC7 };
-enum { SCRATCH_ROOM = 1 << 25, PRINT_ROOM = 1 << 19, MIXED_TEXTS = 60, NAMED_MOST = 100, CHAIN_NODES = 80, LONG_ITEMS = 500 };
+enum { SCRATCH_ROOM = 1 << 25, PRINT_ROOM = 1 << 19, MIXED_TEXTS = 60, NAMED_MOST = 100 };
+enum { CHAIN_NODES = 80, LONG_ITEMS = 500 };
 
 enum call { READ, PRINT, COMPOSE, RUN, EXTRACT, READ_XML, WRITE_XML, HEIGHT, PATHS, SCRATCH, IS_CUT, FOLLOW, CALLS };
 static const char *const call_names[CALLS] = {"read",      "print",  "compose", "run",     "extract", "read_xml",

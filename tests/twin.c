@@ -133,7 +133,8 @@ bool twin_compose(struct dice *dice, const uint32_t *outer, size_t outer_len, co
     return false;
 }
 
-/* The other engine on the same memory, where it can be waited for: the same answer and marks, unless the run lacked scratch. */
+/* The other engine on the same memory, where it can be waited for: the same answer and marks, unless the run lacked
+   scratch. */
 static bool follows_too(const uint32_t *query, size_t query_len, const uint16_t *parent, size_t parent_len,
                         const uint16_t *kind, size_t kind_len, const uint8_t *given, size_t given_len,
                         const uint8_t *kept, size_t marks_len, uint64_t ran)

@@ -44,34 +44,64 @@ returns : tie.Need-returns
 returns c = λ kinds a e. of-number (λ b. eqb (c .before .before .args .i) (c .before .before .args .j) ≡ leads (tableOf (now (c .before .before .args .parent)) kinds) b (c .before .before .args .i) (c .before .before .args .j)) self a (c .match .keys1) e refl
 
 returns-2 : tie.Need-returns-2
-returns-2 c = let d = c .before .before .before .args in λ kinds a e. of-number (λ b. c .is-child .result ≡ leads (tableOf (now (d .parent)) kinds) b (d .i) (d .j)) child a (c .before .match .keys2) e (c .is-child .ensures kinds)
+returns-2 c =
+    let d = c .before .before .before .args in
+    λ kinds a e.
+    of-number (λ b. c .is-child .result ≡ leads (tableOf (now (d .parent)) kinds) b (d .i) (d .j)) child a (c .before .match .keys2) e (c .is-child .ensures kinds)
 
 returns-3 : tie.Need-returns-3
-returns-3 c = let d = c .before .before .before .args in λ kinds a e. of-number (λ b. c .is-child2 .result ≡ leads (tableOf (now (d .parent)) kinds) b (d .i) (d .j)) Axis.parent a (c .before .match .keys3) e (c .is-child2 .ensures kinds)
+returns-3 c =
+    let d = c .before .before .before .args in
+    λ kinds a e.
+    of-number (λ b. c .is-child2 .result ≡ leads (tableOf (now (d .parent)) kinds) b (d .i) (d .j)) Axis.parent a (c .before .match .keys3) e (c .is-child2 .ensures kinds)
 
 returns-4 : tie.Need-returns-4
-returns-4 c = let d = c .before .before .before .args in λ kinds a e. of-number (λ b. c .is-over .result ≡ leads (tableOf (now (d .parent)) kinds) b (d .i) (d .j)) descendantOrSelf a (c .before .match .keys4) e (c .is-over .ensures kinds)
+returns-4 c =
+    let d = c .before .before .before .args in
+    λ kinds a e.
+    of-number (λ b. c .is-over .result ≡ leads (tableOf (now (d .parent)) kinds) b (d .i) (d .j)) descendantOrSelf a (c .before .match .keys4) e (c .is-over .ensures kinds)
 
 returns-5 : tie.Need-returns-5
-returns-5 c = let d = c .before .before .before .args in λ kinds a e. of-number (λ b. c .is-over2 .result ≡ leads (tableOf (now (d .parent)) kinds) b (d .i) (d .j)) ancestorOrSelf a (c .before .match .keys5) e (c .is-over2 .ensures kinds)
+returns-5 c =
+    let d = c .before .before .before .args in
+    λ kinds a e.
+    of-number (λ b. c .is-over2 .result ≡ leads (tableOf (now (d .parent)) kinds) b (d .i) (d .j)) ancestorOrSelf a (c .before .match .keys5) e (c .is-over2 .ensures kinds)
 
 returns-6 : tie.Need-returns-6
-returns-6 c = let d = c .before .before .before .args in λ kinds a e. of-number (λ b. c .is-below .result ≡ leads (tableOf (now (d .parent)) kinds) b (d .i) (d .j)) descendant a (c .before .match .keys6) e (c .is-below .ensures kinds)
+returns-6 c =
+    let d = c .before .before .before .args in
+    λ kinds a e.
+    of-number (λ b. c .is-below .result ≡ leads (tableOf (now (d .parent)) kinds) b (d .i) (d .j)) descendant a (c .before .match .keys6) e (c .is-below .ensures kinds)
 
 returns-7 : tie.Need-returns-7
-returns-7 c = let d = c .before .before .before .args in λ kinds a e. of-number (λ b. c .is-below2 .result ≡ leads (tableOf (now (d .parent)) kinds) b (d .i) (d .j)) ancestor a (c .before .match .keys7) e (c .is-below2 .ensures kinds)
+returns-7 c =
+    let d = c .before .before .before .args in
+    λ kinds a e.
+    of-number (λ b. c .is-below2 .result ≡ leads (tableOf (now (d .parent)) kinds) b (d .i) (d .j)) ancestor a (c .before .match .keys7) e (c .is-below2 .ensures kinds)
 
 returns-8 : tie.Need-returns-8
-returns-8 c = let d = c .before .before .before .args in λ kinds a e. of-number (λ b. c .is-sibling .result ≡ leads (tableOf (now (d .parent)) kinds) b (d .i) (d .j)) followingSibling a (c .before .match .keys8) e (c .is-sibling .ensures kinds)
+returns-8 c =
+    let d = c .before .before .before .args in
+    λ kinds a e.
+    of-number (λ b. c .is-sibling .result ≡ leads (tableOf (now (d .parent)) kinds) b (d .i) (d .j)) followingSibling a (c .before .match .keys8) e (c .is-sibling .ensures kinds)
 
 returns-9 : tie.Need-returns-9
-returns-9 c = let d = c .before .before .before .args in λ kinds a e. of-number (λ b. c .is-sibling2 .result ≡ leads (tableOf (now (d .parent)) kinds) b (d .i) (d .j)) precedingSibling a (c .before .match .keys9) e (c .is-sibling2 .ensures kinds)
+returns-9 c =
+    let d = c .before .before .before .args in
+    λ kinds a e.
+    of-number (λ b. c .is-sibling2 .result ≡ leads (tableOf (now (d .parent)) kinds) b (d .i) (d .j)) precedingSibling a (c .before .match .keys9) e (c .is-sibling2 .ensures kinds)
 
 returns-10 : tie.Need-returns-10
-returns-10 c = let d = c .before .before .before .args in λ kinds a e. of-number (λ b. c .is-after .result ≡ leads (tableOf (now (d .parent)) kinds) b (d .i) (d .j)) following a (c .before .match .keys10) e (c .is-after .ensures kinds)
+returns-10 c =
+    let d = c .before .before .before .args in
+    λ kinds a e.
+    of-number (λ b. c .is-after .result ≡ leads (tableOf (now (d .parent)) kinds) b (d .i) (d .j)) following a (c .before .match .keys10) e (c .is-after .ensures kinds)
 
 returns-11 : tie.Need-returns-11
-returns-11 c = let d = c .before .before .before .args in λ kinds a e. of-number (λ b. c .is-after2 .result ≡ leads (tableOf (now (d .parent)) kinds) b (d .i) (d .j)) preceding a (c .before .match .keys11) e (c .is-after2 .ensures kinds)
+returns-11 c =
+    let d = c .before .before .before .args in
+    λ kinds a e.
+    of-number (λ b. c .is-after2 .result ≡ leads (tableOf (now (d .parent)) kinds) b (d .i) (d .j)) preceding a (c .before .match .keys11) e (c .is-after2 .ensures kinds)
 
 returns-12 : tie.Need-returns-12
 returns-12 c = λ kinds a e. absurd (no-axis a (c .before .before .args .axis) e (c .match .rest))

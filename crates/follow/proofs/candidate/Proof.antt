@@ -26,7 +26,10 @@ abbrev μ-loop : tie.MeasureT-loop
 μ-loop parent kind given axis test i bound c₀ c = c
 
 lone-requires : tie.Need-lone-requires Inv-loop μ-loop
-lone-requires c κs = let s = c .before .before .before .before in let d = s .args in (s .pre .0, ((s .pre .1 .0, s .pre .1 .0, s .pre .1 .1), self-alone (tableOf (now (d .parent)) (now (d .kind))) (now (d .given)) (c .if1 .taken) (d .i)))
+lone-requires c κs =
+    let s = c .before .before .before .before in
+    let d = s .args in
+    (s .pre .0, ((s .pre .1 .0, s .pre .1 .0, s .pre .1 .1), self-alone (tableOf (now (d .parent)) (now (d .kind))) (now (d .given)) (c .if1 .taken) (d .i)))
 
 returns : tie.Need-returns Inv-loop μ-loop
 returns c = c .lone .ensures
@@ -41,7 +44,10 @@ wide-requires : tie.Need-wide-requires Inv-loop μ-loop
 wide-requires c κs = search needs
 
 lone-requires-2 : tie.Need-lone-requires-2 Inv-loop μ-loop
-lone-requires-2 c κs = let s = c .before .before .before .before .before .before .before in let d = s .args in (s .pre .0, ((s .pre .1 .0, omega (arith, c .wide .ensures, parent-le (tableOf (now (d .parent)) []) (s .pre .0 .tree []) (d .i) (s .pre .1 .0), s .pre .1 .0), s .pre .1 .1), parent-alone (tableOf (now (d .parent)) (now (d .kind))) (now (d .given)) (c .before .before .if2 .taken) (d .i) _ (c .wide .ensures)))
+lone-requires-2 c κs =
+    let s = c .before .before .before .before .before .before .before in
+    let d = s .args in
+    (s .pre .0, ((s .pre .1 .0, omega (arith, c .wide .ensures, parent-le (tableOf (now (d .parent)) []) (s .pre .0 .tree []) (d .i) (s .pre .1 .0), s .pre .1 .0), s .pre .1 .1), parent-alone (tableOf (now (d .parent)) (now (d .kind))) (now (d .given)) (c .before .before .if2 .taken) (d .i) _ (c .wide .ensures)))
 
 returns-2 : tie.Need-returns-2 Inv-loop μ-loop
 returns-2 c = c .lone2 .ensures
@@ -53,10 +59,17 @@ sub-step-reaches : tie.Need-sub-step-reaches Inv-loop μ-loop
 sub-step-reaches c = omega arith
 
 step-reaches-requires : tie.Need-step-reaches-requires Inv-loop μ-loop
-step-reaches-requires c κs = let s = c .before .before .before .before .before .before .before in (s .pre .0, (s .pre .1 .0, omega (arith, s .pre .1 .1, c .before .loop .inv .0)))
+step-reaches-requires c κs =
+    let s = c .before .before .before .before .before .before .before in
+    (s .pre .0, (s .pre .1 .0, omega (arith, s .pre .1 .1, c .before .loop .inv .0)))
 
 returns-3 : tie.Need-returns-3 Inv-loop μ-loop
-returns-3 c = let s = c .before .before .before .before .before .before .before .before .before in let d = s .args in let l = c .before .before .before .loop in λ a x g e f. subst (Best (reaches (tableOf (now (d .parent)) (now (d .kind))) (now (d .given)) a x (d .i)) (d .bound)) (let q : l .c - 1 + 1 ≡ l .c = omega arith in q) (best-here (reaches (tableOf (now (d .parent)) (now (d .kind))) (now (d .given)) a x (d .i)) (d .bound) (l .c - 1) (omega (arith, l .inv .0)) (λ k u v. l .inv .1 a x g e f k (omega arith) v) (sym (c .before .step-reaches .ensures a x g e f) ∙ c .if3 .taken))
+returns-3 c =
+    let s = c .before .before .before .before .before .before .before .before .before in
+    let d = s .args in
+    let l = c .before .before .before .loop in
+    λ a x g e f.
+    subst (Best (reaches (tableOf (now (d .parent)) (now (d .kind))) (now (d .given)) a x (d .i)) (d .bound)) (let q : l .c - 1 + 1 ≡ l .c = omega arith in q) (best-here (reaches (tableOf (now (d .parent)) (now (d .kind))) (now (d .given)) a x (d .i)) (d .bound) (l .c - 1) (omega (arith, l .inv .0)) (λ k u v. l .inv .1 a x g e f k (omega arith) v) (sym (c .before .step-reaches .ensures a x g e f) ∙ c .if3 .taken))
 
 sub-c : tie.Need-sub-c Inv-loop μ-loop
 sub-c c = omega arith
@@ -65,10 +78,17 @@ loop-less : tie.Need-loop-less Inv-loop μ-loop
 loop-less c = omega arith
 
 loop-again : tie.Need-loop-again Inv-loop μ-loop
-loop-again c = let l = c .before .before .before .loop in (omega (arith, l .inv .0), λ a x g e f k u v. by-cases (ℕ-discrete k (l .c - 1)) (λ q. ap (reaches _ _ a x _) q ∙ sym (c .before .step-reaches .ensures a x g e f) ∙ c .if3 .left) (λ q. l .inv .1 a x g e f k (omega arith) v))
+loop-again c =
+    let l = c .before .before .before .loop in
+    (omega (arith, l .inv .0), λ a x g e f k u v. by-cases (ℕ-discrete k (l .c - 1)) (λ q. ap (reaches _ _ a x _) q ∙ sym (c .before .step-reaches .ensures a x g e f) ∙ c .if3 .left) (λ q. l .inv .1 a x g e f k (omega arith) v))
 
 returns-4 : tie.Need-returns-4 Inv-loop μ-loop
-returns-4 c = let s = c .before .before .before .before .before .before .before in let d = s .args in let l = c .before .loop in λ a x g e f. best-none (reaches (tableOf (now (d .parent)) (now (d .kind))) (now (d .given)) a x (d .i)) (d .bound) (λ k b. l .inv .1 a x g e f k (omega arith) b)
+returns-4 c =
+    let s = c .before .before .before .before .before .before .before in
+    let d = s .args in
+    let l = c .before .loop in
+    λ a x g e f.
+    best-none (reaches (tableOf (now (d .parent)) (now (d .kind))) (now (d .given)) a x (d .i)) (d .bound) (λ k b. l .inv .1 a x g e f k (omega arith) b)
 
 pub candidate-spec : {M : Type 1} → statement M
 candidate-spec =

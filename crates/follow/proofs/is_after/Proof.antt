@@ -10,7 +10,10 @@ is-over-requires : tie.Need-is-over-requires
 is-over-requires c κs = search needs
 
 returns : tie.Need-returns
-returns c = let a = c .before .before .args in λ kinds. ap (λ b. ltb (a .i) (a .j) && not b) (c .is-over .ensures kinds)
+returns c =
+    let a = c .before .before .args in
+    λ kinds.
+    ap (λ b. ltb (a .i) (a .j) && not b) (c .is-over .ensures kinds)
 
 pub is-after-spec : {M : Type 1} → statement M
 is-after-spec = tie.close (tie.spec is-over-requires returns)

@@ -10,7 +10,10 @@ is-over-requires : tie.Need-is-over-requires
 is-over-requires c κs = search needs
 
 returns : tie.Need-returns
-returns c = let a = c .before .before .args in λ kinds. ap (λ b. b && not (eqb (a .i) (a .j))) (c .is-over .ensures kinds)
+returns c =
+    let a = c .before .before .args in
+    λ kinds.
+    ap (λ b. b && not (eqb (a .i) (a .j))) (c .is-over .ensures kinds)
 
 pub is-below-spec : {M : Type 1} → statement M
 is-below-spec = tie.close (tie.spec is-over-requires returns)

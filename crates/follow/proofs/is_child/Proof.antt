@@ -16,7 +16,10 @@ wide-requires : tie.Need-wide-requires
 wide-requires c κs = search needs
 
 returns : tie.Need-returns
-returns c = let a = c .before .before .before .args in λ kinds. ap (λ k. not (eqb (a .j) 0) && eqb k (a .i)) (c .wide .ensures)
+returns c =
+    let a = c .before .before .before .args in
+    λ kinds.
+    ap (λ k. not (eqb (a .j) 0) && eqb k (a .i)) (c .wide .ensures)
 
 pub is-child-spec : {M : Type 1} → statement M
 is-child-spec = tie.close (tie.spec mul-wide shared-slice-read-wide wide-requires returns)

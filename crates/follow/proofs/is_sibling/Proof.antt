@@ -25,7 +25,10 @@ wide-requires-2 : tie.Need-wide-requires-2
 wide-requires-2 c κs = search needs
 
 returns : tie.Need-returns
-returns c = let a = c .before .before .before .before .before .args in λ kinds. ap₂ (λ k l. ltb (a .i) (a .j) && not (eqb (a .i) 0) && eqb k l) (c .before .before .wide .ensures) (c .wide2 .ensures)
+returns c =
+    let a = c .before .before .before .before .before .args in
+    λ kinds.
+    ap₂ (λ k l. ltb (a .i) (a .j) && not (eqb (a .i) 0) && eqb k l) (c .before .before .wide .ensures) (c .wide2 .ensures)
 
 pub is-sibling-spec : {M : Type 1} → statement M
 is-sibling-spec =

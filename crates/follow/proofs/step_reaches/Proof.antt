@@ -12,7 +12,10 @@ shared-slice-read-if1 : tie.Need-shared-slice-read-if1
 shared-slice-read-if1 c = search needs
 
 returns : tie.Need-returns
-returns c = let d = c .before .before .before .before .before .args in λ a x g e f. sym (not-marked (tableOf (now (d .parent)) (now (d .kind))) (now (d .given)) a x (d .i) (d .j) (ne-eqb _ 1 (c .if1 .taken)))
+returns c =
+    let d = c .before .before .before .before .before .args in
+    λ a x g e f.
+    sym (not-marked (tableOf (now (d .parent)) (now (d .kind))) (now (d .given)) a x (d .i) (d .j) (ne-eqb _ 1 (c .if1 .taken)))
 
 mul-test-met : tie.Need-mul-test-met
 mul-test-met c = search needs

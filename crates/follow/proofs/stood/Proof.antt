@@ -25,7 +25,9 @@ returns : tie.Need-returns
 returns c = search needs
 
 returns-2 : tie.Need-returns-2
-returns-2 c = let s = c .before .before .before .before in c .wide .ensures ∙ sym (last-stood (s .args .node) (now (s .args .stand)) (s .args .k) (omega (arith, c .before .before .if1 .left)) (s .pre))
+returns-2 c =
+    let s = c .before .before .before .before in
+    c .wide .ensures ∙ sym (last-stood (s .args .node) (now (s .args .stand)) (s .args .k) (omega (arith, c .before .before .if1 .left)) (s .pre))
 
 pub stood-spec : {M : Type 1} → statement M
 stood-spec =
