@@ -146,7 +146,7 @@ static bool two_engines(struct dice *dice)
     }
     write_document("two engines");
     bool printed = write_printed(&query);
-    write_marks('E', kept);
+    write_marks('E', kept, table.nodes);
     return printed;
 }
 
