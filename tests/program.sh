@@ -56,5 +56,46 @@ prints 'no name list' "/descendant-or-self::node()[ancestor-or-self::node()[self
 prints '49,153 bytes' 'refused input 1 0' < <(times 49153 /)
 prints '49,152 bytes in one line' 'refused outer 1 0' < <(times 49152 /)
 
+# FIRST USE, in a repository of three crates with a stand-in for the kit: what is said, and where the log is.
+small=$(mktemp -d) || exit 2
+trap 'rm -rf "$small"' EXIT
+mkdir -p "$small/bin" "$small/kit" "$small/crates/a/src"
+cp bin/compose bin/running.sh "$small/bin"
+printf '# crates\npaper:\na: paper\nb: paper\ncompose_main: a io libc\n' >"$small/crates.txt"
+touch "$small/crates/a/src/lib.rt"
+cat >"$small/kit/rt" <<'END'
+#!/bin/sh
+echo 'rt: paper proved (1 s)'
+[ ! -e broken ] || { echo 'rt: a NOT PROVED'; exit 1; }
+mkdir -p target/bin
+printf '#!/bin/sh\necho composed\n' >target/bin/compose_main
+chmod +x target/bin/compose_main
+echo 'rt: ok, 3 crates proved'
+END
+printf '#!/bin/sh\necho x86_64\n' >"$small/kit/uname"
+chmod +x "$small/kit/rt" "$small/kit/uname"
+
+# The program of the small repository must end with the status, print and say just these.
+first_use() {
+    local name=$1 status=$2 wanted=$3 told=$4 answer said
+    answer=$(PATH=$small/kit:$PATH "$small/bin/compose" 2>"$small/said" </dev/null; echo $?)
+    said=$(<"$small/said")
+    if [ "$answer" = "$wanted$status" ] && [ "$said" = "$told" ]; then
+        passed=$((passed + 1))
+    else
+        failed=$((failed + 1))
+        echo "program: $name: got '$answer', said '$said'"
+    fi
+}
+
+building='Building compose_main: its 3 crates are proved, but for those unchanged since the last time; all take about 1 min.'
+touch "$small/broken"
+first_use 'first use, not proved' 2 '' "$building"$'\n'"Building compose_main failed; $small/target/log/building-compose_main.txt says why."
+rm "$small/broken"
+first_use 'first use' 0 $'composed\n' "$building"
+first_use 'second use' 0 $'composed\n' ''
+touch -d '1 minute' "$small/crates/a/src/lib.rt"
+first_use 'a newer source' 0 $'composed\n' "$building"
+
 echo "program: $passed passed, $failed failed"
 [ "$failed" -eq 0 ]
