@@ -235,8 +235,8 @@ uint64_t halyardfig_paths(const uint32_t *query, size_t query_len);
 /*
  * How much scratch to lend for a run of a composition, told before composing: with so many bytes, a run of an accepted
  * composition of two queries of these heights and path counts on a table of so many nodes is never refused 10.
- * Value: nodes x 2 x (outer_height + the larger of 3 and inner_height + inner_paths + 1 + 1) bytes, 100,679,680 at
- * most; the composed query's height is at most the bracket without its last 1.
+ * Value: nodes x 2 x (outer_height + inner_paths + 2 + the larger of 3 and inner_height) bytes, 100,679,680 at
+ * most; the composed query's height is at most one less than the sum in round brackets.
  * Refuses 1 where any of the five numbers is 0 or over 4,096; an answer that is a refusal is over 4,096 too.
  */
 uint64_t halyardfig_scratch(size_t nodes, size_t outer_height, size_t outer_paths, size_t inner_height,
