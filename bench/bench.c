@@ -119,6 +119,33 @@ static void compositions(const struct document *document)
     row_of_run("(Q3 on Q2) on Q1", document, &both);
 }
 
+/* Each composition, and the lean one under it. */
+static void lean_compositions(const struct document *document)
+{
+    static struct query q1, q2, q3, plain, lean, on_two, lean_on_two;
+    read_query(document, q1_text, &q1);
+    read_query(document, q2_text, &q2);
+    read_query(document, q3_text, &q3);
+    const struct {
+        const char *name, *lean_name;
+        const struct query *outer, *lean_outer, *inner;
+    } pairs[] = {
+        {"Q3 on Q1", "Q3 on Q1, lean", &q3, &q3, &q1},
+        {"Q2 on Q1", "Q2 on Q1, lean", &q2, &q2, &q1},
+        {"Q3 on Q2", "Q3 on Q2, lean", &q3, &q3, &q2},
+        {"(Q3 on Q2) on Q1", "(Q3 on Q2) on Q1, lean twice", &on_two, &lean_on_two, &q1},
+    };
+    compose(document, &q3, &q2, &on_two);
+    compose_leanly(document, &q3, &q2, &lean_on_two);
+    head_of_runs("Both compositions, side by side");
+    for (size_t i = 0; i < sizeof pairs / sizeof pairs[0]; i++) {
+        compose(document, pairs[i].outer, pairs[i].inner, &plain);
+        row_of_run(pairs[i].name, document, &plain);
+        compose_leanly(document, pairs[i].lean_outer, pairs[i].inner, &lean);
+        row_of_run(pairs[i].lean_name, document, &lean);
+    }
+}
+
 /* Doubling. */
 
 enum { LEAST_NODES = 512, LEAST_ITEMS = 256 };
@@ -432,6 +459,7 @@ int main(void)
     printf("%s\n", versions());
     plain_paths(&document);
     compositions(&document);
+    lean_compositions(&document);
     doubled_nodes();
     doubled_items(&document, &small);
     doubled_measures(&document);

@@ -49,3 +49,20 @@ void compose(const struct document *document, const struct query *outer, const s
                                "the text of a composition");
     query->text[length] = 0;
 }
+
+void compose(const struct document *document, const struct query *outer, const struct query *inner, struct query *query)
+{
+    print_composed(
+        document, query,
+        accepted(halyardfig_compose(outer->items, outer->count, inner->items, inner->count, query->items, ITEM_ROOM),
+                 "a composition"));
+}
+
+void compose_leanly(const struct document *document, const struct query *outer, const struct query *inner,
+                    struct query *query)
+{
+    print_composed(document, query,
+                   accepted(halyardfig_compose_lean(outer->items, outer->count, inner->items, inner->count,
+                                                    query->items, ITEM_ROOM),
+                            "a lean composition"));
+}

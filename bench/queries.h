@@ -28,4 +28,8 @@ void read_query(const struct document *document, const char *text, struct query 
 void compose(const struct document *document, const struct query *outer, const struct query *inner,
              struct query *query);
 
+/* The same with fewer guards. */
+void compose_leanly(const struct document *document, const struct query *outer, const struct query *inner,
+                    struct query *query);
+
 #endif

@@ -14,7 +14,7 @@ enum { SCRATCH_ROOM = 1 << 20, PRINT_ROOM = 1 << 18 };
 
 static struct list list;
 static struct table table;
-static struct query query, outer, inner, composed;
+static struct query query, outer, inner, composed, lean;
 static uint8_t kept[NODE_ROOM];
 
 /* A text on one line: tab, LF and CR become \t, \n and \r. */
@@ -177,10 +177,12 @@ static uint64_t make_composed(struct dice *dice)
         mix_axes(dice, &inner);
     uint64_t answer = halyardfig_compose(outer.items, outer.count, inner.items, inner.count, composed.items, ITEM_ROOM);
     composed.count = halyardfig_value(answer);
-    return halyardfig_refused(answer);
+    uint64_t leanly = halyardfig_compose_lean(outer.items, outer.count, inner.items, inner.count, lean.items, ITEM_ROOM);
+    lean.count = halyardfig_value(leanly);
+    return halyardfig_refused(answer) != 0 ? halyardfig_refused(answer) : halyardfig_refused(leanly);
 }
 
-/* A composed query, and its inner and outer query in turn. */
+/* A composed query, the lean one, and its inner and outer query in turn. */
 static bool composed_query(struct dice *dice)
 {
     make_document(dice, 25);
@@ -193,9 +195,8 @@ static bool composed_query(struct dice *dice)
         if (kept_some())
             break;
     }
-    write_document("composed query");
-    bool printed = write_printed(&composed);
-    write_marks('E', kept, table.nodes);
+    bool printed = write_both("composed query", &composed);
+    printed = write_both("lean query", &lean) && printed;
     write_document("inner then outer");
     printed = write_printed(&inner) && write_printed(&outer) && printed;
     write_marks('E', kept, table.nodes);
@@ -219,9 +220,9 @@ static bool three_views(struct dice *dice)
     write_marks('E', kept, table.nodes);
     if (!run_query(&views.first_two))
         return false;
-    write_document("(A on B) on C");
-    printed = write_printed(&views.first_two) && printed;
-    write_marks('E', kept, table.nodes);
+    printed = write_both("(A on B) on C", &views.first_two) && printed;
+    printed = write_both("A on (B on C), lean", &views.lean_last_two) && printed;
+    printed = write_both("(A on B) on C, lean", &views.lean_first_two) && printed;
     write_document("C, B and A in turn");
     printed = write_printed(&views.inner) && write_printed(&views.middle) && write_printed(&views.outer) && printed;
     write_marks('E', kept, table.nodes);

@@ -17,6 +17,7 @@ static struct {
     __typeof__(halyardfig_read) *read;
     __typeof__(halyardfig_print) *print;
     __typeof__(halyardfig_compose) *compose;
+    __typeof__(halyardfig_compose_lean) *compose_lean;
     __typeof__(halyardfig_run) *run;
     __typeof__(halyardfig_follow) *follow;
     __typeof__(halyardfig_extract) *extract;
@@ -94,7 +95,9 @@ static void call_all(void)
     answers("paths of the inner query", calls.paths(inner, i), 1);
     answers("scratch", calls.scratch(NODES, 3, 1, 1, 1), sizeof scratch);
 
+    uint64_t fewer = calls.compose_lean(outer, o, inner, i, LENT(both));
     uint64_t size = calls.compose(outer, o, inner, i, LENT(both));
+    expect("compose_lean", fewer < size);
     expect("compose", halyardfig_refused(size) == 0);
     uint64_t printed = calls.print(both, size, TEXT(names), LENT(text));
     expect("print", memcmp(text, "/child::a[", 10) == 0);

@@ -349,8 +349,8 @@ void make_views(struct dice *dice, struct views *views, struct bounds bounds)
             if (chance(dice, 50))
                 mix_axes(dice, each[i]);
         }
-    while (!compose_two(each[1], each[2], &lower) || !compose_two(each[0], &lower, &views->last_two) ||
-           !compose_two(each[0], each[1], &upper) || !compose_two(&upper, each[2], &views->first_two));
+    while (!group(halyardfig_compose, views, &views->last_two, &views->first_two) ||
+           !group(halyardfig_compose_lean, views, &views->lean_last_two, &views->lean_first_two));
 }
 
 /* Texts. */

@@ -96,9 +96,10 @@ void make_deep_query(struct dice *dice, struct query *query, unsigned nesting, u
 /* A query that is one long run of some kind: steps, predicates, paths, or left-grouped operands. */
 void make_long_query(struct dice *dice, struct query *query, size_t most_items, unsigned names);
 
-/* Three views in a row, and both their groupings: outer on (middle on inner), and (outer on middle) on inner. */
+/* Three views in a row, and both their groupings: outer on (middle on inner), and (outer on middle) on inner; the same
+   composed leanly. */
 struct views {
-    struct query outer, middle, inner, last_two, first_two;
+    struct query outer, middle, inner, last_two, first_two, lean_last_two, lean_first_two;
 };
 
 /* Makes three queries within the bounds of which neither grouping is refused; half of them have every axis alike. */

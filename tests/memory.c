@@ -148,6 +148,18 @@ static bool compose_anything(struct dice *dice)
            in_range("compose", first, room, HALYARDFIG_REFUSED_ROOM);
 }
 
+static bool compose_anything_leanly(struct dice *dice)
+{
+    any_query(dice, &query);
+    any_query(dice, &second);
+    size_t room = any_length(dice, 5000, ITEM_ROOM);
+    if (!twin_compose_lean(dice, query.items, query.count, second.items, second.count, room))
+        return false;
+    uint64_t first = twin_answer;
+    return twin_compose_lean(dice, query.items, query.count, second.items, second.count, room) &&
+           in_range("compose_lean", first, room, HALYARDFIG_REFUSED_ROOM);
+}
+
 static bool run_anything(struct dice *dice)
 {
     if (chance(dice, 50))
@@ -293,6 +305,7 @@ int main(void)
     try_cases("read", 12000, read_anything);
     try_cases("print", 10000, print_anything);
     try_cases("compose", 8000, compose_anything);
+    try_cases("compose_lean", 8000, compose_anything_leanly);
     try_cases("run", 15000, run_anything);
     try_cases("extract", 10000, extract_anything);
     try_cases("read_xml", 15000, read_any_xml);

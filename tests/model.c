@@ -9,7 +9,7 @@ enum { SCRATCH_ROOM = 1 << 18, SECRET_THROWS = 1000 };
 
 static struct list list;
 static struct text text;
-static struct query query, outer, inner, composed;
+static struct query query, outer, inner, composed, lean;
 static struct views views;
 static struct table table, other;
 
@@ -164,6 +164,7 @@ static bool judges_items_packed_as_before(struct dice *dice)
     make_query(dice, &outer, (struct bounds){between(dice, 1, 12), (unsigned)below(dice, 3), 2, 2});
     return twin_print(dice, query.items, query.count, list.bytes, list.length, 1 << 17) &&
            twin_compose(dice, outer.items, outer.count, query.items, query.count, ITEM_ROOM) &&
+           twin_compose_lean(dice, outer.items, outer.count, query.items, query.count, ITEM_ROOM) &&
            twin_run(dice, query.items, query.count, table.parent, table.nodes, table.kind, table.nodes, table.marks,
                     table.nodes, table.nodes, SCRATCH_ROOM);
 }
@@ -196,6 +197,35 @@ static bool composes(struct dice *dice)
     return twin_compose(dice, outer.items, outer.count, inner.items, inner.count, near(dice, need));
 }
 
+/* Leanly, the same two queries are refused where they are not composed, or make no larger and no deeper query. */
+static bool composes_leanly(struct dice *dice)
+{
+    unsigned names = (unsigned)below(dice, 5);
+    size_t items = between(dice, 1, 40);
+    make_query(dice, &outer, (struct bounds){items, (unsigned)below(dice, 4), 3, names});
+    make_query(dice, &inner, (struct bounds){50 - items, (unsigned)below(dice, 4), 3, names});
+    mix_axes(dice, &outer);
+    if (chance(dice, 50))
+        mix_axes(dice, &inner);
+    if (chance(dice, 10))
+        damage_query(dice, chance(dice, 50) ? &outer : &inner);
+    uint64_t plain =
+        halyardfig_compose(outer.items, outer.count, inner.items, inner.count, composed.items, ITEM_ROOM);
+    struct measures of_plain = {0};
+    if (halyardfig_refused(plain) == 0)
+        of_plain = measure(composed.items, halyardfig_value(plain));
+    if (!twin_compose_lean(dice, outer.items, outer.count, inner.items, inner.count, ITEM_ROOM + 1000))
+        return false;
+    size_t need = halyardfig_value(twin_answer);
+    if (halyardfig_refused(twin_answer) != 0)
+        return halyardfig_refused(plain) != 0 || complain("a lean composition is refused where compose is not");
+    struct measures made = measure(twin_items(), need);
+    if (!made.is_query || (halyardfig_refused(plain) == 0 &&
+                           (need > halyardfig_value(plain) || made.nesting > of_plain.nesting)))
+        return complain("a lean query is larger or deeper than the composed one");
+    return twin_compose_lean(dice, outer.items, outer.count, inner.items, inner.count, near(dice, need));
+}
+
 static bool composes_at_the_edges(struct dice *dice)
 {
     bool deep = chance(dice, 50);
@@ -208,7 +238,8 @@ static bool composes_at_the_edges(struct dice *dice)
         make_long_query(dice, &outer, between(dice, 4, 300), 2);
         make_long_query(dice, &inner, between(dice, 4, chance(dice, 20) ? ITEM_ROOM : 30), 2);
     }
-    return twin_compose(dice, outer.items, outer.count, inner.items, inner.count, ITEM_ROOM);
+    return twin_compose(dice, outer.items, outer.count, inner.items, inner.count, ITEM_ROOM) &&
+           twin_compose_lean(dice, outer.items, outer.count, inner.items, inner.count, ITEM_ROOM);
 }
 
 static bool runs(struct dice *dice)
@@ -292,6 +323,10 @@ static void make_composition(struct dice *dice, unsigned names)
         answer = halyardfig_compose(outer.items, outer.count, inner.items, inner.count, composed.items, ITEM_ROOM);
     } while (halyardfig_refused(answer) == HALYARDFIG_REFUSED_ROOM);
     composed.count = halyardfig_value(answer);
+    answer = halyardfig_compose_lean(outer.items, outer.count, inner.items, inner.count, lean.items, ITEM_ROOM);
+    lean.count = halyardfig_value(answer);
+    if (halyardfig_refused(answer) != 0)
+        lean.count = 0;
 }
 
 /* Makes three views in a row, of which outer and inner are the first and the last. */
@@ -333,9 +368,15 @@ static bool composition_is_exact(struct dice *dice)
     }
     if (!run_on(&composed, &table, table.marks, at_once))
         return show_composition(&table);
+    if (memcmp(at_once, one_by_one, table.nodes) != 0) {
+        complain("the composed query keeps other nodes than inner then outer");
+        return show_composition(&table);
+    }
+    if (!run_on(&lean, &table, table.marks, at_once))
+        return show_composition(&table);
     if (memcmp(at_once, one_by_one, table.nodes) == 0)
         return true;
-    complain("the composed query keeps other nodes than inner then outer");
+    complain("the lean query keeps other nodes than inner then outer");
     return show_composition(&table);
 }
 
@@ -415,9 +456,13 @@ static bool composition_keeps_secrets(struct dice *dice)
     while (!make_secret(dice, (unsigned)between(dice, 2, 3), make_composition))
         if (++throws == SECRET_THROWS)
             return complain("no two documents were found");
-    if (shows_alike(&composed))
+    if (!shows_alike(&composed)) {
+        complain("the composed query shows what inner hides");
+        return show_composition(&table);
+    }
+    if (shows_alike(&lean))
         return true;
-    complain("the composed query shows what inner hides");
+    complain("the lean query shows what inner hides");
     return show_composition(&table);
 }
 
@@ -447,9 +492,18 @@ static bool chain_is_exact(struct dice *dice)
     bool last_right = memcmp(grouped, in_turn, table.nodes) == 0;
     if (!run_on(&views.first_two, &table, table.marks, grouped))
         return show_chain(&table);
+    if (!last_right || memcmp(grouped, in_turn, table.nodes) != 0) {
+        complain("with its %s two grouped the chain keeps other nodes than in turn", last_right ? "first" : "last");
+        return show_chain(&table);
+    }
+    if (!run_on(&views.lean_last_two, &table, table.marks, grouped))
+        return show_chain(&table);
+    last_right = memcmp(grouped, in_turn, table.nodes) == 0;
+    if (!run_on(&views.lean_first_two, &table, table.marks, grouped))
+        return show_chain(&table);
     if (last_right && memcmp(grouped, in_turn, table.nodes) == 0)
         return true;
-    complain("with its %s two grouped the chain keeps other nodes than in turn", last_right ? "first" : "last");
+    complain("with its %s two grouped leanly the chain keeps other nodes than in turn", last_right ? "first" : "last");
     return show_chain(&table);
 }
 
@@ -460,7 +514,8 @@ static bool chain_keeps_secrets(struct dice *dice)
     while (!make_secret(dice, (unsigned)between(dice, 2, 3), make_chain))
         if (++throws == SECRET_THROWS)
             return complain("no two documents were found");
-    if (shows_alike(&views.last_two) && shows_alike(&views.first_two))
+    if (shows_alike(&views.last_two) && shows_alike(&views.first_two) && shows_alike(&views.lean_last_two) &&
+        shows_alike(&views.lean_first_two))
         return true;
     complain("the chain shows what inner hides");
     return show_chain(&table);
@@ -497,7 +552,7 @@ static size_t told_scratch(void)
     return halyardfig_refused(answer) == 0 ? halyardfig_value(answer) : 0;
 }
 
-/* A run of a composition with exactly the scratch that was told before composing; the memory ends there. */
+/* A run of a composition, lean or not, with exactly the scratch that was told before composing; the memory ends there. */
 static bool scratch_is_enough(struct dice *dice)
 {
     unsigned names = (unsigned)between(dice, 1, 3);
@@ -508,7 +563,9 @@ static bool scratch_is_enough(struct dice *dice)
             mix_axes(dice, &outer);
         composed.count = 0;
         uint64_t made =
-            halyardfig_compose(outer.items, outer.count, inner.items, inner.count, composed.items, ITEM_ROOM);
+            chance(dice, 50)
+                ? halyardfig_compose(outer.items, outer.count, inner.items, inner.count, composed.items, ITEM_ROOM)
+                : halyardfig_compose_lean(outer.items, outer.count, inner.items, inner.count, composed.items, ITEM_ROOM);
         if (halyardfig_refused(made) == 0)
             composed.count = halyardfig_value(made);
     } while (composed.count == 0);
@@ -538,6 +595,7 @@ int main(void)
     try_cases("print damaged query", 3000, prints_damaged_query);
     try_cases("items packed as before", 3000, judges_items_packed_as_before);
     try_cases("compose", 1500, composes);
+    try_cases("compose leanly", 1500, composes_leanly);
     try_cases("compose at the edges", 300, composes_at_the_edges);
     try_cases("run", 3000, runs);
     try_cases("run long and deep queries", 200, runs_long_and_deep);

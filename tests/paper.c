@@ -970,6 +970,61 @@ static struct expr *visible(struct expr *selected)
     return new_expr(FORM_OR, somewhere(AXIS_DESCENDANT_OR_SELF, selected), somewhere(AXIS_ANCESTOR_OR_SELF, selected));
 }
 
+/* Does a step along the axis lead from a node only to nodes at or below it? */
+static bool goes_down(enum axis axis)
+{
+    return axis == AXIS_SELF || axis == AXIS_CHILD || axis == AXIS_DESCENDANT_OR_SELF || axis == AXIS_DESCENDANT;
+}
+
+static void name_below(struct expr *expr, bool lean);
+
+/* Which steps get V: those along a guarded axis or, leanly, those whose node may be hidden and that no step which goes
+   down follows; the last step follows a top-level path. */
+static void name_steps(struct step *step, bool lean, bool last)
+{
+    for (bool unguarded = false; step != NULL; step = step->next) {
+        bool may_be_hidden = guarded(step->axis) || (step->axis == AXIS_SELF && unguarded);
+        bool down_follows = step->next != NULL ? goes_down(step->next->axis) : last;
+        step->named = lean ? may_be_hidden && !down_follows : guarded(step->axis);
+        unguarded = may_be_hidden && !step->named;
+        for (struct expr *predicate = step->predicates; predicate != NULL; predicate = predicate->next)
+            name_below(predicate, lean);
+    }
+}
+
+static void name_below(struct expr *expr, bool lean)
+{
+    if (expr->form == FORM_PATH) {
+        name_steps(expr->steps, lean, false);
+        return;
+    }
+    name_below(expr->left, lean);
+    if (expr->form != FORM_NOT)
+        name_below(expr->right, lean);
+}
+
+static void name_query(struct expr *query, bool lean)
+{
+    for (struct expr *path = query; path != NULL; path = path->next)
+        name_steps(path->steps, lean, true);
+}
+
+/* Makes each step that is named a child step and every other one a self step, so that it is measured by what is named. */
+static void say_by_axes(struct expr *expr)
+{
+    if (expr->form != FORM_PATH) {
+        say_by_axes(expr->left);
+        if (expr->form != FORM_NOT)
+            say_by_axes(expr->right);
+        return;
+    }
+    for (struct step *step = expr->steps; step != NULL; step = step->next) {
+        step->axis = step->named ? AXIS_CHILD : AXIS_SELF;
+        for (struct expr *predicate = step->predicates; predicate != NULL; predicate = predicate->next)
+            say_by_axes(predicate);
+    }
+}
+
 static void guard(struct expr *expr, struct expr *selected);
 
 static void guard_steps(struct step *step, struct expr *selected)
@@ -1251,8 +1306,8 @@ uint64_t model_print(const uint32_t *query, size_t query_len, const uint8_t *nam
     return writing.count;
 }
 
-uint64_t model_compose(const uint32_t *outer, size_t outer_len, const uint32_t *inner, size_t inner_len, uint32_t *out,
-                       size_t out_len)
+static uint64_t composing(bool lean, const uint32_t *outer, size_t outer_len, const uint32_t *inner, size_t inner_len,
+                          uint32_t *out, size_t out_len)
 {
     pool_used = 0;
     if (outer_len > HALYARDFIG_QUERY_ITEMS || inner_len > HALYARDFIG_QUERY_ITEMS)
@@ -1263,7 +1318,12 @@ uint64_t model_compose(const uint32_t *outer, size_t outer_len, const uint32_t *
     struct expr *inner_tree = good_query(inner, inner_len);
     if (inner_tree == NULL)
         return REFUSED(6, 1);
-    size_t k = count_exprs(inner_tree), m = count_exprs(outer_tree), t = query_guards(outer_tree);
+    struct expr *said = good_query(outer, outer_len);
+    name_query(outer_tree, lean);
+    name_query(said, lean);
+    for (struct expr *path = said; path != NULL; path = path->next)
+        say_by_axes(path);
+    size_t k = count_exprs(inner_tree), m = count_exprs(outer_tree), t = query_guards(said);
     size_t s = inner_len + 5 * k - 1;
     size_t size = outer_len + t * (5 + 2 * s) + m * (3 + s);
     struct brackets outer_brackets = brackets_of(outer_tree);
@@ -1282,6 +1342,18 @@ uint64_t model_compose(const uint32_t *outer, size_t outer_len, const uint32_t *
     struct items written = {out, out_len, 0};
     encode_all(&written, outer_tree);
     return written.count;
+}
+
+uint64_t model_compose(const uint32_t *outer, size_t outer_len, const uint32_t *inner, size_t inner_len, uint32_t *out,
+                       size_t out_len)
+{
+    return composing(false, outer, outer_len, inner, inner_len, out, out_len);
+}
+
+uint64_t model_compose_lean(const uint32_t *outer, size_t outer_len, const uint32_t *inner, size_t inner_len,
+                            uint32_t *out, size_t out_len)
+{
+    return composing(true, outer, outer_len, inner, inner_len, out, out_len);
 }
 
 uint64_t model_run(const uint32_t *query, size_t query_len, const uint16_t *parent, size_t parent_len,

@@ -15,6 +15,8 @@ uint64_t model_print(const uint32_t *query, size_t query_len, const uint8_t *nam
                      size_t out_len);
 uint64_t model_compose(const uint32_t *outer, size_t outer_len, const uint32_t *inner, size_t inner_len, uint32_t *out,
                        size_t out_len);
+uint64_t model_compose_lean(const uint32_t *outer, size_t outer_len, const uint32_t *inner, size_t inner_len,
+                            uint32_t *out, size_t out_len);
 uint64_t model_run(const uint32_t *query, size_t query_len, const uint16_t *parent, size_t parent_len,
                    const uint16_t *kind, size_t kind_len, const uint8_t *given, size_t given_len, uint8_t *marks,
                    size_t marks_len, uint8_t *scratch, size_t scratch_len);

@@ -56,6 +56,16 @@ prints 'no name list' "/descendant-or-self::node()[ancestor-or-self::node()[self
 prints '49,153 bytes' 'refused input 1 0' < <(times 49153 /)
 prints '49,152 bytes in one line' 'refused outer 1 0' < <(times 49152 /)
 
+# LEANLY.
+prints 'the lean sample' "/child::a$last"$'\nsize 11 nesting 4' --lean < <(printf '/a\n/b\na\nb\n')
+prints 'a lean step up' "$step/parent::node()$last"$'\nsize 29 nesting 4' --lean < <(printf '/a/..\n/b\na\nb\n')
+prints 'a lean path in a predicate' "/child::a[child::a/child::a[$visible]]$last"$'\nsize 31 nesting 5' --lean < <(printf '/a[a/a]\n/b\na\nb\n')
+prints 'a lean nesting of 65' 'refused compose 9 65' --lean < <(printf '/a%s%s\n/b\na\nb\n' "$(times 61 '[a')" "$(times 61 ']')")
+prints '228 lean steps' "$(times 228 /child::a)$last"$'\nsize 238 nesting 4' --lean < <(printf '%s\n/b\na\nb\n' "$(times 228 /a)")
+prints '4,097 lean items' 'refused compose 10 4097' --lean < <(printf '%s\n/b\na\nb\n' "$(times 4087 /a)")
+prints 'lean and unknown' 'refused outer 5 1' --lean < <(printf '/e\n/b\na\nb\n')
+prints 'lean and too long' 'refused input 1 0' --lean < <(times 49153 /)
+
 # FIRST USE, in a repository of three crates with a stand-in for the kit: what is said, and where the log is.
 small=$(mktemp -d) || exit 2
 trap 'rm -rf "$small"' EXIT

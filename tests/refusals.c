@@ -408,7 +408,8 @@ static void compose_is(const char *what, const uint32_t *outer, size_t outer_cou
     const uint32_t *our_outer = offer(outer, outer_count * sizeof *outer);
     const uint32_t *our_inner = offer(inner, inner_count * sizeof *inner);
     uint32_t *out = offer(NULL, room * sizeof *out);
-    uint64_t answer = halyardfig_compose(our_outer, outer_count, our_inner, inner_count, out, room);
+    uint64_t answer = lean ? halyardfig_compose_lean(our_outer, outer_count, our_inner, inner_count, out, room)
+                           : halyardfig_compose(our_outer, outer_count, our_inner, inner_count, out, room);
     expect(what, answer, expected, (size_t[]){0, 0, halyardfig_value(answer) * sizeof *out});
 }
 
@@ -491,9 +492,12 @@ static void malformed_is_refused(const char *what, const uint32_t *query, size_t
     static struct table table;
     table = one_node();
     print_is(what, query, count, abcd, 9000, REFUSED(6, 0));
-    compose_is(what, query, count, good_inner, 2, ITEM_ROOM, REFUSED(6, 0));
-    compose_is(what, good_inner, 2, query, count, ITEM_ROOM, REFUSED(6, 1));
-    compose_is(what, query, count, query, count, ITEM_ROOM, REFUSED(6, 0));
+    for (unsigned way = 0; way < 2; way++) {
+        lean = way == 1;
+        compose_is(what, query, count, good_inner, 2, ITEM_ROOM, REFUSED(6, 0));
+        compose_is(what, good_inner, 2, query, count, ITEM_ROOM, REFUSED(6, 1));
+        compose_is(what, query, count, query, count, ITEM_ROOM, REFUSED(6, 0));
+    }
     run_is(what, query, count, &table, (struct lengths){1, 1, 1, 1, 20000}, REFUSED(6, 0), 0);
     height_is(what, query, count, REFUSED(6, 0));
     paths_are(what, query, count, REFUSED(6, 0));
@@ -627,7 +631,8 @@ enum {
     LAST_ITEMS = 9
 };
 
-/* The edges of 9, for each axis in the brackets: only a guarded step brings the brackets of V to where it stands. */
+/* The edges of 9, for each axis in the brackets: only a guarded step brings the brackets of V to where it stands. Leanly
+   the step outside all brackets is not guarded. */
 static void nesting_by_axis(void)
 {
     static const struct {
@@ -650,7 +655,7 @@ static void nesting_by_axis(void)
     static uint32_t deep[ITEM_ROOM];
     for (size_t i = 0; i < sizeof axes / sizeof axes[0]; i++) {
         size_t count = nested_along(deep, OUTER_MOST, axes[i].axis);
-        size_t guards = axes[i].guarded ? OUTER_MOST + 1 : 0;
+        size_t guards = axes[i].guarded ? OUTER_MOST + !lean : 0;
         compose_is(axes[i].what, deep, count, good_inner, 2, ITEM_ROOM, count + guards * GUARD_ITEMS + LAST_ITEMS);
         count = nested_along(deep, OUTER_MOST + 1, axes[i].axis);
         compose_is(axes[i].what, deep, count, good_inner, 2, ITEM_ROOM,
@@ -668,10 +673,11 @@ static void nesting_by_axis(void)
     }
 }
 
-static void compose_refusals(void)
+static void compose_refusals(bool leanly)
 {
     static uint32_t zeros[ITEM_ROOM + 1], deep[ITEM_ROOM];
     const uint32_t bad[] = {5};
+    lean = leanly;
     compose_is("outer too long", zeros, ITEM_ROOM + 1, bad, 1, 0, REFUSED(1, 0));
     compose_is("inner too long", bad, 1, zeros, ITEM_ROOM + 1, 0, REFUSED(1, 0));
     compose_is("the most inner paths", root_query, 1, zeros, ITEM_ROOM, ITEM_ROOM, REFUSED(10, 3 + 6 * ITEM_ROOM));
@@ -679,14 +685,14 @@ static void compose_refusals(void)
     size_t count = nested(deep, OUTER_MOST + 1);
     compose_is("bad inner before nesting", deep, count, bad, 1, ITEM_ROOM, REFUSED(6, 1));
     compose_is("outer too deep", deep, count, good_inner, 2, 0, REFUSED(9, OVER));
-    compose_is("inner as deep", good_inner, 2, deep, count, ITEM_ROOM, 2 + 5 + 3 + 3 * (count + 4));
+    compose_is("inner as deep", good_inner, 2, deep, count, ITEM_ROOM, lean ? 2 + 3 + count + 4 : 2 + 5 + 3 + 3 * (count + 4));
     count = nested(deep, INNER_MOST);
-    compose_is("inner deepest", good_inner, 2, deep, count, ITEM_ROOM, 2 + 5 + 3 + 3 * (count + 4));
+    compose_is("inner deepest", good_inner, 2, deep, count, ITEM_ROOM, lean ? 2 + 3 + count + 4 : 2 + 5 + 3 + 3 * (count + 4));
     count = nested(deep, INNER_MOST + 1);
     compose_is("inner too deep", good_inner, 2, deep, count, 0, REFUSED(9, OVER));
     compose_is("both too deep", deep, count, deep, count, 0, REFUSED(9, 2 * (INNER_MOST + 1) + 2));
     count = nested(deep, OUTER_MOST);
-    size_t size = count + (OUTER_MOST + 1) * GUARD_ITEMS + LAST_ITEMS;
+    size_t size = count + (size_t)(OUTER_MOST + !lean) * GUARD_ITEMS + LAST_ITEMS;
     compose_is("outer deepest", deep, count, good_inner, 2, ITEM_ROOM, size);
     compose_is("outer deepest, no room", deep, count, good_inner, 2, 0, REFUSED(10, size));
     nesting_by_axis();
@@ -942,6 +948,9 @@ static void huge_lengths(void)
     answer_is("huge outer", halyardfig_compose(memory, huge, root_query, 1, items, 9), REFUSED(1, 0));
     answer_is("huge inner", halyardfig_compose(root_query, 1, memory, huge, items, 9), REFUSED(1, 0));
     answer_is("huge room composed", halyardfig_compose(root_query, 1, root_query, 1, memory, huge), 9);
+    answer_is("huge outer, lean", halyardfig_compose_lean(memory, huge, root_query, 1, items, 9), REFUSED(1, 0));
+    answer_is("huge inner, lean", halyardfig_compose_lean(root_query, 1, memory, huge, items, 9), REFUSED(1, 0));
+    answer_is("huge room composed leanly", halyardfig_compose_lean(root_query, 1, root_query, 1, memory, huge), 9);
     answer_is("huge query run", halyardfig_run(memory, huge, zero, 1, zero, 1, one, 1, marks, 1, room, 9),
               REFUSED(1, 0));
     answer_is("huge parent", halyardfig_run(root_query, 1, memory, huge, zero, 1, one, 1, marks, 1, room, 9),

@@ -37,6 +37,16 @@ static uint64_t compose_texts(struct query *made, const char *outer_text, const 
     return answer;
 }
 
+static uint64_t compose_texts(struct query *made, const char *outer_text, const char *inner_text)
+{
+    return compose_by(halyardfig_compose, made, outer_text, inner_text);
+}
+
+static uint64_t lean_texts(struct query *made, const char *outer_text, const char *inner_text)
+{
+    return compose_by(halyardfig_compose_lean, made, outer_text, inner_text);
+}
+
 static void marks_are(const char *name, const struct query *query, const char *expected)
 {
     static uint8_t scratch[SCRATCH_BYTES];
@@ -488,6 +498,7 @@ int main(void)
     run_samples();
     composed_samples();
     size_samples();
+    lean_samples();
     read_samples();
     item_samples();
     items_packed_before();

@@ -59,6 +59,11 @@ static void call_compose(void)
     answer = halyardfig_compose(outer.items, outer.count, inner.items, inner.count, made.items, ITEM_ROOM);
 }
 
+static void call_compose_lean(void)
+{
+    answer = halyardfig_compose_lean(outer.items, outer.count, inner.items, inner.count, made.items, ITEM_ROOM);
+}
+
 static void call_run(void)
 {
     answer = halyardfig_run(query.items, query.count, table.parent, table.nodes, table.kind, table.nodes, table.marks,
@@ -216,6 +221,7 @@ static void measure_query(const char *input)
     memcpy(inner.items, simple, sizeof simple);
     inner.count = 2;
     measure_call(COMPOSE, input);
+    measure_call(COMPOSE_LEAN, input);
     inner = query;
     memcpy(outer.items, simple, sizeof simple);
     outer.count = 2;
@@ -459,6 +465,7 @@ static void deep_compositions(struct dice *dice)
         make_deep_query(dice, &outer, depth, 2);
         make_deep_query(dice, &inner, HALYARDFIG_NESTING - 2 - depth, 2);
         measure_call(COMPOSE, "two deep queries");
+        measure_call(COMPOSE_LEAN, "two deep queries");
     }
 }
 

@@ -133,6 +133,19 @@ bool twin_compose(struct dice *dice, const uint32_t *outer, size_t outer_len, co
     return false;
 }
 
+bool twin_compose(struct dice *dice, const uint32_t *outer, size_t outer_len, const uint32_t *inner, size_t inner_len,
+                  size_t room)
+{
+    return twin_composing(dice, "compose", halyardfig_compose, model_compose, outer, outer_len, inner, inner_len, room);
+}
+
+bool twin_compose_lean(struct dice *dice, const uint32_t *outer, size_t outer_len, const uint32_t *inner,
+                       size_t inner_len, size_t room)
+{
+    return twin_composing(dice, "compose_lean", halyardfig_compose_lean, model_compose_lean, outer, outer_len, inner,
+                          inner_len, room);
+}
+
 /* The other engine on the same memory, where it can be waited for: the same answer and marks, unless the run lacked
    scratch. */
 static bool follows_too(const uint32_t *query, size_t query_len, const uint16_t *parent, size_t parent_len,

@@ -19,6 +19,8 @@ bool twin_print(struct dice *dice, const uint32_t *query, size_t query_len, cons
                 size_t room);
 bool twin_compose(struct dice *dice, const uint32_t *outer, size_t outer_len, const uint32_t *inner, size_t inner_len,
                   size_t room);
+bool twin_compose_lean(struct dice *dice, const uint32_t *outer, size_t outer_len, const uint32_t *inner,
+                       size_t inner_len, size_t room);
 bool twin_run(struct dice *dice, const uint32_t *query, size_t query_len, const uint16_t *parent, size_t parent_len,
               const uint16_t *kind, size_t kind_len, const uint8_t *given, size_t given_len, size_t marks_len,
               size_t scratch_len);

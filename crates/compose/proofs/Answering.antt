@@ -3,57 +3,62 @@ use Prim.Native.Nat.{ℕ, _+_, _-_, _*_, _≤_, _<_, max}
 use native.Mathlib.Omega.{arith}
 use native.Mathlib.Nat.{mul-le-mul}
 use mathlib.Core.Path.{_≡_, refl, sym, _∙_, ap, ap₂}
-use mathlib.Core.Bool.{true, _&&_}
-use mathlib.Core.List.{List, [], _∷_}
+use mathlib.Core.List.{List, [], map}
 use mathlib.Core.Option.{Option, none, some}
 use lib.Dec.{ltb}
-use lib.ListN.{length}
-use borrow.Author.Tests.{lt-ltb, le-ltb, ltb-true}
+use lib.ListN.{length, length-map}
+use borrow.Author.Tests.{lt-ltb, le-ltb}
 use Rattle.paper.specs.Limits.{bracketLimit, itemLimit}
 use Rattle.paper.specs.Tools.{written, when}
-use Rattle.paper.specs.Limits.{itemLimit}
-use Rattle.paper.specs.Query.{Steps, Query, paths}
-use Rattle.paper.specs.Items.{stepCount, encodeSteps, encodePaths, encode, decode, goodSteps, goodPaths, good, countBound}
+use Rattle.paper.specs.Query.{Query, paths}
+use Rattle.paper.specs.Items.{encode, decode, good}
 use Rattle.paper.specs.Measures.{size, nesting}
 use Rattle.paper.specs.Answers.{Answer, value, refusal, line, atExit, shortOfItems, composedGot, composeAnswer, composeOut}
 use Rattle.paper.specs.Composition.{composed, guardsInPaths, guardDepth, selectedSize, composedSize, composedNesting}
 use Rattle.paper.proofs.Tests.{and-true}
 use Rattle.paper.proofs.Encoding.{encode-decode}
 use Rattle.paper.proofs.Sizes.{size-items, size-decoded}
-use Rattle.theorems.proofs.Sizes.{composed-size}
-use Rattle.theorems.proofs.Nesting.{composed-nesting, guards-within}
+use Rattle.theorems.proofs.Nesting.{guards-within}
+use Rattle.lean_theorems.proofs.Decided.{depth-by-axis}
+use Rattle.lean_theorems.proofs.Smaller.{size-by}
+use Rattle.lean_theorems.proofs.Shallower.{nesting-by}
 use Rattle.shape.specs.Walks.{shapeOf}
 use Rattle.shape.specs.declared.Shape.{Shape}
 use Rattle.shape.specs.declared.Shape.the-variants.{Query as Fine, Malformed}
 use Rattle.reverse.specs.Reverses.{IsQuery, pathsGot, selectedGot}
 use Rattle.reverse.proofs.Selected.{selected-length}
-use Rattle.compose.specs.Pieces.{guardItems, sizeGot}
-use Rattle.compose.proofs.Items.{steps-steps, steps-append, count-path}
+use Rattle.compose.specs.Pieces.{guardItem, total, guardItems, sizeGot, Says, Nests, Nested}
+use Rattle.compose.proofs.Items.{paths-say, paths-total, paths-long}
+
+-- There are as many items that say something as there are items.
+pub says-length : (outer says : List ℕ) → Says outer says → length says ≡ length outer
+unfolding encode
+says-length outer says g =
+    sym (length-map says guardItem) ∙ ap length (g .flags) ∙ paths-long (g .decides) (paths (g .query)) ∙ ap length (sym (encode-decode outer (g .query) (g .decodes) .items))
+
+pub says-query : (outer says : List ℕ) → Says outer says → IsQuery outer
+says-query outer says g = record { query = g .query; decodes = g .decodes }
+
+pub inner-query : (inner : List ℕ) (n : ℕ) → Nested inner n → IsQuery inner
+inner-query inner n i = record { query = i .query; decodes = i .decodes }
+
+-- What is nested is nested within the limit.
+pub outer-shallow : (outer says : List ℕ) (m d : ℕ) (g : Says outer says) → Nests outer says m d g → m ≤ bracketLimit
+outer-shallow outer says m d g o = omega (arith, o .nested, encode-decode outer (g .query) (g .decodes) .nested)
+
+pub inner-shallow : (inner : List ℕ) (n : ℕ) → Nested inner n → n ≤ bracketLimit
+inner-shallow inner n i = omega (arith, i .nested, encode-decode inner (i .query) (i .decodes) .nested)
 
 -- THE SIZE OF THE COMPOSITION, from the numbers of items, guarded steps and paths. The steps are counted of all depths.
-paths-steps : (ps : List Steps) → goodPaths ps ≡ true → guardItems (encodePaths ps) ≡ guardsInPaths ps
-paths-steps [] g = refl
-paths-steps (p ∷ ps) g =
-    let h = and-true (ltb (stepCount p) countBound && goodSteps p) (goodPaths ps) g in
-    let k = and-true (ltb (stepCount p) countBound) (goodSteps p) (h .0) in
-    omega (
-      arith,
-      paths-steps ps (h .1),
-      steps-steps p (k .1),
-      steps-append (encodeSteps p) (encodePaths ps),
-      count-path (stepCount p) (ltb-true _ _ (k .0)),
-    )
-
-pub size-got : (items : List ℕ) (guards count paths : ℕ) → IsQuery items → guards ≡ guardItems items → paths ≡ pathsGot (decode items)
-    → length items + guards * (5 + 2 * count) + paths * (3 + count) ≡ sizeGot (decode items) count
-unfolding encode good
-size-got items guards count ps q es ep =
-    let d = encode-decode items (q .query) (q .decodes) in
-    let t : guards ≡ guardsInPaths (paths (q .query)) = es ∙ ap guardItems (d .items) ∙ paths-steps (paths (q .query)) (d .fine) in
-    let m : ps ≡ length (paths (q .query)) = ep ∙ ap pathsGot (q .decodes) in
+pub size-got : (items says : List ℕ) (guards count ps : ℕ) (g : Says items says) → guards ≡ guardItems says → ps ≡ pathsGot (decode items)
+    → length items + guards * (5 + 2 * count) + ps * (3 + count) ≡ sizeGot (g .decides) (decode items) count
+size-got items says guards count ps g es ep =
+    let q = g .query in
+    let t : guards ≡ guardsInPathsBy (g .decides) (paths q) = es ∙ ap total (g .flags) ∙ paths-total (g .decides) (paths q) in
+    let m : ps ≡ length (paths q) = ep ∙ ap pathsGot (g .decodes) in
     ap₂ (λ (a b : ℕ). length items + a * (5 + 2 * count) + b * (3 + count)) t m ∙
-    ap (λ (n : ℕ). n + guardsInPaths (paths (q .query)) * (5 + 2 * count) + length (paths (q .query)) * (3 + count)) (sym (size-decoded items (q .query) (q .decodes))) ∙
-    ap (λ (o : Option Query). sizeGot o count) (sym (q .decodes))
+    ap (λ (n : ℕ). n + guardsInPathsBy (g .decides) (paths q) * (5 + 2 * count) + length (paths q) * (3 + count)) (sym (size-decoded items q (g .decodes))) ∙
+    ap (λ (o : Option Query). sizeGot (g .decides) o count) (sym (g .decodes))
 
 -- A product of two numbers within limits.
 pub product : (a b : ℕ) → a ≤ itemLimit → b ≤ 65536 → a * b ≤ 268435456
@@ -88,11 +93,8 @@ shape-some items s n h g e f = go (decode items) refl (sym e ∙ f)
 pub is-query : (items : List ℕ) (n g : ℕ) → Shaped items n g → IsQuery items
 is-query items n g s = record { query = s .query; decodes = s .decodes }
 
--- A refused call leaves the output as it was; an accepted one writes the items.
-pub refused : (outer inner out : List ℕ) (number place : ℕ) → composeAnswer outer inner (length out) ≡ refusal number place
-    → (refusal number place ≡ composeAnswer outer inner (length out)) × (out ≡ composeOut outer inner out)
-unfolding composeOut
-refused outer inner out number place e = (sym e, ap (λ (a : Answer). atExit a (composedGot (decode outer) (decode inner)) out) (sym e))
+pub inner-nests : (items : List ℕ) (n g : ℕ) → Shaped items n g → Nested items n
+inner-nests items n g s = record { query = s .query; decodes = s .decodes; nested = s .nests }
 
 pub accepted : (outer inner old out : List ℕ) (n : ℕ) → composeAnswer outer inner (length old) ≡ value n → out ≡ written (composedGot (decode outer) (decode inner)) old
     → (value n ≡ composeAnswer outer inner (length old)) × (out ≡ composeOut outer inner old)
@@ -100,21 +102,24 @@ unfolding composeOut
 accepted outer inner old out n e w = (sym e, w ∙ ap (λ (a : Answer). atExit a (composedGot (decode outer) (decode inner)) old) (sym e))
 
 -- What is left past line 9: line 10 by the size, or the value.
-pub record Ending (outer inner : List ℕ) (room number : ℕ) : Type 0 where
-  pub lacks-room : room < number → composeAnswer outer inner room ≡ refusal 10 number
-  pub over-long : number ≤ room → itemLimit < number → composeAnswer outer inner room ≡ refusal 10 number
-  pub fits : number ≤ room → number ≤ itemLimit → composeAnswer outer inner room ≡ value number
-  pub counts : number ≡ length (composedGot (decode outer) (decode inner))
+pub record Ending (makes : Query → Query → Query) (outer inner : List ℕ) (room number : ℕ) : Type 0 where
+  pub lacks-room : room < number → composingAnswer makes outer inner room ≡ refusal 10 number
+  pub over-long : number ≤ room → itemLimit < number → composingAnswer makes outer inner room ≡ refusal 10 number
+  pub fits : number ≤ room → number ≤ itemLimit → composingAnswer makes outer inner room ≡ value number
 
--- THE ANSWER, line by line.
-module _ (outer inner : List ℕ) (room : ℕ) where
-  pub line-1-outer : itemLimit < length outer → composeAnswer outer inner room ≡ refusal 1 0
-  unfolding composeAnswer
-  line-1-outer h = rw (lt-ltb itemLimit (length outer) h)
+-- The size that was counted is that of the composition.
+module _ (outer inner says : List ℕ) (n : ℕ) (g : Says outer says) (i : Nested inner n) (count number : ℕ)
+    (ec : count ≡ length (selectedGot (decode inner))) (en : number ≡ sizeGot (g .decides) (decode outer) count) where
+  size-is : number ≡ size (composedBy (g .decides) (g .query) (i .query))
+  unfolding composedSizeBy selectedSize
+  size-is =
+      let s : count ≡ selectedSize (i .query) =
+      ec ∙ ap (λ (x : Option Query). length (selectedGot x)) (i .decodes) ∙ selected-length (i .query) ∙
+      ap (λ (k : ℕ). k + 5 * length (paths (i .query)) - 1) (size-items (i .query)) in
+      en ∙ ap₂ (λ (x : Option Query) (k : ℕ). sizeGot (g .decides) x k) (g .decodes) s ∙ sym (size-by (g .decides) (g .query) (i .query))
 
-  pub line-1-inner : length outer ≤ itemLimit → itemLimit < length inner → composeAnswer outer inner room ≡ refusal 1 0
-  unfolding composeAnswer
-  line-1-inner a h = rw (le-ltb itemLimit (length outer) a, lt-ltb itemLimit (length inner) h)
+  pub number-is : number ≡ length (madeGot (composedBy (g .decides)) (decode outer) (decode inner))
+  number-is = size-is ∙ sym (size-items (composedBy (g .decides) (g .query) (i .query))) ∙ ap length (sym (ap₂ (madeGot (composedBy (g .decides))) (g .decodes) (i .decodes)))
 
   module _ (a : length outer ≤ itemLimit) (b : length inner ≤ itemLimit) where
     pub line-6-outer : decode outer ≡ none → composeAnswer outer inner room ≡ refusal 6 0
@@ -146,32 +151,23 @@ module _ (outer inner : List ℕ) (room : ℕ) where
               i .nests,
             )
 
-        pub line-9 : bracketLimit < deep → composeAnswer outer inner room ≡ refusal 9 deep
-        line-9 h = later ∙ rw (← deep-is, lt-ltb bracketLimit deep h)
+      line-10-room : room < number → composingAnswer makes outer inner room ≡ refusal 10 number
+      line-10-room h = last-lines ∙ rw (lt-ltb room number h)
 
-        module _ (shallow : deep ≤ bracketLimit) (count number : ℕ) (ec : count ≡ length (selectedGot (decode inner))) (en : number ≡ sizeGot (decode outer) count) where
-          size-is : number ≡ size whole
-          unfolding composedSize selectedSize
-          size-is =
-              let s : count ≡ selectedSize (i .query) =
-              ec ∙ ap (λ (x : Option Query). length (selectedGot x)) (i .decodes) ∙ selected-length (i .query) ∙
-              ap (λ (k : ℕ). k + 5 * length (paths (i .query)) - 1) (size-items (i .query)) in
-              en ∙ ap₂ (λ (x : Option Query) (k : ℕ). sizeGot x k) (o .decodes) s ∙ sym (composed-size (o .query) (i .query))
+      line-10-size : number ≤ room → itemLimit < number → composingAnswer makes outer inner room ≡ refusal 10 number
+      line-10-size h l = last-lines ∙ rw (le-ltb room number h, lt-ltb itemLimit number l)
 
           last-lines : composeAnswer outer inner room ≡ line 10 (shortOfItems room number) (value number)
           last-lines = later ∙ rw (← deep-is, le-ltb bracketLimit deep shallow, ← size-is)
 
-          line-10-room : room < number → composeAnswer outer inner room ≡ refusal 10 number
-          line-10-room h = last-lines ∙ rw (lt-ltb room number h)
+      pub ending : Ending makes outer inner room number
+      ending = record { lacks-room = line-10-room; over-long = line-10-size; fits = line-value }
 
-          line-10-size : number ≤ room → itemLimit < number → composeAnswer outer inner room ≡ refusal 10 number
-          line-10-size h l = last-lines ∙ rw (le-ltb room number h, lt-ltb itemLimit number l)
-
-          line-value : number ≤ room → number ≤ itemLimit → composeAnswer outer inner room ≡ value number
-          line-value h l = last-lines ∙ rw (le-ltb room number h, le-ltb itemLimit number l)
-
-          number-is : number ≡ length (composedGot (decode outer) (decode inner))
-          number-is = size-is ∙ sym (size-items whole) ∙ ap length (sym (ap₂ composedGot (o .decodes) (i .decodes)))
-
-          pub ending : Ending outer inner room number
-          ending = record { lacks-room = line-10-room; over-long = line-10-size; fits = line-value; counts = number-is }
+-- TWO WAYS THAT MAKE THE SAME QUERY of these two answer and leave the same.
+pub same-way : (f makes : Query → Query → Query) (outer inner old out : List ℕ) (room : ℕ) (said : Answer) (o i : Query) → decode outer ≡ some o → decode inner ≡ some i → f o i ≡ makes o i
+    → (said ≡ composingAnswer f outer inner room) × (out ≡ composingOut f outer inner old)
+    → (said ≡ composingAnswer makes outer inner room) × (out ≡ composingOut makes outer inner old)
+same-way f makes outer inner old out room said o i d e same h =
+    let answers : (n : ℕ) → composingAnswer f outer inner n ≡ composingAnswer makes outer inner n = λ n. rw (d, e, same) in
+    let items : madeGot f (decode outer) (decode inner) ≡ madeGot makes (decode outer) (decode inner) = rw (d, e, same) in
+    (h .0 ∙ answers room, h .1 ∙ ap₂ (λ (x : Answer) (y : List ℕ). atExit x y old) (answers (length old)) items)

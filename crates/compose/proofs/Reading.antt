@@ -1,5 +1,5 @@
 -- What counting and guarding one item more come to: laws that the loops and the matches over unpacked items cite. Assumes nothing.
-use Prim.Native.Nat.{ℕ, _+_, _≤_, _<_}
+use Prim.Native.Nat.{ℕ, zero, suc, _+_, _≤_, _<_}
 use native.Mathlib.Omega.{arith}
 use mathlib.Core.Path.{_≡_, refl, sym, _∙_, ap}
 use mathlib.Core.Bool.{Bool, true, false, cond}
@@ -53,32 +53,33 @@ pub step-item-most : (w : ℕ) → guardItem w ≤ 1
 unfolding guardItem
 step-item-most w = step-most (unpacked w)
 
--- An item that is no step is guarded as it is.
-pub no-step-guarded : (chosen : List ℕ) (w : ℕ) (i : Item) → i ≡ unpacked w → OneOf (0 ∷ 2 ∷ 3 ∷ 4 ∷ 5 ∷ []) (tagOf the-type i) → guardedItem chosen w ≡ w ∷ []
+-- An item that is not named stays as it is.
+pub unnamed-stays : (chosen : List ℕ) (flag w : ℕ) → flag ≡ 0 → guardedItem chosen flag w ≡ w ∷ []
 unfolding guardedItem
-no-step-guarded chosen w i e k = ap (guardedAs chosen w) (sym e) ∙ go i k
+unnamed-stays chosen flag w e = ap (λ (n : ℕ). guardedAs chosen w n (unpacked w)) e
+
+-- So does one that is no step.
+pub no-step-guarded : (chosen : List ℕ) (flag w : ℕ) (i : Item) → i ≡ unpacked w → OneOf (0 ∷ 2 ∷ 3 ∷ 4 ∷ 5 ∷ []) (tagOf the-type i) → guardedItem chosen flag w ≡ w ∷ []
+unfolding guardedItem
+no-step-guarded chosen flag w i e k = ap (guardedAs chosen w flag) (sym e) ∙ go flag i k
   where
-    go : (i : Item) → OneOf (0 ∷ 2 ∷ 3 ∷ 4 ∷ 5 ∷ []) (tagOf the-type i) → guardedAs chosen w i ≡ w ∷ []
-    go (Path count) k = refl
-    go (StepItem s) k = absurd (miss (0 ∷ 2 ∷ 3 ∷ 4 ∷ 5 ∷ []) 1 tt k)
-    go And k = refl
-    go Or k = refl
-    go Not k = refl
-    go Bad k = refl
+    go : (n : ℕ) (i : Item) → OneOf (0 ∷ 2 ∷ 3 ∷ 4 ∷ 5 ∷ []) (tagOf the-type i) → guardedAs chosen w n i ≡ w ∷ []
+    go zero i k = refl
+    go (suc n) (Path count) k = refl
+    go (suc n) (StepItem s) k = absurd (miss (0 ∷ 2 ∷ 3 ∷ 4 ∷ 5 ∷ []) 1 tt k)
+    go (suc n) And k = refl
+    go (suc n) Or k = refl
+    go (suc n) Not k = refl
+    go (suc n) Bad k = refl
 
--- A step is guarded by its axis.
-step-by-axis : (chosen : List ℕ) (w : ℕ) (i : Item) (s : Step) (g : Bool) → i ≡ unpacked w → i ≡ StepItem s → g ≡ guardedNumber (s .axis)
-    → guardedItem chosen w ≡ cond g (guardedStep chosen s) (w ∷ [])
+-- A step that is named gets V.
+pub step-guarded : (chosen : List ℕ) (flag w : ℕ) (i : Item) (s : Step) → (flag ≡ 0 → ⊥) → i ≡ unpacked w → i ≡ StepItem s → guardedItem chosen flag w ≡ guardedStep chosen s
 unfolding guardedItem
-step-by-axis chosen w i s g e f h = ap (guardedAs chosen w) (sym e ∙ f) ∙ ap (λ b. cond b (guardedStep chosen s) (w ∷ [])) (sym h)
-
-pub step-guarded : (chosen : List ℕ) (w : ℕ) (i : Item) (s : Step) (g : Bool) → i ≡ unpacked w → i ≡ StepItem s → g ≡ guardedNumber (s .axis) → g ≡ true
-    → guardedItem chosen w ≡ guardedStep chosen s
-step-guarded chosen w i s g e f h k = step-by-axis chosen w i s g e f h ∙ ap (λ b. cond b (guardedStep chosen s) (w ∷ [])) k
-
-pub step-kept : (chosen : List ℕ) (w : ℕ) (i : Item) (s : Step) (g : Bool) → i ≡ unpacked w → i ≡ StepItem s → g ≡ guardedNumber (s .axis) → g ≡ false
-    → guardedItem chosen w ≡ w ∷ []
-step-kept chosen w i s g e f h k = step-by-axis chosen w i s g e f h ∙ ap (λ b. cond b (guardedStep chosen s) (w ∷ [])) k
+step-guarded chosen flag w i s named e f = ap (guardedAs chosen w flag) (sym e ∙ f) ∙ go flag named
+  where
+    go : (n : ℕ) → (n ≡ 0 → ⊥) → guardedAs chosen w n (StepItem s) ≡ guardedStep chosen s
+    go zero h = absurd (h refl)
+    go (suc n) h = refl
 
 -- One item more is counted.
 pub counted-more : (items : List ℕ) (place : ℕ) → place < length items → guardItems (drop place items) ≡ guardItem (getD items place 0) + guardItems (drop (place + 1) items)
@@ -93,6 +94,6 @@ step-fields w i s e f =
     let h = said-step w i s e f in
     (omega (arith, h .axis-is, axis-small (h .axis)), omega (arith, h .test-is, test-small (h .test) (h .fine)), owes-as w i (StepItem s) e f .0)
 
-pub guarded-room : (chosen : List ℕ) (w : ℕ) (s : Step) → guardedItem chosen w ≡ guardedStep chosen s → length (guardedItem chosen w) ≡ 6 + length chosen + length chosen
-guarded-room chosen w s same =
+pub guarded-room : (chosen : List ℕ) (flag w : ℕ) (s : Step) → guardedItem chosen flag w ≡ guardedStep chosen s → length (guardedItem chosen flag w) ≡ 6 + length chosen + length chosen
+guarded-room chosen flag w s same =
     ap length same ∙ omega (arith, length-append (someNodeItems (axisNumber descendantOrSelf) chosen) (someNodeItems (axisNumber ancestorOrSelf) chosen))

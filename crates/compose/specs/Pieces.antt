@@ -1,13 +1,14 @@
 -- What each function of this crate writes or counts, as lists of items.
-use Prim.Native.Nat.{ℕ, _+_, _*_, _<_}
-use mathlib.Core.Bool.{cond}
-use mathlib.Core.List.{List, [], _∷_, _++_}
+use Prim.Native.Nat.{ℕ, zero, suc, _+_, _*_, _≤_, _<_}
+use mathlib.Core.Path.{_≡_}
+use mathlib.Core.Bool.{Bool, true, false, cond}
+use mathlib.Core.List.{List, [], _∷_, _++_, map}
 use mathlib.Core.Option.{Option, none, some}
 use lib.ListN.{length}
-use Rattle.paper.specs.Query.{Steps, Query, paths, descendantOrSelf, ancestorOrSelf, anyNode}
-use Rattle.paper.specs.Items.{packPath, orItem, stepCount, encodeSteps, axisNumber, testNumber, countLimit}
-use Rattle.paper.specs.Measures.{size}
-use Rattle.paper.specs.Composition.{guardsInPaths}
+use Rattle.paper.specs.Query.{Expr, path, both, either, negated, Steps, stop, step, Preds, bare, pred, Query, paths, descendantOrSelf, ancestorOrSelf, anyNode}
+use Rattle.paper.specs.Items.{packPath, orItem, stepCount, encodeSteps, decode, axisNumber, testNumber, countLimit}
+use Rattle.paper.specs.Measures.{size, nesting}
+use Rattle.paper.specs.Lean.{downNext, Decision, looseAfter, guardsInPathsBy, guardDepthBy}
 use Rattle.item.specs.Unpacked.{unpacked, packed, guardedNumber}
 use Rattle.item.specs.declared.Step.{Step}
 use Rattle.item.specs.declared.Item.{Item}
@@ -27,8 +28,7 @@ unfoldable pub guardItem : ℕ → ℕ
 guardItem w = isGuard (unpacked w)
 
 abbrev pub guardItems : List ℕ → ℕ
-guardItems [] = 0
-guardItems (w ∷ ws) = guardItem w + guardItems ws
+guardItems ws = total (map guardItem ws)
 
 -- `axis::node()[..]`, the items of the predicate being given.
 abbrev pub someNodeItems : ℕ → List ℕ → List ℕ
@@ -54,8 +54,8 @@ guardedAs chosen w Or = w ∷ []
 guardedAs chosen w Not = w ∷ []
 guardedAs chosen w Bad = w ∷ []
 
-unfoldable pub guardedItem : List ℕ → ℕ → List ℕ
-guardedItem chosen w = guardedAs chosen w (unpacked w)
+unfoldable pub guardedItem : List ℕ → ℕ → ℕ → List ℕ
+guardedItem chosen flag w = guardedAs chosen w flag (unpacked w)
 
 abbrev pub guardedItems : List ℕ → List ℕ → List ℕ
 guardedItems chosen [] = []

@@ -1,20 +1,23 @@
 // Composition of two queries in memory. S is written once, at the end of the output, and copied from there; guarding is one pass over the outer items.
+// Which steps are guarded is said by the axes of other items beside them, `says`: where a guarded step stands in them, the outer step gets V. For `compose` they are the outer items themselves.
 use item::Item;
 use item::Step;
 use paper::Answer;
 use shape::Shape;
 ghost use mathlib.Core.Path.{_≡_};
-ghost use mathlib.Core.List.{[], _∷_};
+ghost use mathlib.Core.List.{[], _∷_, map};
 ghost use Prim.Native.Nat.{_+_, _*_, _≤_, _<_};
 ghost use lib.ListN.{length, take, drop};
 ghost use Rattle.paper.specs.Limits.{itemLimit};
 ghost use Rattle.paper.specs.Items.{decode, axisBound, testBound, countLimit};
 ghost use Rattle.paper.specs.Tools.{written};
-ghost use Rattle.paper.specs.Answers.{composedGot, composeAnswer, composeOut};
+ghost use Rattle.paper.specs.Measures.{nesting};
+ghost use Rattle.paper.specs.Answers.{madeGot, composingAnswer, composingOut, composeAnswer, composeOut};
+ghost use Rattle.paper.specs.Lean.{composedBy};
 ghost use Rattle.paper.specs.Told.{told};
 ghost use Rattle.item.specs.Placed.{placed};
 ghost use Rattle.reverse.specs.Reverses.{owing, IsQuery, pathsGot, eachGot, selectedGot};
-ghost use Rattle.compose.specs.Pieces.{guardItem, guardItems, someNodeItems, visibleItems, lastItems, guardedStep, guardedItem, guardedItems, Raisable, guardedPath, sizeGot};
+ghost use Rattle.compose.specs.Pieces.{guardItem, guardItems, someNodeItems, visibleItems, lastItems, guardedStep, guardedItem, guardedItems, Raisable, guardedPath, sizeGot, Says, Nests, Nested};
 
 // One for a guarded step, nothing for another item.
 fn one_guard(w: u32) -> usize
@@ -113,43 +116,53 @@ fn keep_item(w: u32, out: &mut [u32], at: usize) -> usize
     at + 1
 }
 
-// One item of a guarded path: a step along a guarded axis gets V, another item stays as it is.
-fn guard_item(w: u32, out: &mut [u32], at: usize, from: usize, count: usize) -> usize
-    requires { ⌜ (owing w < countLimit) × (at + length (guardedItem (take count (drop from (now out))) w) ≤ from) × (from + count ≤ length (now out)) ⌝ }
-    ensures { λ r. ⌜ (now (out .exit) ≡ placed (guardedItem (take count (drop from (now (out .entry)))) w) at (now (out .entry)))
-        × (r ≡ at + length (guardedItem (take count (drop from (now (out .entry)))) w)) ⌝ }
+// One item of a guarded path: a step gets V where the item beside it is a guarded step, another item stays as it is.
+fn guard_item(w: u32, out: &mut [u32], at: usize, from: usize, count: usize, says: u32) -> usize
+    requires { ⌜ (owing w < countLimit) × (at + length (guardedItem (take count (drop from (now out))) (guardItem says) w) ≤ from) × (from + count ≤ length (now out)) ⌝ }
+    ensures { λ r. ⌜ (now (out .exit) ≡ placed (guardedItem (take count (drop from (now (out .entry)))) (guardItem says) w) at (now (out .entry)))
+        × (r ≡ at + length (guardedItem (take count (drop from (now (out .entry)))) (guardItem says) w)) ⌝ }
 {
+    let guards = one_guard(says);
+    if guards == 0 {
+        return keep_item(w, out, at);
+    }
     let said = item::unpack(w);
     let Item::Step(step) = said else {
         return keep_item(w, out, at);
     };
-    if item::guarded(step.axis) {
-        guard_step(step, out, at, from, count)
-    } else {
-        keep_item(w, out, at)
-    }
+    guard_step(step, out, at, from, count)
 }
 
 // The items of a path's steps, guarded.
-fn guard_steps(steps: &[u32], out: &mut [u32], start: usize, from: usize, count: usize) -> usize
-    requires { ⌜ (Raisable (now steps)) × (start + length (guardedItems (take count (drop from (now out))) (now steps)) ≤ from) × (from + count ≤ length (now out)) ⌝ }
-    ensures { λ r. ⌜ (now (out .exit) ≡ placed (guardedItems (take count (drop from (now (out .entry)))) (now (steps .entry))) start (now (out .entry)))
-        × (r ≡ start + length (guardedItems (take count (drop from (now (out .entry)))) (now (steps .entry)))) ⌝ }
+fn guard_steps(
+    steps: &[u32],
+    out: &mut [u32],
+    start: usize,
+    from: usize,
+    count: usize,
+    says: &[u32],
+) -> usize
+    requires { ⌜ (Raisable (now steps)) × (length (now says) ≡ length (now steps))
+        × (start + length (guardedItems (take count (drop from (now out))) (map guardItem (now says)) (now steps)) ≤ from) × (from + count ≤ length (now out)) ⌝ }
+    ensures { λ r. ⌜ (now (out .exit) ≡ placed (guardedItems (take count (drop from (now (out .entry)))) (map guardItem (now (says .entry))) (now (steps .entry))) start (now (out .entry)))
+        × (r ≡ start + length (guardedItems (take count (drop from (now (out .entry)))) (map guardItem (now (says .entry))) (now (steps .entry)))) ⌝ }
 {
     let mut place = 0;
     let mut at = start;
     while place < steps.len() {
-        at = guard_item(steps[place], out, at, from, count);
+        at = guard_item(steps[place], out, at, from, count, says[place]);
         place += 1;
     }
     at
 }
 
 // The outer paths, each guarded and with the last step at its end; S stands at `from`, the end of all this.
-fn guard_paths(outer: &[u32], out: &mut [u32], from: usize, count: usize)
-    requires { ⌜ (IsQuery (now outer)) × (length (now outer) ≤ itemLimit)
-        × (length (eachGot (guardedPath (take count (drop from (now out)))) (decode (now outer))) ≤ from + count) × (from + count ≤ length (now out)) ⌝ }
-    ensures { λ _. ⌜ now (out .exit) ≡ placed (eachGot (guardedPath (take count (drop from (now (out .entry))))) (decode (now (outer .entry)))) 0 (now (out .entry)) ⌝ }
+fn guard_paths(outer: &[u32], out: &mut [u32], from: usize, count: usize, says: &[u32])
+    requires { ⌜ (Says (now outer) (now says)) × (length (now outer) ≤ itemLimit)
+        × ((g : Says (now outer) (now says)) → length (eachGot (guardedPath (g .decides) (take count (drop from (now out)))) (decode (now outer))) ≤ from + count)
+        × (from + count ≤ length (now out)) ⌝ }
+    ensures { λ _. ⌜ ((g : Says (now (outer .entry)) (now (says .entry)))
+        → now (out .exit) ≡ placed (eachGot (guardedPath (g .decides) (take count (drop from (now (out .entry))))) (decode (now (outer .entry)))) 0 (now (out .entry))) ⌝ }
 {
     let mut place = 0;
     let mut at = 0;
@@ -157,7 +170,14 @@ fn guard_paths(outer: &[u32], out: &mut [u32], from: usize, count: usize)
         let steps = reverse::owes(outer[place]);
         let next = reverse::skip(outer, place + 1, steps);
         out[at] = item::pack_path(steps + 1);
-        let end = guard_steps(&outer[place + 1..next], out, at + 1, from, count);
+        let end = guard_steps(
+            &outer[place + 1..next],
+            out,
+            at + 1,
+            from,
+            count,
+            &says[place + 1..next],
+        );
         at = put_last(out, end, from, count);
         place = next;
     }
@@ -171,22 +191,25 @@ fn put_composed(
     out: &mut [u32],
     size: usize,
     count: usize,
+    says: &[u32],
 )
-    requires { ⌜ (IsQuery (now outer)) × (length (now outer) ≤ itemLimit) × (IsQuery (now inner)) × (length (now inner) ≤ itemLimit) × (paths ≡ pathsGot (decode (now inner)))
-        × (count ≡ length (selectedGot (decode (now inner)))) × (size ≡ length (composedGot (decode (now outer)) (decode (now inner)))) × (size ≤ length (now out)) ⌝ }
-    ensures { λ _. ⌜ now (out .exit) ≡ written (composedGot (decode (now (outer .entry))) (decode (now (inner .entry)))) (now (out .entry)) ⌝ }
+    requires { ⌜ (Says (now outer) (now says)) × (length (now outer) ≤ itemLimit) × (IsQuery (now inner)) × (length (now inner) ≤ itemLimit) × (paths ≡ pathsGot (decode (now inner)))
+        × (count ≡ length (selectedGot (decode (now inner))))
+        × ((g : Says (now outer) (now says)) → size ≡ length (madeGot (composedBy (g .decides)) (decode (now outer)) (decode (now inner)))) × (size ≤ length (now out)) ⌝ }
+    ensures { λ _. ⌜ ((g : Says (now (outer .entry)) (now (says .entry)))
+        → now (out .exit) ≡ written (madeGot (composedBy (g .decides)) (decode (now (outer .entry))) (decode (now (inner .entry)))) (now (out .entry))) ⌝ }
 {
     let from = size - count;
     reverse::put_selected(inner, paths, out, from);
-    guard_paths(outer, out, from, count);
+    guard_paths(outer, out, from, count, says);
 }
 
 // The size of the composition: w(outer) + t(5 + 2s) + m(3 + s), with t the guarded steps.
-fn composed_size(outer: &[u32], count: usize) -> usize
-    requires { ⌜ (IsQuery (now outer)) × (length (now outer) ≤ itemLimit) × (count ≤ 6 * itemLimit) ⌝ }
-    ensures { λ r. ⌜ r ≡ sizeGot (decode (now (outer .entry))) count ⌝ }
+fn composed_size(outer: &[u32], count: usize, says: &[u32]) -> usize
+    requires { ⌜ (Says (now outer) (now says)) × (length (now outer) ≤ itemLimit) × (count ≤ 6 * itemLimit) ⌝ }
+    ensures { λ r. ⌜ ((g : Says (now (outer .entry)) (now (says .entry))) → r ≡ sizeGot (g .decides) (decode (now (outer .entry))) count) ⌝ }
 {
-    let guards = count_guards(outer);
+    let guards = count_guards(says);
     let paths = reverse::count_paths(outer);
     outer.len() + guards * (5 + 2 * count) + paths * (3 + count)
 }

@@ -73,6 +73,15 @@ pub extern "C" fn halyardfig_compose(outer: &[u32], inner: &[u32], out: &mut [u3
     code(compose::compose(outer, inner, out))
 }
 
+// Composes two queries with fewer guards: `compose_lean::compose_lean` for C.
+#[no_mangle]
+pub extern "C" fn halyardfig_compose_lean(outer: &[u32], inner: &[u32], out: &mut [u32]) -> u64
+    ensures { λ r. ⌜ r ≡ codeOf (composeLeanAnswer (now (outer .entry)) (now (inner .entry)) (length (now (out .entry)))) ⌝ }
+    ensures { λ _. ⌜ now (out .exit) ≡ composeLeanOut (now (outer .entry)) (now (inner .entry)) (now (out .entry)) ⌝ }
+{
+    code(compose_lean::compose_lean(outer, inner, out))
+}
+
 // Runs a query: `run::run` for C.
 #[no_mangle]
 pub extern "C" fn halyardfig_run(

@@ -6,16 +6,21 @@ use mathlib.Core.Path.{_≡_, refl, sym, _∙_, ap, ap₂, subst}
 use mathlib.Core.Bool.{Bool, true, false, not, _&&_, _||_, cond}
 use mathlib.Core.List.{List, [], _∷_, _++_, map, append-assoc, append-nil}
 use lib.Dec.{eqb, ltb}
-use lib.ListN.{length, getD, set, drop, length-append}
-use lib.Seq.{set-at, set-out, getD-at, drop-at}
+use mathlib.Core.Option.{Option, some}
+use lib.ListN.{length, getD, set, take, drop, replicate, length-append}
+use lib.Seq.{set-at, set-out, getD-at, drop-at, drop-set-lt}
 use borrow.Author.Tests.{lt-ltb, ltb-true}
 use Rattle.paper.specs.Query.{Axis, self, child, parent, descendantOrSelf, ancestorOrSelf, descendant, ancestor, followingSibling, precedingSibling, following, preceding}
 use Rattle.paper.specs.Query.{Test, Expr, path, both, either, negated, Steps, stop, step, Preds, bare, pred, Query, paths}
-use Rattle.paper.specs.Items.{axisNumber, testNumber, packPath, packStep, pathAt, stepAt, andItem, orItem, notItem, stepCount, predCount, encodeExpr, encodeSteps, encodePreds, encodePaths, encode, goodTest, goodExpr, goodSteps, goodPreds, goodPaths, good, countBound}
+use Rattle.paper.specs.Items.{axisNumber, testNumber, packPath, packStep, pathAt, stepAt, andItem, orItem, notItem, stepCount, predCount, encodeExpr, encodeSteps, encodePreds, encodePaths, encode, decode, goodTest, goodExpr, goodSteps, goodPreds, goodPaths, good, countBound}
+use Rattle.paper.specs.Tools.{written}
 use Rattle.paper.specs.Composition.{guarded}
 use Rattle.paper.specs.Lean.{goesDown, isSelf, mayBeHidden, downNext, leanly, looseAfter}
 use Rattle.paper.proofs.Tests.{and-true}
 use Rattle.paper.proofs.Axes.{axis-number}
+use Rattle.paper.proofs.Encoding.{encode-decode}
+use Rattle.paper.proofs.Sizes.{size-items}
+use Rattle.lean_theorems.proofs.Marks.{marked-measures}
 use Rattle.lean_theorems.specs.Marks.{saying, markExpr, markSteps, markPreds, markPath, marked}
 use Rattle.item.specs.Unpacked.{unpacked, packed, guardedNumber}
 use Rattle.item.specs.declared.Step.{Step}
@@ -23,7 +28,7 @@ use Rattle.item.proofs.Saying.{unpack-path, unpack-step}
 use Rattle.item.proofs.GuardedAxes.{guarded-number}
 use Rattle.reverse.specs.Reverses.{eaten}
 use Rattle.reverse.proofs.Owing.{good-step, good-path, preds-eaten, steps-eaten, none-eaten}
-use Rattle.lean_marks.specs.Turns.{downAxis, downNumber, downAs, downItem, stateOf, passOn, past, downAt, stepTold, stepTurn, pathTold, turnAs, turn, turns}
+use Rattle.lean_marks.specs.Turns.{downAxis, downNumber, downAs, downItem, stateOf, passOn, past, downAt, stepTold, stepTurn, pathTold, turnAs, turn, turns, markedGot}
 
 -- Places that are told nothing.
 abbrev pub blank : List ℕ → List ℕ
@@ -446,3 +451,38 @@ paths-turns items (p ∷ ps) k g there done ld =
 pub query-turns : (q : Query) → good q ≡ true → turns (encode q) 0 (encode q) (toldPaths (paths q)) ≡ encode (marked leanly q)
 unfolding encode good marked
 query-turns q g = paths-turns (encodePaths (paths q)) (paths q) 0 g ([], [], sym (append-nil (encodePaths (paths q))), refl) [] refl
+
+-- Of zeros with a 1 in front the first path is told that it is one, and no other place is told anything.
+zeros-front : (xs : List ℕ) (n : ℕ) → length xs ≤ n → take (length xs) (replicate n 0) ≡ blank xs
+zeros-front [] n l = refl
+zeros-front (x ∷ xs) zero l = absurd (omega arith)
+zeros-front (x ∷ xs) (suc n) l = ap (λ (l : List ℕ). 0 ∷ l) (zeros-front xs n (omega arith))
+
+told-front : (q : Query) (n : ℕ) → length (encode q) ≤ n → take (length (encode q)) (set (replicate n 0) 0 1) ≡ toldPaths (paths q)
+unfolding encode
+told-front q zero l = absurd (omega arith)
+told-front q (suc n) l =
+    ap (λ (l : List ℕ). 1 ∷ l)
+    (zeros-front (encodeSteps (q .first) ++ encodePaths (q .others)) n (omega arith) ∙ blank-append (encodeSteps (q .first)) (encodePaths (q .others)))
+
+-- THE PASS OVER ZEROS LEAVES THE MARKED QUERY, and what stands behind it.
+pub marked-length : (q : Query) → length (encode (marked leanly q)) ≡ length (encode q)
+marked-length q = size-items (marked leanly q) ∙ marked-measures leanly q .0 ∙ sym (size-items q)
+
+some-items : (q : Query) → 0 < length (encode q)
+unfolding encode
+some-items q = omega arith
+
+pub query-marked : (items marks part : List ℕ) (q : Query) (n : ℕ) → decode items ≡ some q → length items ≤ n → marks ≡ replicate n 0
+    → part ≡ turns items 0 items (take (length items) (set marks 0 1))
+    → part ++ drop (length items) (set marks 0 1) ≡ written (markedGot (decode items)) marks
+query-marked items marks part q n d l zeros e =
+    let is : items ≡ encode q = encode-decode items q d .items in
+    let long : length items ≡ length (encode q) = ap length is in
+    let front : part ≡ encode (marked leanly q) =
+    e ∙ ap (λ (m : List ℕ). turns items 0 items (take (length items) (set m 0 1))) zeros ∙
+    ap (λ (x : List ℕ). turns x 0 x (take (length x) (set (replicate n 0) 0 1))) is ∙
+    ap (turns (encode q) 0 (encode q)) (told-front q n (omega arith)) ∙ query-turns q (encode-decode items q d .fine) in
+    let back : drop (length items) (set marks 0 1) ≡ drop (length (encode (marked leanly q))) marks =
+    drop-set-lt (length items) marks 0 1 (omega (arith, some-items q)) ∙ ap (λ (k : ℕ). drop k marks) (long ∙ sym (marked-length q)) in
+    ap₂ (λ (a b : List ℕ). a ++ b) front back ∙ ap (λ (o : Option Query). written (markedGot o) marks) (sym d)

@@ -6,11 +6,13 @@ ghost use mathlib.Core.Path.{_≡_};
 ghost use mathlib.Core.Bool.{_&&_, _||_, cond};
 ghost use Prim.Native.Nat.{_+_, _*_, _≤_, _<_, _^_};
 ghost use lib.Dec.{eqb};
-ghost use lib.ListN.{length, getD, set};
+ghost use lib.ListN.{length, getD, set, replicate};
 ghost use Rattle.paper.specs.Limits.{itemLimit};
-ghost use Rattle.paper.specs.Items.{axisBound, testBound, countLimit};
+ghost use Rattle.paper.specs.Items.{decode, axisBound, testBound, countLimit};
+ghost use Rattle.paper.specs.Tools.{written};
 ghost use Rattle.item.specs.Unpacked.{guardedNumber};
-ghost use Rattle.lean_marks.specs.Turns.{downNumber, downItem, passOn, downAt, stepTurn, pathTold, turn, turns};
+ghost use Rattle.reverse.specs.Reverses.{IsQuery};
+ghost use Rattle.lean_marks.specs.Turns.{downNumber, downItem, passOn, downAt, stepTurn, pathTold, turn, turns, markedGot};
 
 // Does a step along the axis go down?
 fn goes_down(axis: u32) -> bool
@@ -159,4 +161,13 @@ fn mark(items: &[u32], marks: &mut [u32])
         mark_item(items, place, marks);
         place += 1;
     }
+}
+
+// Marks the copy of a query, which is lent as zeros: the first path is told that it is one, and the turns tell the others.
+pub fn mark_query(items: &[u32], marks: &mut [u32])
+    requires { ⌜ (IsQuery (now items)) × (length (now items) ≤ itemLimit) × (now marks ≡ replicate itemLimit 0) ⌝ }
+    ensures { λ _. ⌜ now (marks .exit) ≡ written (markedGot (decode (now (items .entry)))) (now (marks .entry)) ⌝ }
+{
+    marks[0] = 1;
+    mark(items, &mut marks[..items.len()]);
 }

@@ -97,6 +97,10 @@ paths-depth : (ps : List Steps) → guardDepthPathsBy byAxis ps ≡ guardDepthPa
 paths-depth [] = refl
 paths-depth (p ∷ ps) = ap₂ max (steps-depth p true 0) (paths-depth ps)
 
+pub depth-by-axis : (q : Query) → guardDepthBy byAxis q ≡ guardDepth q
+unfolding guardDepthBy guardDepth
+depth-by-axis q = paths-depth (paths q)
+
 -- WHERE THE AXIS ALONE DECIDES IT IS THE COMPOSITION.
 pub by-axis : ByAxis
 unfolding composedBy composed composedSizeBy composedSize composedNestingBy composedNesting guardDepthBy guardDepth

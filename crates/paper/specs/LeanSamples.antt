@@ -11,7 +11,7 @@ use Rattle.paper.specs.Tokens.{tokens, tokenAt}
 use Rattle.paper.specs.Reading.{readText, readTail, readTested, readStep, readOperand, readTerm, readExpr, readPath}
 use Rattle.paper.specs.Items.{pathAt, stepAt, encode, decode, takeOperand, takeTerm, takeExpr}
 use Rattle.paper.specs.Measures.{size, nesting, height}
-use Rattle.paper.specs.Printing.{printed, pieces}
+use Rattle.paper.specs.Printing.{headPieces, deepened, printed, pieces}
 use Rattle.paper.specs.Document.{Table, over, goodNode, tableFault, goodMark, marksFault}
 use Rattle.paper.specs.Selection.{reaches, selects, keeps, kept}
 use Rattle.paper.specs.Composition.{reversed, selectedBy, visible, lastStep, composedPath, composed}
@@ -107,5 +107,5 @@ leanAlike =
 
 -- All of this holds, by computation.
 pub leanHolds : T (leanStated && leanNestings && leanSlips && leanAlike)
-unfolding composeLeanAnswer composeLeanOut composedPathBy composedBy height over goodNode tableFault goodMark marksFault reaches selects keeps kept runAnswer runMarks readAnswer readOut readItems composeAnswer composeOut printAnswer printOut printed pieces namesFault namesOf badLine tokens tokenAt readText readTail readTested readStep readOperand readTerm readExpr readPath pathAt stepAt encode decode takeOperand takeTerm takeExpr size nesting reversed selectedBy visible lastStep composedPath composed
+unfolding composeLeanAnswer composeLeanOut composedPathBy composedBy height over goodNode tableFault goodMark marksFault reaches selects keeps kept runAnswer runMarks readAnswer readOut readItems composeAnswer composeOut printAnswer printOut headPieces deepened printed pieces namesFault namesOf badLine tokens tokenAt readText readTail readTested readStep readOperand readTerm readExpr readPath pathAt stepAt encode decode takeOperand takeTerm takeExpr size nesting reversed selectedBy visible lastStep composedPath composed
 leanHolds = tt

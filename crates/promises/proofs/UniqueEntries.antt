@@ -17,6 +17,9 @@ print-unique κs a u v x y g p q = (same-told (p .0) (q .0), same-slice (p .1) (
 pub compose-unique : ComposeUnique
 compose-unique κs a u v x y g p q = (same-told (p .0) (q .0), same-slice (p .1) (q .1))
 
+pub compose-lean-unique : ComposeLeanUnique
+compose-lean-unique κs a u v x y g p q = (same-told (p .0) (q .0), same-slice (p .1) (q .1))
+
 pub run-unique : RunUnique
 run-unique κs a u v x y g p q = (same-told (p .0) (q .0), same-slices (p .1 .0) (p .1 .1) (q .1 .0) (q .1 .1))
 
@@ -41,6 +44,9 @@ print-for-c-unique κs a u v x y g p q = (same (p .0) (q .0), same-slice (p .1) 
 pub compose-for-c-unique : ComposeForCUnique
 compose-for-c-unique κs a u v x y g p q = (same (p .0) (q .0), same-slice (p .1) (q .1))
 
+pub compose-lean-for-c-unique : ComposeLeanForCUnique
+compose-lean-for-c-unique κs a u v x y g p q = (same (p .0) (q .0), same-slice (p .1) (q .1))
+
 pub run-for-c-unique : RunForCUnique
 run-for-c-unique κs a u v x y g p q = (same (p .0) (q .0), same-slices (p .1 .0) (p .1 .1) (q .1 .0) (q .1 .1))
 
@@ -56,6 +62,9 @@ write-xml-for-c-unique κs a u v x y g p q = (same (p .0) (q .0), same-slice (p 
 
 pub report-unique : ReportUnique
 report-unique κs a u v x y g p q = (same (p .puts .moved) (q .puts .moved), same-slice (p .puts .wrote) (q .puts .wrote))
+
+pub report-lean-unique : ReportLeanUnique
+report-lean-unique κs a u v x y g p q = (same (p .puts .moved) (q .puts .moved), same-slice (p .puts .wrote) (q .puts .wrote))
 
 pub height-unique : HeightUnique
 height-unique κs a u v x y g p q = same-told p q

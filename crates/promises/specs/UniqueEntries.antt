@@ -4,6 +4,7 @@ use denote.Ref.{now}
 use Rattle.read.proofs.read
 use Rattle.print.proofs.print
 use Rattle.compose.proofs.compose
+use Rattle.compose_lean.proofs.compose_lean
 use Rattle.run.proofs.run
 use Rattle.follow.proofs.follow
 use Rattle.extract.proofs.extract
@@ -14,9 +15,11 @@ use Rattle.room.proofs.paths
 use Rattle.room.proofs.scratch
 use Rattle.cut.proofs.is_cut
 use Rattle.report.proofs.report
+use Rattle.report.proofs.report_lean
 use Rattle.halyardfig.proofs.halyardfig_read
 use Rattle.halyardfig.proofs.halyardfig_print
 use Rattle.halyardfig.proofs.halyardfig_compose
+use Rattle.halyardfig.proofs.halyardfig_compose_lean
 use Rattle.halyardfig.proofs.halyardfig_run
 use Rattle.halyardfig.proofs.halyardfig_follow
 use Rattle.halyardfig.proofs.halyardfig_extract

@@ -110,6 +110,8 @@ use Rattle.reverse.proofs.skip
 use Rattle.reverse.proofs.count_paths
 use Rattle.reverse.proofs.put_selected
 use Rattle.reverse.proofs.selected_size
+use Rattle.lean_marks.proofs.mark_query
+use Rattle.compose.proofs.compose_by
 use Rattle.promises.specs.Uniqueness.{Unique, UniqueAnswer}
 
 -- The number is that of an axis.

@@ -1,13 +1,18 @@
--- `compose::compose` meets its contract: each return is the first line of the table that holds. Assumes nothing.
-use Prim.Native.Nat.{ℕ, _+_, _≤_, max}
+-- `compose::compose` meets its contract: each return is the first line of the table that holds, and past line 6 the axes of the outer items decide. Assumes nothing.
+use Prim.Native.Nat.{ℕ, _≤_}
 use native.Mathlib.Omega.{arith}
 use mathlib.Core.Path.{_≡_}
 use mathlib.Core.List.{List}
 use denote.Ref.{now}
 use lib.ListN.{length}
 use Rattle.paper.specs.Limits.{itemLimit}
-use Rattle.compose.proofs.Answering.{shape-none, Shaped, shape-some, is-query, refused, accepted}
-use Rattle.compose.proofs.Answering.{line-1-outer, line-1-inner, line-6-outer, line-6-inner, line-9, Ending, ending}
+use Rattle.paper.specs.Composition.{composed}
+use Rattle.paper.specs.Answers.{composeAnswer, composeOut}
+use Rattle.paper.specs.Lean.{byAxis, composedBy}
+use Rattle.lean_theorems.proofs.Decided.{by-axis}
+use Rattle.compose.specs.Pieces.{Says, Nests}
+use Rattle.compose.proofs.Answering.{shape-none, Shaped, shape-some, inner-nests, own-axes, own-nests, refused, same-way}
+use Rattle.compose.proofs.Answering.{line-1-outer, line-1-inner, line-6-outer, line-6-inner}
 use borrow.Author.Needs.{needs}
 use Rattle.compose.proofs.compose.Statement.{statement}
 use Rattle.compose.proofs.compose.Tie as tie
@@ -84,14 +89,16 @@ left c =
     (omega (arith, past-9 c .if3 .left)) (c .before .selected-size .result) (c .composed-size .result) (c .before .selected-size .ensures .0) (c .composed-size .ensures)
 
 returns : tie.Need-returns
+unfolding composeAnswer composeOut
 returns c =
     let start = c .before .before .before .before in
-    refused (outer start) (inner start) (old start) 1 0 (line-1-outer _ _ _ (c .if1 .taken))
+    refused composed (outer start) (inner start) (old start) 1 0 (line-1-outer composed (outer start) (inner start) (length (old start)) (c .if1 .taken))
 
 returns-2 : tie.Need-returns-2
+unfolding composeAnswer composeOut
 returns-2 c =
     let start = c .before .before .before .before .before in
-    refused (outer start) (inner start) (old start) 1 0 (line-1-inner _ _ _ (c .before .if1 .left) (c .if2 .taken))
+    refused composed (outer start) (inner start) (old start) 1 0 (line-1-inner composed (outer start) (inner start) (length (old start)) (c .before .if1 .left) (c .if2 .taken))
 
 measure-requires : tie.Need-measure-requires
 measure-requires c κs = search needs
@@ -103,11 +110,12 @@ enum-told : tie.Need-enum-told
 enum-told c = search needs
 
 returns-3 : tie.Need-returns-3
+unfolding composeAnswer composeOut
 returns-3 c =
     let measured = c .before .before in
     let one = measured .before in
     let start = begun one in
-    refused (outer start) (inner start) (old start) 6 0 (line-6-outer _ _ _ (outer-few one) (inner-few one) (shape-none _ (measured .measure .result) (measured .measure .ensures) (c .enum-told .given .1)))
+    refused composed (outer start) (inner start) (old start) 6 0 (line-6-outer composed (outer start) (inner start) (length (old start)) (outer-few one) (inner-few one) (shape-none _ (measured .measure .result) (measured .measure .ensures) (c .enum-told .given .1)))
 
 measure-requires-2 : tie.Need-measure-requires-2
 measure-requires-2 c κs = search needs
@@ -119,13 +127,14 @@ enum-told-2 : tie.Need-enum-told-2
 enum-told-2 c = search needs
 
 returns-4 : tie.Need-returns-4
+unfolding composeAnswer composeOut
 returns-4 c =
     let measured = c .before .before in
     let half = measured .before .before in
     let one = outer-read half in
     let start = begun one in
-    refused (outer start) (inner start) (old start) 6 1
-    (line-6-inner _ _ _ (outer-few one) (inner-few one) _ _ (outer-shaped half) (shape-none _ (measured .measure2 .result) (measured .measure2 .ensures) (c .enum-told2 .given .1)))
+    refused composed (outer start) (inner start) (old start) 6 1
+    (line-6-inner composed (outer start) (inner start) (length (old start)) (outer-few one) (inner-few one) _ _ (outer-shaped half) (shape-none _ (measured .measure2 .result) (measured .measure2 .ensures) (c .enum-told2 .given .1)))
 
 add-guard-nesting : tie.Need-add-guard-nesting
 add-guard-nesting c =
@@ -135,72 +144,28 @@ add-guard-nesting c =
 larger-requires : tie.Need-larger-requires
 larger-requires c κs = search needs
 
-add-guard-nesting-2 : tie.Need-add-guard-nesting-2
-add-guard-nesting-2 c =
-    let o = outer-shaped (inner-read (past-6 c)) in
-    omega (arith, o .within, o .shallow, inner-shaped (past-6 c) .shallow, c .larger .ensures)
+counted : (c : tie.After-inner-shape)
+    → Nests (outer (begun (past-1 c))) (outer (begun (past-1 c))) (outer-nesting (inner-read c)) (outer-guards (inner-read c)) (said c)
+counted c = own-nests (outer (begun (past-1 c))) (outer-nesting (inner-read c)) (outer-guards (inner-read c)) (outer-shaped (inner-read c))
 
-larger-requires-2 : tie.Need-larger-requires-2
-larger-requires-2 c κs = search needs
-
-returns-5 : tie.Need-returns-5
-returns-5 c =
-    let nested = c .before in
-    let both = past-6 (nested .before) in
-    let one = past-1 both in
-    let start = begun one in
-    refused (outer start) (inner start) (old start) 9 _
-    (line-9 _ _ _ (outer-few one) (inner-few one) _ _ _ _ (outer-shaped (inner-read both)) (inner-shaped both) (nested .before .larger .result) (nested .larger2 .result) (nested .before .larger .ensures) (deep nested) (c .if3 .taken))
-
-count-paths-requires : tie.Need-count-paths-requires
-count-paths-requires c κs =
-    let both = past-6 (c .before .before) in
-    (is-query _ _ _ (inner-shaped both), inner-few (past-1 both))
-
-selected-size-requires : tie.Need-selected-size-requires
-selected-size-requires c κs =
-    let both = past-6 (c .before .before .before) in
-    (is-query _ _ _ (inner-shaped both), inner-few (past-1 both), c .count-paths .ensures)
-
-composed-size-requires : tie.Need-composed-size-requires
-composed-size-requires c κs =
-    let both = past-6 (c .before .before .before .before) in
-    (is-query _ _ _ (outer-shaped (inner-read both)), outer-few (past-1 both), c .selected-size .ensures .1)
-
-returns-6 : tie.Need-returns-6
-returns-6 c =
-    let start = start-of (c .before) in
-    refused (outer start) (inner start) (old start) 10 _ (left (c .before) .lacks-room (c .if4 .taken))
-
-returns-7 : tie.Need-returns-7
-returns-7 c =
-    let start = start-of (c .before .before) in
-    refused (outer start) (inner start) (old start) 10 _ (left (c .before .before) .over-long (c .before .if4 .left) (c .if5 .taken))
-
-put-composed-requires : tie.Need-put-composed-requires
-put-composed-requires c κs =
-    let sized = c .before .before .before in
-    let both = past-6 (past-9 sized .before .before) in (
-      is-query _ _ _ (outer-shaped (inner-read both)),
-      outer-few (past-1 both),
-      is-query _ _ _ (inner-shaped both),
-      inner-few (past-1 both),
-      sized .before .before .count-paths .ensures,
-      sized .before .selected-size .ensures .0,
-      left sized .counts,
-      c .before .before .if4 .left,
-    )
+compose-by-requires : tie.Need-compose-by-requires
+compose-by-requires c κs =
+    let both = told-all c in
+    ((said both, counted both), outer-few (past-1 both), inner-nests _ _ _ (inner-shaped both), inner-few (past-1 both))
 
 same-length : tie.Need-same-length
 same-length c = search needs
 
-returns-8 : tie.Need-returns-8
-returns-8 c =
-    let put = c .before .before in
-    let fits = put .before .before in
-    let sized = fits .before .before in
-    let start = start-of sized in
-    accepted (outer start) (inner start) (old start) (put .put-composed .last .1 .1 .1 .0) _ (left sized .fits (fits .before .if4 .left) (fits .if5 .left)) (put .put-composed .ensures)
+returns-5 : tie.Need-returns-5
+unfolding composeAnswer composeOut own-axes
+returns-5 c =
+    let called = c .before .before in
+    let both = told-all (called .before) in
+    let start = begun (past-1 both) in
+    let o = outer-shaped (inner-read both) in
+    let i = inner-shaped both in
+    same-way (composedBy byAxis) composed (outer start) (inner start) (old start) _ (length (old start)) _ (o .query) (i .query) (o .decodes) (i .decodes) (by-axis (o .query) (i .query) .0)
+    (called .compose-by .ensures (said both) (counted both))
 
 pub compose-spec : {M : Type 1} → statement M
 compose-spec =
@@ -216,16 +181,6 @@ compose-spec =
     enum-known-inner-shape
     enum-told-2
     returns-4
-    add-guard-nesting
-    larger-requires
-    add-guard-nesting-2
-    larger-requires-2
-    returns-5
-    count-paths-requires
-    selected-size-requires
-    composed-size-requires
-    returns-6
-    returns-7
-    put-composed-requires
+    compose-by-requires
     same-length
-    returns-8)
+    returns-5)

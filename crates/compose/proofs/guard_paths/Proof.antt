@@ -2,21 +2,23 @@
 use borrow.Author.Needs.{needs}
 use Prim.Native.Nat.{ℕ, _+_, _-_, _≤_}
 use native.Mathlib.Omega.{arith}
+use mathlib.Core.Path.{_≡_, _∙_, ap}
 use mathlib.Core.List.{List}
 use denote.Ref.{now}
 use lib.ListN.{length, take, drop}
 use Rattle.paper.specs.Query.{Steps}
-use Rattle.reverse.proofs.Paths.{Writing, writing-start, writing-done, top}
-use Rattle.compose.specs.Pieces.{guardedPath}
-use Rattle.compose.proofs.Outer.{Guards, raised-few, path-room, steps-ask, last-asks, path-done}
+use Rattle.reverse.proofs.Paths.{writing-done, top}
+use Rattle.compose.specs.Pieces.{flagsPaths, guardedPath, Says}
+use Rattle.compose.proofs.Answering.{says-length}
+use Rattle.compose.proofs.Outer.{Walking, walking-start, Guards, named, raised-few, path-room, steps-ask, last-asks, path-done}
 use Rattle.compose.proofs.guard_paths.Statement.{statement}
 use Rattle.compose.proofs.guard_paths.Tie as tie
 
 abbrev Inv-loop : tie.InvT-loop
-Inv-loop outer out₀ from count place₀ at₀ out place at = Writing (guardedPath (take count (drop from out₀))) outer out₀ out 0 place at
+Inv-loop outer out₀ from count says place₀ at₀ out place at = (g : Says outer says) → Walking (g .decides) outer says out₀ out from count place at
 
 abbrev μ-loop : tie.MeasureT-loop
-μ-loop outer out₀ from count place₀ at₀ out place at = length outer - place
+μ-loop outer out₀ from count says place₀ at₀ out place at = length outer - place
 
 -- What is lent, and what is made of a path.
 abbrev Start : Type 0
@@ -36,7 +38,7 @@ abbrev Turn : Type 0
 Turn = tie.At-loop Inv-loop μ-loop
 
 abbrev begun : Turn → Start
-begun c = c .before .before .before
+begun c = c .before .before .before .before
 
 -- The end of a path is found.
 abbrev Found : Type 0
@@ -45,9 +47,9 @@ Found = tie.After-skip Inv-loop μ-loop
 abbrev turn : Found → Turn
 turn c = c .before .before .before .before
 
-guards : (c : Found)
-    → Guards (outer (begun (turn c))) (old (begun (turn c))) (turn c .loop .out) (begun (turn c) .args .from) (begun (turn c) .args .count) (turn c .loop .place) (turn c .loop .at) (c .skip .result) (c .before .owes .result)
-guards c =
+guards : (c : Found) (g : Said (begun (turn c)))
+    → Guards (g .decides) (outer (begun (turn c))) (says (begun (turn c))) (old (begun (turn c))) (turn c .loop .out) (begun (turn c) .args .from) (begun (turn c) .args .count) (turn c .loop .place) (turn c .loop .at) (c .skip .result) (c .before .owes .result)
+guards c g =
     let l = turn c .loop in
     let start = begun (turn c) in
     top (outer start) (l .place) (c .skip .result) (c .before .owes .result) (l .inv .rest) (c .before .before .before .loop-test .taken) (l .inv .walks) (c .before .owes .ensures .0) (c .skip .ensures .0)
@@ -64,12 +66,12 @@ abbrev Guarded : Type 0
 Guarded = tie.After-guard-steps Inv-loop μ-loop
 
 abbrev packed : Guarded → Packed
-packed c = c .before .before .before
+packed c = c .before .before .before .before
 
 loop-holds : tie.Need-loop-holds Inv-loop μ-loop
 loop-holds c =
-    let start = c .before .before in
-    writing-start (made start) (outer start) (old start) 0 (start .pre .0)
+    let start = c .before .before .before in
+    λ g. walking-start (outer start) (says start) (old start) (start .args .from) (start .args .count) g
 
 mul-owes : tie.Need-mul-owes Inv-loop μ-loop
 mul-owes c = omega arith
@@ -92,13 +94,13 @@ add-pack-path : tie.Need-add-pack-path Inv-loop μ-loop
 add-pack-path c = omega (arith, c .before .owes .ensures .1)
 
 pack-path-requires : tie.Need-pack-path-requires Inv-loop μ-loop
-pack-path-requires c κs = raised-few (guards c)
+pack-path-requires c κs = raised-few (guards c (lent c))
 
 mul-out : tie.Need-mul-out Inv-loop μ-loop
-mul-out c = omega (arith, room (c .before))
+mul-out c = omega (arith, room (c .before), same (c .before))
 
 slice-write-out : tie.Need-slice-write-out Inv-loop μ-loop
-slice-write-out c = omega (arith, room (c .before))
+slice-write-out c = omega (arith, room (c .before), same (c .before))
 
 add-guard-steps : tie.Need-add-guard-steps Inv-loop μ-loop
 add-guard-steps c = omega arith
@@ -116,20 +118,35 @@ part-guard-steps-end : tie.Need-part-guard-steps-end Inv-loop μ-loop
 part-guard-steps-end c = omega (arith, c .before .skip .ensures .1)
 
 add-guard-steps-2 : tie.Need-add-guard-steps-2 Inv-loop μ-loop
-add-guard-steps-2 c = omega (arith, room (c .before .before .before))
+add-guard-steps-2 c = omega (arith, room (c .before .before .before), same (c .before .before .before))
+
+add-guard-steps-3 : tie.Need-add-guard-steps-3 Inv-loop μ-loop
+add-guard-steps-3 c = omega arith
+
+mul-guard-steps-2 : tie.Need-mul-guard-steps-2 Inv-loop μ-loop
+mul-guard-steps-2 c = omega arith
+
+sub-guard-steps-2 : tie.Need-sub-guard-steps-2 Inv-loop μ-loop
+sub-guard-steps-2 c = omega (arith, c .before .before .before .skip .ensures .0)
+
+part-guard-steps-start-2 : tie.Need-part-guard-steps-start-2 Inv-loop μ-loop
+part-guard-steps-start-2 c = omega (arith, c .before .before .before .skip .ensures .0)
+
+part-guard-steps-end-2 : tie.Need-part-guard-steps-end-2 Inv-loop μ-loop
+part-guard-steps-end-2 c = omega (arith, c .before .before .before .skip .ensures .1, many (c .before .before .before))
 
 guard-steps-requires : tie.Need-guard-steps-requires Inv-loop μ-loop
 guard-steps-requires c κs =
-    let one = c .before .before in
-    let path = guards (one .before) in
-    steps-ask path (one .pack-path .result) (one .pack-path .ensures) _ (path .top .part)
+    let one = c .before .before .before in
+    let path = guards (one .before) (lent (one .before)) in
+    steps-ask path (one .pack-path .result) (one .pack-path .ensures) (part (one .before) (outer (begun (turn (one .before))))) (part (one .before) (says (begun (turn (one .before))))) (path .top .part) (named path)
 
 put-last-requires : tie.Need-put-last-requires Inv-loop μ-loop
 put-last-requires c κs =
     let two = c .before .before .before in
     let one = packed two in
-    let path = guards (one .before) in
-    last-asks path (one .pack-path .result) (one .pack-path .ensures) _ (path .top .part) (two .guard-steps .last .1 .0) (two .guard-steps .result) (two .guard-steps .ensures .0) (two .guard-steps .ensures .1)
+    let path = guards (one .before) (lent (one .before)) in
+    last-asks path (one .pack-path .result) (one .pack-path .ensures) (part (one .before) (outer (begun (turn (one .before))))) (part (one .before) (says (begun (turn (one .before))))) (path .top .part) (named path) (two .guard-steps .last .1 .0) (two .guard-steps .result) (two .guard-steps .ensures .0) (two .guard-steps .ensures .1)
 
 loop-less : tie.Need-loop-less Inv-loop μ-loop
 loop-less c =
@@ -141,18 +158,19 @@ loop-again c =
     let three = c .before .before in
     let two = three .before .before .before .before in
     let one = packed two in
-    let path = guards (one .before) in
-    path-done path (one .pack-path .result) (one .pack-path .ensures) _ (path .top .part) (two .guard-steps .last .1 .0) (two .guard-steps .result) (two .guard-steps .ensures .0) (two .guard-steps .ensures .1)
+    λ g.
+    let path = guards (one .before) g in
+    path-done path (one .pack-path .result) (one .pack-path .ensures) (part (one .before) (outer (begun (turn (one .before))))) (part (one .before) (says (begun (turn (one .before))))) (path .top .part) (named path) (two .guard-steps .last .1 .0) (two .guard-steps .result) (two .guard-steps .ensures .0) (two .guard-steps .ensures .1)
     (three .put-last .last .0) (three .put-last .result) (three .put-last .ensures .0) (three .put-last .ensures .1)
 
 same-length : tie.Need-same-length Inv-loop μ-loop
-same-length c = c .before .loop .inv .size
+same-length c = c .before .loop .inv (begun (c .before) .pre .0) .writes .size
 
 returns : tie.Need-returns Inv-loop μ-loop
 returns c =
     let l = c .before .loop in
     let start = begun (c .before) in
-    writing-done (made start) (outer start) (old start) (l .out) 0 (l .place) (l .at) (c .loop-test .left) (l .inv)
+    λ g. writing-done (made start g) (outer start) (old start) (l .out) 0 (l .place) (l .at) (c .loop-test .left) (l .inv g .writes)
 
 pub guard-paths-spec : {M : Type 1} → statement M
 guard-paths-spec =
@@ -176,6 +194,11 @@ guard-paths-spec =
     part-guard-steps-start
     part-guard-steps-end
     add-guard-steps-2
+    add-guard-steps-3
+    mul-guard-steps-2
+    sub-guard-steps-2
+    part-guard-steps-start-2
+    part-guard-steps-end-2
     guard-steps-requires
     put-last-requires
     loop-less

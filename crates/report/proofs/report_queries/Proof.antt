@@ -4,20 +4,21 @@ use lib.ListN.{replicate}
 use denote.Ref.{now}
 use Rattle.paper.specs.Limits.{itemLimit}
 use Rattle.paper.specs.Items.{decode}
-use Rattle.paper.specs.Answers.{value, composeAnswer, composedGot}
+use Rattle.paper.specs.Answers.{value}
 use Rattle.paper.specs.Told.{told}
-use Rattle.paper.specs.Program.{queriesPrint}
-use Rattle.report.proofs.Values.{Gives, compose-gives}
+use Rattle.report.specs.Ways.{wayAnswer, wayGot, queriesPrintBy}
+use Rattle.paper.proofs.Giving.{Gives}
+use Rattle.report.proofs.Composing.{compose-gives}
 use Rattle.report.proofs.Parts.{refused-part, given-part}
 use borrow.Author.Needs.{needs}
 use Rattle.report.proofs.report_queries.Statement.{statement}
 use Rattle.report.proofs.report_queries.Tie as tie
 
-slice-aggregate-compose : tie.Need-slice-aggregate-compose
-slice-aggregate-compose c = search needs
+slice-aggregate-compose-way : tie.Need-slice-aggregate-compose-way
+slice-aggregate-compose-way c = search needs
 
-compose-requires : tie.Need-compose-requires
-compose-requires c κs = search needs
+compose-way-requires : tie.Need-compose-way-requires
+compose-way-requires c κs = search needs
 
 enum-known-answer : tie.Need-enum-known-answer
 enum-known-answer c = search needs
@@ -32,23 +33,23 @@ same-length : tie.Need-same-length
 same-length c = search needs
 
 returns : tie.Need-returns
-unfolding queriesPrint
+unfolding queriesPrintBy
 returns c =
     let asked = c .before .before .before .before .before .before .before in
-    refused-part "compose" _ _ _ _ _ (asked .compose .result) (c .before .before .before .before .before .match .keys2) (asked .compose .ensures .0) (c .before .before .put-refusal .ensures)
+    refused-part "compose" _ _ _ _ _ (asked .compose-way .result) (c .before .before .before .before .before .match .keys2) (asked .compose-way .ensures .0) (c .before .before .put-refusal .ensures)
 
 -- The queries are composed, and the composition stands at the start of the room.
 says : (c : tie.After-known-told) →
     let start = c .before .before .before .before .before .before .before .before .before .before in
-    value (c .before .answer .given .0 .0) ≡ composeAnswer (now (start .args .outer)) (now (start .args .inner)) itemLimit
-says c = ap told (sym (c .before .answer .given .1)) ∙ c .before .before .before .before .compose .ensures .0
+    value (c .before .answer .given .0 .0) ≡ wayAnswer (start .args .lean) (now (start .args .outer)) (now (start .args .inner)) itemLimit
+says c = ap told (sym (c .before .answer .given .1)) ∙ c .before .before .before .before .compose-way .ensures .0
 
 gives : (c : tie.After-known-told) →
     let start = c .before .before .before .before .before .before .before .before .before .before in
-    Gives (composedGot (decode (now (start .args .outer))) (decode (now (start .args .inner)))) (c .before .answer .given .0 .0) itemLimit (c .before .before .before .before .compose .last .1 .1 .0)
+    Gives (wayGot (start .args .lean) (decode (now (start .args .outer))) (decode (now (start .args .inner)))) (c .before .answer .given .0 .0) itemLimit (c .before .before .before .before .compose-way .last .1 .1 .0)
 gives c =
     let start = c .before .before .before .before .before .before .before .before .before .before in
-    compose-gives (c .before .answer .given .0 .0) (replicate itemLimit 0) _ (now (start .args .outer)) (now (start .args .inner)) (says c) (c .before .before .before .before .compose .ensures .1)
+    compose-gives (c .before .answer .given .0 .0) (replicate itemLimit 0) _ (start .args .lean) (now (start .args .outer)) (now (start .args .inner)) (says c) (c .before .before .before .before .compose-way .ensures .1)
 
 array-share-prefix-room : tie.Need-array-share-prefix-room
 array-share-prefix-room c = gives c .inside
@@ -66,7 +67,7 @@ same-length-2 : tie.Need-same-length-2
 same-length-2 c = search needs
 
 returns-2 : tie.Need-returns-2
-unfolding queriesPrint
+unfolding queriesPrintBy
 returns-2 c =
     given-part "compose" _ _ _ _ _ _ (says (c .before .before .before .before .before .before))
     (rw (gives (c .before .before .before .before .before .before) .starts) at (c .before .before .report-query .ensures))
@@ -75,8 +76,8 @@ pub report-queries-spec : {M : Type 1} → statement M
 report-queries-spec =
     tie.close
     (tie.spec
-    slice-aggregate-compose
-    compose-requires
+    slice-aggregate-compose-way
+    compose-way-requires
     enum-known-answer
     slice-aggregate-put-refusal
     put-refusal-requires

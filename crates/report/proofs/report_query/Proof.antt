@@ -6,20 +6,21 @@ use denote.Ref.{now}
 use Rattle.paper.specs.Limits.{textLimit}
 use Rattle.paper.specs.Names.{namesOf}
 use Rattle.paper.specs.Items.{decode}
+use Rattle.paper.specs.Printing.{longForm}
 use Rattle.paper.specs.Answers.{value, printAnswer, textGot}
 use Rattle.paper.specs.Told.{told}
 use Rattle.paper.specs.Program.{queryPrints}
-use Rattle.report.proofs.Values.{Gives, print-gives}
+use Rattle.paper.proofs.Giving.{Gives, print-gives}
 use Rattle.report.proofs.Parts.{refused-part, given-part}
 use borrow.Author.Needs.{needs}
 use Rattle.report.proofs.report_query.Statement.{statement}
 use Rattle.report.proofs.report_query.Tie as tie
 
-slice-aggregate-print : tie.Need-slice-aggregate-print
-slice-aggregate-print c = search needs
+slice-aggregate-print-long : tie.Need-slice-aggregate-print-long
+slice-aggregate-print-long c = search needs
 
-print-requires : tie.Need-print-requires
-print-requires c κs = search needs
+print-long-requires : tie.Need-print-long-requires
+print-long-requires c κs = search needs
 
 enum-known-answer : tie.Need-enum-known-answer
 enum-known-answer c = search needs
@@ -37,20 +38,20 @@ returns : tie.Need-returns
 unfolding queryPrints
 returns c =
     let asked = c .before .before .before .before .before .before .before in
-    refused-part "print" _ _ _ _ _ (asked .print .result) (c .before .before .before .before .before .match .keys2) (asked .print .ensures .0) (c .before .before .put-refusal .ensures)
+    refused-part "print" _ _ _ _ _ (asked .print-long .result) (c .before .before .before .before .before .match .keys2) (asked .print-long .ensures .0) (c .before .before .put-refusal .ensures)
 
 -- The query is printed, and its text stands at the start of the room.
 says : (c : tie.After-known-told) →
     let start = c .before .before .before .before .before .before .before .before .before in
-    value (c .before .answer .given .0 .0) ≡ printAnswer (now (start .args .query)) (now (start .args .list)) textLimit
-says c = ap told (sym (c .before .answer .given .1)) ∙ c .before .before .before .before .print .ensures .0
+    value (c .before .answer .given .0 .0) ≡ printAnswer longForm (now (start .args .query)) (now (start .args .list)) textLimit
+says c = ap told (sym (c .before .answer .given .1)) ∙ c .before .before .before .before .print-long .ensures .0
 
 gives : (c : tie.After-known-told) →
     let start = c .before .before .before .before .before .before .before .before .before in
-    Gives (textGot (namesOf (now (start .args .list))) (decode (now (start .args .query)))) (c .before .answer .given .0 .0) textLimit (c .before .before .before .before .print .last .1 .1 .0)
+    Gives (textGot longForm (namesOf (now (start .args .list))) (decode (now (start .args .query)))) (c .before .answer .given .0 .0) textLimit (c .before .before .before .before .print-long .last .1 .1 .0)
 gives c =
     let start = c .before .before .before .before .before .before .before .before .before in
-    print-gives (c .before .answer .given .0 .0) (replicate textLimit 0) _ (now (start .args .query)) (now (start .args .list)) (says c) (c .before .before .before .before .print .ensures .1)
+    print-gives (c .before .answer .given .0 .0) (replicate textLimit 0) _ longForm (now (start .args .query)) (now (start .args .list)) (says c) (c .before .before .before .before .print-long .ensures .1)
 
 array-share-prefix-text : tie.Need-array-share-prefix-text
 array-share-prefix-text c = gives (c .before) .inside
@@ -74,8 +75,8 @@ pub report-query-spec : {M : Type 1} → statement M
 report-query-spec =
     tie.close
     (tie.spec
-    slice-aggregate-print
-    print-requires
+    slice-aggregate-print-long
+    print-long-requires
     enum-known-answer
     slice-aggregate-put-refusal
     put-refusal-requires

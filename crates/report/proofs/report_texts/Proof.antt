@@ -5,8 +5,8 @@ use denote.Ref.{now}
 use Rattle.paper.specs.Limits.{itemLimit}
 use Rattle.paper.specs.Answers.{value, readAnswer, readItems}
 use Rattle.paper.specs.Told.{told}
-use Rattle.paper.specs.Program.{textsPrint}
-use Rattle.report.proofs.Values.{Gives, read-gives}
+use Rattle.report.specs.Ways.{textsPrintBy}
+use Rattle.paper.proofs.Giving.{Gives, read-gives}
 use Rattle.report.proofs.Parts.{refused-part, given-part}
 use borrow.Author.Needs.{needs}
 use Rattle.report.proofs.report_texts.Statement.{statement}
@@ -31,7 +31,7 @@ same-length : tie.Need-same-length
 same-length c = search needs
 
 returns : tie.Need-returns
-unfolding textsPrint
+unfolding textsPrintBy
 returns c =
     let asked = c .before .before .before .before .before .before .before in
     refused-part "outer" _ _ _ _ _ (asked .read .result) (c .before .before .before .before .before .match .keys2) (asked .read .ensures .0) (c .before .before .put-refusal .ensures)
@@ -81,7 +81,7 @@ same-length-2 : tie.Need-same-length-2
 same-length-2 c = search needs
 
 returns-2 : tie.Need-returns-2
-unfolding textsPrint
+unfolding textsPrintBy
 returns-2 c =
     let asked = c .before .before .before .before .before .before .before in
     given-part "outer" _ _ _ _ _ _ (outer-says (c .before .before .before .before .before .before .before .before .before))
@@ -106,7 +106,7 @@ same-length-3 : tie.Need-same-length-3
 same-length-3 c = search needs
 
 returns-3 : tie.Need-returns-3
-unfolding textsPrint
+unfolding textsPrintBy
 returns-3 c =
     given-part "outer" _ _ _ _ _ _ (outer-says (c .before .before .before .before .before .before .before .before .before .before .before .before))
     (given-part "inner" _ _ _ _ _ _ (inner-says (c .before .before .before .before .before .before))

@@ -2,25 +2,24 @@
 use Prim.Native.Nat.{ℕ, _≤_}
 use native.Mathlib.Omega.{arith}
 use mathlib.Core.Path.{_≡_, sym, _∙_, ap}
-use mathlib.Core.Bool.{Bool, false, _||_}
+use mathlib.Core.Bool.{Bool, true, false, _||_}
 use mathlib.Core.List.{List}
 use mathlib.Core.Option.{Option, none, some}
 use lib.Dec.{ltb}
 use lib.ListN.{length, take, drop, length-append}
 use lib.Seq.{take-at}
 use borrow.Author.Tests.{ltb-false}
 use Rattle.paper.specs.Tools.{when, written}
 use Rattle.paper.specs.Limits.{itemLimit, textLimit, listLimit, bracketLimit}
 use Rattle.paper.specs.Query.{Query}
 use Rattle.paper.specs.Reading.{Got, got, refused, readText}
 use Rattle.paper.specs.Names.{namesFault, namesOf, numberOf}
 use Rattle.paper.specs.Items.{decode}
 use Rattle.paper.specs.Measures.{size, nesting}
 use Rattle.paper.specs.Printing.{printed}
-use Rattle.paper.specs.Composition.{composed}
-use Rattle.paper.specs.Answers.{Answer, value, refusal, line, lineQuery, lineGot, tooLong, short, shortOfItems, anyName, unknownFrom, itemsGot, readAnswer, readItems, readOut, composeAnswer, composedGot, composeOut, printAnswer, textGot, printOut}
+use Rattle.paper.specs.Answers.{Answer, value, refusal, line, lineQuery, lineGot, tooLong, short, shortOfItems, anyName, unknownFrom, itemsGot, readAnswer, readItems, readOut, atExit, madeGot, composingAnswer, composingOut, printAnswer, textGot, printOut}
 use Rattle.paper.proofs.Refusing.{line-value, when-none, or-none}
 use Rattle.paper.proofs.Sizes.{size-items}
 
 -- What is answered where a number is needed and there is room for it.
 needed-value : (room needed n : ℕ) (b : Bool) → (b ≡ false → needed ≤ room) → line 10 (when b needed) (value needed) ≡ value n → (n ≡ needed) × (needed ≤ room)
@@ -54,25 +53,26 @@ read-lines : (n room : ℕ) (g : Got Query) → lineGot g (λ q. line 10 (shortO
 read-lines n room (refused number place) h = absurd (let z : _≡_ {A = ℕ} 0 1 = cc in omega arith)
 read-lines n room (got q left) h = let e = items-value room (size q) n h in (omega (arith, size-items q), omega arith)
 
--- The lines of composing after both queries were there.
-abbrev composedLines : ℕ → Query → Query → Answer
-composedLines room a b =
-    line 9 (when (ltb bracketLimit (nesting (composed a b))) (nesting (composed a b)))
-    (line 10 (shortOfItems room (size (composed a b))) (value (size (composed a b))))
+-- The lines of composing after both queries were there, in any way of composing.
+module _ (makes : Query → Query → Query) where
+  abbrev composedLines : ℕ → Query → Query → Answer
+  composedLines room a b =
+      line 9 (when (ltb bracketLimit (nesting (makes a b))) (nesting (makes a b)))
+      (line 10 (shortOfItems room (size (makes a b))) (value (size (makes a b))))
 
-compose-lines : (n room : ℕ) (o i : Option Query) → lineQuery 6 0 o (λ a. lineQuery 6 1 i (composedLines room a)) ≡ value n → Fits (composedGot o i) n room
-compose-lines n room none i h = absurd (let z : _≡_ {A = ℕ} 0 1 = cc in omega arith)
-compose-lines n room (some a) none h = absurd (let z : _≡_ {A = ℕ} 0 1 = cc in omega arith)
-compose-lines n room (some a) (some b) h =
-    let q = composed a b in
-    let e = items-value room (size q) n (line-value 9 n (when (ltb bracketLimit (nesting q)) (nesting q)) (line 10 (shortOfItems room (size q)) (value (size q))) h .1) in
-    (omega (arith, size-items q), omega arith)
+  compose-lines : (n room : ℕ) (o i : Option Query) → lineQuery 6 0 o (λ a. lineQuery 6 1 i (composedLines room a)) ≡ value n → Fits (madeGot makes o i) n room
+  compose-lines n room none i h = absurd (let z : _≡_ {A = ℕ} 0 1 = cc in omega arith)
+  compose-lines n room (some a) none h = absurd (let z : _≡_ {A = ℕ} 0 1 = cc in omega arith)
+  compose-lines n room (some a) (some b) h =
+      let q = makes a b in
+      let e = items-value room (size q) n (line-value 9 n (when (ltb bracketLimit (nesting q)) (nesting q)) (line 10 (shortOfItems room (size q)) (value (size q))) h .1) in
+      (omega (arith, size-items q), omega arith)
 
-print-lines : (n room : ℕ) (names : List (List ℕ)) (unknown : Option ℕ) (o : Option Query)
-    → lineQuery 6 0 o (λ q. line 5 unknown (line 10 (short room (length (printed names q))) (value (length (printed names q))))) ≡ value n → Fits (textGot names o) n room
-print-lines n room names unknown none h = absurd (let z : _≡_ {A = ℕ} 0 1 = cc in omega arith)
-print-lines n room names unknown (some q) h =
-    let text = length (printed names q) in
+print-lines : (n room : ℕ) (brief : Bool) (names : List (List ℕ)) (unknown : Option ℕ) (o : Option Query)
+    → lineQuery 6 0 o (λ q. line 5 unknown (line 10 (short room (length (printed brief names q))) (value (length (printed brief names q))))) ≡ value n → Fits (textGot brief names o) n room
+print-lines n room brief names unknown none h = absurd (let z : _≡_ {A = ℕ} 0 1 = cc in omega arith)
+print-lines n room brief names unknown (some q) h =
+    let text = length (printed brief names q) in
     let e = bytes-value room text n (line-value 5 n unknown (line 10 (short room text) (value text)) h .1) in
     (omega arith, omega arith)
 
@@ -101,17 +101,17 @@ module _ (n : ℕ) (old out : List ℕ) where
       let third = line-value 2 n (namesFault list) _ second .1 in
       gives (readItems text 1 list) (read-lines n (length old) (readText false (numberOf (namesOf list)) text) (got-value n (readText false anyName text) _ third)) (rw (sym e) at w)
 
-  pub compose-gives : (outer inner : List ℕ) → value n ≡ composeAnswer outer inner (length old) → out ≡ composeOut outer inner old
-      → Gives (composedGot (decode outer) (decode inner)) n (length old) out
-  unfolding composeAnswer composeOut
-  compose-gives outer inner e w =
+  pub composing-gives : (makes : Query → Query → Query) (outer inner : List ℕ) → value n ≡ composingAnswer makes outer inner (length old) → out ≡ composingOut makes outer inner old
+      → Gives (madeGot makes (decode outer) (decode inner)) n (length old) out
+  composing-gives makes outer inner e w =
       let later = line-value 1 n (when (tooLong outer itemLimit || tooLong inner itemLimit) 0) _ (sym e) .1 in
-      gives (composedGot (decode outer) (decode inner)) (compose-lines n (length old) (decode outer) (decode inner) later) (rw (sym e) at w)
+      gives (madeGot makes (decode outer) (decode inner)) (compose-lines makes n (length old) (decode outer) (decode inner) later)
+      (w ∙ ap (λ (a : Answer). atExit a (madeGot makes (decode outer) (decode inner)) old) (sym e))
 
-  pub print-gives : (query list : List ℕ) → value n ≡ printAnswer query list (length old) → out ≡ printOut query list old
-      → Gives (textGot (namesOf list) (decode query)) n (length old) out
+  pub print-gives : (brief : Bool) (query list : List ℕ) → value n ≡ printAnswer brief query list (length old) → out ≡ printOut brief query list old
+      → Gives (textGot brief (namesOf list) (decode query)) n (length old) out
   unfolding printAnswer printOut
-  print-gives query list e w =
+  print-gives brief query list e w =
       let second = line-value 1 n (when (tooLong query itemLimit || tooLong list listLimit) 0) _ (sym e) .1 in
       let third = line-value 2 n (namesFault list) _ second .1 in
-      gives (textGot (namesOf list) (decode query)) (print-lines n (length old) (namesOf list) (unknownFrom (length (namesOf list)) 0 query) (decode query) third) (rw (sym e) at w)
+      gives (textGot brief (namesOf list) (decode query)) (print-lines n (length old) brief (namesOf list) (unknownFrom (length (namesOf list)) 0 query) (decode query) third) (rw (sym e) at w)
