@@ -41,11 +41,9 @@ void read_query(const struct document *document, const char *text, struct query 
 
 void compose(const struct document *document, const struct query *outer, const struct query *inner, struct query *query)
 {
-    query->count =
-        accepted(halyardfig_compose(outer->items, outer->count, inner->items, inner->count, query->items, ITEM_ROOM),
-                 "a composition");
-    uint32_t length = accepted(halyardfig_print(query->items, query->count, document->list, document->list_length,
-                                                (uint8_t *)query->text, TEXT_ROOM),
+    query->count = count;
+    uint32_t length = accepted(halyardfig_print_long(query->items, query->count, document->list, document->list_length,
+                                                     (uint8_t *)query->text, TEXT_ROOM),
                                "the text of a composition");
     query->text[length] = 0;
 }

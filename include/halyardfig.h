@@ -44,8 +44,9 @@
  *       exactly these nodes, parents, kinds and places                       0
  */
 /*
- * Version 2.0.0 of the library: halyardfig_read takes the version of XPath after the text, 1 or 2.
- * What was read before is read as before by version 1; every other call is as it was.
+ * Version 3.0.0 of the library: halyardfig_print writes the short form of a text, with //, . and .. and no child::.
+ * The long form, which it wrote before, is what halyardfig_print_long writes, with the same arguments.
+ * Both forms are read as the same query; every other call is as it was.
  */
 #ifndef HALYARDFIG_H
 #define HALYARDFIG_H
@@ -126,13 +127,25 @@ uint64_t halyardfig_read(const uint8_t *text, size_t text_len, uint32_t version,
                          uint32_t *out, size_t out_len);
 
 /*
- * Writes a query's text to out, axes written out, with the names of a list.
+ * Writes a query's text to out in the short form, with the names of a list: child is left out, . and .. stand for
+ * self and parent with node() and no predicate, and // for descendant-or-self with node() and no predicate that
+ * has a step after it, except at the start of a path inside a predicate; of several such steps in a row, that one
+ * left out, // stands for the first, the third and so on. All else is as in the long form, which is never shorter.
  * Value: the number of bytes; out past it is untouched, and no zero byte ends the text.
  * Refuses, in this order: 1 (query over 4,096 items, list over 8,192 bytes), 2, 6 (place 0),
  * 5 (place: the item), 10 (place: the bytes needed).
  */
 uint64_t halyardfig_print(const uint32_t *query, size_t query_len, const uint8_t *names, size_t names_len, uint8_t *out,
                           size_t out_len);
+
+/*
+ * Writes a query's text to out in the long form, every axis written out, with the names of a list.
+ * Either form, where it has at most 32,768 bytes, is read by either version of XPath as the same query again.
+ * Value: the number of bytes; out past it is untouched, and no zero byte ends the text.
+ * Refuses as halyardfig_print does: 1, 2, 6, 5, 10 (place: the bytes needed in this form).
+ */
+uint64_t halyardfig_print_long(const uint32_t *query, size_t query_len, const uint8_t *names, size_t names_len,
+                               uint8_t *out, size_t out_len);
 
 /*
  * Composes two queries into one and writes its items to out: run inside any marks,

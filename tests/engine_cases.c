@@ -50,8 +50,8 @@ static void write_document(const char *what)
 static bool write_printed(const struct query *printing)
 {
     static uint8_t printed[PRINT_ROOM];
-    uint64_t answer =
-        halyardfig_print(printing->items, printing->count, list.bytes, list.length, printed, sizeof printed);
+    uint64_t answer = (brief ? halyardfig_print : halyardfig_print_long)(
+        printing->items, printing->count, list.bytes, list.length, printed, sizeof printed);
     if (halyardfig_refused(answer) != 0)
         return complain("a good query is not printed");
     write_text('Q', printed, halyardfig_value(answer));

@@ -15,7 +15,7 @@
 /* The calls as the header declares them, found by name in the library that was opened. */
 static struct {
     __typeof__(halyardfig_read) *read;
-    __typeof__(halyardfig_print) *print;
+    __typeof__(halyardfig_print) *print, *print_long;
     __typeof__(halyardfig_compose) *compose;
     __typeof__(halyardfig_compose_lean) *compose_lean;
     __typeof__(halyardfig_run) *run;
@@ -61,7 +61,10 @@ static bool find(void *library, const char *name, void *call)
 static bool find_all(void *library)
 {
     return find(library, "halyardfig_read", &calls.read) && find(library, "halyardfig_print", &calls.print) &&
-           find(library, "halyardfig_compose", &calls.compose) && find(library, "halyardfig_run", &calls.run) &&
+           find(library, "halyardfig_print_long", &calls.print_long) &&
+           find(library, "halyardfig_compose", &calls.compose) &&
+           find(library, "halyardfig_compose_lean", &calls.compose_lean) &&
+           find(library, "halyardfig_run", &calls.run) &&
            find(library, "halyardfig_follow", &calls.follow) && find(library, "halyardfig_extract", &calls.extract) &&
            find(library, "halyardfig_read_xml", &calls.read_xml) &&
            find(library, "halyardfig_write_xml", &calls.write_xml) &&
@@ -102,6 +105,9 @@ static void call_all(void)
     uint64_t printed = calls.print(both, size, TEXT(names), LENT(text));
     expect("print", memcmp(text, "/child::a[", 10) == 0);
     answers("print with no room", calls.print(both, size, TEXT(names), text, 0), REFUSED(10, printed));
+    printed = calls.print_long(both, size, TEXT(names), LENT(text));
+    expect("print_long", memcmp(text, "/child::a[", 10) == 0);
+    answers("print_long with no room", calls.print_long(both, size, TEXT(names), text, 0), REFUSED(10, printed));
 
     answers("run", calls.run(both, size, LENT(parent), LENT(kind), LENT(given), LENT(marks), LENT(scratch)), KEPT);
     expect("marks", memcmp(marks, wanted_marks, sizeof marks) == 0);

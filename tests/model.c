@@ -140,7 +140,28 @@ static bool prints_and_reads_back(struct dice *dice)
         if (twin_answer != query.count || memcmp(twin_items(), query.items, query.count * sizeof(uint32_t)) != 0)
             return complain("what was printed is read as another query");
     }
-    return twin_print(dice, query.items, query.count, list.bytes, list.length, near(dice, need));
+    return twin_print(dice, brief, query.items, query.count, list.bytes, list.length, near(dice, *need));
+}
+
+/* Steps for which `.`, `..` and `//` stand, beside those for which they do not. */
+static void mix_short(struct dice *dice)
+{
+    static const uint32_t axes[] = {0, 2, 3, 3}; /* self, parent, descendant-or-self */
+    for (size_t i = 0; i < query.count; i++)
+        if ((query.items[i] & 7) == 1 && chance(dice, 60))
+            query.items[i] = (query.items[i] & ~0xfff8u) | axes[below(dice, 4)] << 3;
+}
+
+static bool prints_both_forms(struct dice *dice)
+{
+    size_t shorter, longer;
+    make_any_list(dice);
+    make_any_query(dice, &query, list.count);
+    if (chance(dice, 60))
+        mix_short(dice);
+    if (!prints_and_reads_back(dice, true, &shorter) || !prints_and_reads_back(dice, false, &longer))
+        return false;
+    return shorter <= longer || complain("the short text is longer");
 }
 
 static bool prints_damaged_query(struct dice *dice)

@@ -656,6 +656,7 @@ struct pen {
     size_t room;
     size_t count;
     const struct names *names;
+    bool brief; /* the short form */
 };
 
 static void put_bytes(struct pen *pen, const void *bytes, size_t length)

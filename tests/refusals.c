@@ -398,9 +398,23 @@ static void print_is(const char *what, const uint32_t *query, size_t count, cons
     const uint32_t *our_query = offer(query, count * sizeof *query);
     const uint8_t *our_names = offer(names, strlen(names));
     uint8_t *out = offer(NULL, room);
-    uint64_t answer = halyardfig_print(our_query, count, our_names, strlen(names), out, room);
+    uint64_t answer = (brief ? halyardfig_print : halyardfig_print_long)(our_query, count, our_names, strlen(names),
+                                                                         out, room);
     expect(what, answer, expected, (size_t[]){0, 0, halyardfig_value(answer)});
 }
+
+/* The long form; what is refused whatever the room is refused in the short form too. */
+static void print_is(const char *what, const uint32_t *query, size_t count, const char *names, size_t room,
+                     uint64_t expected)
+{
+    uint64_t refused = halyardfig_refused(expected);
+    print_form_is(false, what, query, count, names, room, expected);
+    if (refused != 0 && refused != HALYARDFIG_REFUSED_ROOM)
+        print_form_is(true, what, query, count, names, room, expected);
+}
+
+/* Which of the two compositions is tried. */
+static bool lean;
 
 static void compose_is(const char *what, const uint32_t *outer, size_t outer_count, const uint32_t *inner,
                        size_t inner_count, size_t room, uint64_t expected)
@@ -618,6 +632,12 @@ static void print_refusals(void)
     print_is("room over", root_query, 1, "", 99, 1);
     print_is("room one short", named, 2 + 1, "a\nb\nc\nd\ne\n", 17, REFUSED(10, 18));
     print_is("room just right", named, 2 + 1, "a\nb\nc\nd\ne\n", 18, 18);
+    print_form_is(true, "longest query, short", zeros, ITEM_ROOM, "", BYTES, BYTES);
+    print_form_is(true, "longest query, short, room short", zeros, ITEM_ROOM, "", BYTES - 1, REFUSED(10, BYTES));
+    print_form_is(true, "short, no room", root_query, 1, "", 0, REFUSED(10, 1));
+    print_form_is(true, "short, room one short", (uint32_t[]){PATH_ITEM(1), STEP_ITEM(SELF, 0, 0)}, 2, "", 1,
+                  REFUSED(10, 2));
+    print_form_is(true, "short, room just right", (uint32_t[]){PATH_ITEM(1), STEP_ITEM(SELF, 0, 0)}, 2, "", 2, 2);
 }
 
 /* How deep a query may be nested, and an inner and an outer query of child steps that is composed with `/b`;
@@ -943,6 +963,7 @@ static void huge_lengths(void)
     answer_is("huge list", halyardfig_read(slash, 1, HALYARDFIG_XPATH_1, memory, huge, items, 9), REFUSED(1, 0));
     answer_is("huge room for items", halyardfig_read(slash, 1, HALYARDFIG_XPATH_2, slash, 0, memory, huge), 1);
     answer_is("huge query printed", halyardfig_print(memory, huge, slash, 0, room, 9), REFUSED(1, 0));
+    answer_is("huge query printed long", halyardfig_print_long(memory, huge, slash, 0, room, 9), REFUSED(1, 0));
     answer_is("huge list printed", halyardfig_print(root_query, 1, memory, huge, room, 9), REFUSED(1, 0));
     answer_is("huge room for text", halyardfig_print(root_query, 1, slash, 0, memory, huge), 1);
     answer_is("huge outer", halyardfig_compose(memory, huge, root_query, 1, items, 9), REFUSED(1, 0));

@@ -325,8 +325,8 @@ static void items_packed_before(void)
         char printed[99];
         size_t length = strlen(samples[i].printed);
         answer_is(samples[i].before,
-                  halyardfig_print(samples[i].items, samples[i].count, (const uint8_t *)sample_names,
-                                   strlen(sample_names), (uint8_t *)printed, sizeof printed),
+                  halyardfig_print_long(samples[i].items, samples[i].count, (const uint8_t *)sample_names,
+                                        strlen(sample_names), (uint8_t *)printed, sizeof printed),
                   samples[i].refusal != 0 ? samples[i].refusal : length);
         tally(samples[i].refusal != 0 || memcmp(printed, samples[i].printed, length) == 0, "`%s` before is now %.*s",
               samples[i].before, (int)length, printed);
@@ -343,8 +343,8 @@ static void printed_sample(void)
     static struct query made;
     char printed[sizeof expected];
     answer_is("size of /a on /b", compose_texts(&made, "/a", "/b"), 28);
-    uint64_t answer = halyardfig_print(made.items, made.count, (const uint8_t *)names, strlen(names),
-                                       (uint8_t *)printed, sizeof printed);
+    uint64_t answer = halyardfig_print_long(made.items, made.count, (const uint8_t *)names, strlen(names),
+                                            (uint8_t *)printed, sizeof printed);
     answer_is("bytes printed", answer, strlen(expected));
     tally(memcmp(printed, expected, strlen(expected)) == 0, "printed: %.*s", (int)strlen(expected), printed);
 }
@@ -503,6 +503,7 @@ int main(void)
     item_samples();
     items_packed_before();
     printed_sample();
+    short_texts();
     document_samples();
     refused_document_samples();
     scratch_samples();

@@ -54,6 +54,11 @@ static void call_print(void)
     answer = halyardfig_print(query.items, query.count, list.bytes, list.length, printed, PRINT_ROOM);
 }
 
+static void call_print_long(void)
+{
+    answer = halyardfig_print_long(query.items, query.count, list.bytes, list.length, printed, PRINT_ROOM);
+}
+
 static void call_compose(void)
 {
     answer = halyardfig_compose(outer.items, outer.count, inner.items, inner.count, made.items, ITEM_ROOM);
@@ -211,6 +216,7 @@ static void measure_query(const char *input)
 {
     static const uint32_t simple[] = {PATH_ITEM(1), STEP_ITEM(CHILD, FIRST_NAME, 0)};
     measure_call(PRINT, input);
+    measure_call(PRINT_LONG, input);
     measure_call(RUN, input);
     measure_call(HEIGHT, input);
     measure_call(PATHS, input);

@@ -107,9 +107,10 @@ bool twin_print(struct dice *dice, const uint32_t *query, size_t query_len, cons
     const uint8_t *our_names = lend_read(names, names_len);
     uint8_t *out = lend_write(dice, room);
     written_first = out;
-    uint64_t ours = halyardfig_print(our_query, query_len, our_names, names_len, out, room);
-    uint64_t models = model_print(model_piece(0), query_len, model_piece(1), names_len, model_piece(2), room);
-    if (compare("print", ours, models))
+    uint64_t ours = (brief ? halyardfig_print : halyardfig_print_long)(our_query, query_len, our_names, names_len, out,
+                                                                       room);
+    uint64_t models = model_print(brief, model_piece(0), query_len, model_piece(1), names_len, model_piece(2), room);
+    if (compare(brief ? "print" : "print_long", ours, models))
         return true;
     show_items("query", query, query_len);
     show_text("names", names, names_len);

@@ -13,9 +13,9 @@ use Rattle.paper.specs.Tools.{written, when}
 use Rattle.paper.specs.Query.{Query, paths}
 use Rattle.paper.specs.Items.{encode, decode, good}
 use Rattle.paper.specs.Measures.{size, nesting}
-use Rattle.paper.specs.Answers.{Answer, value, refusal, line, atExit, shortOfItems, composedGot, composeAnswer, composeOut}
-use Rattle.paper.specs.Composition.{composed, guardsInPaths, guardDepth, selectedSize, composedSize, composedNesting}
-use Rattle.paper.proofs.Tests.{and-true}
+use Rattle.paper.specs.Answers.{Answer, value, refusal, line, atExit, shortOfItems, madeGot, composingAnswer, composingOut}
+use Rattle.paper.specs.Composition.{guardDepth, selectedSize}
+use Rattle.paper.specs.Lean.{byAxis, guardsInPathsBy, composedBy, composedSizeBy, composedNestingBy}
 use Rattle.paper.proofs.Encoding.{encode-decode}
 use Rattle.paper.proofs.Sizes.{size-items, size-decoded}
 use Rattle.theorems.proofs.Nesting.{guards-within}
@@ -96,10 +96,48 @@ is-query items n g s = record { query = s .query; decodes = s .decodes }
 pub inner-nests : (items : List ℕ) (n g : ℕ) → Shaped items n g → Nested items n
 inner-nests items n g s = record { query = s .query; decodes = s .decodes; nested = s .nests }
 
-pub accepted : (outer inner old out : List ℕ) (n : ℕ) → composeAnswer outer inner (length old) ≡ value n → out ≡ written (composedGot (decode outer) (decode inner)) old
-    → (value n ≡ composeAnswer outer inner (length old)) × (out ≡ composeOut outer inner old)
-unfolding composeOut
-accepted outer inner old out n e w = (sym e, w ∙ ap (λ (a : Answer). atExit a (composedGot (decode outer) (decode inner)) old) (sym e))
+-- By their own axes the items of a query say what `byAxis` says.
+module _ (items : List ℕ) (n g : ℕ) (s : Shaped items n g) where
+  unfoldable pub own-axes : Says items items
+  unfolding encode good
+  own-axes =
+      let d = encode-decode items (s .query) (s .decodes) in
+      record { decides = byAxis; query = s .query; decodes = s .decodes; flags = ap (map guardItem) (d .items) ∙ paths-say (paths (s .query)) (d .fine) }
+
+  pub own-nests : Nests items items n g own-axes
+  unfolding own-axes
+  own-nests = record { nested = s .nests; within = s .within; deep = s .guards ∙ sym (depth-by-axis (s .query)) }
+
+-- Any way to make one query of two.
+module _ (makes : Query → Query → Query) where
+  -- A refused call leaves the output as it was; an accepted one writes the items.
+  pub refused : (outer inner out : List ℕ) (number place : ℕ) → composingAnswer makes outer inner (length out) ≡ refusal number place
+      → (refusal number place ≡ composingAnswer makes outer inner (length out)) × (out ≡ composingOut makes outer inner out)
+  refused outer inner out number place e = (sym e, ap (λ (a : Answer). atExit a (madeGot makes (decode outer) (decode inner)) out) (sym e))
+
+  pub accepted : (outer inner old out : List ℕ) (n : ℕ) → composingAnswer makes outer inner (length old) ≡ value n → out ≡ written (madeGot makes (decode outer) (decode inner)) old
+      → (value n ≡ composingAnswer makes outer inner (length old)) × (out ≡ composingOut makes outer inner old)
+  accepted outer inner old out n e w = (sym e, w ∙ ap (λ (a : Answer). atExit a (madeGot makes (decode outer) (decode inner)) old) (sym e))
+
+  -- THE ANSWER, line by line.
+  module _ (outer inner : List ℕ) (room : ℕ) where
+    pub line-1-outer : itemLimit < length outer → composingAnswer makes outer inner room ≡ refusal 1 0
+    line-1-outer h = rw (lt-ltb itemLimit (length outer) h)
+
+    pub line-1-inner : length outer ≤ itemLimit → itemLimit < length inner → composingAnswer makes outer inner room ≡ refusal 1 0
+    line-1-inner a h = rw (le-ltb itemLimit (length outer) a, lt-ltb itemLimit (length inner) h)
+
+    module _ (a : length outer ≤ itemLimit) (b : length inner ≤ itemLimit) where
+      pub line-6-outer : decode outer ≡ none → composingAnswer makes outer inner room ≡ refusal 6 0
+      line-6-outer d = rw (le-ltb itemLimit (length outer) a, le-ltb itemLimit (length inner) b, d)
+
+      pub line-6-inner : (m g : ℕ) → Shaped outer m g → decode inner ≡ none → composingAnswer makes outer inner room ≡ refusal 6 1
+      line-6-inner m g o d = rw (le-ltb itemLimit (length outer) a, le-ltb itemLimit (length inner) b, o .decodes, d)
+
+      pub later : (o i : Query) → decode outer ≡ some o → decode inner ≡ some i
+          → composingAnswer makes outer inner room
+          ≡ line 9 (when (ltb bracketLimit (nesting (makes o i))) (nesting (makes o i))) (line 10 (shortOfItems room (size (makes o i))) (value (size (makes o i))))
+      later o i d e = rw (le-ltb itemLimit (length outer) a, le-ltb itemLimit (length inner) b, d, e)
 
 -- What is left past line 9: line 10 by the size, or the value.
 pub record Ending (makes : Query → Query → Query) (outer inner : List ℕ) (room number : ℕ) : Type 0 where
@@ -121,35 +159,32 @@ module _ (outer inner says : List ℕ) (n : ℕ) (g : Says outer says) (i : Nest
   pub number-is : number ≡ length (madeGot (composedBy (g .decides)) (decode outer) (decode inner))
   number-is = size-is ∙ sym (size-items (composedBy (g .decides) (g .query) (i .query))) ∙ ap length (sym (ap₂ (madeGot (composedBy (g .decides))) (g .decodes) (i .decodes)))
 
-  module _ (a : length outer ≤ itemLimit) (b : length inner ≤ itemLimit) where
-    pub line-6-outer : decode outer ≡ none → composeAnswer outer inner room ≡ refusal 6 0
-    unfolding composeAnswer
-    line-6-outer d = rw (le-ltb itemLimit (length outer) a, le-ltb itemLimit (length inner) b, d)
+-- Past line 6, by a decision.
+module _ (outer inner says : List ℕ) (room m n d : ℕ) (a : length outer ≤ itemLimit) (b : length inner ≤ itemLimit) (g : Says outer says) (o : Nests outer says m d g) (i : Nested inner n) where
+  abbrev makes : Query → Query → Query
+  makes = composedBy (g .decides)
 
-    pub line-6-inner : (m g : ℕ) → Shaped outer m g → decode inner ≡ none → composeAnswer outer inner room ≡ refusal 6 1
-    unfolding composeAnswer
-    line-6-inner m g o d = rw (le-ltb itemLimit (length outer) a, le-ltb itemLimit (length inner) b, o .decodes, d)
+  abbrev whole : Query
+  whole = makes (g .query) (i .query)
 
-    module _ (m n g h : ℕ) (o : Shaped outer m g) (i : Shaped inner n h) where
-      abbrev whole : Query
-      whole = composed (o .query) (i .query)
+  module _ (r deep : ℕ) (er : r ≡ max 2 n) (ed : deep ≡ max m (d + 2 + r)) where
+    deep-is : deep ≡ nesting whole
+    unfolding composedNestingBy
+    deep-is =
+        omega (
+          arith,
+          nesting-by (g .decides) (g .query) (i .query),
+          o .nested,
+          o .deep,
+          i .nested,
+        )
 
-      later : composeAnswer outer inner room
-          ≡ line 9 (when (ltb bracketLimit (nesting whole)) (nesting whole)) (line 10 (shortOfItems room (size whole)) (value (size whole)))
-      unfolding composeAnswer
-      later = rw (le-ltb itemLimit (length outer) a, le-ltb itemLimit (length inner) b, o .decodes, i .decodes)
+    pub line-9 : bracketLimit < deep → composingAnswer makes outer inner room ≡ refusal 9 deep
+    line-9 h = later makes outer inner room a b (g .query) (i .query) (g .decodes) (i .decodes) ∙ rw (← deep-is, lt-ltb bracketLimit deep h)
 
-      module _ (r deep : ℕ) (er : r ≡ max 2 n) (ed : deep ≡ max m (g + 2 + r)) where
-        deep-is : deep ≡ nesting whole
-        unfolding composedNesting
-        deep-is =
-            omega (
-              arith,
-              composed-nesting (o .query) (i .query),
-              o .nests,
-              o .guards,
-              i .nests,
-            )
+    module _ (shallow : deep ≤ bracketLimit) (count number : ℕ) (ec : count ≡ length (selectedGot (decode inner))) (en : number ≡ sizeGot (g .decides) (decode outer) count) where
+      last-lines : composingAnswer makes outer inner room ≡ line 10 (shortOfItems room number) (value number)
+      last-lines = later makes outer inner room a b (g .query) (i .query) (g .decodes) (i .decodes) ∙ rw (← deep-is, le-ltb bracketLimit deep shallow, ← size-is outer inner says n g i count number ec en)
 
       line-10-room : room < number → composingAnswer makes outer inner room ≡ refusal 10 number
       line-10-room h = last-lines ∙ rw (lt-ltb room number h)
@@ -157,8 +192,8 @@ module _ (outer inner says : List ℕ) (n : ℕ) (g : Says outer says) (i : Nest
       line-10-size : number ≤ room → itemLimit < number → composingAnswer makes outer inner room ≡ refusal 10 number
       line-10-size h l = last-lines ∙ rw (le-ltb room number h, lt-ltb itemLimit number l)
 
-          last-lines : composeAnswer outer inner room ≡ line 10 (shortOfItems room number) (value number)
-          last-lines = later ∙ rw (← deep-is, le-ltb bracketLimit deep shallow, ← size-is)
+      line-value : number ≤ room → number ≤ itemLimit → composingAnswer makes outer inner room ≡ value number
+      line-value h l = last-lines ∙ rw (le-ltb room number h, le-ltb itemLimit number l)
 
       pub ending : Ending makes outer inner room number
       ending = record { lacks-room = line-10-room; over-long = line-10-size; fits = line-value }

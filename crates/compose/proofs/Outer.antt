@@ -55,6 +55,27 @@ module _ {decides : Decision} {outer says old out : List ℕ} {from count place 
   abbrev chosen : List ℕ
   chosen = take count (drop from old)
 
+  -- What is said of its steps, and of the paths behind it.
+  abbrev names : List ℕ
+  names = flagsSteps decides (g .path) false true
+
+  many : length names ≡ length (encodeSteps (g .path))
+  many = steps-long decides (g .path) false true
+
+  behind : map guardItem (drop (place + 1) says) ≡ names ++ flagsPaths decides (g .later)
+  behind = ap (map guardItem) (sym (drop-drop 1 place says)) ∙ map-drop 1 (drop place says) ∙ ap (drop 1) (g .flags)
+
+  pub named : map guardItem (take (next - (place + 1)) (drop (place + 1) says)) ≡ names
+  named =
+      map-take (next - (place + 1)) (drop (place + 1) says) ∙
+      ap₂ take (let e : next - (place + 1) ≡ length names = omega (arith, g .top .ends, many) in e) behind ∙ take-append-seam names (flagsPaths decides (g .later))
+
+  named-later : map guardItem (drop next says) ≡ flagsPaths decides (g .later)
+  named-later =
+      ap (λ (k : ℕ). map guardItem (drop k says)) (let e : next ≡ place + 1 + length names = omega (arith, g .top .ends, many) in e) ∙
+      ap (map guardItem) (sym (drop-drop (length names) (place + 1) says)) ∙ map-drop (length names) (drop (place + 1) says) ∙
+      ap (drop (length names)) behind ∙ drop-append-seam names (flagsPaths decides (g .later))
+
   pub raised-few : steps + 1 < countBound
   raised-few = omega (arith, g .top .counts, g .top .few, g .top .ends, g .top .later .inside)
 

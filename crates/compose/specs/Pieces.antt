@@ -27,6 +27,10 @@ isGuard Bad = 0
 unfoldable pub guardItem : ℕ → ℕ
 guardItem w = isGuard (unpacked w)
 
+abbrev pub total : List ℕ → ℕ
+total [] = 0
+total (n ∷ ns) = n + total ns
+
 abbrev pub guardItems : List ℕ → ℕ
 guardItems ws = total (map guardItem ws)
 
@@ -45,32 +49,76 @@ lastItems chosen = packed (record { axis = axisNumber descendantOrSelf; test = t
 abbrev pub guardedStep : List ℕ → Step → List ℕ
 guardedStep chosen s = packed (record { axis = s .axis; test = s .test; count = s .count + 1 }) ∷ visibleItems chosen
 
--- An item of a guarded path: V comes after each step along a guarded axis.
-abbrev pub guardedAs : List ℕ → ℕ → Item → List ℕ
-guardedAs chosen w (Path count) = w ∷ []
-guardedAs chosen w (StepItem s) = cond (guardedNumber (s .axis)) (guardedStep chosen s) (w ∷ [])
-guardedAs chosen w And = w ∷ []
-guardedAs chosen w Or = w ∷ []
-guardedAs chosen w Not = w ∷ []
-guardedAs chosen w Bad = w ∷ []
+-- An item of a guarded path: V comes after a step that is named, by a number that is not 0.
+abbrev pub guardedAs : List ℕ → ℕ → ℕ → Item → List ℕ
+guardedAs chosen w zero i = w ∷ []
+guardedAs chosen w (suc n) (Path count) = w ∷ []
+guardedAs chosen w (suc n) (StepItem s) = guardedStep chosen s
+guardedAs chosen w (suc n) And = w ∷ []
+guardedAs chosen w (suc n) Or = w ∷ []
+guardedAs chosen w (suc n) Not = w ∷ []
+guardedAs chosen w (suc n) Bad = w ∷ []
 
 unfoldable pub guardedItem : List ℕ → ℕ → ℕ → List ℕ
 guardedItem chosen flag w = guardedAs chosen w flag (unpacked w)
 
-abbrev pub guardedItems : List ℕ → List ℕ → List ℕ
-guardedItems chosen [] = []
-guardedItems chosen (w ∷ ws) = guardedItem chosen w ++ guardedItems chosen ws
+-- The items of a path, each with its number.
+abbrev pub guardedItems : List ℕ → List ℕ → List ℕ → List ℕ
+guardedItems chosen flags [] = []
+guardedItems chosen [] (w ∷ ws) = []
+guardedItems chosen (flag ∷ flags) (w ∷ ws) = guardedItem chosen flag w ++ guardedItems chosen flags ws
 
 -- Each count can be raised by one.
 abbrev pub Raisable : List ℕ → Type 0
 Raisable [] = Unit {0}
 Raisable (w ∷ ws) = (owing w < countLimit) × Raisable ws
 
--- A top-level path, guarded and with the last step at its end.
-abbrev pub guardedPath : List ℕ → Steps → List ℕ
-guardedPath chosen p = packPath (stepCount p + 1) ∷ (guardedItems chosen (encodeSteps p) ++ lastItems chosen)
+module _ (decides : Decision) where
+  -- The numbers of the items of a query: 1 for each step that the decision names, 0 for every other item.
+  abbrev mutual
+    pub flagsExpr : Expr → List ℕ
+    flagsExpr (path steps) = 0 ∷ flagsSteps steps false false
+    flagsExpr (both a b) = 0 ∷ (flagsExpr a ++ flagsExpr b)
+    flagsExpr (either a b) = 0 ∷ (flagsExpr a ++ flagsExpr b)
+    flagsExpr (negated a) = 0 ∷ flagsExpr a
 
--- The size of the composition, from the size of S.
-abbrev pub sizeGot : Option Query → ℕ → ℕ
-sizeGot none count = 0
-sizeGot (some q) count = size q + guardsInPaths (paths q) * (5 + 2 * count) + length (paths q) * (3 + count)
+    pub flagsSteps : Steps → Bool → Bool → List ℕ
+    flagsSteps stop loose last = []
+    flagsSteps (step a t ps rest) loose last =
+        cond (decides loose a (downNext last rest)) 1 0 ∷ (flagsPreds ps ++ flagsSteps rest (looseAfter decides loose a (downNext last rest)) last)
+
+    pub flagsPreds : Preds → List ℕ
+    flagsPreds bare = []
+    flagsPreds (pred e ps) = flagsExpr e ++ flagsPreds ps
+
+  abbrev pub flagsPaths : List Steps → List ℕ
+  flagsPaths [] = []
+  flagsPaths (p ∷ ps) = 0 ∷ (flagsSteps p false true ++ flagsPaths ps)
+
+  -- A top-level path, guarded and with the last step at its end.
+  abbrev pub guardedPath : List ℕ → Steps → List ℕ
+  guardedPath chosen p = packPath (stepCount p + 1) ∷ (guardedItems chosen (flagsSteps p false true) (encodeSteps p) ++ lastItems chosen)
+
+  -- The size of the composition, from the size of S.
+  abbrev pub sizeGot : Option Query → ℕ → ℕ
+  sizeGot none count = 0
+  sizeGot (some q) count = size q + guardsInPathsBy decides (paths q) * (5 + 2 * count) + length (paths q) * (3 + count)
+
+-- By the axes of other items each item of a query says what a decision says of it: a guarded step stands where a step is named, and nowhere else.
+pub record Says (outer says : List ℕ) : Type 0 where
+  pub decides : Decision
+  pub query : Query
+  pub decodes : decode outer ≡ some query
+  pub flags : map guardItem says ≡ flagsPaths decides (paths query)
+
+-- The brackets of a query, and those open at the steps that the decision names.
+pub record Nests (outer says : List ℕ) (nests guards : ℕ) (g : Says outer says) : Type 0 where
+  pub nested : nests ≡ nesting (g .query)
+  pub within : guards ≤ nests
+  pub deep : guards ≡ guardDepthBy (g .decides) (g .query)
+
+-- The brackets of a query alone.
+pub record Nested (items : List ℕ) (nests : ℕ) : Type 0 where
+  pub query : Query
+  pub decodes : decode items ≡ some query
+  pub nested : nests ≡ nesting query

@@ -214,6 +214,40 @@ fn composed_size(outer: &[u32], count: usize, says: &[u32]) -> usize
     outer.len() + guards * (5 + 2 * count) + paths * (3 + count)
 }
 
+// Writes the composition of two queries whose brackets are counted, the outer steps guarded where `says` has it, and answers the number of its items.
+pub fn compose_by(
+    outer: &[u32],
+    inner: &[u32],
+    out: &mut [u32],
+    outer_nesting: usize,
+    outer_guards: usize,
+    inner_nesting: usize,
+    says: &[u32],
+) -> Answer
+    requires { ⌜ ((g : Says (now outer) (now says)) × Nests (now outer) (now says) «outer_nesting» «outer_guards» g) × (length (now outer) ≤ itemLimit)
+        × (Nested (now inner) «inner_nesting») × (length (now inner) ≤ itemLimit) ⌝ }
+    ensures { λ r. ⌜ ((g : Says (now (outer .entry)) (now (says .entry))) → Nests (now (outer .entry)) (now (says .entry)) «outer_nesting» «outer_guards» g
+        → (told r ≡ composingAnswer (composedBy (g .decides)) (now (outer .entry)) (now (inner .entry)) (length (now (out .entry))))
+        × (now (out .exit) ≡ composingOut (composedBy (g .decides)) (now (outer .entry)) (now (inner .entry)) (now (out .entry)))) ⌝ }
+{
+    let guard_nesting = outer_guards + 2 + shape::larger(2, inner_nesting);
+    let nesting = shape::larger(outer_nesting, guard_nesting);
+    if paper::BRACKET_LIMIT < nesting {
+        return Answer::TooNested(nesting);
+    }
+    let paths = reverse::count_paths(inner);
+    let count = reverse::selected_size(inner, paths);
+    let size = composed_size(outer, count, says);
+    if out.len() < size {
+        return Answer::Short(size);
+    }
+    if paper::ITEM_LIMIT < size {
+        return Answer::Short(size);
+    }
+    put_composed(outer, inner, paths, out, size, count, says);
+    Answer::Value(size)
+}
+
 // Writes the composition, and answers the number of its items.
 pub fn compose(outer: &[u32], inner: &[u32], out: &mut [u32]) -> Answer
     ensures { λ r. ⌜ (told r ≡ composeAnswer (now (outer .entry)) (now (inner .entry)) (length (now (out .entry))))
@@ -243,20 +277,13 @@ pub fn compose(outer: &[u32], inner: &[u32], out: &mut [u32]) -> Answer
     else {
         return Answer::BadQuery(1);
     };
-    let guard_nesting = outer_guards + 2 + shape::larger(2, inner_nesting);
-    let nesting = shape::larger(outer_nesting, guard_nesting);
-    if paper::BRACKET_LIMIT < nesting {
-        return Answer::TooNested(nesting);
-    }
-    let paths = reverse::count_paths(inner);
-    let count = reverse::selected_size(inner, paths);
-    let size = composed_size(outer, count);
-    if out.len() < size {
-        return Answer::Short(size);
-    }
-    if paper::ITEM_LIMIT < size {
-        return Answer::Short(size);
-    }
-    put_composed(outer, inner, paths, out, size, count);
-    Answer::Value(size)
+    compose_by(
+        outer,
+        inner,
+        out,
+        outer_nesting,
+        outer_guards,
+        inner_nesting,
+        outer,
+    )
 }

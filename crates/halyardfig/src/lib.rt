@@ -5,6 +5,7 @@ ghost use mathlib.Core.Path.{_≡_};
 ghost use lib.ListN.{length};
 ghost use Rattle.paper.specs.Items.{decode};
 ghost use Rattle.paper.specs.Document.{tableOf};
+ghost use Rattle.paper.specs.Printing.{longForm, shortForm};
 ghost use Rattle.paper.specs.Answers.{readAnswer, readOut, printAnswer, printOut, composeAnswer, composeOut, runAnswer, runMarks, runScratch, extractAnswer, extractParents, extractKinds, readXmlAnswer, readXmlColumn, parentField, kindField, beginField, endField, isCutAnswer, writeXmlAnswer, writeXmlOut};
 ghost use Rattle.paper.specs.Room.{heightAnswer, pathsAnswer, scratchAnswer};
 ghost use Rattle.paper.specs.Told.{told};
@@ -55,13 +56,22 @@ pub extern "C" fn halyardfig_read(text: &[u8], version: u32, names: &[u8], out: 
     code(read::read(text, version, names, out))
 }
 
-// Prints a query: `print::print` for C.
+// Prints a query in the short form: `print::print` for C.
 #[no_mangle]
 pub extern "C" fn halyardfig_print(query: &[u32], names: &[u8], out: &mut [u8]) -> u64
-    ensures { λ r. ⌜ r ≡ codeOf (printAnswer (now (query .entry)) (now (names .entry)) (length (now (out .entry)))) ⌝ }
-    ensures { λ _. ⌜ now (out .exit) ≡ printOut (now (query .entry)) (now (names .entry)) (now (out .entry)) ⌝ }
+    ensures { λ r. ⌜ r ≡ codeOf (printAnswer shortForm (now (query .entry)) (now (names .entry)) (length (now (out .entry)))) ⌝ }
+    ensures { λ _. ⌜ now (out .exit) ≡ printOut shortForm (now (query .entry)) (now (names .entry)) (now (out .entry)) ⌝ }
 {
     code(print::print(query, names, out))
+}
+
+// Prints a query in the long form: `print::print_long` for C.
+#[no_mangle]
+pub extern "C" fn halyardfig_print_long(query: &[u32], names: &[u8], out: &mut [u8]) -> u64
+    ensures { λ r. ⌜ r ≡ codeOf (printAnswer longForm (now (query .entry)) (now (names .entry)) (length (now (out .entry)))) ⌝ }
+    ensures { λ _. ⌜ now (out .exit) ≡ printOut longForm (now (query .entry)) (now (names .entry)) (now (out .entry)) ⌝ }
+{
+    code(print::print_long(query, names, out))
 }
 
 // Composes two queries: `compose::compose` for C.

@@ -14,6 +14,8 @@ pub mod Axes
 pub mod Trees
 -- What a run marks: `marked-kept`, `keeps-intro`, `keeps-elim`, `kept-good`.
 pub mod Keeping
+-- The ways in which a step is told in either form: `by-head`, `by-later`.
+pub mod Abbreviating
 -- Size, height and nesting by items and pieces: `size-items`, `height-size`, `nesting-open`.
 pub mod Sizes
 -- New numbers and what is written by them: `rank-less`, `rank-back`, `pick-at`, `write-next`, `over-last`, `extracted-good`, `extracted-whole`.

@@ -12,8 +12,9 @@ use Rattle.paper.specs.Items.{encodeExpr, encodeSteps, encodePreds, enco
 use Rattle.paper.specs.Measures.{sizeExpr, sizeSteps, sizePreds, sizePaths, size}
 use Rattle.paper.specs.Measures.{heightExpr, heightSteps, heightPreds, heightPaths, height}
 use Rattle.paper.specs.Measures.{roundLeftOfAnd, roundRightOfAnd, roundRightOfOr, inBrackets, nestExpr, nestSteps, nestPreds, nestPaths, nesting}
-use Rattle.paper.specs.Printing.{Piece, slashSign, colonsSign, barSign, openPred, closePred, openGroup, openNot, closeRound, andWord, orWord, axisWord, testWord}
-use Rattle.paper.specs.Printing.{grouped, stepPieces, exprPieces, relativePieces, laterPieces, predsPieces, pathPieces, pathsPieces, pieces, mostOpen}
+use Rattle.paper.specs.Printing.{Piece, slashSign, slashesSign, dotSign, dotsSign, colonsSign, barSign, openPred, closePred, openGroup, openNot, closeRound, andWord, orWord, axisWord, testWord}
+use Rattle.paper.specs.Printing.{grouped, headPieces, stepPieces, exprPieces, relativePieces, laterPieces, predsPieces, pathPieces, pathsPieces, pieces, mostOpen}
+use Rattle.paper.proofs.Abbreviating.{by-head, by-later}
 use Rattle.paper.proofs.Encoding.{encode-decode}
 
 mutual

@@ -115,12 +115,12 @@ printAnswer query list room =
     (lineQuery 6 0 (decode query)
     (λ q.
     line 5 (unknownFrom (length (namesOf list)) 0 query)
-    (let needed = length (printed (namesOf list) q) in line 10 (short room needed) (value needed)))))
+    (let needed = length (printed brief (namesOf list) q) in line 10 (short room needed) (value needed)))))
 
 -- The text of items.
-abbrev pub textGot : List (List ℕ) → Option Query → List ℕ
-textGot names none = []
-textGot names (some q) = printed names q
+abbrev pub textGot : Bool → List (List ℕ) → Option Query → List ℕ
+textGot brief names none = []
+textGot brief names (some q) = printed brief names q
 
 unfoldable pub printOut : List ℕ → List ℕ → List ℕ → List ℕ
 printOut query list out = atExit (printAnswer query list (length out)) (textGot (namesOf list) (decode query)) out

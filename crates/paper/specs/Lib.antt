@@ -20,6 +20,7 @@ pub mod Lean
 pub mod Room
 pub mod Program
 pub mod Samples
+pub mod ShortSamples
 pub mod XmlSamples
 pub mod CutSamples
 pub mod LeanSamples

@@ -1,4 +1,4 @@
--- docs/SCOPE.md, "Printing": the text of a query, with the axes written out.
+-- docs/SCOPE.md, "Printing": the text of a query, in the long form, with the axes written out, or in the short one (02, 2026-12).
 use Prim.Native.Nat.{ℕ, _+_, _-_, max}
 use mathlib.Core.Bool.{Bool, true, false}
 use mathlib.Core.List.{List, [], _∷_, _++_}
@@ -8,6 +8,13 @@ use Rattle.paper.specs.Query.{Axis, self, child, parent, descendantOrSel
 use Rattle.paper.specs.Query.{Test, anyNode, textNode, named, anyElement}
 use Rattle.paper.specs.Query.{Expr, path, both, either, negated, Steps, stop, step, Preds, bare, pred, Query}
 use Rattle.paper.specs.Measures.{roundLeftOfAnd, roundRightOfAnd, roundRightOfOr}
+
+-- The two forms of a text: is it brief?
+abbrev pub longForm : Bool
+longForm = false
+
+abbrev pub shortForm : Bool
+shortForm = true
 
 -- The pieces of a printed text: signs, the three brackets with the two that close them, the operators, an axis, a test.
 pub data Piece : Type 0 where
@@ -60,9 +67,25 @@ abbrev pub grouped : Bool → List Piece → List Piece
 grouped true ps = openGroup ∷ ps ++ (closeRound ∷ [])
 grouped false ps = ps
 
+-- Does a step go along this axis, with `node()` and so many predicates, none?
+abbrev pub plain : Axis → Axis → Test → ℕ → Bool
+plain along a t count = eqb (axisNumber a) (axisNumber along) && eqb (testNumber t) (testNumber anyNode) && eqb count 0
+
+-- A step with so many predicates, without them: axis, `::` and test. The short form leaves out child, and has `.` and `..` for self and parent with `node()` and no predicate.
+unfoldable pub headPieces : Bool → Axis → Test → ℕ → List Piece
+headPieces brief a t count =
+    cond (brief && plain self a t count) (dotSign ∷ [])
+    (cond (brief && plain parent a t count) (dotsSign ∷ [])
+    (cond (brief && eqb (axisNumber a) (axisNumber child)) (testWord t ∷ [])
+    (axisWord a ∷ colonsSign ∷ testWord t ∷ [])))
+
 -- A step and what follows it.
-abbrev pub stepPieces : Axis → Test → List Piece → List Piece → List Piece
-stepPieces a t preds later = axisWord a ∷ colonsSign ∷ testWord t ∷ preds ++ later
+abbrev pub stepPieces : List Piece → List Piece → List Piece → List Piece
+stepPieces head preds later = head ++ (preds ++ later)
+
+-- Does `//` stand for a step that so many steps follow? In the short form it does for descendant-or-self with `node()` and no predicate, if a step follows.
+unfoldable pub deepened : Bool → Axis → Test → ℕ → ℕ → Bool
+deepened brief a t count later = brief && plain descendantOrSelf a t count && ltb 0 later
 
 abbrev mutual
   pub exprPieces : Expr → List Piece
@@ -85,13 +108,14 @@ abbrev mutual
   predsPieces bare = []
   predsPieces (pred e ps) = openPred ∷ exprPieces e ++ closePred ∷ predsPieces ps
 
--- An absolute path is `/` alone, or `/` and steps.
-abbrev pub pathPieces : Steps → List Piece
-pathPieces steps = slashSign ∷ relativePieces steps
+-- An absolute path is `/` alone, or each of its steps has what a later step has.
+abbrev pub pathPieces : Bool → Steps → List Piece
+pathPieces brief stop = slashSign ∷ []
+pathPieces brief (step a t ps rest) = laterPieces brief (step a t ps rest)
 
-abbrev pub pathsPieces : List Steps → List Piece
-pathsPieces [] = []
-pathsPieces (p ∷ ps) = barSign ∷ pathPieces p ++ pathsPieces ps
+abbrev pub pathsPieces : Bool → List Steps → List Piece
+pathsPieces brief [] = []
+pathsPieces brief (p ∷ ps) = barSign ∷ pathPieces brief p ++ pathsPieces brief ps
 
 -- The pieces of a query.
 unfoldable pub pieces : Query → List Piece

@@ -55,7 +55,7 @@ abbrev pub nestingGot : Option Query → ℕ
 nestingGot none = 0
 nestingGot (some q) = nesting q
 
--- What is printed of a composed query: text room is 32,768 bytes.
+-- What is printed of a composed query, in the long form: text room is 32,768 bytes.
 unfoldable pub queryPrints : List ℕ → List ℕ → List ℕ
 queryPrints query list =
     unlessRefused "print" (printAnswer query list textLimit)

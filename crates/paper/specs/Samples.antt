@@ -12,7 +12,7 @@ use Rattle.paper.specs.Tokens.{tokens, tokenAt}
 use Rattle.paper.specs.Reading.{readText, readTail, readTested, readStep, readOperand, readTerm, readExpr, readPath}
 use Rattle.paper.specs.Items.{pathAt, stepAt, encode, decode, takeOperand, takeTerm, takeExpr}
 use Rattle.paper.specs.Measures.{size, nesting, height}
-use Rattle.paper.specs.Printing.{printed, pieces}
+use Rattle.paper.specs.Printing.{longForm, shortForm, headPieces, deepened, printed, pieces}
 use Rattle.paper.specs.Document.{Table, over, goodNode, tableFault, goodMark, marksFault}
 use Rattle.paper.specs.Selection.{reaches, selects, keeps, kept}
 use Rattle.paper.specs.Composition.{reversed, selectedBy, visible, lastStep, composedPath, composed}
@@ -115,6 +115,9 @@ bracketed n = ascii "/a[" ++ replicate n 40 ++ ascii "b" ++ replicate n 41 ++ as
 -- What the printing program prints first of two texts and a list.
 abbrev pub room : List ℕ
 room = replicate 400 7
+
+abbrev pub printedIn : Bool → List ℕ → List ℕ → List ℕ
+printedIn brief list query = counted (printAnswer brief query list 400) (printOut brief query list room)
 
 abbrev pub printedItems : List ℕ → List ℕ → List ℕ
 printedItems list query = counted (printAnswer query list 400) (printOut query list room)

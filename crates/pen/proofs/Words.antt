@@ -1,20 +1,20 @@
--- The words of tests by their numbers, and the text of a step's head. Assumes nothing.
+-- The words of tests by their numbers, and the text of a step's head in either form. Assumes nothing.
 use Prim.Native.Nat.{ℕ, zero, suc, _-_, _≤_, _<_}
 use native.Mathlib.Omega.{arith}
-use mathlib.Core.Path.{_≡_, refl, sym, ap}
-use mathlib.Core.Bool.{true}
-use mathlib.Core.List.{List, [], _∷_, _++_, append-nil}
+use mathlib.Core.Path.{_≡_, refl, sym, _∙_, ap}
+use mathlib.Core.Bool.{Bool, true, false, _&&_, cond}
+use mathlib.Core.List.{List, [], _∷_, _++_, append-assoc, append-nil}
 use mathlib.Core.Logic.{_⊎_, inl, inr, ⊎-elim}
-use lib.Dec.{ltb}
+use lib.Dec.{eqb, ltb}
 use lib.ListN.{getD}
 use borrow.Author.Tests.{ltb-true, ltb-false}
 use Rattle.paper.proofs.Tests.{decide}
 use Rattle.paper.specs.Tools.{ascii}
 use Rattle.paper.specs.Limits.{namesLimit}
-use Rattle.paper.specs.Query.{Axis, Test, anyNode, textNode, named, anyElement}
-use Rattle.paper.specs.Items.{namedFrom, testNumber, goodTest}
-use Rattle.paper.specs.Printing.{axisText, testText, textOf}
-use Rattle.pen.specs.Putting.{headPieces}
+use Rattle.paper.specs.Query.{Axis, self, child, Test, anyNode, textNode, named, anyElement}
+use Rattle.paper.specs.Items.{axisNumber, namedFrom, testNumber, goodTest}
+use Rattle.paper.specs.Printing.{Piece, colonsSign, axisWord, testWord, axisText, testText, plain, headPieces, textOf}
+use Rattle.pen.specs.Putting.{along}
 
 -- The word of a test.
 module _ (names : List (List ℕ)) where
@@ -54,10 +54,39 @@ below n m l h = ⊎-elim (λ e. absurd (h e)) (λ k. k) (split n m l)
     split : (i j : ℕ) → i ≤ j → (i ≡ j) ⊎ (i < j)
     split i j k = ⊎-elim (λ e. inr (ltb-true i j e)) (λ e. inl (let g : j ≤ i = ltb-false i j e in omega arith)) (decide (ltb i j))
 
--- The text of a step without its predicates.
-pub head-text : (names : List (List ℕ)) (a : Axis) (t : Test) → ((axisText a ++ (58 ∷ [])) ++ (58 ∷ [])) ++ testText names t ≡ textOf names (headPieces a t)
-head-text names a t = go (axisText a)
-  where
-    go : (xs : List ℕ) → ((xs ++ (58 ∷ [])) ++ (58 ∷ [])) ++ testText names t ≡ xs ++ (ascii "::" ++ (testText names t ++ []))
-    go [] = ap (λ (ys : List ℕ). 58 ∷ 58 ∷ ys) (sym (append-nil (testText names t)))
-    go (x ∷ xs) = ap (λ (ys : List ℕ). x ∷ ys) (go xs)
+-- An axis and `::`, by the number of the axis: left out, or put byte by byte.
+module _ (brief : Bool) (a : Axis) (n : ℕ) (e : n ≡ axisNumber a) where
+  pub along-none : brief && eqb n (axisNumber child) ≡ true → [] ≡ along brief a
+  along-none h = let g : brief && eqb (axisNumber a) (axisNumber child) ≡ true = rw e at h in rw g
+
+  pub along-told : brief && eqb n (axisNumber child) ≡ false → axisText a ++ (58 ∷ []) ++ (58 ∷ []) ≡ along brief a
+  along-told h = let g : brief && eqb (axisNumber a) (axisNumber child) ≡ false = rw e at h in rw g (append-assoc (axisText a) (58 ∷ []) (58 ∷ []))
+
+-- What is asked of the numbers of a step for `.` and `..`: the axis, `node()` and no predicate.
+abbrev pub Asked : Bool → Axis → ℕ → ℕ → ℕ → Bool → Type 0
+Asked brief wanted n m count is = brief && (eqb n (axisNumber wanted) && eqb m (testNumber anyNode) && eqb count 0) ≡ is
+
+-- The text of a head, by what was asked.
+module _ (names : List (List ℕ)) (brief : Bool) (a : Axis) (t : Test) (n m count : ℕ) (e : n ≡ axisNumber a) (f : m ≡ testNumber t) where
+  found : (wanted : Axis) (is : Bool) → Asked brief wanted n m count is → brief && plain wanted a t count ≡ is
+  found wanted is h = rw (e, f) at h
+
+  pub dot-text : Asked brief self n m count true → ascii "." ≡ textOf names (headPieces brief a t count)
+  unfolding headPieces
+  dot-text h = rw (found self true h)
+
+  pub dots-text : Asked brief self n m count false → Asked brief Axis.parent n m count true → ascii ".." ≡ textOf names (headPieces brief a t count)
+  unfolding headPieces
+  dots-text h i = rw (found self false h, found Axis.parent true i)
+
+  pub head-text : Asked brief self n m count false → Asked brief Axis.parent n m count false → along brief a ++ testText names t ≡ textOf names (headPieces brief a t count)
+  unfolding headPieces
+  head-text h i = rw (found self false h, found Axis.parent false i) (go (brief && eqb (axisNumber a) (axisNumber child)))
+    where
+      told : List Piece
+      told = axisWord a ∷ colonsSign ∷ testWord t ∷ []
+
+      go : (b : Bool) → cond b [] (axisText a ++ ascii "::") ++ testText names t ≡ textOf names (cond b (testWord t ∷ []) told)
+      go true = sym (append-nil (testText names t))
+      go false =
+          append-assoc (axisText a) (ascii "::") (testText names t) ∙ ap (λ (ys : List ℕ). axisText a ++ (ascii "::" ++ ys)) (sym (append-nil (testText names t)))

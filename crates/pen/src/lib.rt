@@ -10,9 +10,9 @@ ghost use Rattle.paper.specs.Limits.{listLimit};
 ghost use Rattle.paper.specs.Query.{Axis, Test};
 ghost use Rattle.paper.specs.Names.{namesOf};
 ghost use Rattle.paper.specs.Items.{axisNumber, testNumber, goodTest};
-ghost use Rattle.paper.specs.Printing.{axisText, axisTextLimit, testText, textOf};
+ghost use Rattle.paper.specs.Printing.{axisText, axisTextLimit, testText, headPieces, textOf};
 ghost use Rattle.names.specs.Listing.{Indexed};
-ghost use Rattle.pen.specs.Putting.{Puts, between, headPieces, headRoom, Known};
+ghost use Rattle.pen.specs.Putting.{Puts, between, along, headRoom, Known};
 
 // Puts one byte.
 pub fn put_byte(out: &mut [u8], pen: usize, b: u8) -> usize
@@ -159,7 +159,22 @@ fn put_test(
     }
 }
 
-// Puts axis, `::` and test of a step.
+// Puts the axis of a step and `::`; the short form leaves out child.
+fn put_along(out: &mut [u8], pen: usize, axis: u32, brief: bool) -> usize
+    requires { ⌜ pen < 2 ^ 38 ⌝ }
+    ensures { λ r. ⌜ ((a : Axis) → axis ≡ axisNumber a → Puts (along brief a) pen (now (out .entry)) (now (out .exit)) r) ⌝ }
+    ensures { λ r. ⌜ r ≤ pen + axisTextLimit + 2 ⌝ }
+{
+    let child = brief & (axis == item::CHILD);
+    if child {
+        return pen;
+    }
+    let named = put_axis(out, pen, axis);
+    let colon = put_byte(out, named, b':');
+    put_byte(out, colon, b':')
+}
+
+// Puts a step that has so many predicates, without them: axis, `::` and test, and in the short form `.` or `..` for self or parent with `node()` and no predicate.
 pub fn put_head(
     list: &[u8],
     starts: &[u16; names::STARTS],
@@ -168,14 +183,22 @@ pub fn put_head(
     pen: usize,
     axis: u32,
     test: u32,
+    preds: usize,
+    brief: bool,
 ) -> usize
     requires { ⌜ Indexed (now list) (now starts) count ⌝ }
     requires { ⌜ Known count test × (length (now list) ≤ listLimit) × (pen < 2 ^ 38) ⌝ }
-    ensures { λ r. ⌜ ((a : Axis) (t : Test) → axis ≡ axisNumber a → test ≡ testNumber t → goodTest t ≡ true → Puts (textOf (namesOf (now (list .entry))) (headPieces a t)) pen (now (out .entry)) (now (out .exit)) r) ⌝ }
+    ensures { λ r. ⌜ ((a : Axis) (t : Test) → axis ≡ axisNumber a → test ≡ testNumber t → goodTest t ≡ true → Puts (textOf (namesOf (now (list .entry))) (headPieces brief a t preds)) pen (now (out .entry)) (now (out .exit)) r) ⌝ }
     ensures { λ r. ⌜ r ≤ pen + headRoom ⌝ }
 {
-    let named = put_axis(out, pen, axis);
-    let colon = put_byte(out, named, b':');
-    let ready = put_byte(out, colon, b':');
+    let dot = brief & ((axis == item::SELF) & (test == item::ANY_NODE) & (preds == 0));
+    if dot {
+        return put(out, pen, b".");
+    }
+    let dots = brief & ((axis == item::PARENT) & (test == item::ANY_NODE) & (preds == 0));
+    if dots {
+        return put(out, pen, b"..");
+    }
+    let ready = put_along(out, pen, axis, brief);
     put_test(list, starts, count, out, ready, test)
 }

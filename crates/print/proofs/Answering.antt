@@ -2,6 +2,7 @@
 use Prim.Native.Nat.{ℕ, zero, suc, _+_, _≤_, _<_}
 use native.Mathlib.Omega.{arith}
 use mathlib.Core.Path.{_≡_, refl, sym, _∙_, ap}
+use mathlib.Core.Bool.{Bool}
 use mathlib.Core.List.{List}
 use mathlib.Core.Option.{Option, none, some}
 use lib.ListN.{length}
@@ -46,33 +47,33 @@ pub record Ready (query list starts : List ℕ) (count : ℕ) : Type 0 where
   pub decoded : decode query ≡ some is
   pub indexed : Indexed list starts count
 
-module _ (query list old : List ℕ) where
+module _ (brief : Bool) (query list old : List ℕ) where
   -- A refused call leaves everything as it was, an accepted one writes the text.
-  pub refuses : (number place : ℕ) → printAnswer query list (length old) ≡ refusal number place → (refusal number place ≡ printAnswer query list (length old)) × (old ≡ printOut query list old)
+  pub refuses : (number place : ℕ) → printAnswer brief query list (length old) ≡ refusal number place → (refusal number place ≡ printAnswer brief query list (length old)) × (old ≡ printOut brief query list old)
   unfolding printOut
   refuses number place e = (sym e, rw e)
 
-  pub accepts : (n : ℕ) (new : List ℕ) → printAnswer query list (length old) ≡ value n → new ≡ written (textGot (namesOf list) (decode query)) old
-      → (value n ≡ printAnswer query list (length old)) × (new ≡ printOut query list old)
+  pub accepts : (n : ℕ) (new : List ℕ) → printAnswer brief query list (length old) ≡ value n → new ≡ written (textGot brief (namesOf list) (decode query)) old
+      → (value n ≡ printAnswer brief query list (length old)) × (new ≡ printOut brief query list old)
   unfolding printOut
   accepts n new e w = (sym e, rw e w)
 
   -- Line 1.
-  pub long-query : itemLimit < length query → printAnswer query list (length old) ≡ refusal 1 0
+  pub long-query : itemLimit < length query → printAnswer brief query list (length old) ≡ refusal 1 0
   unfolding printAnswer
   long-query l = rw (lt-ltb itemLimit (length query) l)
 
-  pub long-list : length query ≤ itemLimit → listLimit < length list → printAnswer query list (length old) ≡ refusal 1 0
+  pub long-list : length query ≤ itemLimit → listLimit < length list → printAnswer brief query list (length old) ≡ refusal 1 0
   unfolding printAnswer
   long-list k l = rw (le-ltb itemLimit (length query) k, lt-ltb listLimit (length list) l)
 
   -- Line 2.
-  pub bad-list : length query ≤ itemLimit → length list ≤ listLimit → (place : ℕ) → namesFault list ≡ some place → printAnswer query list (length old) ≡ refusal 2 place
+  pub bad-list : length query ≤ itemLimit → length list ≤ listLimit → (place : ℕ) → namesFault list ≡ some place → printAnswer brief query list (length old) ≡ refusal 2 place
   unfolding printAnswer
   bad-list k l place e = rw (le-ltb itemLimit (length query) k, le-ltb listLimit (length list) l, e)
 
   -- Line 6.
-  pub bad-query : length query ≤ itemLimit → length list ≤ listLimit → namesFault list ≡ none → decode query ≡ none → printAnswer query list (length old) ≡ refusal 6 0
+  pub bad-query : length query ≤ itemLimit → length list ≤ listLimit → namesFault list ≡ none → decode query ≡ none → printAnswer brief query list (length old) ≡ refusal 6 0
   unfolding printAnswer
   bad-query k l n d = rw (le-ltb itemLimit (length query) k, le-ltb listLimit (length list) l, n, d)
 
@@ -81,7 +82,7 @@ module _ (query list old : List ℕ) where
     names = count-names list starts count (r .indexed)
 
     -- Line 5.
-    pub unknown-name : (place : ℕ) → unknownFrom count 0 query ≡ some place → printAnswer query list (length old) ≡ refusal 5 place
+    pub unknown-name : (place : ℕ) → unknownFrom count 0 query ≡ some place → printAnswer brief query list (length old) ≡ refusal 5 place
     unfolding printAnswer
     unknown-name place u = rw (le-ltb itemLimit (length query) (r .few-items), le-ltb listLimit (length list) (r .few-bytes), r .no-fault, r .decoded, names, u)
 
@@ -93,19 +94,19 @@ module _ (query list old : List ℕ) where
         record { query = r .is; decoded = r .decoded; few-items = r .few-items },
       )
 
-      module _ (needed : ℕ) (e : needed ≡ 0 + length (textGot (namesOf list) (decode query))) where
-        counted : length (printed (namesOf list) (r .is)) ≡ needed
+      module _ (needed : ℕ) (e : needed ≡ 0 + length (textGot brief (namesOf list) (decode query))) where
+        counted : length (printed brief (namesOf list) (r .is)) ≡ needed
         counted =
-            let same : length (textGot (namesOf list) (decode query)) ≡ length (printed (namesOf list) (r .is)) = ap (λ (o : Option Query). length (textGot (namesOf list) o)) (r .decoded) in
+            let same : length (textGot brief (namesOf list) (decode query)) ≡ length (printed brief (namesOf list) (r .is)) = ap (λ (o : Option Query). length (textGot brief (namesOf list) o)) (r .decoded) in
             omega arith
 
         -- Line 10.
-        pub short-room : length old < needed → printAnswer query list (length old) ≡ refusal 10 needed
+        pub short-room : length old < needed → printAnswer brief query list (length old) ≡ refusal 10 needed
         unfolding printAnswer
         short-room s =
             rw (le-ltb itemLimit (length query) (r .few-items), le-ltb listLimit (length list) (r .few-bytes), r .no-fault, r .decoded, names, u, counted, lt-ltb (length old) needed s)
 
-        pub value-told : needed ≤ length old → printAnswer query list (length old) ≡ value needed
+        pub value-told : needed ≤ length old → printAnswer brief query list (length old) ≡ value needed
         unfolding printAnswer
         value-told s =
             rw (le-ltb itemLimit (length query) (r .few-items), le-ltb listLimit (length list) (r .few-bytes), r .no-fault, r .decoded, names, u, counted, le-ltb (length old) needed s)

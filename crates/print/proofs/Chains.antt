@@ -26,11 +26,11 @@ text-append names [] qs = refl
 text-append names (p ∷ ps) qs = ap (λ (t : List ℕ). pieceText names p ++ t) (text-append names ps qs) ∙ sym (append-assoc (pieceText names p) (textOf names ps) (textOf names qs))
 
 -- An expression as a run of the operator, and as a part of one; and the text between two parts.
-abbrev runPieces : ℕ → Expr → List Piece
-runPieces operator = byOperator operator exprPieces termPieces
+abbrev runPieces : Bool → ℕ → Expr → List Piece
+runPieces brief operator = byOperator operator (exprPieces brief) (termPieces brief)
 
-abbrev partPieces : ℕ → Expr → List Piece
-partPieces operator = byOperator operator termPieces operandPieces
+abbrev partPieces : Bool → ℕ → Expr → List Piece
+partPieces brief operator = byOperator operator (termPieces brief) (operandPieces brief)
 
 abbrev operatorText : ℕ → List ℕ
 operatorText operator = byOperator operator (ascii " or ") (ascii " and ")
@@ -40,23 +40,23 @@ abbrev partBase : ℕ → List ℕ → ℕ → ℕ
 partBase operator items place = byOperator operator (place + leading andItem (drop place items)) place
 
 -- The text of a run and a part joined to it, and of what stands as a part as it stands as a run.
-record Joined (names : List (List ℕ)) (operator : ℕ) : Type 0 where
+record Joined (brief : Bool) (names : List (List ℕ)) (operator : ℕ) : Type 0 where
   text-join : (a b : Expr)
-      → textOf names (runPieces operator a) ++ operatorText operator ++ textOf names (partPieces operator b) ≡ textOf names (runPieces operator (joinBy operator a b))
-  text-alone : (e : Expr) → isJoined operator e ≡ false → textOf names (partPieces operator e) ≡ textOf names (runPieces operator e)
-  brief : length (operatorText operator) ≤ signRoom
+      → textOf names (runPieces brief operator a) ++ operatorText operator ++ textOf names (partPieces brief operator b) ≡ textOf names (runPieces brief operator (joinBy operator a b))
+  text-alone : (e : Expr) → isJoined operator e ≡ false → textOf names (partPieces brief operator e) ≡ textOf names (runPieces brief operator e)
+  few : length (operatorText operator) ≤ signRoom
   ahead : (items : List ℕ) (place : ℕ) → place ≤ partBase operator items place
 
 -- The text of pieces with a sign between them.
 between-text : (names : List (List ℕ)) (ps : List Piece) (sign : Piece) (qs : List Piece) → textOf names ps ++ pieceText names sign ++ textOf names qs ≡ textOf names (ps ++ sign ∷ qs)
 between-text names ps sign qs = append-assoc (textOf names ps) (pieceText names sign) (textOf names qs) ∙ sym (text-append names ps (sign ∷ qs))
 
-ands-text : (names : List (List ℕ)) → Joined names andItem
-ands-text names =
+ands-text : (brief : Bool) (names : List (List ℕ)) → Joined brief names andItem
+ands-text brief names =
     record {
-      text-join = λ a b. between-text names (termPieces a) andWord (operandPieces b);
-      text-alone = λ e h. rw h (ap (textOf names) (plain (isOr e) (exprPieces e)));
-      brief = omega arith;
+      text-join = λ a b. between-text names (termPieces brief a) andWord (operandPieces brief b);
+      text-alone = λ e h. rw h (ap (textOf names) (plain (isOr e) (exprPieces brief e)));
+      few = omega arith;
       ahead = λ items place. omega arith;
     }
   where
@@ -64,22 +64,22 @@ ands-text names =
     plain true ps = refl
     plain false ps = refl
 
-ors-text : (names : List (List ℕ)) → Joined names orItem
-ors-text names =
+ors-text : (brief : Bool) (names : List (List ℕ)) → Joined brief names orItem
+ors-text brief names =
     record {
-      text-join = λ a b. between-text names (exprPieces a) orWord (termPieces b);
+      text-join = λ a b. between-text names (exprPieces brief a) orWord (termPieces brief b);
       text-alone = λ e h. rw h;
-      brief = omega arith;
+      few = omega arith;
       ahead = λ items place. omega arith;
     }
 
 -- Printing a run of an operator that begins at `at`, from `pen` on; its first operand stands at `base`.
-module _ (names : List (List ℕ)) (operator depth : ℕ) (items : List ℕ) (at base pen : ℕ) (old : List ℕ) where
+module _ (brief : Bool) (names : List (List ℕ)) (operator depth : ℕ) (items : List ℕ) (at base pen : ℕ) (old : List ℕ) where
   -- What has been read and printed of the run, with so many parts owed.
   pub record Left (out : List ℕ) (place byte owed : ℕ) : Type 0 where
     pub so-far : Expr
     pub goes-on : takeRun operator (takeWithin depth) (drop at items) ≡ takeMore operator (takeWithin depth) owed so-far (drop place items)
-    pub puts : Puts (textOf names (runPieces operator so-far)) pen old out byte
+    pub puts : Puts (textOf names (runPieces brief operator so-far)) pen old out byte
     pub onward : base ≤ place
     pub inside : place ≤ length items
     pub low : byte + itemRoom * base + signRoom ≤ pen + itemRoom * place
@@ -87,13 +87,13 @@ module _ (names : List (List ℕ)) (operator depth : ℕ) (items : List ℕ) (at
   -- A part is to be printed next: it is there, and what printing it makes of the run.
   pub record Awaits (out : List ℕ) (place byte owed : ℕ) : Type 0 where
     pub there : Some (takePart operator (takeWithin depth) (drop place items))
-    pub gives : (new : List ℕ) (r : Reached) → Prints names items (partBase operator items place) byte signRoom (takePart operator (takeWithin depth) (drop place items)) (partPieces operator) out new r
+    pub gives : (new : List ℕ) (r : Reached) → Prints names items (partBase operator items place) byte signRoom (takePart operator (takeWithin depth) (drop place items)) (partPieces brief operator) out new r
         → Left new (r .item) (r .byte) owed
     pub inside : place ≤ length items
     pub low : byte + itemRoom * base ≤ pen + itemRoom * partBase operator items place
     pub long : length out ≡ length old
 
-  module _ (l : Run depth operator) (j : Joined names operator) where
+  module _ (l : Run depth operator) (j : Joined brief names operator) where
     module _ (s : Some (takeRun operator (takeWithin depth) (drop at items))) where
       -- The first part.
       awaits-first : (count : ℕ) → count ≡ leading operator (drop at items) → base ≡ partBase operator items (at + count) → at + count ≤ length items → Awaits old (at + count) pen count
@@ -130,10 +130,10 @@ module _ (names : List (List ℕ)) (operator depth : ℕ) (items : List ℕ) (at
                   puts = puts-as (j .text-join (left .so-far) (w .what)) (puts-both (puts-both (left .puts) p) (w .puts));
                   onward = omega (arith, left .onward, w .onward, j .ahead items place);
                   inside = w .inside;
-                  low = omega (arith, left .low, w .low, p .moved, j .brief, j .ahead items place);
+                  low = omega (arith, left .low, w .low, p .moved, j .few, j .ahead items place);
                 };
             inside = left .inside;
-            low = omega (arith, left .low, p .moved, j .brief, j .ahead items place);
+            low = omega (arith, left .low, p .moved, j .few, j .ahead items place);
             long = puts-long p ∙ puts-long (left .puts);
           }
         where
@@ -145,7 +145,7 @@ module _ (names : List (List ℕ)) (operator depth : ℕ) (items : List ℕ) (at
 
     -- No part is owed.
     left-done : (out : List ℕ) (r : Reached) (owed : ℕ) → owed ≤ 0 → Left out (r .item) (r .byte) owed
-        → Prints names items base pen signRoom (takeRun operator (takeWithin depth) (drop at items)) (runPieces operator) old out r
+        → Prints names items base pen signRoom (takeRun operator (takeWithin depth) (drop at items)) (runPieces brief operator) old out r
     left-done out r zero z left =
         record {
           what = left .so-far;
@@ -159,25 +159,25 @@ module _ (names : List (List ℕ)) (operator depth : ℕ) (items : List ℕ) (at
 
 -- Printing an expression that begins at `at`: an operand of `and` is to be printed next, in a term that an `or` awaits.
 -- The term began at `since` in the items and at `begun` in the text, where `mid` had been written.
-module _ (names : List (List ℕ)) (depth : ℕ) (items : List ℕ) (at pen : ℕ) (old : List ℕ) where
+module _ (brief : Bool) (names : List (List ℕ)) (depth : ℕ) (items : List ℕ) (at pen : ℕ) (old : List ℕ) where
   pub record Turn (out : List ℕ) (place byte ands ors : ℕ) : Type 0 where
     pub since : ℕ
     pub begun : ℕ
     pub mid : List ℕ
-    pub outer : Awaits names orItem depth items at (at + operators (drop at items)) pen old mid since begun ors
-    pub inner : Awaits names andItem depth items since (since + leading andItem (drop since items)) begun mid out place byte ands
+    pub outer : Awaits brief names orItem depth items at (at + operators (drop at items)) pen old mid since begun ors
+    pub inner : Awaits brief names andItem depth items since (since + leading andItem (drop since items)) begun mid out place byte ands
     pub past : at + operators (drop at items) ≤ place
 
   ands-first : (since begun : ℕ) (mid : List ℕ) → Some (takeTerm (takeWithin depth) (drop since items)) → (count : ℕ) → count ≡ leading andItem (drop since items) → since + count ≤ length items
-      → Awaits names andItem depth items since (since + leading andItem (drop since items)) begun mid mid (since + count) begun count
+      → Awaits brief names andItem depth items since (since + leading andItem (drop since items)) begun mid mid (since + count) begun count
   ands-first since begun mid s count e inside =
-      awaits-first names andItem depth items since (since + leading andItem (drop since items)) begun mid (ands-laws depth) (ands-text names) s count e (omega (arith, e)) inside
+      awaits-first brief names andItem depth items since (since + leading andItem (drop since items)) begun mid (ands-laws depth) (ands-text brief names) s count e (omega (arith, e)) inside
 
   pub turn-start : Some (takeExpr (takeWithin depth) (drop at items)) → (ors ands : ℕ) → ors ≡ leading orItem (drop at items) → ands ≡ leading andItem (drop (at + ors) items) → at + ors ≤ length items
       → at + ors + ands ≤ length items → Turn old (at + ors + ands) pen ands ors
   turn-start s ors ands o a lo la =
       let first : at + operators (drop at items) ≡ at + ors + leading andItem (drop (at + ors) items) = omega (arith, operators-run items at ors ands o a, a) in
-      let outer = awaits-first names orItem depth items at (at + operators (drop at items)) pen old (ors-laws depth) (ors-text names) s ors o first lo in
+      let outer = awaits-first brief names orItem depth items at (at + operators (drop at items)) pen old (ors-laws depth) (ors-text brief names) s ors o first lo in
       record {
         since = at + ors;
         begun = pen;
@@ -187,7 +187,7 @@ module _ (names : List (List ℕ)) (depth : ℕ) (items : List ℕ) (at pen : �
         past = omega (arith, operators-run items at ors ands o a);
       }
 
-module _ {names : List (List ℕ)} {depth : ℕ} {items : List ℕ} {at pen : ℕ} {old out : List ℕ} {place byte ands ors : ℕ} (t : Turn names depth items at pen old out place byte ands ors) where
+module _ {brief : Bool} {names : List (List ℕ)} {depth : ℕ} {items : List ℕ} {at pen : ℕ} {old out : List ℕ} {place byte ands ors : ℕ} (t : Turn brief names depth items at pen old out place byte ands ors) where
   pub turn-low : byte + itemRoom * (at + operators (drop at items)) ≤ pen + itemRoom * place
   turn-low = omega (arith, t .outer .low, t .inner .low)
 
@@ -195,15 +195,15 @@ module _ {names : List (List ℕ)} {depth : ℕ} {items : List ℕ} {at pen : �
   turn-long = t .inner .long ∙ t .outer .long
 
   -- The operand is printed.
-  module _ {new : List ℕ} {r : Reached} (w : Prints names items place byte signRoom (takeOperand (takeWithin depth) (drop place items)) operandPieces out new r) where
+  module _ {new : List ℕ} {r : Reached} (w : Prints names items place byte signRoom (takeOperand (takeWithin depth) (drop place items)) (operandPieces brief) out new r) where
     pub turn-onward : place < r .item
     turn-onward = omega (arith, w .low, w .puts .moved)
 
-    operands : Left names andItem depth items (t .since) (t .since + leading andItem (drop (t .since) items)) (t .begun) (t .mid) new (r .item) (r .byte) ands
+    operands : Left brief names andItem depth items (t .since) (t .since + leading andItem (drop (t .since) items)) (t .begun) (t .mid) new (r .item) (r .byte) ands
     operands = t .inner .gives new r w
 
     -- It is not its term's last.
-    pub turn-and : {last : List ℕ} {ready : ℕ} → 0 < ands → Puts (ascii " and ") (r .byte) new last ready → Turn names depth items at pen old last (r .item) ready (ands - 1) ors
+    pub turn-and : {last : List ℕ} {ready : ℕ} → 0 < ands → Puts (ascii " and ") (r .byte) new last ready → Turn brief names depth items at pen old last (r .item) ready (ands - 1) ors
     turn-and {last} {ready} z p =
         record {
           since = t .since;
@@ -211,28 +211,28 @@ module _ {names : List (List ℕ)} {depth : ℕ} {items : List ℕ} {at pen : �
           mid = t .mid;
           outer = t .outer;
           inner =
-              awaits-next names andItem depth items (t .since) (t .since + leading andItem (drop (t .since) items)) (t .begun) (t .mid) (ands-laws depth) (ands-text names) (t .outer .there)
+              awaits-next brief names andItem depth items (t .since) (t .since + leading andItem (drop (t .since) items)) (t .begun) (t .mid) (ands-laws depth) (ands-text brief names) (t .outer .there)
               new last (r .item) (r .byte) ready ands z operands p;
           past = omega (arith, t .past, w .onward);
         }
 
     -- The term is printed.
     module _ (z : ands ≤ 0) where
-      terms : Left names orItem depth items at (at + operators (drop at items)) pen old new (r .item) (r .byte) ors
-      terms = t .outer .gives new r (left-done names andItem depth items (t .since) (t .since + leading andItem (drop (t .since) items)) (t .begun) (t .mid) (ands-laws depth) (ands-text names) new r ands z operands)
+      terms : Left brief names orItem depth items at (at + operators (drop at items)) pen old new (r .item) (r .byte) ors
+      terms = t .outer .gives new r (left-done brief names andItem depth items (t .since) (t .since + leading andItem (drop (t .since) items)) (t .begun) (t .mid) (ands-laws depth) (ands-text brief names) new r ands z operands)
 
       pub turn-or : {last : List ℕ} {ready count : ℕ} → Some (takeExpr (takeWithin depth) (drop at items)) → 0 < ors → Puts (ascii " or ") (r .byte) new last ready
-          → count ≡ leading andItem (drop (r .item) items) → r .item + count ≤ length items → Turn names depth items at pen old last (r .item + count) ready count (ors - 1)
+          → count ≡ leading andItem (drop (r .item) items) → r .item + count ≤ length items → Turn brief names depth items at pen old last (r .item + count) ready count (ors - 1)
       turn-or {last} {ready} {count} s y p e inside =
-          let outer = awaits-next names orItem depth items at (at + operators (drop at items)) pen old (ors-laws depth) (ors-text names) s new last (r .item) (r .byte) ready ors y terms p in
+          let outer = awaits-next brief names orItem depth items at (at + operators (drop at items)) pen old (ors-laws depth) (ors-text brief names) s new last (r .item) (r .byte) ready ors y terms p in
           record {
             since = r .item;
             begun = ready;
             mid = last;
             outer = outer;
-            inner = ands-first names depth items at pen old (r .item) ready last (outer .there) count e inside;
+            inner = ands-first brief names depth items at pen old (r .item) ready last (outer .there) count e inside;
             past = omega (arith, t .past, w .onward);
           }
 
-      pub turn-done : ors ≤ 0 → Prints names items (at + operators (drop at items)) pen signRoom (takeExpr (takeWithin depth) (drop at items)) exprPieces old new r
-      turn-done y = left-done names orItem depth items at (at + operators (drop at items)) pen old (ors-laws depth) (ors-text names) new r ors y terms
+      pub turn-done : ors ≤ 0 → Prints names items (at + operators (drop at items)) pen signRoom (takeExpr (takeWithin depth) (drop at items)) (exprPieces brief) old new r
+      turn-done y = left-done brief names orItem depth items at (at + operators (drop at items)) pen old (ors-laws depth) (ors-text brief names) new r ors y terms

@@ -2,6 +2,7 @@
 use Prim.Native.Nat.{ℕ, zero, suc, _+_, _-_, _≤_, _<_}
 use native.Mathlib.Omega.{arith}
 use mathlib.Core.Path.{_≡_, refl, sym, _∙_, ap, subst}
+use mathlib.Core.Bool.{Bool}
 use mathlib.Core.List.{List, [], _∷_, _++_, append-assoc}
 use mathlib.Core.Logic.{⊎-elim}
 use mathlib.Core.Option.{none, some}
@@ -25,7 +26,7 @@ use Rattle.pen.proofs.Putting.{puts-both, puts-as}
 use Rattle.print.specs.declared.Reached.{Reached}
 use Rattle.print.specs.Writing.{operandPieces, Some, Prints, signRoom}
 use Rattle.print.proofs.Chains.{text-append}
-use Rattle.print.proofs.Rows.{within}
+use Rattle.print.proofs.Skipping.{within}
 
 -- An operand begins with an item.
 pub operand-there : (depth : ℕ) (items : List ℕ) (at : ℕ) → Some (takeOperand (takeWithin depth) (drop at items)) → at < length items
@@ -55,12 +56,12 @@ module _ (depth : ℕ) (items : List ℕ) (at : ℕ) (l : at < length items) whe
           none-some (sym (ap (takeOperand (takeWithin depth)) (at-place items at l) ∙ operand-bare (takeWithin depth) (getD items at 0) (drop (at + 1) items) e) ∙ s .taken-whole)
       read (suc n) e s = ap (takeOperand (takeWithin depth)) (at-place items at l) ∙ operand-path (takeWithin depth) (getD items at 0) (suc n) (drop (at + 1) items) e (omega arith)
 
-  pub path-prints : (names : List (List ℕ)) (pen number : ℕ) (old new : List ℕ) (r : Reached) → pathAt (getD items at 0) ≡ some number → Some (takeOperand (takeWithin depth) (drop at items))
-      → Prints names items (at + 1) pen 0 (takeSteps (takeWithin depth) number (drop (at + 1) items)) relativePieces old new r
-      → Prints names items at pen signRoom (takeOperand (takeWithin depth) (drop at items)) operandPieces old new r
-  path-prints names pen zero old new r e s w =
+  pub path-prints : (brief : Bool) (names : List (List ℕ)) (pen number : ℕ) (old new : List ℕ) (r : Reached) → pathAt (getD items at 0) ≡ some number → Some (takeOperand (takeWithin depth) (drop at items))
+      → Prints names items (at + 1) pen 0 (takeSteps (takeWithin depth) number (drop (at + 1) items)) (relativePieces brief) old new r
+      → Prints names items at pen signRoom (takeOperand (takeWithin depth) (drop at items)) (operandPieces brief) old new r
+  path-prints brief names pen zero old new r e s w =
       none-some (sym (ap (takeOperand (takeWithin depth)) (at-place items at l) ∙ operand-bare (takeWithin depth) (getD items at 0) (drop (at + 1) items) e) ∙ s .taken-whole)
-  path-prints names pen (suc n) old new r e s w =
+  path-prints brief names pen (suc n) old new r e s w =
       record {
         what = path (w .what);
         reads = rw (at-place items at l, operand-path (takeWithin depth) (getD items at 0) (suc n) (drop (at + 1) items) e (omega arith), w .reads);
@@ -130,21 +131,21 @@ module _ (items : List ℕ) (at depth : ℕ) (s : Some (takeOperand (takeWithin 
       (λ d t. some-same (operand-same items at d there o) t)
       depth (joined-deep o) s
 
-  module _ (names : List (List ℕ)) (pen opened : ℕ) (old mid new last : List ℕ) (inner r : Reached) where
+  module _ (brief : Bool) (names : List (List ℕ)) (pen opened : ℕ) (old mid new last : List ℕ) (inner r : Reached) where
     pub not-prints : getD items at 0 ≡ notItem → Puts (ascii "not(") pen old mid opened
-        → Prints names items (at + 1 + operators (drop (at + 1) items)) opened signRoom (takeExpr (takeWithin (depth - 1)) (drop (at + 1) items)) exprPieces mid new inner
+        → Prints names items (at + 1 + operators (drop (at + 1) items)) opened signRoom (takeExpr (takeWithin (depth - 1)) (drop (at + 1) items)) (exprPieces brief) mid new inner
         → Puts (41 ∷ []) (inner .byte) new last (r .byte) → r .item ≡ inner .item
-        → Prints names items at pen signRoom (takeOperand (takeWithin depth) (drop at items)) operandPieces old last r
+        → Prints names items at pen signRoom (takeOperand (takeWithin depth) (drop at items)) (operandPieces brief) old last r
     not-prints e p w q i =
         deeper
         (λ less d.
-        Prints names items (at + 1 + operators (drop (at + 1) items)) opened signRoom (takeExpr (takeWithin less) (drop (at + 1) items)) exprPieces mid new inner
-        → Prints names items at pen signRoom (takeOperand (takeWithin d) (drop at items)) operandPieces old last r)
+        Prints names items (at + 1 + operators (drop (at + 1) items)) opened signRoom (takeExpr (takeWithin less) (drop (at + 1) items)) (exprPieces brief) mid new inner
+        → Prints names items at pen signRoom (takeOperand (takeWithin d) (drop at items)) (operandPieces brief) old last r)
         (λ d v.
         record {
           what = negated (v .what);
           reads = rw (at-place items at there, e, operand-denied (takeWithin (suc d)) (drop (at + 1) items), v .reads, i);
-          puts = puts-as (close-text names (exprPieces (v .what)) (ascii "not(")) (puts-both (puts-both p (v .puts)) q);
+          puts = puts-as (close-text names (exprPieces brief (v .what)) (ascii "not(")) (puts-both (puts-both p (v .puts)) q);
           onward = omega (arith, v .onward);
           inside = omega (arith, v .inside);
           low = omega (arith, v .low, p .moved, q .moved);
@@ -152,23 +153,23 @@ module _ (items : List ℕ) (at depth : ℕ) (s : Some (takeOperand (takeWithin 
         depth (not-deep e) w
 
     pub joined-prints : Operator (getD items at 0) → Puts (40 ∷ []) pen old mid opened
-        → Prints names items (at + operators (drop at items)) opened signRoom (takeExpr (takeWithin (depth - 1)) (drop at items)) exprPieces mid new inner
+        → Prints names items (at + operators (drop at items)) opened signRoom (takeExpr (takeWithin (depth - 1)) (drop at items)) (exprPieces brief) mid new inner
         → Puts (41 ∷ []) (inner .byte) new last (r .byte) → r .item ≡ inner .item
-        → Prints names items at pen signRoom (takeOperand (takeWithin depth) (drop at items)) operandPieces old last r
+        → Prints names items at pen signRoom (takeOperand (takeWithin depth) (drop at items)) (operandPieces brief) old last r
     joined-prints o p w q i =
         deeper
         (λ less d.
-        Prints names items (at + operators (drop at items)) opened signRoom (takeExpr (takeWithin less) (drop at items)) exprPieces mid new inner
-        → Prints names items at pen signRoom (takeOperand (takeWithin d) (drop at items)) operandPieces old last r)
+        Prints names items (at + operators (drop at items)) opened signRoom (takeExpr (takeWithin less) (drop at items)) (exprPieces brief) mid new inner
+        → Prints names items at pen signRoom (takeOperand (takeWithin d) (drop at items)) (operandPieces brief) old last r)
         (λ d v.
         let read : takeOperand (takeWithin (suc d)) (drop at items) ≡ some (v .what, drop (r .item) items) =
         operand-same items at d there o ∙ v .reads ∙ ap (λ (k : ℕ). some (v .what, drop k items)) (sym i) in
-        let grouped-so : operandPieces (v .what) ≡ openGroup ∷ exprPieces (v .what) ++ (closeRound ∷ []) =
+        let grouped-so : operandPieces brief (v .what) ≡ openGroup ∷ exprPieces brief (v .what) ++ (closeRound ∷ []) =
         rw (in-bracket (getD items at 0) o (v .what) (joined-there items at d there o (v .what) (r .item) read)) in
         record {
           what = v .what;
           reads = read;
-          puts = puts-as (close-text names (exprPieces (v .what)) (ascii "(") ∙ ap (textOf names) (sym grouped-so)) (puts-both (puts-both p (v .puts)) q);
+          puts = puts-as (close-text names (exprPieces brief (v .what)) (ascii "(") ∙ ap (textOf names) (sym grouped-so)) (puts-both (puts-both p (v .puts)) q);
           onward = omega (arith, v .onward);
           inside = omega (arith, v .inside);
           low = omega (arith, v .low, p .moved, q .moved, operators-there items at d there o);

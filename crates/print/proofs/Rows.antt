@@ -1,28 +1,25 @@
 -- Printing steps and predicates in a row: what is printed so far, with the text of what is left, is the text of the whole. Assumes nothing.
 use Prim.Native.Nat.{ℕ, zero, suc, _+_, _-_, _*_, _≤_, _<_}
 use native.Mathlib.Omega.{arith}
-use native.Mathlib.Numerals.{add-one}
-use mathlib.Core.Path.{_≡_, refl, sym, _∙_, ap}
+use mathlib.Core.Path.{_≡_, refl, sym, _∙_, ap, subst}
 use mathlib.Core.Bool.{Bool, true, false, cond}
-use mathlib.Core.Logic.{_⊎_, inl, inr, ⊎-elim}
 use mathlib.Core.List.{List, [], _∷_, _++_, append-assoc, append-nil}
 use mathlib.Core.Option.{some}
 use lib.Dec.{ltb}
-use lib.ListN.{length, getD, drop, drop-of-length-le}
-use lib.Seq.{drop-cons}
-use borrow.Author.Tests.{ltb-true, ltb-false, lt-ltb}
+use lib.ListN.{length, getD, drop}
 use Rattle.paper.specs.Tools.{ascii}
-use Rattle.paper.specs.Query.{Axis, Test, Expr, Steps, stop, step, Preds, pred}
-use Rattle.paper.specs.Items.{Head, stepAt, Taken, takePreds, takeSteps, takeExpr, takeWithin, stepCount}
-use Rattle.paper.specs.Printing.{Piece, exprPieces, relativePieces, laterPieces, predsPieces, textOf, closePred}
-use Rattle.paper.proofs.Tests.{found-some, some-inj, none-some, decide}
-use Rattle.paper.proofs.Encoding.{from-steps, from-within}
-use Rattle.pen.specs.Putting.{Puts, between, headPieces, headRoom}
+use Rattle.paper.specs.Query.{Axis, Test, Expr, Steps, step, Preds, pred}
+use Rattle.paper.specs.Items.{Head, stepAt, Taken, takePreds, takeSteps, takeExpr, takeWithin, predCount}
+use Rattle.paper.specs.Printing.{Piece, headPieces, exprPieces, relativePieces, laterPieces, predsPieces, textOf, closePred}
+use Rattle.paper.proofs.Tests.{found-some, some-inj, none-some}
+use Rattle.paper.proofs.Encoding.{from-preds, from-within}
+use Rattle.pen.specs.Putting.{Puts, between, headRoom}
 use Rattle.pen.proofs.Putting.{puts-none, puts-both, puts-as}
 use Rattle.print.specs.declared.Reached.{Reached}
 use Rattle.shape.specs.Walks.{operators}
-use Rattle.print.specs.Writing.{Some, Prints, itemRoom, signRoom}
+use Rattle.print.specs.Writing.{Some, Prints, passed, itemRoom, signRoom}
 use Rattle.print.proofs.Chains.{text-append}
+use Rattle.print.proofs.Skipping.{step-there, cons-there, Skips, skips}
 
 -- A row: `rows n` reads n of them.
 module _ {A : Type 0} (rows : ℕ → List ℕ → Taken A) (piecesOf : A → List Piece) (names : List (List ℕ)) (items : List ℕ) (at pen : ℕ) (taken : Taken A) (old : List ℕ) where
@@ -132,24 +129,13 @@ module _ (depth : ℕ) (items : List ℕ) (place : ℕ) where
           go zero w r p = none-some p
           go (suc d) w r p = let k : suc d - 1 ≡ d = omega arith in rw k at w
 
--- A number is below another or not.
-pub within : (i n : ℕ) → (i < n) ⊎ (n ≤ i)
-within i n = ⊎-elim (λ e. inl (ltb-true i n e)) (λ e. inr (ltb-false i n e)) (decide (ltb i n))
-
 -- What stands where a step is owed.
 module _ (depth : ℕ) (items : List ℕ) (place : ℕ) where
-  pub step-there : (owed : ℕ) (t : Steps × List ℕ) → 0 < owed → takeSteps (takeWithin depth) owed (drop place items) ≡ some t → place < length items
-  step-there zero t z h = absurd (omega arith)
-  step-there (suc n) t z h = ⊎-elim (λ l. l) (λ l. none-some (sym (ap (takeSteps (takeWithin depth) (suc n)) (drop-of-length-le items l)) ∙ h)) (within place (length items))
-
-  cons-there : place < length items → drop place items ≡ getD items place 0 ∷ drop (place + 1) items
-  cons-there l = drop-cons items place 0 l ∙ ap (λ (k : ℕ). getD items place 0 ∷ drop k items) (sym (add-one place))
-
   pub step-head : (owed : ℕ) (t : Steps × List ℕ) → 0 < owed → takeSteps (takeWithin depth) owed (drop place items) ≡ some t
       → (h : Head) × (stepAt (getD items place 0) ≡ some h) × Some (takePreds (takeWithin depth) (h .count) (drop (place + 1) items))
   step-head zero t z h = absurd (omega arith)
   step-head (suc n) t z h =
-      let g = rw (cons-there (step-there (suc n) t z h)) at h in
+      let g = rw (cons-there depth items place (step-there depth items place (suc n) t z h)) at h in
       found-some (stepAt (getD items place 0)) _ t g
       (λ a p q. found-some (takePreds (takeWithin depth) (a .count) (drop (place + 1) items)) _ t q (λ r u v. (a, p, record { tree = r; taken-whole = u })))
 
@@ -158,23 +144,12 @@ module _ (depth : ℕ) (items : List ℕ) (place : ℕ) where
       → (s : Steps) × (takeSteps (takeWithin depth) (owed - 1) (drop next items) ≡ some (s, t .1)) × (t .0 ≡ step (a .axis) (a .test) ps s)
   step-more zero t a ps next z h e w = absurd (omega arith)
   step-more (suc n) t a ps next z h e w =
-      let g = rw (cons-there (step-there (suc n) t z h), e, w) at h in
+      let g = rw (cons-there depth items place (step-there depth items place (suc n) t z h), e, w) at h in
       found-some (takeSteps (takeWithin depth) n (drop next items)) (λ s. some (step (a .axis) (a .test) ps (s .0), s .1)) t g
       (λ s u v.
       let k : suc n - 1 ≡ n = omega arith in
       let f : _≡_ {A = Steps × List ℕ} (step (a .axis) (a .test) ps (s .0), s .1) t = some-inj v in
       (s .0, rw k (u ∙ ap (λ x. some (s .0, x .1)) f), ap (λ x. x .0) (sym f)))
-
--- Later steps are those of a relative path after a `/`, where there are any.
-later-text : (names : List (List ℕ)) (depth n : ℕ) (ws : List ℕ) (t : Steps × List ℕ) → takeSteps (takeWithin depth) n ws ≡ some t
-    → between (ascii "/") n ++ textOf names (relativePieces (t .0)) ≡ textOf names (laterPieces (t .0))
-later-text names depth n ws t h = go (t .0) n (from-steps depth (takeWithin depth) (from-within depth) n ws t h .count)
-  where
-    go : (s : Steps) (m : ℕ) → stepCount s ≡ m → between (ascii "/") m ++ textOf names (relativePieces s) ≡ textOf names (laterPieces s)
-    go stop zero e = refl
-    go stop (suc m) e = absurd (omega arith)
-    go (step a u ps s) zero e = absurd (omega arith)
-    go (step a u ps s) (suc m) e = rw (lt-ltb 0 (suc m) (omega arith))
 
 -- What may stand between is no longer than its sign.
 pub between-brief : (sign : List ℕ) (n : ℕ) → length (between sign n) ≤ length sign
@@ -184,45 +159,64 @@ between-brief sign n = go (ltb 0 n)
     go true = omega arith
     go false = omega arith
 
--- The text of a step, its predicates and what follows.
-step-text : (names : List (List ℕ)) (a : Axis) (t : Test) (ps : Preds) (s : Steps) (bytes : List ℕ) → bytes ++ textOf names (relativePieces s) ≡ textOf names (laterPieces s)
-    → textOf names (headPieces a t) ++ textOf names (predsPieces ps) ++ bytes ++ textOf names (relativePieces s) ≡ textOf names (relativePieces (step a t ps s))
-step-text names a t ps s bytes e =
-    append-assoc (textOf names (headPieces a t) ++ textOf names (predsPieces ps)) bytes (textOf names (relativePieces s)) ∙
-    ap (λ (x : List ℕ). textOf names (headPieces a t) ++ textOf names (predsPieces ps) ++ x) e ∙
-    append-assoc (textOf names (headPieces a t)) (textOf names (predsPieces ps)) (textOf names (laterPieces s)) ∙
-    ap (λ (x : List ℕ). textOf names (headPieces a t) ++ x) (sym (text-append names (predsPieces ps) (laterPieces s))) ∙
-    sym (text-append names (headPieces a t) (predsPieces ps ++ laterPieces s))
+-- The text of a step, its predicates and what follows, with what stands before that.
+step-text : (brief : Bool) (names : List (List ℕ)) (a : Axis) (t : Test) (ps : Preds) (s : Steps) (one two tail : List ℕ) → one ++ two ++ tail ≡ textOf names (laterPieces brief s)
+    → textOf names (headPieces brief a t (predCount ps)) ++ textOf names (predsPieces brief ps) ++ one ++ two ++ tail ≡ textOf names (relativePieces brief (step a t ps s))
+step-text brief names a t ps s one two tail e =
+    let head = textOf names (headPieces brief a t (predCount ps)) in
+    let preds = textOf names (predsPieces brief ps) in
+    append-assoc (head ++ preds ++ one) two tail ∙
+    append-assoc (head ++ preds) one (two ++ tail) ∙
+    ap (λ (x : List ℕ). head ++ preds ++ x) (sym (append-assoc one two tail) ∙ e) ∙
+    append-assoc head preds (textOf names (laterPieces brief s)) ∙
+    ap (λ (x : List ℕ). head ++ x) (sym (text-append names (predsPieces brief ps) (laterPieces brief s))) ∙
+    sym (text-append names (headPieces brief a t (predCount ps)) (predsPieces brief ps ++ laterPieces brief s))
 
 -- The text of a predicate and of those after it.
-pred-text : (names : List (List ℕ)) (e : Expr) (ps : Preds) → (91 ∷ []) ++ textOf names (exprPieces e) ++ (93 ∷ []) ++ textOf names (predsPieces ps) ≡ textOf names (predsPieces (pred e ps))
-pred-text names e ps =
-    ap (λ (x : List ℕ). 91 ∷ x) (append-assoc (textOf names (exprPieces e)) (93 ∷ []) (textOf names (predsPieces ps)) ∙ sym (text-append names (exprPieces e) (closePred ∷ predsPieces ps)))
+pred-text : (brief : Bool) (names : List (List ℕ)) (e : Expr) (ps : Preds)
+    → (91 ∷ []) ++ textOf names (exprPieces brief e) ++ (93 ∷ []) ++ textOf names (predsPieces brief ps) ≡ textOf names (predsPieces brief (pred e ps))
+pred-text brief names e ps =
+    ap (λ (x : List ℕ). 91 ∷ x)
+    (append-assoc (textOf names (exprPieces brief e)) (93 ∷ []) (textOf names (predsPieces brief ps)) ∙ sym (text-append names (exprPieces brief e) (closePred ∷ predsPieces brief ps)))
 
 -- A predicate more, in its bracket.
-pub pred-turn : (names : List (List ℕ)) (depth : ℕ) (items old : List ℕ) (at pen : ℕ) (taken : Taken Preds) (out mid new last : List ℕ) (place byte owed opened byte′ : ℕ) (r : Reached)
-    → 0 < owed → Rest (takePreds (takeWithin depth)) predsPieces names items at pen taken old out place byte owed → Puts (91 ∷ []) byte out mid opened
-    → Prints names items (place + operators (drop place items)) opened signRoom (takeExpr (takeWithin (depth - 1)) (drop place items)) exprPieces mid new r → Puts (93 ∷ []) (r .byte) new last byte′
-    → Rest (takePreds (takeWithin depth)) predsPieces names items at pen taken old last (r .item) byte′ (owed - 1)
-pred-turn names depth items old at pen taken out mid new last place byte owed opened byte′ r z i p w q =
+pub pred-turn : (brief : Bool) (names : List (List ℕ)) (depth : ℕ) (items old : List ℕ) (at pen : ℕ) (taken : Taken Preds) (out mid new last : List ℕ) (place byte owed opened byte′ : ℕ) (r : Reached)
+    → 0 < owed → Rest (takePreds (takeWithin depth)) (predsPieces brief) names items at pen taken old out place byte owed → Puts (91 ∷ []) byte out mid opened
+    → Prints names items (place + operators (drop place items)) opened signRoom (takeExpr (takeWithin (depth - 1)) (drop place items)) (exprPieces brief) mid new r → Puts (93 ∷ []) (r .byte) new last byte′
+    → Rest (takePreds (takeWithin depth)) (predsPieces brief) names items at pen taken old last (r .item) byte′ (owed - 1)
+pred-turn brief names depth items old at pen taken out mid new last place byte owed opened byte′ r z i p w q =
     let m = pred-more depth items place owed (i .rest, i .left) (w .what) (r .item) z (i .takes) (w .reads) in
-    rest-more (takePreds (takeWithin depth)) predsPieces names items at pen taken old out last ((91 ∷ []) ++ textOf names (exprPieces (w .what)) ++ (93 ∷ [])) place byte owed (r .item) byte′ (owed - 1)
-    (m .0) i (m .1) (pred-text names (w .what) (m .0) ∙ ap (λ x. textOf names (predsPieces x)) (sym (m .2))) (puts-both (puts-both p (w .puts)) q) (omega (arith, w .onward)) (w .inside)
+    rest-more (takePreds (takeWithin depth)) (predsPieces brief) names items at pen taken old out last ((91 ∷ []) ++ textOf names (exprPieces brief (w .what)) ++ (93 ∷ [])) place byte owed (r .item) byte′ (owed - 1)
+    (m .0) i (m .1) (pred-text brief names (w .what) (m .0) ∙ ap (λ x. textOf names (predsPieces brief x)) (sym (m .2))) (puts-both (puts-both p (w .puts)) q) (omega (arith, w .onward)) (w .inside)
     (omega (arith, w .low, p .moved, q .moved))
 
--- A step more, and a `/` where another follows.
-pub step-turn : (names : List (List ℕ)) (depth : ℕ) (items old : List ℕ) (at pen : ℕ) (taken : Taken Steps) (out mid new last : List ℕ) (place byte owed headed byte′ : ℕ) (h : Head) (r : Reached)
-    → 0 < owed → Rest (takeSteps (takeWithin depth)) relativePieces names items at pen taken old out place byte owed → stepAt (getD items place 0) ≡ some h
-    → Puts (textOf names (headPieces (h .axis) (h .test))) byte out mid headed → headed ≤ byte + headRoom
-    → Prints names items (place + 1) headed 0 (takePreds (takeWithin depth) (h .count) (drop (place + 1) items)) predsPieces mid new r
-    → Puts (between (ascii "/") (owed - 1)) (r .byte) new last byte′
-    → Rest (takeSteps (takeWithin depth)) relativePieces names items at pen taken old last (r .item) byte′ (owed - 1)
-step-turn names depth items old at pen taken out mid new last place byte owed headed byte′ h r z i e p b v q =
+-- A step more, and before the next one its `/`, or `//` for it.
+pub step-turn : (brief : Bool) (names : List (List ℕ)) (depth : ℕ) (items old : List ℕ) (at pen : ℕ) (taken : Taken Steps) (out mid new parts last : List ℕ) (place byte owed headed parted skip byte′ : ℕ) (h : Head) (r : Reached)
+    → 0 < owed → Rest (takeSteps (takeWithin depth)) (relativePieces brief) names items at pen taken old out place byte owed → stepAt (getD items place 0) ≡ some h
+    → Puts (textOf names (headPieces brief (h .axis) (h .test) (h .count))) byte out mid headed → headed ≤ byte + headRoom
+    → Prints names items (place + 1) headed 0 (takePreds (takeWithin depth) (h .count) (drop (place + 1) items)) (predsPieces brief) mid new r
+    → Puts (between (ascii "/") (owed - 1)) (r .byte) new parts parted → skip ≡ passed brief items (r .item) (owed - 1) → Puts (between (ascii "/") skip) parted parts last byte′
+    → Rest (takeSteps (takeWithin depth)) (relativePieces brief) names items at pen taken old last (r .item + skip) byte′ (owed - 1 - skip)
+step-turn brief names depth items old at pen taken out mid new parts last place byte owed headed parted skip byte′ h r z i e p b v q k q′ =
     let m = step-more depth items place owed (i .rest, i .left) h (v .what) (r .item) z (i .takes) e (v .reads) in
-    let slash = between (ascii "/") (owed - 1) in
-    let later = later-text names depth (owed - 1) (drop (r .item) items) (m .0, i .left) (m .1) in
-    rest-more (takeSteps (takeWithin depth)) relativePieces names items at pen taken old out last
-    (textOf names (headPieces (h .axis) (h .test)) ++ textOf names (predsPieces (v .what)) ++ slash) place byte owed (r .item) byte′ (owed - 1)
-    (m .0) i (m .1) (step-text names (h .axis) (h .test) (v .what) (m .0) slash later ∙ ap (λ x. textOf names (relativePieces x)) (sym (m .2)))
-    (puts-both (puts-both p (v .puts)) q) (omega (arith, v .onward)) (v .inside)
-    (omega (arith, v .low, q .moved, between-brief (ascii "/") (owed - 1)))
+    let one = between (ascii "/") (owed - 1) in
+    let two = between (ascii "/") skip in
+    let s = subst (Skips depth items (r .item) brief names (owed - 1) (m .0) (i .left)) (sym k) (skips depth items (r .item) brief names (owed - 1) (m .0) (i .left) (v .inside) (m .1)) in
+    let few = from-preds depth (takeWithin depth) (from-within depth) (h .count) (drop (place + 1) items) (v .what, drop (r .item) items) (v .reads) .count in
+    let head : Puts (textOf names (headPieces brief (h .axis) (h .test) (predCount (v .what)))) byte out mid headed = rw few p in
+    rest-more (takeSteps (takeWithin depth)) (relativePieces brief) names items at pen taken old out last
+    (textOf names (headPieces brief (h .axis) (h .test) (predCount (v .what))) ++ textOf names (predsPieces brief (v .what)) ++ one ++ two) place byte owed (r .item + skip) byte′ (owed - 1 - skip)
+    (s .rest) i (s .takes)
+    (step-text brief names (h .axis) (h .test) (v .what) (m .0) one two (textOf names (relativePieces brief (s .rest))) (s .text) ∙ ap (λ x. textOf names (relativePieces brief x)) (sym (m .2)))
+    (puts-both (puts-both (puts-both head (v .puts)) q) q′) (omega (arith, v .onward)) (s .inside)
+    (omega (arith, v .low, q .moved, q′ .moved, between-brief (ascii "/") (owed - 1), between-brief (ascii "/") skip))
+
+-- Of the steps that are left after one, no more are skipped than there are.
+pub skip-few : (brief : Bool) (depth : ℕ) (items : List ℕ) (place owed next skip : ℕ) (rest : Steps) (left : List ℕ) (h : Head) (ps : Preds)
+    → 0 < owed → takeSteps (takeWithin depth) owed (drop place items) ≡ some (rest, left) → stepAt (getD items place 0) ≡ some h
+    → takePreds (takeWithin depth) (h .count) (drop (place + 1) items) ≡ some (ps, drop next items) → next ≤ length items → skip ≡ passed brief items next (owed - 1)
+    → (skip ≤ owed - 1) × (next + skip ≤ length items) × (skip ≤ 1)
+skip-few brief depth items place owed next skip rest left h ps z t e v l k =
+    let m = step-more depth items place owed (rest, left) h ps next z t e v in
+    let s = skips depth items next brief [] (owed - 1) (m .0) left l (m .1) in
+    (omega (arith, k, s .few), omega (arith, k, s .inside), omega (arith, k, s .alone))

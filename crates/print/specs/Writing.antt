@@ -1,27 +1,36 @@
 -- What printing asks and promises: the items are those of a query whose names the list has, and the text of what is taken from them is put.
-use Prim.Native.Nat.{ℕ, _+_, _*_, _≤_}
+use Prim.Native.Nat.{ℕ, _+_, _-_, _*_, _≤_}
 use mathlib.Core.Path.{_≡_}
-use mathlib.Core.Bool.{false, _||_}
+use mathlib.Core.Bool.{Bool, false, _||_, cond}
 use mathlib.Core.List.{List}
-use mathlib.Core.Option.{some}
+use mathlib.Core.Option.{Option, none, some}
 use lib.ListN.{length, getD, drop}
 use Rattle.paper.specs.Limits.{listLimit, itemLimit}
 use Rattle.paper.specs.Query.{Expr}
 use Rattle.paper.specs.Query.{Query as Queried}
-use Rattle.paper.specs.Items.{stepAt, Taken, decode}
+use Rattle.paper.specs.Items.{Head, stepAt, Taken, decode}
 use Rattle.paper.specs.Measures.{isOr, isAnd}
-use Rattle.paper.specs.Printing.{Piece, grouped, exprPieces, textOf}
+use Rattle.paper.specs.Printing.{Piece, grouped, deepened, exprPieces, textOf}
 use Rattle.paper.specs.Answers.{unknownItem}
 use Rattle.names.specs.Listing.{Indexed}
 use Rattle.pen.specs.Putting.{Puts}
 use Rattle.print.specs.declared.Reached.{Reached}
 
 -- An expression as a term of `or` and as an operand of `and`: with the bracket that it gets there.
-abbrev pub termPieces : Expr → List Piece
-termPieces e = grouped (isOr e) (exprPieces e)
+abbrev pub termPieces : Bool → Expr → List Piece
+termPieces brief e = grouped (isOr e) (exprPieces brief e)
 
-abbrev pub operandPieces : Expr → List Piece
-operandPieces e = grouped (isOr e || isAnd e) (exprPieces e)
+abbrev pub operandPieces : Bool → Expr → List Piece
+operandPieces brief e = grouped (isOr e || isAnd e) (exprPieces brief e)
+
+-- Does `//` stand for the step of an item, where so many are left from it on?
+abbrev pub deepHead : Bool → ℕ → Option Head → Bool
+deepHead brief left none = false
+deepHead brief left (some h) = deepened brief (h .axis) (h .test) (h .count) (left - 1)
+
+-- For how many of so many steps from here on, one or none?
+abbrev pub passed : Bool → List ℕ → ℕ → ℕ → ℕ
+passed brief items at left = cond (deepHead brief left (stepAt (getD items at 0))) 1 0
 
 -- The list is indexed and no longer than it may be, and has a name for each that the items have.
 pub record Names (list starts : List ℕ) (count : ℕ) (items : List ℕ) : Type 0 where

@@ -1,4 +1,5 @@
-// The text of a query. The same functions count its bytes, with no room, and write them, with room enough: what does not fit is only counted.
+// The text of a query, in the long form or in the short one, by the same functions.
+// They count its bytes, with no room, and write them, with room enough: what does not fit is only counted.
 // Path, step and expression call each other; each round of calls opens a bracket, so there is at most one more than brackets may be open.
 use item::Item;
 use names::Listed;
@@ -12,12 +13,12 @@ ghost use Rattle.paper.specs.Tools.{ascii, when};
 ghost use Rattle.paper.specs.Limits.{namesLimit};
 ghost use Rattle.paper.specs.Names.{namesOf};
 ghost use Rattle.paper.specs.Items.{stepAt, takePreds, takeSteps, takeOperand, takeExpr, takeWithin, decode};
-ghost use Rattle.paper.specs.Printing.{exprPieces, relativePieces, predsPieces};
+ghost use Rattle.paper.specs.Printing.{longForm, shortForm, exprPieces, relativePieces, predsPieces};
 ghost use Rattle.paper.specs.Answers.{unknownItem, unknownFrom, printAnswer, textGot, printOut};
 ghost use Rattle.paper.specs.Told.{told};
 ghost use Rattle.shape.specs.Walks.{operators};
 ghost use Rattle.pen.specs.Putting.{Puts};
-ghost use Rattle.print.specs.Writing.{operandPieces, Names, Some, Prints, Query, itemRoom, signRoom};
+ghost use Rattle.print.specs.Writing.{operandPieces, Names, Some, Prints, Query, passed, itemRoom, signRoom};
 
 // How far printing has come: the next item, and the place of the next byte.
 struct Reached {
@@ -49,18 +50,19 @@ fn expression(
     at: usize,
     pen: usize,
     depth: usize,
+    brief: bool,
 ) -> Reached
     requires { ⌜ Names (now list) (now starts) count (now items) ⌝ }
     requires { ⌜ (at ≤ length (now items)) × (pen + itemRoom * length (now items) ≤ 2 ^ 38 + itemRoom * (at + operators (drop at (now items)))) ⌝ }
     requires { ⌜ Some (takeExpr (takeWithin depth) (drop at (now items))) ⌝ }
-    ensures { λ r. ⌜ Prints (namesOf (now (list .entry))) (now (items .entry)) (at + operators (drop at (now (items .entry)))) pen signRoom (takeExpr (takeWithin depth) (drop at (now (items .entry)))) exprPieces (now (out .entry)) (now (out .exit)) r ⌝ }
+    ensures { λ r. ⌜ Prints (namesOf (now (list .entry))) (now (items .entry)) (at + operators (drop at (now (items .entry)))) pen signRoom (takeExpr (takeWithin depth) (drop at (now (items .entry)))) (exprPieces brief) (now (out .entry)) (now (out .exit)) r ⌝ }
 {
     let mut ors = shape::run_of(items, at, item::OR);
     let mut ands = shape::run_of(items, at + ors, item::AND);
     let mut place = at + ors + ands;
     let mut byte = pen;
     loop {
-        let one = operand(items, list, starts, count, out, place, byte, depth);
+        let one = operand(items, list, starts, count, out, place, byte, depth, brief);
         place = one.item;
         if 0 < ands {
             byte = pen::put_and(out, one.byte);
@@ -87,27 +89,77 @@ fn operand(
     at: usize,
     pen: usize,
     depth: usize,
+    brief: bool,
 ) -> Reached
     requires { ⌜ Names (now list) (now starts) count (now items) ⌝ }
     requires { ⌜ (at ≤ length (now items)) × (pen + itemRoom * length (now items) ≤ 2 ^ 38 + itemRoom * at) ⌝ }
     requires { ⌜ Some (takeOperand (takeWithin depth) (drop at (now items))) ⌝ }
-    ensures { λ r. ⌜ Prints (namesOf (now (list .entry))) (now (items .entry)) at pen signRoom (takeOperand (takeWithin depth) (drop at (now (items .entry)))) operandPieces (now (out .entry)) (now (out .exit)) r ⌝ }
+    ensures { λ r. ⌜ Prints (namesOf (now (list .entry))) (now (items .entry)) at pen signRoom (takeOperand (takeWithin depth) (drop at (now (items .entry)))) (operandPieces brief) (now (out .entry)) (now (out .exit)) r ⌝ }
 {
     let item = item::unpack(items[at]);
     if let Item::Path(number) = item {
-        return steps(items, list, starts, count, out, at + 1, pen, number, depth);
+        return steps(
+            items,
+            list,
+            starts,
+            count,
+            out,
+            at + 1,
+            pen,
+            number,
+            depth,
+            brief,
+        );
     }
     if let Item::Not = item {
         let opened = pen::put_not(out, pen);
-        let denied = expression(items, list, starts, count, out, at + 1, opened, depth - 1);
+        let denied = expression(
+            items,
+            list,
+            starts,
+            count,
+            out,
+            at + 1,
+            opened,
+            depth - 1,
+            brief,
+        );
         return closed(out, denied);
     }
     let opened = pen::put_open(out, pen);
-    let inner = expression(items, list, starts, count, out, at, opened, depth - 1);
+    let inner = expression(
+        items,
+        list,
+        starts,
+        count,
+        out,
+        at,
+        opened,
+        depth - 1,
+        brief,
+    );
     closed(out, inner)
 }
 
-// Prints so many steps of a path, with `/` between them.
+// How many of so many steps from here on `//` stands for, one or none.
+fn deep(items: &[u32], at: usize, left: usize, brief: bool) -> usize
+    ensures { λ r. ⌜ r ≡ passed brief (now (items .entry)) at left ⌝ }
+{
+    let asked = brief & (1 < left) & (at < items.len());
+    if !asked {
+        return 0;
+    }
+    let item = item::unpack(items[at]);
+    let Item::Step(step) = item else {
+        return 0;
+    };
+    let found = (step.axis == item::DESCENDANT_OR_SELF)
+        & (step.test == item::ANY_NODE)
+        & (step.count == 0);
+    if found { 1 } else { 0 }
+}
+
+// Prints so many steps of a path, with `/` between them, or `//` for a step.
 fn steps(
     items: &[u32],
     list: &[u8],
@@ -118,11 +170,12 @@ fn steps(
     pen: usize,
     number: usize,
     depth: usize,
+    brief: bool,
 ) -> Reached
     requires { ⌜ Names (now list) (now starts) count (now items) ⌝ }
     requires { ⌜ (at ≤ length (now items)) × (pen + itemRoom * length (now items) ≤ 2 ^ 38 + itemRoom * at) ⌝ }
     requires { ⌜ Some (takeSteps (takeWithin depth) number (drop at (now items))) ⌝ }
-    ensures { λ r. ⌜ Prints (namesOf (now (list .entry))) (now (items .entry)) at pen 0 (takeSteps (takeWithin depth) number (drop at (now (items .entry)))) relativePieces (now (out .entry)) (now (out .exit)) r ⌝ }
+    ensures { λ r. ⌜ Prints (namesOf (now (list .entry))) (now (items .entry)) at pen 0 (takeSteps (takeWithin depth) number (drop at (now (items .entry)))) (relativePieces brief) (now (out .entry)) (now (out .exit)) r ⌝ }
 {
     let mut place = at;
     let mut byte = pen;
@@ -132,7 +185,17 @@ fn steps(
         let Item::Step(step) = item else {
             return Reached { item: place, byte };
         };
-        let headed = pen::put_head(list, starts, count, out, byte, step.axis, step.test);
+        let headed = pen::put_head(
+            list,
+            starts,
+            count,
+            out,
+            byte,
+            step.axis,
+            step.test,
+            step.count,
+            brief,
+        );
         let more = predicates(
             items,
             list,
@@ -143,10 +206,15 @@ fn steps(
             headed,
             step.count,
             depth,
+            brief,
         );
         place = more.item;
         owed -= 1;
-        byte = pen::put_slash(out, more.byte, owed);
+        let parted = pen::put_slash(out, more.byte, owed);
+        let skipped = deep(items, place, owed, brief);
+        byte = pen::put_slash(out, parted, skipped);
+        place += skipped;
+        owed -= skipped;
     }
     Reached { item: place, byte }
 }
@@ -162,18 +230,29 @@ fn predicates(
     pen: usize,
     number: usize,
     depth: usize,
+    brief: bool,
 ) -> Reached
     requires { ⌜ Names (now list) (now starts) count (now items) ⌝ }
     requires { ⌜ (at ≤ length (now items)) × (pen + itemRoom * length (now items) + signRoom ≤ 2 ^ 38 + itemRoom * at) ⌝ }
     requires { ⌜ Some (takePreds (takeWithin depth) number (drop at (now items))) ⌝ }
-    ensures { λ r. ⌜ Prints (namesOf (now (list .entry))) (now (items .entry)) at pen 0 (takePreds (takeWithin depth) number (drop at (now (items .entry)))) predsPieces (now (out .entry)) (now (out .exit)) r ⌝ }
+    ensures { λ r. ⌜ Prints (namesOf (now (list .entry))) (now (items .entry)) at pen 0 (takePreds (takeWithin depth) number (drop at (now (items .entry)))) (predsPieces brief) (now (out .entry)) (now (out .exit)) r ⌝ }
 {
     let mut place = at;
     let mut byte = pen;
     let mut owed = number;
     while 0 < owed {
         let opened = pen::put_byte(out, byte, b'[');
-        let more = expression(items, list, starts, count, out, place, opened, depth - 1);
+        let more = expression(
+            items,
+            list,
+            starts,
+            count,
+            out,
+            place,
+            opened,
+            depth - 1,
+            brief,
+        );
         place = more.item;
         byte = pen::put_byte(out, more.byte, b']');
         owed -= 1;
@@ -188,10 +267,11 @@ fn paths(
     starts: &[u16; names::STARTS],
     count: usize,
     out: &mut [u8],
+    brief: bool,
 ) -> usize
     requires { ⌜ Names (now list) (now starts) count (now items) ⌝ }
     requires { ⌜ Query (now items) ⌝ }
-    ensures { λ r. ⌜ Puts (textGot (namesOf (now (list .entry))) (decode (now (items .entry)))) 0 (now (out .entry)) (now (out .exit)) r ⌝ }
+    ensures { λ r. ⌜ Puts (textGot brief (namesOf (now (list .entry))) (decode (now (items .entry)))) 0 (now (out .entry)) (now (out .exit)) r ⌝ }
 {
     let mut place = 0;
     let mut byte = 0;
@@ -201,16 +281,19 @@ fn paths(
             return byte;
         };
         let opened = pen::put_byte(out, byte, b'/');
+        let skipped = deep(items, place + 1, number, brief);
+        let ready = pen::put_slash(out, opened, skipped);
         let more = steps(
             items,
             list,
             starts,
             count,
             out,
-            place + 1,
-            opened,
-            number,
+            place + 1 + skipped,
+            ready,
+            number - skipped,
             paper::BRACKET_LIMIT,
+            brief,
         );
         place = more.item;
         byte = pen::put_bar(out, more.byte, items.len() - place);
@@ -246,10 +329,10 @@ fn first_unknown(items: &[u32], count: usize) -> usize
     at
 }
 
-// Prints the query. Everything lent is examined and the text is counted before a byte is written.
-pub fn print(query: &[u32], list: &[u8], out: &mut [u8]) -> Answer
-    ensures { λ r. ⌜ told r ≡ printAnswer (now (query .entry)) (now (list .entry)) (length (now (out .entry))) ⌝ }
-    ensures { λ r. ⌜ now (out .exit) ≡ printOut (now (query .entry)) (now (list .entry)) (now (out .entry)) ⌝ }
+// Prints the query in either form. Everything lent is examined and the text is counted before a byte is written.
+fn print_form(query: &[u32], list: &[u8], out: &mut [u8], brief: bool) -> Answer
+    ensures { λ r. ⌜ told r ≡ printAnswer brief (now (query .entry)) (now (list .entry)) (length (now (out .entry))) ⌝ }
+    ensures { λ r. ⌜ now (out .exit) ≡ printOut brief (now (query .entry)) (now (list .entry)) (now (out .entry)) ⌝ }
 {
     if paper::ITEM_LIMIT < query.len() {
         return Answer::TooLong;
@@ -273,10 +356,26 @@ pub fn print(query: &[u32], list: &[u8], out: &mut [u8]) -> Answer
     if at < query.len() {
         return Answer::UnknownName(at);
     }
-    let needed = paths(query, list, &starts, count, &mut out[..0]);
+    let needed = paths(query, list, &starts, count, &mut out[..0], brief);
     if out.len() < needed {
         return Answer::Short(needed);
     }
-    paths(query, list, &starts, count, out);
+    paths(query, list, &starts, count, out, brief);
     Answer::Value(needed)
+}
+
+// Prints the query in the short form.
+pub fn print(query: &[u32], list: &[u8], out: &mut [u8]) -> Answer
+    ensures { λ r. ⌜ told r ≡ printAnswer shortForm (now (query .entry)) (now (list .entry)) (length (now (out .entry))) ⌝ }
+    ensures { λ r. ⌜ now (out .exit) ≡ printOut shortForm (now (query .entry)) (now (list .entry)) (now (out .entry)) ⌝ }
+{
+    print_form(query, list, out, true)
+}
+
+// Prints the query in the long form.
+pub fn print_long(query: &[u32], list: &[u8], out: &mut [u8]) -> Answer
+    ensures { λ r. ⌜ told r ≡ printAnswer longForm (now (query .entry)) (now (list .entry)) (length (now (out .entry))) ⌝ }
+    ensures { λ r. ⌜ now (out .exit) ≡ printOut longForm (now (query .entry)) (now (list .entry)) (now (out .entry)) ⌝ }
+{
+    print_form(query, list, out, false)
 }

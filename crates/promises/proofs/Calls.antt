@@ -6,12 +6,14 @@ use lib.ListN.{length, take}
 use denote.Ref.{now}
 use Rattle.paper.specs.Document.{tableOf, nodes}
 use Rattle.paper.specs.Room.{heightAnswer, pathsAnswer, scratchAnswer}
+use Rattle.paper.specs.Printing.{longForm, shortForm}
 use Rattle.paper.specs.Answers.{value, refusal, readAnswer, readOut, printAnswer, printOut, composeAnswer, composeOut, runAnswer, runMarks, extractAnswer, extractParents, extractKinds, isCutAnswer}
 use Rattle.paper.specs.Cut.{marksOf}
 use Rattle.paper.specs.Told.{told}
 use Rattle.paper.specs.declared.Answer.{Answer}
 use Rattle.paper.specs.declared.Answer.the-variants.{Value}
-use Rattle.promises.specs.Calls.{ComposeCall, RunCall, ExtractCall, Exactness, View, Secrecy, Extraction, RoundTrip, HeightCall, PathsCall, ScratchCall, scratchLent, ScratchEnough}
+use Rattle.promises.specs.Calls.{FormCall, Shorter, ComposeCall, RunCall, ExtractCall, Exactness, View, Secrecy, Extraction, RoundTrip, HeightCall, PathsCall, ScratchCall, scratchLent, ScratchEnough}
+use Rattle.theorems.proofs.Shortening.{shorter-answer}
 use Rattle.cut_theorems.proofs.Yes.{marks-are-good, extracts}
 use Rattle.promises.specs.Calls.{CutCall, YesMarks, YesExtracts, ViewIsCut}
 use Rattle.promises.specs.Entries.{Shows}
@@ -118,6 +120,14 @@ round-trip query list text old out n version answer fine p most room r =
       told-same answer (Value (length query)) (read-said ∙ ap (λ ws. readAnswer (take n ws) version list (length old)) print-left ∙ back .0),
       ap (take (length query)) (read-left ∙ ap (λ ws. readOut (take n ws) version list old) print-left) ∙ back .1,
     )
+
+-- SHORTER.
+pub shorter : Shorter
+shorter query list long short n answer l s same-room =
+    let told-long : printAnswer longForm query list (length (now (l .args .1 .1 .0))) ≡ value n = rw (l .query-lent, l .list-lent) at (sym (l .met .0)) in
+    let less = shorter-answer query list (length (now (l .args .1 .1 .0))) n told-long in
+    let told-short : told answer ≡ printAnswer shortForm query list (length (now (s .args .1 .1 .0))) = rw (s .query-lent, s .list-lent) at (s .met .0) in
+    (less .0, told-same answer (Value (less .0)) (told-short ∙ ap (printAnswer shortForm query list) same-room ∙ less .1), less .2)
 
 -- SCRATCH.
 height-value : {query : List ℕ} {n : ℕ} → HeightCall query (Value n) → heightAnswer query ≡ value n

@@ -16,6 +16,7 @@ use Rattle.paper.specs.declared.Answer.{Answer}
 use Rattle.paper.specs.declared.Answer.the-variants.{Value, Short, BadMarks}
 use Rattle.read.proofs.read
 use Rattle.print.proofs.print
+use Rattle.print.proofs.print_long
 use Rattle.compose.proofs.compose
 use Rattle.run.proofs.run
 use Rattle.extract.proofs.extract
@@ -45,6 +46,21 @@ pub record PrintCall (query list : List ℕ) (answer : Answer) (out : List ℕ) 
   pub query-lent : now (args .0) ≡ query
   pub list-lent : now (args .1 .0) ≡ list
   pub out-left : now (exit .1 .1 .0) ≡ out
+
+-- A call of `print::print_long`.
+pub record PrintLongCall (query list : List ℕ) (answer : Answer) (out : List ℕ) : Type 0 where
+  pub κs : Lfts 3
+  pub args : Dens κs print_long.Kinds.ps
+  pub exit : AtExit (endedOf 3 print_long.Kinds.ps print_long.Kinds.r) κs
+  pub met : print_long.Reads.Post κs args answer exit
+  pub query-lent : now (args .0) ≡ query
+  pub list-lent : now (args .1 .0) ≡ list
+  pub out-left : now (exit .1 .1 .0) ≡ out
+
+-- The call that prints in a form, the short one or the long one.
+abbrev pub FormCall : Bool → List ℕ → List ℕ → Answer → List ℕ → Type 0
+FormCall true query list answer out = PrintCall query list answer out
+FormCall false query list answer out = PrintLongCall query list answer out
 
 -- A call of `compose::compose`.
 pub record ComposeCall (outer inner : List ℕ) (answer : Answer) (out : List ℕ) : Type 0 where
@@ -124,6 +140,12 @@ RoundTrip =
     (query list text old out : List ℕ) (n version : ℕ) (answer : Answer) → noVersion version ≡ false → PrintCall query list (Value n) text → n ≤ textLimit → length query ≤ length old
     → ReadCall (take n text) version list old answer out
     → (answer ≡ Value (length query)) × (take (length query) out ≡ query)
+
+-- SHORTER: where the long form was printed, the short form is printed in as much room, with no more bytes.
+abbrev pub Shorter : Type 0
+Shorter =
+    (query list long short : List ℕ) (n : ℕ) (answer : Answer) (l : PrintLongCall query list (Value n) long) (s : PrintCall query list answer short)
+    → length (now (s .args .1 .1 .0)) ≡ length (now (l .args .1 .1 .0)) → (m : ℕ) × (answer ≡ Value m) × (m ≤ n)
 
 -- A call of `room::height` and one of `room::paths`.
 pub record HeightCall (query : List ℕ) (answer : Answer) : Type 0 where

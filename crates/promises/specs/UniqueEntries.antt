@@ -3,6 +3,7 @@ use mathlib.Core.List.{[], _∷_}
 use denote.Ref.{now}
 use Rattle.read.proofs.read
 use Rattle.print.proofs.print
+use Rattle.print.proofs.print_long
 use Rattle.compose.proofs.compose
 use Rattle.compose_lean.proofs.compose_lean
 use Rattle.run.proofs.run
@@ -18,6 +19,7 @@ use Rattle.report.proofs.report
 use Rattle.report.proofs.report_lean
 use Rattle.halyardfig.proofs.halyardfig_read
 use Rattle.halyardfig.proofs.halyardfig_print
+use Rattle.halyardfig.proofs.halyardfig_print_long
 use Rattle.halyardfig.proofs.halyardfig_compose
 use Rattle.halyardfig.proofs.halyardfig_compose_lean
 use Rattle.halyardfig.proofs.halyardfig_run
@@ -37,8 +39,14 @@ ReadUnique = Unique read.Kinds.ps read.Kinds.r read.Reads.Pre read.Reads.Post (�
 abbrev pub PrintUnique : Type 0
 PrintUnique = Unique print.Kinds.ps print.Kinds.r print.Reads.Pre print.Reads.Post (λ κs x. now (x .1 .1 .0) ∷ [])
 
+abbrev pub PrintLongUnique : Type 0
+PrintLongUnique = Unique print_long.Kinds.ps print_long.Kinds.r print_long.Reads.Pre print_long.Reads.Post (λ κs x. now (x .1 .1 .0) ∷ [])
+
 abbrev pub ComposeUnique : Type 0
 ComposeUnique = Unique compose.Kinds.ps compose.Kinds.r compose.Reads.Pre compose.Reads.Post (λ κs x. now (x .1 .1 .0) ∷ [])
+
+abbrev pub ComposeLeanUnique : Type 0
+ComposeLeanUnique = Unique compose_lean.Kinds.ps compose_lean.Kinds.r compose_lean.Reads.Pre compose_lean.Reads.Post (λ κs x. now (x .1 .1 .0) ∷ [])
 
 abbrev pub RunUnique : Type 0
 RunUnique = Unique run.Kinds.ps run.Kinds.r run.Reads.Pre run.Reads.Post (λ κs x. now (x .1 .1 .1 .1 .0) ∷ now (x .1 .1 .1 .1 .1 .0) ∷ [])
@@ -60,9 +68,17 @@ ReadForCUnique = Unique halyardfig_read.Kinds.ps halyardfig_read.Kinds.r halyard
 abbrev pub PrintForCUnique : Type 0
 PrintForCUnique = Unique halyardfig_print.Kinds.ps halyardfig_print.Kinds.r halyardfig_print.Reads.Pre halyardfig_print.Reads.Post (λ κs x. now (x .1 .1 .0) ∷ [])
 
+abbrev pub PrintLongForCUnique : Type 0
+PrintLongForCUnique =
+    Unique halyardfig_print_long.Kinds.ps halyardfig_print_long.Kinds.r halyardfig_print_long.Reads.Pre halyardfig_print_long.Reads.Post (λ κs x. now (x .1 .1 .0) ∷ [])
+
 abbrev pub ComposeForCUnique : Type 0
 ComposeForCUnique =
     Unique halyardfig_compose.Kinds.ps halyardfig_compose.Kinds.r halyardfig_compose.Reads.Pre halyardfig_compose.Reads.Post (λ κs x. now (x .1 .1 .0) ∷ [])
+
+abbrev pub ComposeLeanForCUnique : Type 0
+ComposeLeanForCUnique =
+    Unique halyardfig_compose_lean.Kinds.ps halyardfig_compose_lean.Kinds.r halyardfig_compose_lean.Reads.Pre halyardfig_compose_lean.Reads.Post (λ κs x. now (x .1 .1 .0) ∷ [])
 
 abbrev pub RunForCUnique : Type 0
 RunForCUnique =
@@ -86,6 +102,9 @@ WriteXmlForCUnique =
 
 abbrev pub ReportUnique : Type 0
 ReportUnique = Unique report.Kinds.ps report.Kinds.r report.Reads.Pre report.Reads.Post (λ κs x. now (x .1 .0) ∷ [])
+
+abbrev pub ReportLeanUnique : Type 0
+ReportLeanUnique = Unique report_lean.Kinds.ps report_lean.Kinds.r report_lean.Reads.Pre report_lean.Reads.Post (λ κs x. now (x .1 .0) ∷ [])
 
 abbrev pub HeightUnique : Type 0
 HeightUnique = UniqueAnswer height.Kinds.ps height.Kinds.r height.Reads.Pre height.Reads.Post

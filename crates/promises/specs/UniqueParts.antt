@@ -418,6 +418,13 @@ PutSelectedUnique = Unique put_selected.Kinds.ps put_selected.Kinds.r put_select
 abbrev pub SelectedSizeUnique : Type 0
 SelectedSizeUnique = UniqueAnswer selected_size.Kinds.ps selected_size.Kinds.r selected_size.Reads.Pre selected_size.Reads.Post
 
+-- COMPOSING.
+abbrev pub MarkQueryUnique : Type 0
+MarkQueryUnique = Unique mark_query.Kinds.ps mark_query.Kinds.r mark_query.Reads.Pre mark_query.Reads.Post (λ κs x. now (x .1 .0) ∷ [])
+
+abbrev pub ComposeByUnique : Type 0
+ComposeByUnique = Unique compose_by.Kinds.ps compose_by.Kinds.r compose_by.Reads.Pre compose_by.Reads.Post (λ κs x. now (x .1 .1 .0) ∷ [])
+
 -- LINES OF XML TEXT.
 abbrev pub NarrowUnique : Type 0
 NarrowUnique = UniqueAnswer narrow.Kinds.ps narrow.Kinds.r narrow.Reads.Pre narrow.Reads.Post

@@ -16,3 +16,11 @@ Unique {n} ps r given post left =
 abbrev pub UniqueAnswer : {n : ℕ} (ps : List (PK n)) (r : RK n) → In n ps → Out n ps r → Type 0
 UniqueAnswer {n} ps r given post =
     (κs : Lfts n) (a : Dens κs ps) (u v : resT r κs .Denot) (x y : AtExit (endedOf n ps r) κs) → given κs a → post κs a u x → post κs a v y → u ≡ v
+
+-- The same of a function that has no `requires` and of which the toolchain makes no `Kinds` and no `Reads`, over its signature and what its contract sees at exit (`ended`).
+abbrev pub UniqueSigned : (T : Ended)
+    → ((κs : Lfts (T .signature .lifetimes)) → ArgsD (T .signature) κs → ResD (T .signature) κs → AtExit T κs → Type 0)
+    → ((κs : Lfts (T .signature .lifetimes)) → AtExit T κs → List (List ℕ)) → Type 0
+UniqueSigned T promise left =
+    (κs : Lfts (T .signature .lifetimes)) (a : ArgsD (T .signature) κs) (u v : ResD (T .signature) κs) (x y : AtExit T κs)
+    → promise κs a u x → promise κs a v y → (u ≡ v) × (left κs x ≡ left κs y)

@@ -35,13 +35,13 @@ fn nesting_of(query: &[u32]) -> usize
     nesting
 }
 
-// The report on a composed query of this nesting.
+// The report on a composed query of this nesting, which is printed in the long form.
 fn report_query(query: &[u32], nesting: usize, list: &[u8], out: &mut [u8]) -> usize
     requires { ⌜ nesting ≡ nestingGot (decode (now query)) ⌝ }
     ensures { λ r. ⌜ Reports (queryPrints (now (query .entry)) (now (list .entry))) reportLimit (now (out .entry)) (now (out .exit)) r ⌝ }
 {
     let mut text = [0u8; paper::TEXT_LIMIT];
-    let answer = print::print(query, list, &mut text);
+    let answer = print::print_long(query, list, &mut text);
     let Answer::Value(count) = answer else {
         return lines::put_refusal(out, b"print", answer);
     };

@@ -142,8 +142,8 @@ print-small query list room =
     (small-query 6 0 (decode query) _ (omega arith)
     (λ q d.
     let names = namesOf list in
-    let needed = length (printed names q) in
-    let few : needed < 4294967296 = omega (arith, printed-short names (λ v. omega (arith, name-short list v)) q, size-decoded query q d) in
+    let needed = length (printed brief names q) in
+    let few : needed < 4294967296 = omega (arith, printed-short names (λ v. omega (arith, name-short list v)) brief q, size-decoded query q d) in
     small-line 5 (unknownFrom (length names) 0 query) _ (λ p e. omega (arith, unknown-within (length names) 0 query p e))
     (small-room needed (ltb room needed) few))))
 

@@ -60,6 +60,8 @@ pub mod Spelling
 pub mod Rereading
 -- `round-trip`.
 pub mod RoundTrip
+-- The two forms: `never-longer`, `shorter-answer`, `same-nesting`.
+pub mod Shortening
 -- Version 2 reads what version 1 reads, as the same query: `newer-derives`, `newer-reads`, `newer-reads-text`, `newer-answers`.
 pub mod Versions
 -- Lines of a list.

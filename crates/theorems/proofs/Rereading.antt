@@ -4,23 +4,24 @@
 use Prim.Native.Nat.{ℕ, zero, suc, _+_, _-_, _≤_, _<_}
 use native.Mathlib.Omega.{arith}
 use mathlib.Core.Path.{_≡_, refl, sym, _∙_, ap, ap₂}
-use mathlib.Core.Bool.{Bool, false, _||_}
-use mathlib.Core.List.{List, [], _∷_, _++_, append-assoc, map}
+use mathlib.Core.Bool.{Bool, true, false, _&&_, _||_, cond}
+use mathlib.Core.List.{List, [], _∷_, _++_, append-assoc, append-nil, map}
 use mathlib.Core.Option.{Option, some}
 use lib.ListN.{length, getD, drop, length-append}
 use Rattle.paper.specs.Tools.{ascii, same}
-use Rattle.paper.specs.Tokens.{Token, slash, slashes, openSquare, closeSquare, openRound, closeRound, finish, word, Placed}
-use Rattle.paper.specs.Reading.{Got, got, then, next, at, sees, says, axisNamed, startsStep}
-use Rattle.paper.specs.Reading.{readPreds, readTail, readTested, readStep, readSteps, readOperand, readTerm, readExpr, readPath, readPaths, readWithin}
-use Rattle.paper.specs.Query.{Axis, Test, anyNode, textNode, named, anyElement}
+use Rattle.paper.specs.Tokens.{Token, slash, slashes, colons, openSquare, closeSquare, openRound, closeRound, finish, word, is, Placed}
+use Rattle.paper.specs.Reading.{Got, got, then, next, at, sees, says, axisNamed, Step, before, deep, startsStep}
+use Rattle.paper.specs.Reading.{readPreds, readTail, readTested, readDot, readStep, readSteps, readOperand, readTerm, readExpr, readPath, readPaths, readWithin}
+use Rattle.paper.specs.Query.{Axis, self, child, Test, anyNode, textNode, named, anyElement}
 use Rattle.paper.specs.Query.{Expr, path, both, either, negated, Steps, stop, step, Preds, bare, pred}
 use Rattle.paper.specs.Items.{stepCount, predCount}
 use Rattle.paper.specs.Measures.{isAnd, isOr, inBrackets, nestExpr, nestSteps, nestPreds, nestPaths}
-use Rattle.paper.specs.Printing.{Piece, closePred, openGroup, andWord, orWord, barSign}
+use Rattle.paper.specs.Printing.{Piece, closePred, openGroup, andWord, orWord, barSign, testWord}
 use Rattle.paper.specs.Printing.{closeRound as closeSign}
-use Rattle.paper.specs.Printing.{axisText, grouped, exprPieces, relativePieces, laterPieces, predsPieces, pathPieces, pathsPieces}
+use Rattle.paper.specs.Printing.{axisText, grouped, headPieces, exprPieces, relativePieces, laterPieces, predsPieces, pathPieces, pathsPieces}
 use Rattle.paper.proofs.Same.{same-refl}
 use Rattle.paper.proofs.Axes.{axis-named}
+use Rattle.paper.proofs.Abbreviating.{Plain, none-there, by-head, by-later}
 use Rattle.theorems.specs.Grammar.{tok}
 use Rattle.theorems.proofs.Runs.{Run, spelling, andRun, orRun}
 use Rattle.theorems.proofs.Complete.{and-false}
@@ -91,12 +92,13 @@ laid-long : (places : List ℕ) (ts : List Token) (rest : List Placed) → lengt
 laid-long places [] rest = omega arith
 laid-long places (t ∷ ts) rest = omega (arith, laid-long (drop 1 places) ts rest)
 
--- What may follow a path: no predicate, no step, no bracket.
+-- What may follow a path: no predicate, no step, no bracket, no `::`.
 pub record Calm (ts : List Placed) : Type 0 where
   pub no-square : sees openSquare ts ≡ false
   pub no-slash : sees slash ts ≡ false
   pub no-slashes : sees slashes ts ≡ false
   pub no-round : sees openRound ts ≡ false
+  pub no-colons : sees colons ts ≡ false
 
 -- How many operators a left-grouped run has.
 abbrev orCount : Expr → ℕ
@@ -111,11 +113,11 @@ andCount (both a b) = suc (andCount a)
 andCount (either a b) = 0
 andCount (negated a) = 0
 
-abbrev termPieces : Expr → List Piece
-termPieces e = grouped (isOr e) (exprPieces e)
+abbrev termPieces : Bool → Expr → List Piece
+termPieces brief e = grouped (isOr e) (exprPieces brief e)
 
-abbrev operandPieces : Expr → List Piece
-operandPieces e = grouped (isOr e || isAnd e) (exprPieces e)
+abbrev operandPieces : Bool → Expr → List Piece
+operandPieces brief e = grouped (isOr e || isAnd e) (exprPieces brief e)
 
 -- A left-grouped run of n operators: its first operand is read, and the others are joined to it.
 record RunRead (run : Run) (n : ℕ) (e : Expr) (ts rest : List Placed) : Type 0 where
@@ -156,7 +158,7 @@ run-whole run n e ts rest r h = rw (r .reads) (go (length (r .left)) (r .long))
         let k : m ≡ n + (m - n) = omega arith in
         rw k (r .chain (m - n) ∙ run-ends run (m - n) e rest h)
 
-module _ (P : ℕ → Type 0) (names : List (List ℕ)) (newer : Bool) (look : List ℕ → Option ℕ) (f : ℕ → ℕ) (finds : (v : ℕ) → P v → look (getD names v []) ≡ some (f v)) where
+module _ (P : ℕ → Type 0) (names : List (List ℕ)) (brief newer : Bool) (look : List ℕ → Option ℕ) (f : ℕ → ℕ) (finds : (v : ℕ) → P v → look (getD names v []) ≡ some (f v)) where
   -- An expression as a run of `or`, and as a run of `and`.
   abbrev OrsRead : ℕ → Expr → List Placed → List Placed → Type 0
   OrsRead d e ts rest = RunRead (orRun newer look (readWithin newer look d)) (orCount e) (newExpr f e) ts rest
@@ -167,11 +169,11 @@ module _ (P : ℕ → Type 0) (names : List (List ℕ)) (newer : Bool) (look : L
   -- What reading makes of a printed expression, on the three levels.
   record Reads (e : Expr) : Type 0 where
     expr : (d : ℕ) (places : List ℕ) (rest : List Placed) → nestExpr e ≤ d → Calm rest → says (ascii "and") rest ≡ false
-        → OrsRead d e (laid places (tokensOf names (exprPieces e)) rest) rest
+        → OrsRead d e (laid places (tokensOf names (exprPieces brief e)) rest) rest
     term : (d : ℕ) (places : List ℕ) (rest : List Placed) → inBrackets (isOr e) (nestExpr e) ≤ d → Calm rest
-        → AndsRead d e (laid places (tokensOf names (termPieces e)) rest) rest
+        → AndsRead d e (laid places (tokensOf names (termPieces brief e)) rest) rest
     operand : (d : ℕ) (places : List ℕ) (rest : List Placed) → inBrackets (isOr e || isAnd e) (nestExpr e) ≤ d → Calm rest
-        → readOperand newer look (readWithin newer look d) (laid places (tokensOf names (operandPieces e)) rest) ≡ got (newExpr f e) rest
+        → readOperand newer look (readWithin newer look d) (laid places (tokensOf names (operandPieces brief e)) rest) ≡ got (newExpr f e) rest
 
   -- The whole of it is read where its word does not follow.
   whole-read : (d : ℕ) (e : Expr) (ts rest : List Placed) → OrsRead d e ts rest → says (ascii "or") rest ≡ false → readExpr newer look (readWithin newer look d) ts ≡ got (newExpr f e) rest
@@ -191,45 +193,45 @@ module _ (P : ℕ → Type 0) (names : List (List ℕ)) (newer : Bool) (look : L
 
   -- What stands in a bracket that is closed by a token of no word.
   in-bracket : (e : Expr) → Reads e → (d place : ℕ) (places : List ℕ) (rest : List Placed) → suc (nestExpr e) ≤ d → Calm rest → says (ascii "and") rest ≡ false → says (ascii "or") rest ≡ false
-      → readWithin newer look d place (laid places (tokensOf names (exprPieces e)) rest) ≡ got (newExpr f e) rest
+      → readWithin newer look d place (laid places (tokensOf names (exprPieces brief e)) rest) ≡ got (newExpr f e) rest
   in-bracket e r zero place places rest h c a o = absurd (omega arith)
-  in-bracket e r (suc d) place places rest h c a o = whole-read d e (laid places (tokensOf names (exprPieces e)) rest) rest (r .expr d places rest (omega arith) c a) o
+  in-bracket e r (suc d) place places rest h c a o = whole-read d e (laid places (tokensOf names (exprPieces brief e)) rest) rest (r .expr d places rest (omega arith) c a) o
 
   -- A closing round bracket follows calmly.
   closes : (places : List ℕ) (rest : List Placed) → Calm (laid places (closeRound ∷ []) rest)
-  closes places rest = record { no-square = refl; no-slash = refl; no-slashes = refl; no-round = refl }
+  closes places rest = record { no-square = refl; no-slash = refl; no-slashes = refl; no-round = refl; no-colons = refl }
 
   -- What is no operator is read as an operand on each level.
   plain : (e : Expr) → isOr e ≡ false → isAnd e ≡ false → orCount e ≡ 0 → andCount e ≡ 0
       → ((d : ℕ) (places : List ℕ) (rest : List Placed) → nestExpr e ≤ d → Calm rest
-      → readOperand newer look (readWithin newer look d) (laid places (tokensOf names (exprPieces e)) rest) ≡ got (newExpr f e) rest) → Reads e
+      → readOperand newer look (readWithin newer look d) (laid places (tokensOf names (exprPieces brief e)) rest) ≡ got (newExpr f e) rest) → Reads e
   plain e o a oc ac read = record { expr = whole-of; term = term-of; operand = operand-of }
     where
-      term-at : (d : ℕ) (places : List ℕ) (rest : List Placed) → nestExpr e ≤ d → Calm rest → AndsRead d e (laid places (tokensOf names (exprPieces e)) rest) rest
-      term-at d places rest h c = as-term d e (laid places (tokensOf names (exprPieces e)) rest) rest ac (read d places rest h c)
+      term-at : (d : ℕ) (places : List ℕ) (rest : List Placed) → nestExpr e ≤ d → Calm rest → AndsRead d e (laid places (tokensOf names (exprPieces brief e)) rest) rest
+      term-at d places rest h c = as-term d e (laid places (tokensOf names (exprPieces brief e)) rest) rest ac (read d places rest h c)
 
-      whole-of : (d : ℕ) (places : List ℕ) (rest : List Placed) → nestExpr e ≤ d → Calm rest → says (ascii "and") rest ≡ false → OrsRead d e (laid places (tokensOf names (exprPieces e)) rest) rest
-      whole-of d places rest h c n = as-whole d e (laid places (tokensOf names (exprPieces e)) rest) rest oc (term-at d places rest h c) n
+      whole-of : (d : ℕ) (places : List ℕ) (rest : List Placed) → nestExpr e ≤ d → Calm rest → says (ascii "and") rest ≡ false → OrsRead d e (laid places (tokensOf names (exprPieces brief e)) rest) rest
+      whole-of d places rest h c n = as-whole d e (laid places (tokensOf names (exprPieces brief e)) rest) rest oc (term-at d places rest h c) n
 
-      term-of : (d : ℕ) (places : List ℕ) (rest : List Placed) → inBrackets (isOr e) (nestExpr e) ≤ d → Calm rest → AndsRead d e (laid places (tokensOf names (termPieces e)) rest) rest
+      term-of : (d : ℕ) (places : List ℕ) (rest : List Placed) → inBrackets (isOr e) (nestExpr e) ≤ d → Calm rest → AndsRead d e (laid places (tokensOf names (termPieces brief e)) rest) rest
       term-of d places rest h c = rw o (term-at d places rest (rw o at h) c)
 
       operand-of : (d : ℕ) (places : List ℕ) (rest : List Placed) → inBrackets (isOr e || isAnd e) (nestExpr e) ≤ d → Calm rest
-          → readOperand newer look (readWithin newer look d) (laid places (tokensOf names (operandPieces e)) rest) ≡ got (newExpr f e) rest
+          → readOperand newer look (readWithin newer look d) (laid places (tokensOf names (operandPieces brief e)) rest) ≡ got (newExpr f e) rest
       operand-of d places rest h c = rw (o, a) (read d places rest (rw (o, a) at h) c)
 
   -- An operator in round brackets.
-  group : (e : Expr) → ((d : ℕ) (places : List ℕ) (rest : List Placed) → nestExpr e ≤ d → Calm rest → says (ascii "and") rest ≡ false → OrsRead d e (laid places (tokensOf names (exprPieces e)) rest) rest)
+  group : (e : Expr) → ((d : ℕ) (places : List ℕ) (rest : List Placed) → nestExpr e ≤ d → Calm rest → says (ascii "and") rest ≡ false → OrsRead d e (laid places (tokensOf names (exprPieces brief e)) rest) rest)
       → (d : ℕ) (places : List ℕ) (rest : List Placed) → 1 + nestExpr e ≤ d
-      → readOperand newer look (readWithin newer look d) (laid places (tokensOf names (openGroup ∷ exprPieces e ++ (closeSign ∷ []))) rest) ≡ got (newExpr f e) rest
+      → readOperand newer look (readWithin newer look d) (laid places (tokensOf names (openGroup ∷ exprPieces brief e ++ (closeSign ∷ []))) rest) ≡ got (newExpr f e) rest
   unfolding readOperand
   group e r zero places rest h = absurd (omega arith)
   group e r (suc d) places rest h =
-      let inner = after (drop 1 places) (tokensOf names (exprPieces e)) in
+      let inner = after (drop 1 places) (tokensOf names (exprPieces brief e)) in
       let tail = laid inner (closeRound ∷ []) rest in
       rw (
-        shown names (drop 1 places) (exprPieces e) (closeSign ∷ []) rest,
-        whole-read d e (laid (drop 1 places) (tokensOf names (exprPieces e)) tail) tail (r d (drop 1 places) tail (omega arith) (closes inner rest) refl) refl,
+        shown names (drop 1 places) (exprPieces brief e) (closeSign ∷ []) rest,
+        whole-read d e (laid (drop 1 places) (tokensOf names (exprPieces brief e)) tail) tail (r d (drop 1 places) tail (omega arith) (closes inner rest) refl) refl,
       )
 
   -- `not`.
@@ -238,10 +240,10 @@ module _ (P : ℕ → Type 0) (names : List (List ℕ)) (newer : Bool) (look : L
   read-negated a r =
       plain (negated a) refl refl refl refl
       (λ d places rest h c.
-      let inner = after (drop 1 (drop 1 places)) (tokensOf names (exprPieces a)) in
+      let inner = after (drop 1 (drop 1 places)) (tokensOf names (exprPieces brief a)) in
       let tail = laid inner (closeRound ∷ []) rest in
       rw (
-        shown names (drop 1 (drop 1 places)) (exprPieces a) (closeSign ∷ []) rest,
+        shown names (drop 1 (drop 1 places)) (exprPieces brief a) (closeSign ∷ []) rest,
         in-bracket a r d (firstPlace (drop 1 places)) (drop 1 (drop 1 places)) tail (omega arith) (closes inner rest) refl refl,
       ))
 
@@ -252,19 +254,19 @@ module _ (P : ℕ → Type 0) (names : List (List ℕ)) (newer : Bool) (look : L
       e : Expr
       e = either a b
 
-      whole-of : (d : ℕ) (places : List ℕ) (rest : List Placed) → nestExpr e ≤ d → Calm rest → says (ascii "and") rest ≡ false → OrsRead d e (laid places (tokensOf names (exprPieces e)) rest) rest
+      whole-of : (d : ℕ) (places : List ℕ) (rest : List Placed) → nestExpr e ≤ d → Calm rest → says (ascii "and") rest ≡ false → OrsRead d e (laid places (tokensOf names (exprPieces brief e)) rest) rest
       whole-of d places rest h c n =
-          let there = after places (tokensOf names (exprPieces a)) in
-          let tail = laid there (tokensOf names (orWord ∷ termPieces b)) rest in
-          let oa = ra .expr d places tail (omega arith) (record { no-square = refl; no-slash = refl; no-slashes = refl; no-round = refl }) refl in
-          let tb = term-read d b (laid (drop 1 there) (tokensOf names (termPieces b)) rest) rest (rb .term d (drop 1 there) rest (omega arith) c) n in
-          let us = laid (drop 1 there) (tokensOf names (termPieces b)) rest in
-          rw (shown names places (exprPieces a) (orWord ∷ termPieces b) rest)
-          (run-more (orRun newer look (readWithin newer look d)) (orCount a) (firstPlace there) (newExpr f a) (newExpr f b) (laid places (tokensOf names (exprPieces a)) tail) us rest oa tb
-          (omega (arith, laid-long (drop 1 there) (tokensOf names (termPieces b)) rest)))
+          let there = after places (tokensOf names (exprPieces brief a)) in
+          let tail = laid there (tokensOf names (orWord ∷ termPieces brief b)) rest in
+          let oa = ra .expr d places tail (omega arith) (record { no-square = refl; no-slash = refl; no-slashes = refl; no-round = refl; no-colons = refl }) refl in
+          let tb = term-read d b (laid (drop 1 there) (tokensOf names (termPieces brief b)) rest) rest (rb .term d (drop 1 there) rest (omega arith) c) n in
+          let us = laid (drop 1 there) (tokensOf names (termPieces brief b)) rest in
+          rw (shown names places (exprPieces brief a) (orWord ∷ termPieces brief b) rest)
+          (run-more (orRun newer look (readWithin newer look d)) (orCount a) (firstPlace there) (newExpr f a) (newExpr f b) (laid places (tokensOf names (exprPieces brief a)) tail) us rest oa tb
+          (omega (arith, laid-long (drop 1 there) (tokensOf names (termPieces brief b)) rest)))
 
-      term-of : (d : ℕ) (places : List ℕ) (rest : List Placed) → 1 + nestExpr e ≤ d → Calm rest → AndsRead d e (laid places (tokensOf names (termPieces e)) rest) rest
-      term-of d places rest h c = as-term d e (laid places (tokensOf names (termPieces e)) rest) rest refl (group e whole-of d places rest (omega arith))
+      term-of : (d : ℕ) (places : List ℕ) (rest : List Placed) → 1 + nestExpr e ≤ d → Calm rest → AndsRead d e (laid places (tokensOf names (termPieces brief e)) rest) rest
+      term-of d places rest h c = as-term d e (laid places (tokensOf names (termPieces brief e)) rest) rest refl (group e whole-of d places rest (omega arith))
 
   -- `and`.
   read-both : (a b : Expr) → Reads a → Reads b → Reads (both a b)
@@ -273,30 +275,39 @@ module _ (P : ℕ → Type 0) (names : List (List ℕ)) (newer : Bool) (look : L
       e : Expr
       e = both a b
 
-      term-of : (d : ℕ) (places : List ℕ) (rest : List Placed) → nestExpr e ≤ d → Calm rest → AndsRead d e (laid places (tokensOf names (exprPieces e)) rest) rest
+      term-of : (d : ℕ) (places : List ℕ) (rest : List Placed) → nestExpr e ≤ d → Calm rest → AndsRead d e (laid places (tokensOf names (exprPieces brief e)) rest) rest
       term-of d places rest h c =
-          let there = after places (tokensOf names (termPieces a)) in
-          let tail = laid there (tokensOf names (andWord ∷ operandPieces b)) rest in
-          let oa = ra .term d places tail (omega arith) (record { no-square = refl; no-slash = refl; no-slashes = refl; no-round = refl }) in
+          let there = after places (tokensOf names (termPieces brief a)) in
+          let tail = laid there (tokensOf names (andWord ∷ operandPieces brief b)) rest in
+          let oa = ra .term d places tail (omega arith) (record { no-square = refl; no-slash = refl; no-slashes = refl; no-round = refl; no-colons = refl }) in
           let ob = rb .operand d (drop 1 there) rest (omega arith) c in
-          let us = laid (drop 1 there) (tokensOf names (operandPieces b)) rest in
-          rw (shown names places (termPieces a) (andWord ∷ operandPieces b) rest)
-          (run-more (andRun newer look (readWithin newer look d)) (andCount a) (firstPlace there) (newExpr f a) (newExpr f b) (laid places (tokensOf names (termPieces a)) tail) us rest oa ob
-          (omega (arith, laid-long (drop 1 there) (tokensOf names (operandPieces b)) rest)))
+          let us = laid (drop 1 there) (tokensOf names (operandPieces brief b)) rest in
+          rw (shown names places (termPieces brief a) (andWord ∷ operandPieces brief b) rest)
+          (run-more (andRun newer look (readWithin newer look d)) (andCount a) (firstPlace there) (newExpr f a) (newExpr f b) (laid places (tokensOf names (termPieces brief a)) tail) us rest oa ob
+          (omega (arith, laid-long (drop 1 there) (tokensOf names (operandPieces brief b)) rest)))
 
-      whole-of : (d : ℕ) (places : List ℕ) (rest : List Placed) → nestExpr e ≤ d → Calm rest → says (ascii "and") rest ≡ false → OrsRead d e (laid places (tokensOf names (exprPieces e)) rest) rest
-      whole-of d places rest h c n = as-whole d e (laid places (tokensOf names (exprPieces e)) rest) rest refl (term-of d places rest h c) n
+      whole-of : (d : ℕ) (places : List ℕ) (rest : List Placed) → nestExpr e ≤ d → Calm rest → says (ascii "and") rest ≡ false → OrsRead d e (laid places (tokensOf names (exprPieces brief e)) rest) rest
+      whole-of d places rest h c n = as-whole d e (laid places (tokensOf names (exprPieces brief e)) rest) rest refl (term-of d places rest h c) n
 
   -- What reading makes of printed predicates and steps.
   abbrev ReadsPreds : Preds → Type 0
   ReadsPreds ps =
       (d n : ℕ) (places : List ℕ) (rest : List Placed) → nestPreds ps ≤ d → predCount ps ≤ n → sees openSquare rest ≡ false
-      → readPreds newer look (readWithin newer look d) n (laid places (tokensOf names (predsPieces ps)) rest) ≡ got (newPreds f ps) rest
+      → readPreds newer look (readWithin newer look d) n (laid places (tokensOf names (predsPieces brief ps)) rest) ≡ got (newPreds f ps) rest
 
-  abbrev ReadsSteps : Steps → Type 0
-  ReadsSteps s =
-      (d n : ℕ) (places : List ℕ) (rest : List Placed) → nestSteps s ≤ d → 1 ≤ stepCount s → stepCount s ≤ n → Calm rest
-      → readSteps newer look (readWithin newer look d) n (laid places (tokensOf names (relativePieces s)) rest) ≡ got (newSteps f s) rest
+  -- What is read once a step is, by the `/` or `//` that follows it.
+  abbrev onward : ℕ → ℕ → Step → List Placed → Got Steps
+  onward d n s left =
+      let more = then (readSteps newer look (readWithin newer look d) n (drop 1 left)) (λ rest. got (before s rest)) in
+      let deeper = then (readSteps newer look (readWithin newer look d) n (drop 1 left)) (λ rest. got (before s (deep rest))) in
+      cond (sees slash left) more (cond (sees slashes left) deeper (got (before s stop) left))
+
+  -- Steps as those of a path in a predicate, and as those that follow a step.
+  record ReadsSteps (s : Steps) : Type 0 where
+    relative : (d n : ℕ) (places : List ℕ) (rest : List Placed) → nestSteps s ≤ d → 1 ≤ stepCount s → stepCount s ≤ n → Calm rest
+        → readSteps newer look (readWithin newer look d) n (laid places (tokensOf names (relativePieces brief s)) rest) ≡ got (newSteps f s) rest
+    later : (d n : ℕ) (places : List ℕ) (one : Step) (rest : List Placed) → nestSteps s ≤ d → stepCount s ≤ n → Calm rest
+        → onward d n one (laid places (tokensOf names (laterPieces brief s)) rest) ≡ got (before one (newSteps f s)) rest
 
   read-bare : ReadsPreds bare
   read-bare d zero places rest h l c = refl
@@ -306,11 +317,11 @@ module _ (P : ℕ → Type 0) (names : List (List ℕ)) (newer : Bool) (look : L
   read-pred : (e : Expr) (ps : Preds) → Reads e → ReadsPreds ps → ReadsPreds (pred e ps)
   read-pred e ps re rp d zero places rest h l c = absurd (omega arith)
   read-pred e ps re rp d (suc n) places rest h l c =
-      let inner = after (drop 1 places) (tokensOf names (exprPieces e)) in
-      let tail = laid inner (tokensOf names (closePred ∷ predsPieces ps)) rest in
+      let inner = after (drop 1 places) (tokensOf names (exprPieces brief e)) in
+      let tail = laid inner (tokensOf names (closePred ∷ predsPieces brief ps)) rest in
       rw (
-        shown names (drop 1 places) (exprPieces e) (closePred ∷ predsPieces ps) rest,
-        in-bracket e re d (firstPlace places) (drop 1 places) tail (omega arith) (record { no-square = refl; no-slash = refl; no-slashes = refl; no-round = refl }) refl refl,
+        shown names (drop 1 places) (exprPieces brief e) (closePred ∷ predsPieces brief ps) rest,
+        in-bracket e re d (firstPlace places) (drop 1 places) tail (omega arith) (record { no-square = refl; no-slash = refl; no-slashes = refl; no-round = refl; no-colons = refl }) refl refl,
         rp d n (drop 1 inner) rest (omega arith) (omega arith) c,
       )
 
@@ -323,75 +334,174 @@ module _ (P : ℕ → Type 0) (names : List (List ℕ)) (newer : Bool) (look : L
   test-read a (named v) within places left k c = rw (c, finds v k)
   test-read a anyElement within places left k c = refl
 
-  -- What follows the test of a step is no round bracket, and what follows its predicates no square one.
-  later-round : (places : List ℕ) (s : Steps) (rest : List Placed) → Calm rest → sees openRound (laid places (tokensOf names (laterPieces s)) rest) ≡ false
-  later-round places stop rest c = c .no-round
-  later-round places (step a t ps s) rest c = refl
+  -- What is no sign of a step is not seen where steps follow, and what is no square bracket not where predicates do.
+  later-apart : (x : Token) → is x slash ≡ false → is x slashes ≡ false → (places : List ℕ) (s : Steps) (rest : List Placed) → sees x rest ≡ false
+      → sees x (laid places (tokensOf names (laterPieces brief s)) rest) ≡ false
+  later-apart x one two places stop rest c = c
+  later-apart x one two places (step a t ps s) rest c =
+      by-later (λ qs. sees x (laid places (tokensOf names qs) rest) ≡ false) brief a t ps s (λ d. two) one
 
-  later-square : (places : List ℕ) (s : Steps) (rest : List Placed) → Calm rest → sees openSquare (laid places (tokensOf names (laterPieces s)) rest) ≡ false
-  later-square places stop rest c = c .no-square
-  later-square places (step a t ps s) rest c = refl
-
-  preds-round : (places : List ℕ) (ps : Preds) (left : List Placed) → sees openRound left ≡ false → sees openRound (laid places (tokensOf names (predsPieces ps)) left) ≡ false
-  preds-round places bare left c = c
-  preds-round places (pred e ps) left c = refl
+  preds-apart : (x : Token) → is x openSquare ≡ false → (places : List ℕ) (ps : Preds) (left : List Placed) → sees x left ≡ false
+      → sees x (laid places (tokensOf names (predsPieces brief ps)) left) ≡ false
+  preds-apart x one places bare left c = c
+  preds-apart x one places (pred e ps) left c = one
 
   -- There are no more predicates, steps and paths than tokens.
-  pred-tokens : (ps : Preds) → predCount ps ≤ length (tokensOf names (predsPieces ps))
+  pred-tokens : (ps : Preds) → predCount ps ≤ length (tokensOf names (predsPieces brief ps))
   pred-tokens bare = omega arith
   pred-tokens (pred e ps) =
-      rw (tokens-append names (exprPieces e) (closePred ∷ predsPieces ps)) (omega (arith, pred-tokens ps, length-append (tokensOf names (exprPieces e)) (closeSquare ∷ tokensOf names (predsPieces ps))))
+      rw (tokens-append names (exprPieces brief e) (closePred ∷ predsPieces brief ps)) (omega (arith, pred-tokens ps, length-append (tokensOf names (exprPieces brief e)) (closeSquare ∷ tokensOf names (predsPieces brief ps))))
 
-  one-step-tokens : (a : Axis) (t : Test) (ps : Preds) (rest : Steps) → stepCount rest ≤ length (tokensOf names (laterPieces rest)) → suc (stepCount rest) ≤ length (tokensOf names (relativePieces (step a t ps rest)))
+  test-tokens : (t : Test) → 1 ≤ length (tokensOf names (testWord t ∷ []))
+  test-tokens anyNode = omega arith
+  test-tokens textNode = omega arith
+  test-tokens (named v) = omega arith
+  test-tokens anyElement = omega arith
+
+  head-tokens : (a : Axis) (t : Test) (count : ℕ) → 1 ≤ length (tokensOf names (headPieces brief a t count))
+  head-tokens a t count = by-head (λ hs. 1 ≤ length (tokensOf names hs)) brief a t count (λ p. omega arith) (λ p. omega arith) (λ e. test-tokens t) (omega arith)
+
+  one-step-tokens : (a : Axis) (t : Test) (ps : Preds) (rest : Steps) → stepCount rest ≤ length (tokensOf names (laterPieces brief rest)) → suc (stepCount rest) ≤ length (tokensOf names (relativePieces brief (step a t ps rest)))
   one-step-tokens a t ps rest l =
-      rw (tokens-append names (predsPieces ps) (laterPieces rest))
-      (omega (arith, length-append (testTokens names t) (tokensOf names (predsPieces ps) ++ tokensOf names (laterPieces rest)), length-append (tokensOf names (predsPieces ps)) (tokensOf names (laterPieces rest))))
+      let hs = headPieces brief a t (predCount ps) in
+      rw (tokens-append names hs (predsPieces brief ps ++ laterPieces brief rest), tokens-append names (predsPieces brief ps) (laterPieces brief rest))
+      (omega (
+        arith,
+        head-tokens a t (predCount ps),
+        length-append (tokensOf names hs) (tokensOf names (predsPieces brief ps) ++ tokensOf names (laterPieces brief rest)),
+        length-append (tokensOf names (predsPieces brief ps)) (tokensOf names (laterPieces brief rest)),
+      ))
 
-  later-tokens : (s : Steps) → stepCount s ≤ length (tokensOf names (laterPieces s))
-  later-tokens stop = omega arith
-  later-tokens (step a t ps rest) = omega (arith, one-step-tokens a t ps rest (later-tokens rest))
+  mutual
+    later-tokens : (s : Steps) → stepCount s ≤ length (tokensOf names (laterPieces brief s))
+    later-tokens stop = omega arith
+    later-tokens (step a t ps rest) =
+        by-later (λ qs. suc (stepCount rest) ≤ length (tokensOf names qs)) brief a t ps rest (λ d. omega (arith, step-tokens rest))
+        (omega (arith, one-step-tokens a t ps rest (later-tokens rest)))
 
-  step-tokens : (s : Steps) → stepCount s ≤ length (tokensOf names (relativePieces s))
-  step-tokens stop = omega arith
-  step-tokens (step a t ps rest) = one-step-tokens a t ps rest (later-tokens rest)
+    step-tokens : (s : Steps) → stepCount s ≤ length (tokensOf names (relativePieces brief s))
+    step-tokens stop = omega arith
+    step-tokens (step a t ps rest) = one-step-tokens a t ps rest (later-tokens rest)
+
+  -- How a head begins: with a token that a step begins with, no round bracket, and no `not(`.
+  record Begins (ts : List Placed) : Type 0 where
+    starts : startsStep (next ts) ≡ true
+    no-group : sees openRound ts ≡ false
+    no-not : says (ascii "not") ts && sees openRound (drop 1 ts) ≡ false
+
+  test-begins : (t : Test) (places : List ℕ) (left : List Placed) → sees openRound left ≡ false → Begins (laid places (tokensOf names (testWord t ∷ [])) left)
+  test-begins anyNode places left c = record { starts = refl; no-group = refl; no-not = refl }
+  test-begins textNode places left c = record { starts = refl; no-group = refl; no-not = refl }
+  test-begins (named v) places left c = record { starts = refl; no-group = refl; no-not = rw c (and-false (same (ascii "not") (getD names v []))) }
+  test-begins anyElement places left c = record { starts = refl; no-group = refl; no-not = refl }
+
+  head-begins : (a : Axis) (t : Test) (count : ℕ) (places : List ℕ) (left : List Placed) → sees openRound left ≡ false → Begins (laid places (tokensOf names (headPieces brief a t count)) left)
+  head-begins a t count places left c =
+      by-head (λ hs. Begins (laid places (tokensOf names hs) left)) brief a t count (λ p. record { starts = refl; no-group = refl; no-not = refl }) (λ p. record { starts = refl; no-group = refl; no-not = refl })
+      (λ e. test-begins t places left c) (record { starts = refl; no-group = refl; no-not = and-false (same (ascii "not") (axisText a)) })
+
+  -- A test with no axis before it, where no round bracket and no `::` follows.
+  child-read : (t : Test) (within : ℕ → List Placed → Got Expr) (places : List ℕ) (left : List Placed) → Spelt P t → sees openRound left ≡ false → sees colons left ≡ false
+      → readStep newer look within (laid places (tokensOf names (testWord t ∷ [])) left) ≡ readTail newer look within child (newTest f t) left
+  unfolding readStep
+  child-read anyNode within places left k c n = test-read child anyNode within places left k c
+  child-read textNode within places left k c n = test-read child textNode within places left k c
+  child-read (named v) within places left k c n = rw n (test-read child (named v) within places left k c)
+  child-read anyElement within places left k c n = rw n (test-read child anyElement within places left k c)
+
+  -- A head is read as its axis and test, with the predicates that are read behind it; `.` and `..` have none.
+  module _ (a : Axis) (t : Test) (ps : Preds) (d : ℕ) (follow : List Placed) where
+    abbrev whole : Step
+    whole = record { axis = a; test = newTest f t; preds = newPreds f ps }
+
+    abbrev HeadReads : List Piece → Type 0
+    HeadReads hs =
+        (places : List ℕ) (left : List Placed) → Spelt P t → sees openRound left ≡ false → sees colons left ≡ false → (ps ≡ bare → left ≡ follow)
+        → readTail newer look (readWithin newer look d) a (newTest f t) left ≡ got whole follow
+        → readStep newer look (readWithin newer look d) (laid places (tokensOf names hs) left) ≡ got whole follow
+
+    dot-read : (along : Axis) (left : List Placed) → Plain along a t (predCount ps) → (ps ≡ bare → left ≡ follow)
+        → readTail newer look (readWithin newer look d) a (newTest f t) left ≡ got whole follow → readDot newer look (readWithin newer look d) along left ≡ got whole follow
+    dot-read along left p e h = rw (p .axis, p .test) (go newer (rw (p .axis, p .test) at h))
+      where
+        none : ps ≡ bare
+        none = none-there ps (p .none)
+
+        go : (b : Bool) → readTail newer look (readWithin newer look d) along anyNode left ≡ got (record { axis = along; test = anyNode; preds = newPreds f ps }) follow
+            → cond b (readTail newer look (readWithin newer look d) along anyNode left) (got (record { axis = along; test = anyNode; preds = bare }) left)
+            ≡ got (record { axis = along; test = anyNode; preds = newPreds f ps }) follow
+        go true g = g
+        go false g = rw (none, e none)
+
+    head-read : HeadReads (headPieces brief a t (predCount ps))
+    unfolding readStep
+    head-read =
+        by-head HeadReads brief a t (predCount ps) (λ p places left k c n e h. dot-read self left p e h) (λ p places left k c n e h. dot-read Axis.parent left p e h)
+        (λ p places left k c n e h. child-read t (readWithin newer look d) places left k c n ∙ ap (λ x. readTail newer look (readWithin newer look d) x (newTest f t) left) (sym p) ∙ h)
+        (λ places left k c n e h.
+        rw (
+          axis-named a,
+          append-nil (testTokens names t),
+          test-read a t (readWithin newer look d) (drop 1 (drop 1 places)) left k c,
+        ) h)
 
   -- A step, and what follows it.
   module _ (a : Axis) (t : Test) (ps : Preds) (s : Steps) (places : List ℕ) (rest : List Placed) where
+    abbrev headed : List ℕ
+    headed = after places (tokensOf names (headPieces brief a t (predCount ps)))
+
     abbrev follows : List Placed
-    follows = laid (after (after (drop 1 (drop 1 places)) (testTokens names t)) (tokensOf names (predsPieces ps))) (tokensOf names (laterPieces s)) rest
+    follows = laid (after headed (tokensOf names (predsPieces brief ps))) (tokensOf names (laterPieces brief s)) rest
 
     abbrev predicates : List Placed
-    predicates = laid (after (drop 1 (drop 1 places)) (testTokens names t)) (tokensOf names (predsPieces ps)) follows
+    predicates = laid headed (tokensOf names (predsPieces brief ps)) follows
 
-    split : laid (drop 1 (drop 1 places)) (testTokens names t ++ tokensOf names (predsPieces ps ++ laterPieces s)) rest ≡ laid (drop 1 (drop 1 places)) (testTokens names t) predicates
+    split : laid places (tokensOf names (relativePieces brief (step a t ps s))) rest ≡ laid places (tokensOf names (headPieces brief a t (predCount ps))) predicates
     split =
-        laid-append (drop 1 (drop 1 places)) (testTokens names t) (tokensOf names (predsPieces ps ++ laterPieces s)) rest ∙
-        ap (laid (drop 1 (drop 1 places)) (testTokens names t)) (shown names (after (drop 1 (drop 1 places)) (testTokens names t)) (predsPieces ps) (laterPieces s) rest)
+        shown names places (headPieces brief a t (predCount ps)) (predsPieces brief ps ++ laterPieces brief s) rest ∙
+        ap (laid places (tokensOf names (headPieces brief a t (predCount ps)))) (shown names headed (predsPieces brief ps) (laterPieces brief s) rest)
+
+    no-round : Calm rest → sees openRound predicates ≡ false
+    no-round c = preds-apart openRound refl headed ps follows (later-apart openRound refl refl (after headed (tokensOf names (predsPieces brief ps))) s rest (c .no-round))
+
+    no-colons : Calm rest → sees colons predicates ≡ false
+    no-colons c = preds-apart colons refl headed ps follows (later-apart colons refl refl (after headed (tokensOf names (predsPieces brief ps))) s rest (c .no-colons))
+
+    begins-so : Calm rest → Begins (laid places (tokensOf names (relativePieces brief (step a t ps s))) rest)
+    begins-so c = rw split (head-begins a t (predCount ps) places predicates (no-round c))
 
     step-read : (d : ℕ) → Spelt P t → ReadsPreds ps → nestPreds ps ≤ d → Calm rest
-        → readStep newer look (readWithin newer look d) (laid places (tokensOf names (relativePieces (step a t ps s))) rest)
+        → readStep newer look (readWithin newer look d) (laid places (tokensOf names (relativePieces brief (step a t ps s))) rest)
         ≡ got (record { axis = a; test = newTest f t; preds = newPreds f ps }) follows
-    unfolding readStep readTail
+    unfolding readTail
     step-read d k rp h c =
-        rw (
-          axis-named a,
-          split,
-          test-read a t (readWithin newer look d) (drop 1 (drop 1 places)) predicates k
-              (preds-round (after (drop 1 (drop 1 places)) (testTokens names t)) ps follows (later-round (after (after (drop 1 (drop 1 places)) (testTokens names t)) (tokensOf names (predsPieces ps))) s rest c)),
-          rp d (length predicates) (after (drop 1 (drop 1 places)) (testTokens names t)) follows h
-              (omega (arith, pred-tokens ps, laid-long (after (drop 1 (drop 1 places)) (testTokens names t)) (tokensOf names (predsPieces ps)) follows))
-              (later-square (after (after (drop 1 (drop 1 places)) (testTokens names t)) (tokensOf names (predsPieces ps))) s rest c),
-        )
+        rw split
+        (head-read a t ps d follows places predicates k (no-round c) (no-colons c) (λ e. rw e)
+        (rw (rp d (length predicates) headed follows h (omega (arith, pred-tokens ps, laid-long headed (tokensOf names (predsPieces brief ps)) follows)) no-square)))
+      where
+        no-square : sees openSquare follows ≡ false
+        no-square = later-apart openSquare refl refl (after headed (tokensOf names (predsPieces brief ps))) s rest (c .no-square)
 
-  -- One step more.
+  -- No step more, and one step more.
+  read-stop : ReadsSteps stop
+  read-stop = record { relative = λ d n places rest h o l c. absurd (omega arith); later = λ d n places one rest h l c. rw (c .no-slash, c .no-slashes) }
+
   read-step : (a : Axis) (t : Test) (ps : Preds) (s : Steps) → Spelt P t → ReadsPreds ps → ReadsSteps s → ReadsSteps (step a t ps s)
-  read-step a t ps s k rp rs d zero places rest h o l c = absurd (omega arith)
-  read-step a t ps stop k rp rs d (suc n) places rest h o l c = rw (step-read a t ps stop places rest d k rp (omega arith) c, c .no-slash, c .no-slashes)
-  read-step a t ps (step b u qs s) k rp rs d (suc n) places rest h o l c =
-      rw (
-        step-read a t ps (step b u qs s) places rest d k rp (omega arith) c,
-        rs d n (drop 1 (after (after (drop 1 (drop 1 places)) (testTokens names t)) (tokensOf names (predsPieces ps)))) rest (omega arith) (omega arith) (omega arith) c,
-      )
+  read-step a t ps s k rp rs = record { relative = relative-of; later = later-of }
+    where
+      relative-of : (d n : ℕ) (places : List ℕ) (rest : List Placed) → nestSteps (step a t ps s) ≤ d → 1 ≤ suc (stepCount s) → suc (stepCount s) ≤ n → Calm rest
+          → readSteps newer look (readWithin newer look d) n (laid places (tokensOf names (relativePieces brief (step a t ps s))) rest) ≡ got (newSteps f (step a t ps s)) rest
+      relative-of d zero places rest h o l c = absurd (omega arith)
+      relative-of d (suc n) places rest h o l c =
+          rw (step-read a t ps s places rest d k rp (omega arith) c)
+          (rs .later d n (after (headed a t ps s places rest) (tokensOf names (predsPieces brief ps))) (record { axis = a; test = newTest f t; preds = newPreds f ps }) rest (omega arith) (omega arith) c)
+
+      later-of : (d n : ℕ) (places : List ℕ) (one : Step) (rest : List Placed) → nestSteps (step a t ps s) ≤ d → suc (stepCount s) ≤ n → Calm rest
+          → onward d n one (laid places (tokensOf names (laterPieces brief (step a t ps s))) rest) ≡ got (before one (newSteps f (step a t ps s))) rest
+      later-of d n places one rest h l c =
+          by-later (λ qs. onward d n one (laid places (tokensOf names qs) rest) ≡ got (before one (newSteps f (step a t ps s))) rest) brief a t ps s
+          (λ p. rw (rs .relative d n (drop 1 places) rest (omega arith) (p .more) (omega arith) c, p .axis, p .test, p .preds))
+          (rw (relative-of d n (drop 1 places) rest h (omega arith) l c))
 
   -- A path in a predicate.
   read-path : (s : Steps) → 1 ≤ stepCount s → ReadsSteps s → Reads (path s)
@@ -400,10 +510,12 @@ module _ (P : ℕ → Type 0) (names : List (List ℕ)) (newer : Bool) (look : L
   read-path (step a t ps s) o rs =
       plain (path (step a t ps s)) refl refl refl refl
       (λ d places rest h c.
-      let ts = laid places (tokensOf names (relativePieces (step a t ps s))) rest in
+      let ts = laid places (tokensOf names (relativePieces brief (step a t ps s))) rest in
+      let b = begins-so a t ps s places rest c in
       rw (
-        and-false (same (ascii "not") (axisText a)),
-        rs d (length ts) places rest h o (omega (arith, step-tokens (step a t ps s), laid-long places (tokensOf names (relativePieces (step a t ps s))) rest)) c,
+        b .no-not,
+        b .no-group,
+        rs .relative d (length ts) places rest h o (omega (arith, step-tokens (step a t ps s), laid-long places (tokensOf names (relativePieces brief (step a t ps s))) rest)) c,
       ))
 
   mutual
@@ -414,7 +526,7 @@ module _ (P : ℕ → Type 0) (names : List (List ℕ)) (newer : Bool) (look : L
     reads (negated a) k = read-negated a (reads a k)
 
     reads-steps : (s : Steps) → StepsOf P s → ReadsSteps s
-    reads-steps stop k = λ d n places rest h o l c. absurd (omega arith)
+    reads-steps stop k = read-stop
     reads-steps (step a t ps s) k = read-step a t ps s (k .0) (reads-preds ps (k .1)) (reads-steps s (k .2))
 
     reads-preds : (ps : Preds) → PredsOf P ps → ReadsPreds ps
@@ -423,47 +535,60 @@ module _ (P : ℕ → Type 0) (names : List (List ℕ)) (newer : Bool) (look : L
 
   -- A top-level path, where another or the end follows.
   read-top : (s : Steps) → StepsOf P s → (d : ℕ) (places : List ℕ) (rest : List Placed) → nestSteps s ≤ d → Calm rest → startsStep (next rest) ≡ false
-      → readPath newer look (readWithin newer look d) (laid places (tokensOf names (pathPieces s)) rest) ≡ got (newSteps f s) rest
+      → readPath newer look (readWithin newer look d) (laid places (tokensOf names (pathPieces brief s)) rest) ≡ got (newSteps f s) rest
   unfolding readPath
   read-top stop k d places rest h c n = rw n
   read-top (step a t ps s) k d places rest h c n =
-      let ts = laid (drop 1 places) (tokensOf names (relativePieces (step a t ps s))) rest in
-      reads-steps (step a t ps s) k d (length ts) (drop 1 places) rest h (omega arith)
-      (omega (arith, step-tokens (step a t ps s), laid-long (drop 1 places) (tokensOf names (relativePieces (step a t ps s))) rest)) c
+      let told = tokensOf names (relativePieces brief (step a t ps s)) in
+      let behind = tokensOf names (relativePieces brief s) in
+      by-later (λ qs. readPath newer look (readWithin newer look d) (laid places (tokensOf names qs) rest) ≡ got (newSteps f (step a t ps s)) rest) brief a t ps s
+      (λ p.
+      rw (
+        reads-steps s (k .2) .relative d (length (laid (drop 1 places) behind rest)) (drop 1 places) rest (omega arith) (p .more) (omega (arith, step-tokens s, laid-long (drop 1 places) behind rest)) c,
+        p .axis,
+        p .test,
+        p .preds,
+      ))
+      (rw (begins-so a t ps s (drop 1 places) rest c .starts)
+      (reads-steps (step a t ps s) k .relative d (length (laid (drop 1 places) told rest)) (drop 1 places) rest h (omega arith) (omega (arith, step-tokens (step a t ps s), laid-long (drop 1 places) told rest)) c))
 
   -- The paths of a query, to the end of the text.
   pub reads-paths : (ps : List Steps) (p : Steps) → StepsOf P p → AllOf P ps → (d n : ℕ) (places : List ℕ) (end : ℕ) → nestPaths (p ∷ ps) ≤ d → length ps < n
-      → readPaths newer look (readWithin newer look d) n (laid places (tokensOf names (pathPieces p ++ pathsPieces ps)) (record { place = end; token = finish } ∷ []))
+      → readPaths newer look (readWithin newer look d) n (laid places (tokensOf names (pathPieces brief p ++ pathsPieces brief ps)) (record { place = end; token = finish } ∷ []))
       ≡ got (record { first = newSteps f p; others = map (newSteps f) ps }) []
   reads-paths [] p k ks d zero places end h l = absurd (omega arith)
   reads-paths [] p k ks d (suc n) places end h l =
       rw (
-        shown names places (pathPieces p) [] (record { place = end; token = finish } ∷ []),
-        read-top p k d places (record { place = end; token = finish } ∷ []) (omega arith) (record { no-square = refl; no-slash = refl; no-slashes = refl; no-round = refl }) refl,
+        shown names places (pathPieces brief p) [] (record { place = end; token = finish } ∷ []),
+        read-top p k d places (record { place = end; token = finish } ∷ []) (omega arith) (record { no-square = refl; no-slash = refl; no-slashes = refl; no-round = refl; no-colons = refl }) refl,
       )
   reads-paths (q ∷ ps) p k ks d zero places end h l = absurd (omega arith)
   reads-paths (q ∷ ps) p k ks d (suc n) places end h l =
       let last : List Placed = record { place = end; token = finish } ∷ [] in
-      let there = after places (tokensOf names (pathPieces p)) in
-      let tail = laid there (tokensOf names (barSign ∷ pathPieces q ++ pathsPieces ps)) last in
+      let there = after places (tokensOf names (pathPieces brief p)) in
+      let tail = laid there (tokensOf names (barSign ∷ pathPieces brief q ++ pathsPieces brief ps)) last in
       rw (
-        shown names places (pathPieces p) (barSign ∷ pathPieces q ++ pathsPieces ps) last,
-        read-top p k d places tail (omega arith) (record { no-square = refl; no-slash = refl; no-slashes = refl; no-round = refl }) refl,
+        shown names places (pathPieces brief p) (barSign ∷ pathPieces brief q ++ pathsPieces brief ps) last,
+        read-top p k d places tail (omega arith) (record { no-square = refl; no-slash = refl; no-slashes = refl; no-round = refl; no-colons = refl }) refl,
         reads-paths ps q (ks .0) (ks .1) d n (drop 1 there) end (omega arith) (omega arith),
       )
 
-  paths-tokens : (ps : List Steps) → length ps ≤ length (tokensOf names (pathsPieces ps))
+  path-tokens : (p : Steps) → 1 ≤ length (tokensOf names (pathPieces brief p))
+  path-tokens stop = omega arith
+  path-tokens (step a t ps s) = omega (arith, later-tokens (step a t ps s))
+
+  paths-tokens : (ps : List Steps) → length ps ≤ length (tokensOf names (pathsPieces brief ps))
   paths-tokens [] = omega arith
   paths-tokens (p ∷ ps) =
-      rw (tokens-append names (relativePieces p) (pathsPieces ps)) (omega (arith, paths-tokens ps, length-append (tokensOf names (relativePieces p)) (tokensOf names (pathsPieces ps))))
+      rw (tokens-append names (pathPieces brief p) (pathsPieces brief ps)) (omega (arith, paths-tokens ps, length-append (tokensOf names (pathPieces brief p)) (tokensOf names (pathsPieces brief ps))))
 
   -- There is room for each path in the tokens.
-  pub enough-tokens : (p : Steps) (ps : List Steps) (places : List ℕ) (rest : List Placed) → length ps < length (laid places (tokensOf names (pathPieces p ++ pathsPieces ps)) rest)
+  pub enough-tokens : (p : Steps) (ps : List Steps) (places : List ℕ) (rest : List Placed) → length ps < length (laid places (tokensOf names (pathPieces brief p ++ pathsPieces brief ps)) rest)
   enough-tokens p ps places rest =
-      let ts = tokensOf names (pathPieces p ++ pathsPieces ps) in
-      let e : length ts ≡ length (tokensOf names (pathPieces p)) + length (tokensOf names (pathsPieces ps)) =
-      ap length (tokens-append names (pathPieces p) (pathsPieces ps)) ∙ length-append (tokensOf names (pathPieces p)) (tokensOf names (pathsPieces ps)) in
-      omega (arith, paths-tokens ps, laid-long places ts rest)
+      let ts = tokensOf names (pathPieces brief p ++ pathsPieces brief ps) in
+      let e : length ts ≡ length (tokensOf names (pathPieces brief p)) + length (tokensOf names (pathsPieces brief ps)) =
+      ap length (tokens-append names (pathPieces brief p) (pathsPieces brief ps)) ∙ length-append (tokensOf names (pathPieces brief p)) (tokensOf names (pathsPieces brief ps)) in
+      omega (arith, path-tokens p, paths-tokens ps, laid-long places ts rest)
 
 -- With the same numbers the query is the same.
 same-test : (t : Test) → newTest (λ v. v) t ≡ t

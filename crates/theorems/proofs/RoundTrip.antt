@@ -1,4 +1,4 @@
--- Reading what was printed gives the very same items. The items of an accepted print are a query whose names are all of the list; its pieces stand so that each is a
+-- Reading what was printed, in either form, gives the very same items. The items of an accepted print are a query whose names are all of the list; its pieces stand so that each is a
 -- token of its own (`Spelling`), and reading them gives the query back (`Rereading`), once with any names and once with those of the list. Assumes nothing.
 use Prim.Native.Nat.{ℕ, zero, suc, _+_, _≤_, _<_}
 use native.Mathlib.Omega.{arith}
@@ -15,17 +15,18 @@ use Rattle.paper.specs.Limits.{textLimit, listLimit, itemLimit, bracketLimit, n
 use Rattle.paper.specs.Names.{Line, linesFrom, isName, badLine, firstBad, namesFault, namesOf, numberFrom, numberOf}
 use Rattle.paper.specs.Tokens.{Placed, finish, tokens}
 use Rattle.paper.specs.Reading.{got, readPaths, readWithin, readText}
-use Rattle.paper.specs.Query.{Test, anyNode, textNode, named, anyElement}
+use Rattle.paper.specs.Query.{Axis, Test, anyNode, textNode, named, anyElement}
 use Rattle.paper.specs.Query.{Expr, path, both, either, negated, Steps, stop, step, Preds, bare, pred, Query, paths}
 use Rattle.paper.specs.Items.{stepAt, stepCount, predCount, encodeExpr, encodeSteps, encodePreds, encodePaths, encode, decode, goodTest, goodExpr, goodSteps, goodPreds, goodPaths, good, countBound}
 use Rattle.paper.specs.Measures.{isAnd, isOr, nestPaths, nesting}
 use Rattle.paper.specs.Printing.{Piece, closePred, andWord, orWord}
 use Rattle.paper.specs.Printing.{closeRound as closeSign}
-use Rattle.paper.specs.Printing.{grouped, exprPieces, relativePieces, laterPieces, predsPieces, pathPieces, pathsPieces, pieces, printed}
+use Rattle.paper.specs.Printing.{grouped, headPieces, exprPieces, relativePieces, laterPieces, predsPieces, pathPieces, pathsPieces, pieces, printed}
 use Rattle.paper.specs.Answers.{value, line, lineQuery, tooLong, short, unknownTest, unknownItem, unknownFrom, printAnswer, printOut, isNewer, anyName, readAnswer, readItems}
 use Rattle.paper.specs.Answers.{Answer as Told}
 use Rattle.paper.proofs.Tests.{and-true, none-some}
 use Rattle.paper.proofs.Fields.{step-at}
+use Rattle.paper.proofs.Abbreviating.{by-head, by-later}
 use Rattle.paper.proofs.Encoding.{encode-decode}
 use Rattle.paper.proofs.Sizes.{size-decoded}
 use Rattle.paper.proofs.Same.{same-refl, same-turned}
@@ -96,7 +97,7 @@ module _ (count : ℕ) where
         (expr-of e (h .0) (l .0), preds-of ps (h .1) (l .1))
 
 -- PIECES: each stands before pieces that it may stand before.
-module _ (P : ℕ → Type 0) where
+module _ (P : ℕ → Type 0) (brief : Bool) where
   abbrev FineBefore : List Piece → Type 0
   FineBefore ps = (qs : List Piece) → Soft qs → Fine P qs → Fine P (ps ++ qs)
 
@@ -104,64 +105,77 @@ module _ (P : ℕ → Type 0) where
   fine-group true ps k qs s g = rw (append-assoc ps (closeSign ∷ []) qs) (tt, k (closeSign ∷ qs) refl (tt, g))
   fine-group false ps k qs s g = k qs s g
 
-  later-soft : (s : Steps) (qs : List Piece) → Soft qs → Soft (laterPieces s ++ qs)
+  later-soft : (s : Steps) (qs : List Piece) → Soft qs → Soft (laterPieces brief s ++ qs)
   later-soft stop qs h = h
-  later-soft (step a t ps s) qs h = refl
+  later-soft (step a t ps s) qs h = by-later (λ rs. Soft (rs ++ qs)) brief a t ps s (λ d. refl) refl
 
-  preds-soft : (ps : Preds) (qs : List Piece) → Soft qs → Soft (predsPieces ps ++ qs)
+  preds-soft : (ps : Preds) (qs : List Piece) → Soft qs → Soft (predsPieces brief ps ++ qs)
   preds-soft bare qs h = h
   preds-soft (pred e ps) qs h = refl
 
+  -- A head, which begins with no `/`.
+  fine-head : (a : Axis) (t : Test) (count : ℕ) → Spelt P t → FineBefore (headPieces brief a t count)
+  fine-head a t count k = by-head FineBefore brief a t count (λ p qs s g. (s, g)) (λ p qs s g. (tt, g)) (λ p qs s g. ((s, k), g)) (λ qs s g. (refl, (tt, ((s, k), g))))
+
+  head-slash : (a : Axis) (t : Test) (count : ℕ) (qs : List Piece) → NoSlash (headPieces brief a t count ++ qs)
+  head-slash a t count qs = by-head (λ hs. NoSlash (hs ++ qs)) brief a t count (λ p. refl) (λ p. refl) (λ p. refl) refl
+
+  -- A step, its predicates and what follows.
+  fine-step : (a : Axis) (t : Test) (ps : Preds) (s : Steps) → Spelt P t → FineBefore (predsPieces brief ps) → FineBefore (laterPieces brief s) → FineBefore (relativePieces brief (step a t ps s))
+  fine-step a t ps s k fp fl qs h g =
+      let hs = headPieces brief a t (predCount ps) in
+      let after = laterPieces brief s ++ qs in
+      rw (append-assoc hs (predsPieces brief ps ++ laterPieces brief s) qs, append-assoc (predsPieces brief ps) (laterPieces brief s) qs)
+      (fine-head a t (predCount ps) k (predsPieces brief ps ++ after) (preds-soft ps after (later-soft s qs h)) (fp after (later-soft s qs h) (fl qs h g)))
+
+  step-slash : (a : Axis) (t : Test) (ps : Preds) (s : Steps) (qs : List Piece) → NoSlash (relativePieces brief (step a t ps s) ++ qs)
+  step-slash a t ps s qs =
+      rw (append-assoc (headPieces brief a t (predCount ps)) (predsPieces brief ps ++ laterPieces brief s) qs)
+      (head-slash a t (predCount ps) (predsPieces brief ps ++ laterPieces brief s ++ qs))
+
   mutual
-    fine-expr : (e : Expr) → OfList P e → FineBefore (exprPieces e)
+    fine-expr : (e : Expr) → OfList P e → FineBefore (exprPieces brief e)
     fine-expr (path s) k = λ qs h g. fine-relative s (k .1) qs h g
     fine-expr (both a b) k =
         λ qs h g.
-        rw (append-assoc (grouped (isOr a) (exprPieces a)) (andWord ∷ grouped (isOr b || isAnd b) (exprPieces b)) qs)
-        (fine-group (isOr a) (exprPieces a) (λ rs i j. fine-expr a (k .0) rs i j) (andWord ∷ grouped (isOr b || isAnd b) (exprPieces b) ++ qs) refl
-        (tt, fine-group (isOr b || isAnd b) (exprPieces b) (λ rs i j. fine-expr b (k .1) rs i j) qs h g))
+        rw (append-assoc (grouped (isOr a) (exprPieces brief a)) (andWord ∷ grouped (isOr b || isAnd b) (exprPieces brief b)) qs)
+        (fine-group (isOr a) (exprPieces brief a) (λ rs i j. fine-expr a (k .0) rs i j) (andWord ∷ grouped (isOr b || isAnd b) (exprPieces brief b) ++ qs) refl
+        (tt, fine-group (isOr b || isAnd b) (exprPieces brief b) (λ rs i j. fine-expr b (k .1) rs i j) qs h g))
     fine-expr (either a b) k =
         λ qs h g.
-        rw (append-assoc (exprPieces a) (orWord ∷ grouped (isOr b) (exprPieces b)) qs)
-        (fine-expr a (k .0) (orWord ∷ grouped (isOr b) (exprPieces b) ++ qs) refl
-        (tt, fine-group (isOr b) (exprPieces b) (λ rs i j. fine-expr b (k .1) rs i j) qs h g))
-    fine-expr (negated a) k = λ qs h g. rw (append-assoc (exprPieces a) (closeSign ∷ []) qs) (tt, fine-expr a k (closeSign ∷ qs) refl (tt, g))
+        rw (append-assoc (exprPieces brief a) (orWord ∷ grouped (isOr b) (exprPieces brief b)) qs)
+        (fine-expr a (k .0) (orWord ∷ grouped (isOr b) (exprPieces brief b) ++ qs) refl
+        (tt, fine-group (isOr b) (exprPieces brief b) (λ rs i j. fine-expr b (k .1) rs i j) qs h g))
+    fine-expr (negated a) k = λ qs h g. rw (append-assoc (exprPieces brief a) (closeSign ∷ []) qs) (tt, fine-expr a k (closeSign ∷ qs) refl (tt, g))
 
-    fine-relative : (s : Steps) → StepsOf P s → FineBefore (relativePieces s)
+    fine-relative : (s : Steps) → StepsOf P s → FineBefore (relativePieces brief s)
     fine-relative stop k = λ qs h g. g
-    fine-relative (step a t ps s) k =
-        λ qs h g.
-        rw (append-assoc (predsPieces ps) (laterPieces s) qs)
-        (refl, (tt, ((preds-soft ps (laterPieces s ++ qs) (later-soft s qs h), k .0), fine-preds ps (k .1) (laterPieces s ++ qs) (later-soft s qs h) (fine-later s (k .2) qs h g))))
+    fine-relative (step a t ps s) k = fine-step a t ps s (k .0) (λ qs h g. fine-preds ps (k .1) qs h g) (λ qs h g. fine-later s (k .2) qs h g)
 
-    fine-later : (s : Steps) → StepsOf P s → FineBefore (laterPieces s)
+    fine-later : (s : Steps) → StepsOf P s → FineBefore (laterPieces brief s)
     fine-later stop k = λ qs h g. g
     fine-later (step a t ps s) k =
-        λ qs h g.
-        rw (append-assoc (predsPieces ps) (laterPieces s) qs)
-        (refl, (refl, (tt, ((preds-soft ps (laterPieces s ++ qs) (later-soft s qs h), k .0), fine-preds ps (k .1) (laterPieces s ++ qs) (later-soft s qs h) (fine-later s (k .2) qs h g)))))
+        by-later FineBefore brief a t ps s (λ d qs h g. (tt, fine-relative s (k .2) qs h g))
+        (λ qs h g. (step-slash a t ps s qs, fine-step a t ps s (k .0) (λ rs i j. fine-preds ps (k .1) rs i j) (λ rs i j. fine-later s (k .2) rs i j) qs h g))
 
-    fine-preds : (ps : Preds) → PredsOf P ps → FineBefore (predsPieces ps)
+    fine-preds : (ps : Preds) → PredsOf P ps → FineBefore (predsPieces brief ps)
     fine-preds bare k = λ qs h g. g
     fine-preds (pred e ps) k =
         λ qs h g.
-        rw (append-assoc (exprPieces e) (closePred ∷ predsPieces ps) qs)
-        (tt, fine-expr e (k .0) (closePred ∷ predsPieces ps ++ qs) refl (tt, fine-preds ps (k .1) qs h g))
+        rw (append-assoc (exprPieces brief e) (closePred ∷ predsPieces brief ps) qs)
+        (tt, fine-expr e (k .0) (closePred ∷ predsPieces brief ps ++ qs) refl (tt, fine-preds ps (k .1) qs h g))
 
-  relative-slash : (s : Steps) (qs : List Piece) → NoSlash qs → NoSlash (relativePieces s ++ qs)
-  relative-slash stop qs h = h
-  relative-slash (step a t ps s) qs h = refl
+  fine-path : (s : Steps) → StepsOf P s → (qs : List Piece) → Soft qs → NoSlash qs → Fine P qs → Fine P (pathPieces brief s ++ qs)
+  fine-path stop k qs h n g = (n, g)
+  fine-path (step a t ps s) k qs h n g = fine-later (step a t ps s) k qs h g
 
-  fine-path : (s : Steps) → StepsOf P s → (qs : List Piece) → Soft qs → NoSlash qs → Fine P qs → Fine P (pathPieces s ++ qs)
-  fine-path s k qs h n g = (relative-slash s qs n, fine-relative s k qs h g)
-
-  paths-start : (ps : List Steps) → Soft (pathsPieces ps) × NoSlash (pathsPieces ps)
+  paths-start : (ps : List Steps) → Soft (pathsPieces brief ps) × NoSlash (pathsPieces brief ps)
   paths-start [] = (tt, tt)
   paths-start (p ∷ ps) = (refl, refl)
 
-  pub fine-paths : (ps : List Steps) → AllOf P ps → Fine P (pathsPieces ps)
+  pub fine-paths : (ps : List Steps) → AllOf P ps → Fine P (pathsPieces brief ps)
   fine-paths [] k = tt
-  fine-paths (p ∷ ps) k = (tt, fine-path p (k .0) (pathsPieces ps) (paths-start ps .0) (paths-start ps .1) (fine-paths ps (k .1)))
+  fine-paths (p ∷ ps) k = (tt, fine-path p (k .0) (pathsPieces brief ps) (paths-start ps .0) (paths-start ps .1) (fine-paths ps (k .1)))
 
 paths-of : (count : ℕ) (ps : List Steps) → goodPaths ps ≡ true → Known count (encodePaths ps) → AllOf (Below count) ps
 paths-of count [] g k = tt
@@ -231,33 +245,34 @@ module _ (list : List ℕ) (h : namesFault list ≡ none) where
     all : AllOf P (paths q)
     all = paths-of (length (namesOf list)) (paths q) fine known
 
-    read-back : (newer : Bool) (look : List ℕ → Option ℕ) (f : ℕ → ℕ) → ((v : ℕ) → P v → look (getD (namesOf list) v []) ≡ some (f v))
-        → readText newer look (printed (namesOf list) q) ≡ got (record { first = newSteps f (q .first); others = map (newSteps f) (q .others) }) []
+    read-back : (brief newer : Bool) (look : List ℕ → Option ℕ) (f : ℕ → ℕ) → ((v : ℕ) → P v → look (getD (namesOf list) v []) ≡ some (f v))
+        → readText newer look (printed brief (namesOf list) q) ≡ got (record { first = newSteps f (q .first); others = map (newSteps f) (q .others) }) []
     unfolding readText tokens printed pieces
-    read-back newer look f finds =
+    read-back brief newer look f finds =
         let l =
-        lexed P (namesOf list) name-spelt (pathPieces (q .first) ++ pathsPieces (q .others))
-        (fine-path P (q .first) (all .0) (pathsPieces (q .others)) (paths-start P (q .others) .0) (paths-start P (q .others) .1) (fine-paths P (q .others) (all .1))) 0 in
+        lexed P (namesOf list) name-spelt (pathPieces brief (q .first) ++ pathsPieces brief (q .others))
+        (fine-path P brief (q .first) (all .0) (pathsPieces brief (q .others)) (paths-start P brief (q .others) .0) (paths-start P brief (q .others) .1) (fine-paths P brief (q .others) (all .1))) 0 in
         let last : List Placed = record { place = l .end; token = finish } ∷ [] in
-        let ts = laid (l .places) (tokensOf (namesOf list) (pathPieces (q .first) ++ pathsPieces (q .others))) last in
+        let ts = laid (l .places) (tokensOf (namesOf list) (pathPieces brief (q .first) ++ pathsPieces brief (q .others))) last in
         ap (λ (x : List Placed). readPaths newer look (readWithin newer look bracketLimit) (length x) x) (l .are) ∙
-        reads-paths P (namesOf list) newer look f finds (q .others) (q .first) (all .0) (all .1) bracketLimit (length ts) (l .places) (l .end) nest
-        (enough-tokens P (namesOf list) newer look f finds (q .first) (q .others) (l .places) last)
+        reads-paths P (namesOf list) brief newer look f finds (q .others) (q .first) (all .0) (all .1) bracketLimit (length ts) (l .places) (l .end) nest
+        (enough-tokens P (namesOf list) brief newer look f finds (q .first) (q .others) (l .places) last)
 
-    same-query : (newer : Bool) → readText newer (numberOf (namesOf list)) (printed (namesOf list) q) ≡ got q []
-    same-query newer =
-        read-back newer (numberOf (namesOf list)) (λ v. v) name-found ∙
+    same-query : (brief newer : Bool) → readText newer (numberOf (namesOf list)) (printed brief (namesOf list) q) ≡ got q []
+    same-query brief newer =
+        read-back brief newer (numberOf (namesOf list)) (λ v. v) name-found ∙
         ap (λ (x : Query). got x []) (ap₂ (λ (s : Steps) (ss : List Steps). record { first = s; others = ss }) (same-steps (q .first)) (same-paths (q .others)))
 
 -- WHAT AN ACCEPTED PRINT SAYS.
-record Accepted (query list : List ℕ) (n : ℕ) : Type 0 where
-  few-items : length query ≤ itemLimit
-  few-bytes : length list ≤ listLimit
-  no-fault : namesFault list ≡ none
-  is : Query
-  decoded : decode query ≡ some is
-  all-found : unknownFrom (length (namesOf list)) 0 query ≡ none
-  counted : length (printed (namesOf list) is) ≡ n
+pub record Accepted (brief : Bool) (query list : List ℕ) (room n : ℕ) : Type 0 where
+  pub few-items : length query ≤ itemLimit
+  pub few-bytes : length list ≤ listLimit
+  pub no-fault : namesFault list ≡ none
+  pub is : Query
+  pub decoded : decode query ≡ some is
+  pub all-found : unknownFrom (length (namesOf list)) 0 query ≡ none
+  pub counted : length (printed brief (namesOf list) is) ≡ n
+  pub fits : n ≤ room
 
 value-same : (a b : ℕ) → value a ≡ value b → a ≡ b
 value-same a b h = cc
@@ -266,10 +281,10 @@ query-value : (n number place : ℕ) (o : Option Query) (later : Query → Told)
 query-value n number place none later h = absurd (let z : _≡_ {A = ℕ} 0 1 = cc in omega arith)
 query-value n number place (some q) later h = (q, refl, h)
 
-accepted : (query list : List ℕ) (room n : ℕ) → printAnswer query list room ≡ value n → Accepted query list n
+pub accepted : (brief : Bool) (query list : List ℕ) (room n : ℕ) → printAnswer brief query list room ≡ value n → Accepted brief query list room n
 unfolding printAnswer
-accepted query list room n h =
-    let needed : Query → ℕ = λ q. length (printed (namesOf list) q) in
+accepted brief query list room n h =
+    let needed : Query → ℕ = λ q. length (printed brief (namesOf list) q) in
     let last : Query → Told = λ q. line 10 (short room (needed q)) (value (needed q)) in
     let later : Query → Told = λ q. line 5 (unknownFrom (length (namesOf list)) 0 query) (last q) in
     let a = line-value 1 n (when (tooLong query itemLimit || tooLong list listLimit) 0) (line 2 (namesFault list) (lineQuery 6 0 (decode query) later)) h in
@@ -286,13 +301,15 @@ accepted query list room n h =
       decoded = c .1;
       all-found = d .0;
       counted = value-same (needed (c .0)) n (e .1);
+      fits = omega (arith, value-same (needed (c .0)) n (e .1), ltb-false room (needed (c .0)) (when-none (ltb room (needed (c .0))) (needed (c .0)) (e .0)));
     }
 
 -- The text that an accepted print leaves.
-text-left : (query list out : List ℕ) (n : ℕ) → printAnswer query list (length out) ≡ value n → (a : Accepted query list n) → take n (printOut query list out) ≡ printed (namesOf list) (a .is)
+text-left : (brief : Bool) (query list out : List ℕ) (n : ℕ) → printAnswer brief query list (length out) ≡ value n → (a : Accepted brief query list (length out) n)
+    → take n (printOut brief query list out) ≡ printed brief (namesOf list) (a .is)
 unfolding printOut
-text-left query list out n h a =
-    let text = printed (namesOf list) (a .is) in
+text-left brief query list out n h a =
+    let text = printed brief (namesOf list) (a .is) in
     rw (h, a .decoded, ← a .counted) (take-append-seam text (drop (length text) out))
 
 -- What decoding says, path by path.
@@ -311,17 +328,17 @@ nest-of q e = e
 -- ROUND TRIP.
 pub round-trip : RoundTrip
 unfolding readAnswer readItems
-round-trip query list out n room version fine h most fits =
-    let a = accepted query list (length out) n h in
-    let text = printed (namesOf list) (a .is) in
+round-trip brief query list out n room version fine h most fits =
+    let a = accepted brief query list (length out) n h in
+    let text = printed brief (namesOf list) (a .is) in
     let d = encode-decode query (a .is) (a .decoded) in
     let known : Known (length (namesOf list)) (encodePaths (paths (a .is))) = subst (Known (length (namesOf list))) (items-of query (a .is) (d .items)) (all-known (length (namesOf list)) query 0 (a .all-found)) in
     let good-one = fine-of (a .is) (d .fine) in
     let nest-one = nest-of (a .is) (d .nested) in
-    let any = read-back list (a .no-fault) (a .is) good-one nest-one known (isNewer version) anyName (λ v. 0) (λ v l. refl) in
-    let own = same-query list (a .no-fault) (a .is) good-one nest-one known (isNewer version) in
+    let any = read-back list (a .no-fault) (a .is) good-one nest-one known brief (isNewer version) anyName (λ v. 0) (λ v l. refl) in
+    let own = same-query list (a .no-fault) (a .is) good-one nest-one known brief (isNewer version) in
     let s = size-decoded query (a .is) (a .decoded) in
-    rw (text-left query list out n h a) (
+    rw (text-left brief query list out n h a) (
       rw (le-ltb textLimit (length text) (omega (arith, a .counted)), le-ltb listLimit (length list) (a .few-bytes), fine, a .no-fault, any, own, s, le-ltb room (length query) fits, le-ltb itemLimit (length query) (a .few-items)),
       rw own (sym (d .items)),
     )

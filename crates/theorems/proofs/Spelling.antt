@@ -1,4 +1,4 @@
--- The tokens of a printed text are those of its pieces, one after the other. A name is never followed by a byte that goes on with it, and a `/` never by another.
+-- The tokens of a printed text are those of its pieces, one after the other. A name or a `.` is never followed by a byte that goes on with it, and a `/` never by another.
 -- By induction over the pieces. Assumes nothing.
 use Prim.Native.Nat.{ℕ, suc, _+_, _≤_}
 use native.Mathlib.Omega.{arith}
@@ -12,10 +12,10 @@ use lib.Seq.{take-append-seam, drop-append-seam}
 use borrow.Author.Tests.{eqb-true, leb-true, ne-eqb}
 use Rattle.paper.specs.Tools.{ascii, begins}
 use Rattle.paper.specs.Names.{letter, nameStart, namePart, nameParts, isName}
-use Rattle.paper.specs.Tokens.{Token, slash, colons, bar, openSquare, closeSquare, openRound, closeRound, star, finish, word}
+use Rattle.paper.specs.Tokens.{Token, slash, slashes, dot, dots, colons, bar, openSquare, closeSquare, openRound, closeRound, star, finish, word}
 use Rattle.paper.specs.Tokens.{white, run, tokenAt, Placed, tokensFrom}
 use Rattle.paper.specs.Query.{Test, anyNode, textNode, named, anyElement}
-use Rattle.paper.specs.Printing.{Piece, slashSign, colonsSign, barSign, openPred, closePred, openGroup, openNot, andWord, orWord, axisWord, testWord}
+use Rattle.paper.specs.Printing.{Piece, slashSign, slashesSign, dotSign, dotsSign, colonsSign, barSign, openPred, closePred, openGroup, openNot, andWord, orWord, axisWord, testWord}
 use Rattle.paper.specs.Printing.{closeRound as closeSign}
 use Rattle.paper.specs.Printing.{axisText, testText, textOf}
 use Rattle.paper.proofs.Tests.{and-true, or-true}
@@ -31,6 +31,9 @@ testTokens names anyElement = star ∷ []
 
 abbrev pub pieceTokens : List (List ℕ) → Piece → List Token
 pieceTokens names slashSign = slash ∷ []
+pieceTokens names slashesSign = slashes ∷ []
+pieceTokens names dotSign = dot ∷ []
+pieceTokens names dotsSign = dots ∷ []
 pieceTokens names colonsSign = colons ∷ []
 pieceTokens names barSign = bar ∷ []
 pieceTokens names openPred = openSquare ∷ []
@@ -56,9 +59,12 @@ abbrev pub laid : List ℕ → List Token → List Placed → List Placed
 laid places [] rest = rest
 laid places (t ∷ ts) rest = record { place = firstPlace places; token = t } ∷ laid (drop 1 places) ts rest
 
--- Does a piece begin with a byte of a name; is it a `/`?
+-- Does a piece begin with a byte of a name; does it begin with `/`?
 abbrev pub wordy : Piece → Bool
 wordy slashSign = false
+wordy slashesSign = false
+wordy dotSign = true
+wordy dotsSign = true
 wordy colonsSign = false
 wordy barSign = false
 wordy openPred = false
@@ -73,6 +79,9 @@ wordy (testWord t) = true
 
 abbrev pub slashy : Piece → Bool
 slashy slashSign = true
+slashy slashesSign = true
+slashy dotSign = false
+slashy dotsSign = false
 slashy colonsSign = false
 slashy barSign = false
 slashy openPred = false
@@ -103,6 +112,9 @@ Spelt P anyElement = Unit {0}
 -- May this piece stand before those?
 abbrev pub Fits : (ℕ → Type 0) → Piece → List Piece → Type 0
 Fits P slashSign ps = NoSlash ps
+Fits P slashesSign ps = Unit {0}
+Fits P dotSign ps = Soft ps
+Fits P dotsSign ps = Unit {0}
 Fits P colonsSign ps = Unit {0}
 Fits P barSign ps = Unit {0}
 Fits P openPred ps = Unit {0}
@@ -160,6 +172,9 @@ name-token (b ∷ bs) tail at h s =
 soft-halts : (names : List (List ℕ)) (ps : List Piece) → Soft ps → Halts (textOf names ps)
 soft-halts names [] s = tt
 soft-halts names (slashSign ∷ ps) s = refl
+soft-halts names (slashesSign ∷ ps) s = refl
+soft-halts names (dotSign ∷ ps) s = absurd (false≢true (sym s))
+soft-halts names (dotsSign ∷ ps) s = absurd (false≢true (sym s))
 soft-halts names (colonsSign ∷ ps) s = refl
 soft-halts names (barSign ∷ ps) s = refl
 soft-halts names (openPred ∷ ps) s = refl
@@ -171,6 +186,11 @@ soft-halts names (andWord ∷ ps) s = refl
 soft-halts names (orWord ∷ ps) s = refl
 soft-halts names (axisWord a ∷ ps) s = absurd (false≢true (sym s))
 soft-halts names (testWord t ∷ ps) s = absurd (false≢true (sym s))
+
+-- Where a name stops, no `.` follows.
+halts-dot : (bs : List ℕ) → Halts bs → begins 46 bs ≡ false
+halts-dot [] h = refl
+halts-dot (b ∷ bs) h = ne-eqb 46 b (λ e. absurd (false≢true (sym h ∙ ap namePart (sym e))))
 
 -- The first byte of a name is no `/`.
 name-apart : (w tail : List ℕ) → isName w ≡ true → begins 47 (w ++ tail) ≡ false
@@ -199,6 +219,9 @@ module _ (P : ℕ → Type 0) (names : List (List ℕ)) (spells : (v : ℕ) → 
   no-slash : (ps : List Piece) → Fine P ps → NoSlash ps → begins 47 (textOf names ps) ≡ false
   no-slash [] f s = refl
   no-slash (slashSign ∷ ps) f s = absurd (false≢true (sym s))
+  no-slash (slashesSign ∷ ps) f s = absurd (false≢true (sym s))
+  no-slash (dotSign ∷ ps) f s = refl
+  no-slash (dotsSign ∷ ps) f s = refl
   no-slash (colonsSign ∷ ps) f s = refl
   no-slash (barSign ∷ ps) f s = refl
   no-slash (openPred ∷ ps) f s = refl
@@ -216,6 +239,9 @@ module _ (P : ℕ → Type 0) (names : List (List ℕ)) (spells : (v : ℕ) → 
   unfolding tokenAt
   lexed [] f at = record { places = []; end = at; are = refl }
   lexed (slashSign ∷ ps) f at = one at (rw (no-slash ps (f .1) (f .0))) (lexed ps (f .1) (suc at))
+  lexed (slashesSign ∷ ps) f at = one at refl (lexed ps (f .1) (suc (suc at)))
+  lexed (dotSign ∷ ps) f at = one at (rw (halts-dot (textOf names ps) (soft-halts names ps (f .0)))) (lexed ps (f .1) (suc at))
+  lexed (dotsSign ∷ ps) f at = one at refl (lexed ps (f .1) (suc (suc at)))
   lexed (colonsSign ∷ ps) f at = one at refl (lexed ps (f .1) (suc (suc at)))
   lexed (barSign ∷ ps) f at = one at refl (lexed ps (f .1) (suc at))
   lexed (openPred ∷ ps) f at = one at refl (lexed ps (f .1) (suc at))

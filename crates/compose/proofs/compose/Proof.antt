@@ -66,28 +66,6 @@ inner-guards c = c .inner-shape .given .0 .1 .1 .0
 inner-shaped : (c : tie.After-inner-shape) → Shaped (inner (begun (past-1 c))) (inner-nesting c) (inner-guards c)
 inner-shaped c = shape-some _ (c .before .before .measure2 .result) (inner-nesting c) _ (inner-guards c) (c .before .before .measure2 .ensures) (c .inner-shape .given .1)
 
--- With the brackets counted line 9 is judged.
-abbrev past-6 : tie.After-larger → tie.After-inner-shape
-past-6 c = c .before .before
-
-deep : (c : tie.After-larger2)
-    → c .larger2 .result ≡ max (outer-nesting (inner-read (past-6 (c .before)))) (outer-guards (inner-read (past-6 (c .before))) + 2 + c .before .larger .result)
-deep c = omega (arith, c .larger2 .ensures)
-
--- With the items counted only line 10 is left.
-abbrev past-9 : tie.After-composed-size → tie.Else3
-past-9 c = c .before .before .before
-
-abbrev start-of : tie.After-composed-size → tie.Start
-start-of c = begun (past-1 (past-6 (past-9 c .before .before)))
-
-left : (c : tie.After-composed-size) → Ending (outer (start-of c)) (inner (start-of c)) (length (old (start-of c))) (c .composed-size .result)
-left c =
-    let nested = past-9 c .before in
-    let both = past-6 (nested .before) in
-    ending _ _ _ (outer-few (past-1 both)) (inner-few (past-1 both)) _ _ _ _ (outer-shaped (inner-read both)) (inner-shaped both) (nested .before .larger .result) (nested .larger2 .result) (nested .before .larger .ensures) (deep nested)
-    (omega (arith, past-9 c .if3 .left)) (c .before .selected-size .result) (c .composed-size .result) (c .before .selected-size .ensures .0) (c .composed-size .ensures)
-
 returns : tie.Need-returns
 unfolding composeAnswer composeOut
 returns c =
@@ -136,13 +114,12 @@ returns-4 c =
     refused composed (outer start) (inner start) (old start) 6 1
     (line-6-inner composed (outer start) (inner start) (length (old start)) (outer-few one) (inner-few one) _ _ (outer-shaped half) (shape-none _ (measured .measure2 .result) (measured .measure2 .ensures) (c .enum-told2 .given .1)))
 
-add-guard-nesting : tie.Need-add-guard-nesting
-add-guard-nesting c =
-    let o = outer-shaped (inner-read (c .before)) in
-    omega (arith, o .within, o .shallow)
+-- Both are known.
+abbrev told-all : tie.After-compose-by-arg → tie.After-inner-shape
+told-all c = c .before .before
 
-larger-requires : tie.Need-larger-requires
-larger-requires c κs = search needs
+abbrev said : (c : tie.After-inner-shape) → Says (outer (begun (past-1 c))) (outer (begun (past-1 c)))
+said c = own-axes (outer (begun (past-1 c))) (outer-nesting (inner-read c)) (outer-guards (inner-read c)) (outer-shaped (inner-read c))
 
 counted : (c : tie.After-inner-shape)
     → Nests (outer (begun (past-1 c))) (outer (begun (past-1 c))) (outer-nesting (inner-read c)) (outer-guards (inner-read c)) (said c)

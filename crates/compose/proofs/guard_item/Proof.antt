@@ -21,6 +21,9 @@ old start = now (start .args .out)
 abbrev chosen : tie.Start → List ℕ
 chosen start = take (start .args .count) (drop (start .args .from) (old start))
 
+abbrev flag : tie.Start → ℕ
+flag start = guardItem (start .args .says)
+
 abbrev items : tie.Start → List ℕ
 items start = guardedItem (chosen start) (flag start) (start .args .w)
 
@@ -39,6 +42,20 @@ module _ (start : tie.Start) (stays : items start ≡ start .args .w ∷ []) whe
     one-done : (out ≡ placed (items start) (start .args .at) (old start)) × (next ≡ start .args .at + length (items start))
     one-done = (wrote ∙ ap (λ (x : List ℕ). placed x (start .args .at) (old start)) (sym stays), omega (arith, reached, ap length stays))
 
+-- It is not named.
+abbrev unnamed : tie.Then1 → tie.Start
+unnamed c = c .before .before .before
+
+unnamed-same : (c : tie.Then1) → items (unnamed c) ≡ unnamed c .args .w ∷ []
+unnamed-same c = unnamed-stays (chosen (unnamed c)) (flag (unnamed c)) _ (omega (arith, c .before .one-guard .ensures, c .if1 .taken))
+
+-- It is named.
+abbrev begun : tie.Else1 → tie.Start
+begun c = c .before .before .before
+
+named : (c : tie.Else1) → flag (begun c) ≡ 0 → ⊥
+named c e = omega (arith, c .before .one-guard .ensures, c .if1 .left, e)
+
 -- It is no step.
 abbrev other : tie.At-match-keys2 → tie.Start
 other c = begun (c .before .before)
@@ -46,12 +63,12 @@ other c = begun (c .before .before)
 other-stays : (c : tie.At-match-keys2) → items (other c) ≡ other c .args .w ∷ []
 other-stays c = no-step-guarded (chosen (other c)) (flag (other c)) _ _ (c .before .unpack .ensures) (c .match .keys2)
 
--- It is a step, and its axis is known to be guarded or not.
-abbrev said : tie.After-guarded → tie.After-said
-said c = c .before .before
+-- A step is written with V.
+abbrev named-step : tie.After-said → tie.Else1
+named-step c = c .before .before .before
 
-abbrev begun : tie.After-guarded → tie.Start
-begun c = said c .before .before .before .before
+abbrev step-start : tie.After-said → tie.Start
+step-start c = begun (named-step c)
 
 same-items : (c : tie.After-said) → items (step-start c) ≡ guardedStep (chosen (step-start c)) (c .said .given .0 .0)
 same-items c =
@@ -60,11 +77,13 @@ same-items c =
 room : (c : tie.After-said) → length (items (step-start c)) ≡ 6 + length (chosen (step-start c)) + length (chosen (step-start c))
 room c = guarded-room (chosen (step-start c)) (flag (step-start c)) _ _ (same-items c)
 
-room : (c : tie.Then1) → length (items (begun (c .before))) ≡ 6 + length (chosen (begun (c .before))) + length (chosen (begun (c .before)))
-room c = guarded-room (chosen (begun (c .before))) _ _ (same-items c)
+abbrev said : tie.After-guard-step → tie.After-said
+said c = c .before .before .before
 
-abbrev guards : tie.After-guard-step → tie.Then1
-guards c = c .before .before
+wrote : (c : tie.After-guard-step) → c .guard-step .last .1 .0 ≡ placed (items (step-start (said c))) (step-start (said c) .args .at) (old (step-start (said c)))
+wrote c =
+    let start = step-start (said c) in
+    c .guard-step .ensures .0 ∙ ap (λ (x : List ℕ). placed x (start .args .at) (old start)) (sym (same-items (said c)))
 
 one-guard-requires : tie.Need-one-guard-requires
 one-guard-requires c κs = search needs

@@ -30,8 +30,14 @@ outer start = now (start .args .outer)
 abbrev old : Start → List ℕ
 old start = now (start .args .out)
 
-abbrev made : Start → Steps → List ℕ
-made start = guardedPath (take (start .args .count) (drop (start .args .from) (old start)))
+abbrev says : Start → List ℕ
+says start = now (start .args .says)
+
+abbrev Said : Start → Type 0
+Said start = Says (outer start) (says start)
+
+abbrev made : (start : Start) → Said start → Steps → List ℕ
+made start g = guardedPath (g .decides) (take (start .args .count) (drop (start .args .from) (old start)))
 
 -- At the head of a turn.
 abbrev Turn : Type 0
@@ -52,11 +58,37 @@ guards : (c : Found) (g : Said (begun (turn c)))
 guards c g =
     let l = turn c .loop in
     let start = begun (turn c) in
-    top (outer start) (l .place) (c .skip .result) (c .before .owes .result) (l .inv .rest) (c .before .before .before .loop-test .taken) (l .inv .walks) (c .before .owes .ensures .0) (c .skip .ensures .0)
-    (λ p ps e t. record { writes = l .inv; path = p; later = ps; here = e; top = t; few = start .pre .1; room = start .pre .2; fits = start .pre .3 })
+    let w = l .inv g in
+    top (outer start) (l .place) (c .skip .result) (c .before .owes .result) (w .writes .rest) (c .before .before .before .loop-test .taken) (w .writes .walks) (c .before .owes .ensures .0) (c .skip .ensures .0)
+    (λ p ps e t.
+    record {
+      writes = w .writes;
+      path = p;
+      later = ps;
+      here = e;
+      top = t;
+      few = start .pre .1;
+      flags = w .flags ∙ ap (flagsPaths (g .decides)) e;
+      room = start .pre .2 g;
+      fits = start .pre .3;
+    })
+
+-- By what it is lent.
+abbrev lent : (c : Found) → Said (begun (turn c))
+lent c = begun (turn c) .pre .0
 
 room : (c : Found) → turn c .loop .at + 4 ≤ length (turn c .loop .out)
-room c = omega (arith, path-room (guards c), turn c .loop .inv .size, begun (turn c) .pre .3)
+room c = omega (arith, path-room (guards c (lent c)), turn c .loop .inv (lent c) .writes .size, begun (turn c) .pre .3)
+
+same : (c : Found) → length (turn c .loop .out) ≡ length (old (begun (turn c)))
+same c = turn c .loop .inv (lent c) .writes .size
+
+many : (c : Found) → length (says (begun (turn c))) ≡ length (outer (begun (turn c)))
+many c = says-length (outer (begun (turn c))) (says (begun (turn c))) (lent c)
+
+-- Its steps, and what is said of them.
+abbrev part : (c : Found) → List ℕ → List ℕ
+part c items = take (c .skip .result - (turn c .loop .place + 1)) (drop (turn c .loop .place + 1) items)
 
 -- The path's item is packed, its steps are written.
 abbrev Packed : Type 0

@@ -12,7 +12,30 @@ abbrev Inv-loop : tie.InvT-loop
 Inv-loop steps out₀ start from count says place₀ at₀ out place at = Guarded (take count (drop from out₀)) steps says out₀ out start place at
 
 abbrev μ-loop : tie.MeasureT-loop
-μ-loop steps out₀ start from count place₀ at₀ out place at = length steps - place
+μ-loop steps out₀ start from count says place₀ at₀ out place at = length steps - place
+
+-- What is lent.
+abbrev Start : Type 0
+Start = tie.Start Inv-loop μ-loop
+
+abbrev steps : Start → List ℕ
+steps start = now (start .args .steps)
+
+abbrev says : Start → List ℕ
+says start = now (start .args .says)
+
+abbrev old : Start → List ℕ
+old start = now (start .args .out)
+
+-- Inside a turn.
+abbrev Turn : Type 0
+Turn = tie.In-loop Inv-loop μ-loop
+
+abbrev begun : Turn → Start
+begun c = c .before .before .before .before .before
+
+beside : (c : Turn) → c .before .loop .place < length (says (begun c))
+beside c = omega (arith, begun c .pre .1, c .loop-test .taken)
 
 loop-holds : tie.Need-loop-holds Inv-loop μ-loop
 loop-holds c =

@@ -27,6 +27,16 @@ inner start = now (start .args .inner)
 abbrev old : tie.Start → List ℕ
 old start = now (start .args .out)
 
+abbrev says : tie.Start → List ℕ
+says start = now (start .args .says)
+
+abbrev Said : tie.Start → Type 0
+Said start = Says (outer start) (says start)
+
+-- The items that are to be written.
+abbrev whole : (start : tie.Start) → Said start → List ℕ
+whole start g = madeGot (composedBy (g .decides)) (decode (outer start)) (decode (inner start))
+
 abbrev chosen : tie.Start → List ℕ
 chosen start = selectedGot (decode (inner start))
 

@@ -8,6 +8,7 @@ use mathlib.Core.Bool.{false}
 use lib.ListN.{length, getD, drop}
 use borrow.Author.Needs.{needs}
 use denote.Ref.{now}
+use Rattle.paper.specs.Tools.{ascii}
 use Rattle.paper.specs.Names.{namesOf}
 use Rattle.paper.specs.Query.{stop, bare}
 use Rattle.paper.specs.Items.{notItem, takePreds, takeSteps, takeWithin}
@@ -22,9 +23,10 @@ use Rattle.shape.proofs.Operands.{operators-there}
 use Rattle.pen.proofs.Putting.{puts-long}
 use Rattle.print.proofs.Unknowns.{known-test}
 use Rattle.print.proofs.Chains.{Turn, turn-start, turn-low, turn-long, turn-onward, turn-and, turn-or, turn-done}
-use Rattle.print.proofs.Rows.{Rest, rest-start, rest-done, pred-opens, pred-turn, step-there, step-head, step-turn}
+use Rattle.print.proofs.Skipping.{step-there}
+use Rattle.print.proofs.Rows.{Rest, rest-start, rest-done, pred-opens, pred-turn, step-head, between-brief, step-turn, skip-few}
 use Rattle.print.proofs.Operands.{operand-there, path-opens, path-prints, operator-there, not-deep, joined-deep, not-opens, joined-opens, not-prints, joined-prints}
-use Prim.Native.Nat.{ℕ, _<_}
+use Prim.Native.Nat.{ℕ, _≤_, _<_}
 use borrow.Fn.Kinds.{In}
 use borrow.Fn.PlainCycle.{Measures, is, falls, and}
 use Rattle.print.proofs.expression.Reads as expression
@@ -48,6 +50,7 @@ use Rattle.pen.proofs.put_open.Reads as put-open-reads
 use Rattle.pen.proofs.put_or.Reads as put-or-reads
 use Rattle.pen.proofs.put_slash.Reads as put-slash-reads
 use Rattle.print.proofs.closed.Reads as closed-reads
+use Rattle.print.proofs.deep.Reads as deep-reads
 use Rattle.shape.proofs.run_of.Reads as run-of-reads
 use Rattle.print.proofs.+expression+operand+predicates+steps.{statement}
 use Rattle.print.proofs.+expression+operand+predicates+steps.Tie.{close}
@@ -103,14 +106,14 @@ abbrev predicates-claims : ℕ → predicates-lts.Claims
 predicates-claims t = (put-byte-reads.Asked, put-byte-reads.Learnt, expression-below t, expression.Post)
 
 abbrev steps-claims : ℕ → steps-lts.Claims
-steps-claims t = (unpack-reads.Asked, unpack-reads.Learnt, put-head-reads.Asked, put-head-reads.Learnt, predicates-below t, predicates.Post, put-slash-reads.Asked, put-slash-reads.Learnt)
+steps-claims t = (unpack-reads.Asked, unpack-reads.Learnt, put-head-reads.Asked, put-head-reads.Learnt, predicates-below t, predicates.Post, put-slash-reads.Asked, put-slash-reads.Learnt, deep-reads.Asked, deep-reads.Learnt)
 
 abbrev expression-Inv-loop : expression-lts.InvT-loop
-expression-Inv-loop items list starts count out₀ at pen depth ors₀ ands₀ place₀ byte₀ out ors ands place byte =
-    Turn (namesOf list) depth items at pen out₀ out place byte ands ors
+expression-Inv-loop items list starts count out₀ at pen depth brief ors₀ ands₀ place₀ byte₀ out ors ands place byte =
+    Turn brief (namesOf list) depth items at pen out₀ out place byte ands ors
 
 abbrev expression-μ-loop : expression-lts.MeasureT-loop
-expression-μ-loop items list starts count out₀ at pen depth ors₀ ands₀ place₀ byte₀ out ors ands place byte = length items - place
+expression-μ-loop items list starts count out₀ at pen depth brief ors₀ ands₀ place₀ byte₀ out ors ands place byte = length items - place
 
 expression-run-of-requires : (t : ℕ) → expression-lts.Need-run-of-requires (expression-claims t) (expression-at t) expression.Post expression-Inv-loop expression-μ-loop
 expression-run-of-requires t c κs = search needs
@@ -130,7 +133,7 @@ expression-add-place-2 t c = omega (arith, c .run-of2 .ensures .1, c .before .be
 expression-loop-holds : (t : ℕ) → expression-lts.Need-loop-holds (expression-claims t) (expression-at t) expression.Post expression-Inv-loop expression-μ-loop
 expression-loop-holds t c =
     let a = c .before .before .before .before .before .args in
-    turn-start (namesOf (now (a .list))) (a .depth) (now (a .items)) (a .at) (a .pen) (now (a .out)) (c .before .before .before .before .before .pre .1 .1 .1) (c .before .run-of .result) (c .run-of2 .result) (c .before .run-of .ensures .0) (c .run-of2 .ensures .0) (c .before .run-of .ensures .1) (c .run-of2 .ensures .1)
+    turn-start (a .brief) (namesOf (now (a .list))) (a .depth) (now (a .items)) (a .at) (a .pen) (now (a .out)) (c .before .before .before .before .before .pre .1 .1 .1) (c .before .run-of .result) (c .run-of2 .result) (c .before .run-of .ensures .0) (c .run-of2 .ensures .0) (c .before .run-of .ensures .1) (c .run-of2 .ensures .1)
 
 expression-operand-requires : (t : ℕ) → expression-lts.Need-operand-requires (expression-claims t) (expression-at t) expression.Post expression-Inv-loop expression-μ-loop
 expression-operand-requires t c κs =
@@ -255,7 +258,7 @@ operand-returns t c =
     let u = c .before .before .before .before .before .before .before .unpack in
     let w = getD (now (a .items)) (a .at) 0 in
     let s = rw (c .before .before .before .before .before .item .given .1) at (said w (u .result) (u .ensures)) in
-    path-prints (a .depth) (now (a .items)) (a .at) there _ _ _ _ _ _ s (p .1 .1) (c .before .before .steps .ensures)
+    path-prints (a .depth) (now (a .items)) (a .at) there _ _ _ _ _ _ _ s (p .1 .1) (c .before .before .steps .ensures)
 
 operand-enum-told : (t : ℕ) → operand-lts.Need-enum-told (operand-claims t) (operand-at t) operand.Post
 operand-enum-told t c = search needs
@@ -293,7 +296,7 @@ operand-same-length-2 t c = puts-long (c .before .before .closed .ensures .0) �
 operand-returns-2 : (t : ℕ) → operand-lts.Need-returns-2 (operand-claims t) (operand-at t) operand.Post
 operand-returns-2 t c =
     let a = c .before .before .before .before .before .before .before .before .before .before .before .before .before .before .before .before .before .before .before .before .args in
-    not-prints (now (a .items)) (a .at) (a .depth) (c .before .before .before .before .before .before .before .before .before .before .before .before .before .before .before .before .before .before .before .before .pre .1 .1 .1) _ _ _ _ _ _ _ _ _ (operand-not t (c .before .before .before .before .before .before .before .before .before .before .before .before)) (c .before .before .before .before .before .before .before .before .before .before .put-not .ensures) (c .before .before .before .before .before .before .expression .ensures) (c .before .before .closed .ensures .0) (c .before .before .closed .ensures .1)
+    not-prints (now (a .items)) (a .at) (a .depth) (c .before .before .before .before .before .before .before .before .before .before .before .before .before .before .before .before .before .before .before .before .pre .1 .1 .1) _ _ _ _ _ _ _ _ _ _ (operand-not t (c .before .before .before .before .before .before .before .before .before .before .before .before)) (c .before .before .before .before .before .before .before .before .before .before .put-not .ensures) (c .before .before .before .before .before .before .expression .ensures) (c .before .before .closed .ensures .0) (c .before .before .closed .ensures .1)
 
 operand-put-open-requires : (t : ℕ) → operand-lts.Need-put-open-requires (operand-claims t) (operand-at t) operand.Post
 operand-put-open-requires t c κs = omega (arith, c .before .before .before .before .before .before .before .before .pre .1 .1 .0 .0, c .before .before .before .before .before .before .before .before .pre .1 .1 .0 .1)
@@ -324,14 +327,14 @@ operand-same-length-3 t c = puts-long (c .before .before .closed2 .ensures .0) �
 operand-returns-3 : (t : ℕ) → operand-lts.Need-returns-3 (operand-claims t) (operand-at t) operand.Post
 operand-returns-3 t c =
     let a = c .before .before .before .before .before .before .before .before .before .before .before .before .before .before .before .before .before .before .before .args in
-    joined-prints (now (a .items)) (a .at) (a .depth) (c .before .before .before .before .before .before .before .before .before .before .before .before .before .before .before .before .before .before .before .pre .1 .1 .1) _ _ _ _ _ _ _ _ _ (operand-operator t (c .before .before .before .before .before .before .before .before .before .before .before .before)) (c .before .before .before .before .before .before .before .before .before .before .put-open .ensures) (c .before .before .before .before .before .before .expression2 .ensures) (c .before .before .closed2 .ensures .0) (c .before .before .closed2 .ensures .1)
+    joined-prints (now (a .items)) (a .at) (a .depth) (c .before .before .before .before .before .before .before .before .before .before .before .before .before .before .before .before .before .before .before .pre .1 .1 .1) _ _ _ _ _ _ _ _ _ _ (operand-operator t (c .before .before .before .before .before .before .before .before .before .before .before .before)) (c .before .before .before .before .before .before .before .before .before .before .put-open .ensures) (c .before .before .before .before .before .before .expression2 .ensures) (c .before .before .closed2 .ensures .0) (c .before .before .closed2 .ensures .1)
 
 abbrev predicates-Inv-loop : predicates-lts.InvT-loop
-predicates-Inv-loop items list starts count out₀ at pen number depth place₀ byte₀ owed₀ out place byte owed =
-    Rest (takePreds (takeWithin depth)) predsPieces (namesOf list) items at pen (takePreds (takeWithin depth) number (drop at items)) out₀ out place byte owed
+predicates-Inv-loop items list starts count out₀ at pen number depth brief place₀ byte₀ owed₀ out place byte owed =
+    Rest (takePreds (takeWithin depth)) (predsPieces brief) (namesOf list) items at pen (takePreds (takeWithin depth) number (drop at items)) out₀ out place byte owed
 
 abbrev predicates-μ-loop : predicates-lts.MeasureT-loop
-predicates-μ-loop items list starts count out₀ at pen number depth place₀ byte₀ owed₀ out place byte owed = owed
+predicates-μ-loop items list starts count out₀ at pen number depth brief place₀ byte₀ owed₀ out place byte owed = owed
 
 predicates-loop-holds : (t : ℕ) → predicates-lts.Need-loop-holds (predicates-claims t) (predicates-at t) predicates.Post predicates-Inv-loop predicates-μ-loop
 predicates-loop-holds t c =
@@ -369,7 +372,7 @@ predicates-loop-less t c = omega (arith, c .before .before .before .before .befo
 
 predicates-loop-again : (t : ℕ) → predicates-lts.Need-loop-again (predicates-claims t) (predicates-at t) predicates.Post predicates-Inv-loop predicates-μ-loop
 predicates-loop-again t c =
-    pred-turn _ (c .before .before .before .before .before .before .before .before .before .before .before .before .before .before .before .before .before .args .depth) _ _ _ _ _ _ _ _ _ _ _ _ _ _ _ (c .before .before .before .before .before .before .before .before .before .before .before .before .loop-test .taken) (c .before .before .before .before .before .before .before .before .before .before .before .before .before .loop .inv) (c .before .before .before .before .before .before .before .before .before .before .put-byte .ensures) (c .before .before .before .before .before .before .expression .ensures) (c .before .before .put-byte2 .ensures)
+    pred-turn _ _ (c .before .before .before .before .before .before .before .before .before .before .before .before .before .before .before .before .before .args .depth) _ _ _ _ _ _ _ _ _ _ _ _ _ _ _ (c .before .before .before .before .before .before .before .before .before .before .before .before .loop-test .taken) (c .before .before .before .before .before .before .before .before .before .before .before .before .before .loop .inv) (c .before .before .before .before .before .before .before .before .before .before .put-byte .ensures) (c .before .before .before .before .before .before .expression .ensures) (c .before .before .put-byte2 .ensures)
 
 predicates-same-length : (t : ℕ) → predicates-lts.Need-same-length (predicates-claims t) (predicates-at t) predicates.Post predicates-Inv-loop predicates-μ-loop
 predicates-same-length t c = puts-long (c .before .loop .inv .puts)
@@ -378,11 +381,11 @@ predicates-returns : (t : ℕ) → predicates-lts.Need-returns (predicates-claim
 predicates-returns t c = rest-done _ _ _ _ _ _ _ _ _ _ _ _ bare (λ ws. refl) refl (c .loop-test .left) (c .before .loop .inv)
 
 abbrev steps-Inv-loop : steps-lts.InvT-loop
-steps-Inv-loop items list starts count out₀ at pen number depth place₀ byte₀ owed₀ out place byte owed =
-    Rest (takeSteps (takeWithin depth)) relativePieces (namesOf list) items at pen (takeSteps (takeWithin depth) number (drop at items)) out₀ out place byte owed
+steps-Inv-loop items list starts count out₀ at pen number depth brief place₀ byte₀ owed₀ out place byte owed =
+    Rest (takeSteps (takeWithin depth)) (relativePieces brief) (namesOf list) items at pen (takeSteps (takeWithin depth) number (drop at items)) out₀ out place byte owed
 
 abbrev steps-μ-loop : steps-lts.MeasureT-loop
-steps-μ-loop items list starts count out₀ at pen number depth place₀ byte₀ owed₀ out place byte owed = owed
+steps-μ-loop items list starts count out₀ at pen number depth brief place₀ byte₀ owed₀ out place byte owed = owed
 
 steps-loop-holds : (t : ℕ) → steps-lts.Need-loop-holds (steps-claims t) (steps-at t) steps.Post steps-Inv-loop steps-μ-loop
 steps-loop-holds t c =
@@ -470,20 +473,56 @@ steps-put-slash-requires t c κs =
     let w = c .before .before .before .predicates .ensures in
     omega (arith, w .low, w .inside, c .before .before .before .before .before .before .before .before .before .before .before .before .before .before .before .loop .inv .low, c .before .before .before .before .before .before .before .put-head .ensures .1, c .before .before .before .before .before .before .before .before .before .before .before .before .before .before .before .before .before .before .before .pre .1 .1 .0 .1)
 
+-- Behind a step, how many `//` stands for has been asked.
+abbrev Asked : ℕ → Type 0
+Asked t = steps-lts.After-deep (steps-claims t) (steps-at t) steps.Post steps-Inv-loop steps-μ-loop
+
+-- No more are skipped than are left, and the item after them is there.
+steps-few : (t : ℕ) (c : Asked t) →
+    let a = c .before .before .before .before .before .before .before .before .before .before .before .before .before .before .before .before .before .before .before .before .before .before .before .args in
+    (c .deep .result ≤ c .before .before .before .before .before .before .before .before .before .before .before .before .before .before .before .before .before .before .before .loop .owed - 1) × (c .before .before .before .before .before .before .before .predicates .result .item + c .deep .result ≤ length (now (a .items))) × (c .deep .result ≤ 1)
+steps-few t c =
+    let a = c .before .before .before .before .before .before .before .before .before .before .before .before .before .before .before .before .before .before .before .before .before .before .before .args in
+    let l = c .before .before .before .before .before .before .before .before .before .before .before .before .before .before .before .before .before .before .before .loop in
+    let u = c .before .before .before .before .before .before .before .before .before .before .before .before .before .before .before .before .unpack in
+    let w = getD (now (a .items)) (l .place) 0 in
+    let s = rw (c .before .before .before .before .before .before .before .before .before .before .before .before .before .before .item .given .1) at (said w (u .result) (u .ensures)) in
+    let v = rw (ap (λ x. x .count) (s .2)) at (c .before .before .before .before .before .before .before .predicates .ensures) in
+    skip-few (a .brief) (a .depth) (now (a .items)) (l .place) (l .owed) (c .before .before .before .before .before .before .before .predicates .result .item) (c .deep .result) (l .inv .rest) (l .inv .left) (s .0) (v .what)
+    (c .before .before .before .before .before .before .before .before .before .before .before .before .before .before .before .before .before .before .loop-test .taken) (l .inv .takes) (s .1) (v .reads) (v .inside) (c .deep .ensures)
+
+steps-deep-requires : (t : ℕ) → steps-lts.Need-deep-requires (steps-claims t) (steps-at t) steps.Post steps-Inv-loop steps-μ-loop
+steps-deep-requires t c κs = search needs
+
+steps-put-slash-requires-2 : (t : ℕ) → steps-lts.Need-put-slash-requires-2 (steps-claims t) (steps-at t) steps.Post steps-Inv-loop steps-μ-loop
+steps-put-slash-requires-2 t c κs =
+    let d = c .before in
+    let l = d .before .before .before .before .before .before .before .before .before .before .before .before .before .before .before .before .before .before .before .loop in
+    let w = d .before .before .before .before .before .before .before .predicates .ensures in
+    omega (arith, w .low, w .inside, l .inv .low, d .before .before .before .before .before .before .before .before .before .before .before .put-head .ensures .1, d .before .before .before .put-slash .ensures .moved, between-brief (ascii "/") (l .owed - 1), d .before .before .before .before .before .before .before .before .before .before .before .before .before .before .before .before .before .before .before .before .before .before .before .pre .1 .1 .0 .1)
+
+steps-add-place : (t : ℕ) → steps-lts.Need-add-place (steps-claims t) (steps-at t) steps.Post steps-Inv-loop steps-μ-loop
+steps-add-place t c = let d = c .before .before .before .before in omega (arith, steps-few t d .1, d .before .before .before .before .before .before .before .before .before .before .before .before .before .before .before .before .before .before .before .before .before .before .before .good .0 .1)
+
+steps-sub-owed-2 : (t : ℕ) → steps-lts.Need-sub-owed-2 (steps-claims t) (steps-at t) steps.Post steps-Inv-loop steps-μ-loop
+steps-sub-owed-2 t c = omega (arith, steps-few t (c .before .before .before .before) .0)
+
 steps-loop-less : (t : ℕ) → steps-lts.Need-loop-less (steps-claims t) (steps-at t) steps.Post steps-Inv-loop steps-μ-loop
-steps-loop-less t c = omega (arith, c .before .before .before .before .before .before .before .before .before .before .before .before .before .before .before .before .before .loop-test .taken)
+steps-loop-less t c = let d = c .before .before .before .before in omega (arith, d .before .before .before .before .before .before .before .before .before .before .before .before .before .before .before .before .before .before .loop-test .taken)
 
 steps-loop-again : (t : ℕ) → steps-lts.Need-loop-again (steps-claims t) (steps-at t) steps.Post steps-Inv-loop steps-μ-loop
 steps-loop-again t c =
-    let a = c .before .before .before .before .before .before .before .before .before .before .before .before .before .before .before .before .before .before .before .before .before .before .args in
-    let l = c .before .before .before .before .before .before .before .before .before .before .before .before .before .before .before .before .before .before .loop in
-    let u = c .before .before .before .before .before .before .before .before .before .before .before .before .before .before .before .unpack in
+    let d = c .before .before .before .before in
+    let a = d .before .before .before .before .before .before .before .before .before .before .before .before .before .before .before .before .before .before .before .before .before .before .before .args in
+    let l = d .before .before .before .before .before .before .before .before .before .before .before .before .before .before .before .before .before .before .before .loop in
+    let u = d .before .before .before .before .before .before .before .before .before .before .before .before .before .before .before .before .unpack in
     let w = getD (now (a .items)) (l .place) 0 in
-    let s = rw (c .before .before .before .before .before .before .before .before .before .before .before .before .before .item .given .1) at (said w (u .result) (u .ensures)) in
+    let s = rw (d .before .before .before .before .before .before .before .before .before .before .before .before .before .before .item .given .1) at (said w (u .result) (u .ensures)) in
     let h = s .0 in
-    step-turn _ (a .depth) _ _ _ _ _ _ _ _ _ _ _ _ _ _ h _ (c .before .before .before .before .before .before .before .before .before .before .before .before .before .before .before .before .before .loop-test .taken) (l .inv) (s .1)
-    (c .before .before .before .before .before .before .before .before .before .before .put-head .ensures .0 (h .axis) (h .test) (ap (λ x. x .axis) (s .2)) (ap (λ x. x .test) (s .2)) (step-found w h (s .1) .1)) (c .before .before .before .before .before .before .before .before .before .before .put-head .ensures .1)
-    (rw (ap (λ x. x .count) (s .2)) at (c .before .before .before .before .before .before .predicates .ensures)) (c .before .before .put-slash .ensures)
+    let p = d .before .before .before .before .before .before .before .before .before .before .before .put-head .ensures in
+    step-turn _ _ (a .depth) _ _ _ _ _ _ _ _ _ _ _ _ _ _ _ _ _ h _ (d .before .before .before .before .before .before .before .before .before .before .before .before .before .before .before .before .before .before .loop-test .taken) (l .inv) (s .1)
+    (rw (ap (λ x. x .count) (s .2)) at (p .0 (h .axis) (h .test) (ap (λ x. x .axis) (s .2)) (ap (λ x. x .test) (s .2)) (step-found w h (s .1) .1))) (p .1)
+    (rw (ap (λ x. x .count) (s .2)) at (d .before .before .before .before .before .before .before .predicates .ensures)) (d .before .before .before .put-slash .ensures) (d .deep .ensures) (c .before .before .put-slash2 .ensures)
 
 steps-same-length-2 : (t : ℕ) → steps-lts.Need-same-length-2 (steps-claims t) (steps-at t) steps.Post steps-Inv-loop steps-μ-loop
 steps-same-length-2 t c = puts-long (c .before .loop .inv .puts)
@@ -574,6 +613,10 @@ pub +expression+operand+predicates+steps-spec : {M : Type 1} → statement M
     (steps-predicates-requires t)
     (steps-sub-owed t)
     (steps-put-slash-requires t)
+    (steps-deep-requires t)
+    (steps-put-slash-requires-2 t)
+    (steps-add-place t)
+    (steps-sub-owed-2 t)
     (steps-loop-less t)
     (steps-loop-again t)
     (steps-same-length-2 t)
