@@ -426,6 +426,36 @@ static void cuts(void)
     rows_of_cuts("chain", make_chain);
 }
 
+/* The gateway. */
+
+enum { VIEWS = HALYARDFIG_VIEWS, LEAST_VIEW = 64 };
+
+/* As many views as there may be, each a path of child steps, a space and its LF. */
+static void make_views(struct views *views, size_t bytes)
+{
+    views->length = 0;
+    for (size_t v = 0; v < VIEWS; v++) {
+        for (size_t i = 0; i < bytes - 2; i++)
+            views->bytes[views->length++] = i % 2 == 0 ? '/' : 'a';
+        views->bytes[views->length++] = ' ';
+        views->bytes[views->length++] = '\n';
+    }
+}
+
+static void roles(void)
+{
+    static struct views views;
+    double before = 0;
+    printf("\n### A role's query, the bytes of the views doubled, ours alone\n\n");
+    printf("| views | bytes | us | times the row before |\n|---|---|---|---|\n");
+    for (size_t bytes = LEAST_VIEW; bytes * VIEWS <= HALYARDFIG_TEXT_BYTES; bytes *= 2) {
+        make_views(&views, bytes);
+        double micros = time_role(&views);
+        printf("| %d | %zu | %.1f | ", VIEWS, views.length, micros);
+        before = end_row(micros, before);
+    }
+}
+
 /* The second engine. */
 
 static void row_of_engines(const struct document *document, const char *name, const char *text)
@@ -469,6 +499,7 @@ int main(void)
     chains();
     axes();
     cuts();
+    roles();
     second_engine();
     return 0;
 }

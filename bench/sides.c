@@ -193,6 +193,27 @@ double time_cut(const struct document *document)
     return micros;
 }
 
+/* A role's query. */
+
+static void compose_for_role(void *with)
+{
+    static uint32_t out[ITEM_ROOM];
+    static const halyardfig_role role = {1};
+    const struct views *views = with;
+    accepted(halyardfig_for_role(views->bytes, views->length, (const uint8_t *)"a\n", 2, &role, 1, 0,
+                                 (const uint8_t *)"/", 1, out, ITEM_ROOM),
+             "a role's query");
+}
+
+double time_role(struct views *views)
+{
+    double micros;
+    struct work work = {compose_for_role, views};
+    time_first(&work, 1, &micros);
+    time_side_by_side(&work, 1, &micros);
+    return micros;
+}
+
 /* Reading. */
 
 static void read_own(void *with)

@@ -24,6 +24,15 @@ double time_own_measures(const struct document *document, const struct query *qu
 /* Times the check of a document as a cut of itself, for the library. */
 double time_cut(const struct document *document);
 
+/* Views, one a line, over the one name `a`. */
+struct views {
+    uint8_t bytes[HALYARDFIG_TEXT_BYTES];
+    size_t length;
+};
+
+/* Composing `/` for a role that names the first of the views, which are all read. */
+double time_role(struct views *views);
+
 /* Times the reading of a query's text. */
 void time_reading(const struct document *document, const struct query *query, double micros[SIDES]);
 

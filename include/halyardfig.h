@@ -2,7 +2,8 @@
  * Halyardfig: queries in a part of XPath 1.0 and 2.0, run over node tables as subtree queries, and composed;
  * and XML text read into such tables, and what is kept of it written back.
  *
- * A query in memory is an array of 32-bit items, made by halyardfig_read or halyardfig_compose.
+ * A query in memory is an array of 32-bit items, made by halyardfig_read, halyardfig_compose, halyardfig_compose_lean
+ * or halyardfig_for_role.
  * A document is two columns of one length, parent and kind: node 0 is the root (parent 0, kind 0),
  * kind 1 is text, kind 2 + v an element with the name v of the name list, counted from 0.
  * halyardfig_read_xml makes them of XML text, and two columns more that say where each node's text stands.
@@ -14,8 +15,8 @@
  * memory that a call writes does not overlap other memory lent to the same call.
  * Lengths count elements, not bytes. No call allocates, and none keeps what it is lent.
  * Calls share nothing: threads may call at once, as long as what one call writes is lent to no other.
- * No call uses more than HALYARDFIG_STACK_BYTES of stack, whatever it is lent; that is measured on the deepest and
- * longest inputs, and not proved.
+ * No call uses more than HALYARDFIG_STACK_BYTES of stack, but halyardfig_for_role up to HALYARDFIG_ROLE_STACK_BYTES,
+ * whatever it is lent; that is measured on the deepest and longest inputs, and not proved.
  *
  * A caller that does not know how much room a call needs lends it none (length 0, the pointer still not null):
  * the place of refusal 10 is the number needed.
@@ -25,7 +26,8 @@
  *
  *   1   a length is over its limit, two lengths that must agree do not,
  *       a number that tells the scratch is 0 or over 4,096,
- *       or a version of XPath is neither 1 nor 2                             place 0
+ *       a version of XPath is neither 1 nor 2, there are over 32 views
+ *       or 16 roles, or no LF ends the last view                             place 0
  *   2   name list: a line is no name, is over 64 bytes, has no LF,
  *       is the 257th, or repeats an earlier line                             start of that line
  *   3   text: no query begins like this, or the text ends too early          the token, the byte, or the length
@@ -42,6 +44,9 @@
  *   13  marks: no element is marked                                          0
  *   14  XML text: read with this list it is refused, or does not give
  *       exactly these nodes, parents, kinds and places                       0
+ *   15  roles: no such role                                                  the role's number
+ *   16  roles: the role has no view, or names one that is not given          the role's number
+ *   17  views: a view can't be read with a room of 4,096 items               the number of the first
  */
 /*
  * Version 3.0.0 of the library: halyardfig_print writes the short form of a text, with //, . and .. and no child::.
@@ -65,8 +70,13 @@
 #define HALYARDFIG_NAMES 256
 #define HALYARDFIG_NESTING 64
 
-/* The stack that a call uses, at most. */
+/* The stack that a call uses, at most; halyardfig_for_role has two arrays of 4,096 items on top of reading's. */
 #define HALYARDFIG_STACK_BYTES 65536
+#define HALYARDFIG_ROLE_STACK_BYTES 98304
+
+/* The most views, and the most roles. */
+#define HALYARDFIG_VIEWS 32
+#define HALYARDFIG_ROLES 16
 
 /* The versions of XPath by which a text is read. */
 #define HALYARDFIG_XPATH_1 1
@@ -92,6 +102,9 @@
 #define HALYARDFIG_REFUSED_LEFT_OUT 12
 #define HALYARDFIG_REFUSED_NO_ELEMENT 13
 #define HALYARDFIG_REFUSED_COLUMNS 14
+#define HALYARDFIG_REFUSED_ROLE 15
+#define HALYARDFIG_REFUSED_ROLE_VIEWS 16
+#define HALYARDFIG_REFUSED_VIEW 17
 
 #ifdef __cplusplus
 extern "C" {
@@ -281,6 +294,31 @@ uint64_t halyardfig_scratch(size_t nodes, size_t outer_height, size_t outer_path
 uint64_t halyardfig_is_cut(const uint16_t *parent, size_t parent_len, const uint16_t *kind, size_t kind_len,
                            const uint16_t *cut_parent, size_t cut_parent_len, const uint16_t *cut_kind,
                            size_t cut_kind_len, const uint16_t *cut_node, size_t cut_node_len);
+
+/* A role: the views that it may see, bit v for view v, the lowest bit for view 0. */
+typedef struct {
+    uint32_t views;
+} halyardfig_role;
+
+/*
+ * Composes a role's query with the union of the views that the role names, and writes the items of the composition to
+ * out. Views are lines of one text, each ended by LF, counted from 0: at most 32. An empty text has no views, and a
+ * blank line is a view that can't be read. A role's number is its index among at most 16 roles. Views and query are
+ * read by version 1. The union of queries is their paths one after the other, here in view number order.
+ * Run inside any marks, the query written keeps what the role's query keeps inside what one of its views keeps.
+ * Views and roles that the role does not use never change its answer, as long as every view can be read and no limit
+ * of 1 is passed; a role with every view of another sees on each document at least what the other sees where the
+ * query is / and both are accepted.
+ * Value: the number of items; out past it is untouched.
+ * Refuses, in this order: 1 (views or text over 32,768 bytes, list over 8,192, over 32 views, over 16 roles, no LF
+ * after the last view), 2, 15 (no such role; place: the role's number), 16 (its mask is 0, or names a view that is not
+ * given; place: the role's number), 17 (a view can't be read with a room of 4,096 items; place: the number of the
+ * first; all are read, not only the role's), then 3, 4, 5 and 10 as halyardfig_read gives them for the query with a
+ * room of 4,096 items, 10 where the union is over 4,096 items (place: its size), then 9 and 10 as halyardfig_compose.
+ */
+uint64_t halyardfig_for_role(const uint8_t *views, size_t views_len, const uint8_t *names, size_t names_len,
+                             const halyardfig_role *roles, size_t roles_len, uint32_t role, const uint8_t *text,
+                             size_t text_len, uint32_t *out, size_t out_len);
 
 #ifdef __cplusplus
 }

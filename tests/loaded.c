@@ -27,6 +27,7 @@ static struct {
     __typeof__(halyardfig_paths) *paths;
     __typeof__(halyardfig_scratch) *scratch;
     __typeof__(halyardfig_is_cut) *is_cut;
+    __typeof__(halyardfig_for_role) *for_role;
 } calls;
 
 enum { NODES = 7, KEPT = 4, ITEMS = HALYARDFIG_QUERY_ITEMS };
@@ -69,7 +70,8 @@ static bool find_all(void *library)
            find(library, "halyardfig_read_xml", &calls.read_xml) &&
            find(library, "halyardfig_write_xml", &calls.write_xml) &&
            find(library, "halyardfig_height", &calls.height) && find(library, "halyardfig_paths", &calls.paths) &&
-           find(library, "halyardfig_scratch", &calls.scratch) && find(library, "halyardfig_is_cut", &calls.is_cut);
+           find(library, "halyardfig_scratch", &calls.scratch) && find(library, "halyardfig_is_cut", &calls.is_cut) &&
+           find(library, "halyardfig_for_role", &calls.for_role);
 }
 
 static void call_all(void)
@@ -81,7 +83,9 @@ static void call_all(void)
     static const uint8_t given[NODES] = {1, 1, 1, 1, 1, 1, 1}, wanted_marks[NODES] = {1, 1, 0, 0, 0, 1, 1};
     static const char wanted_file[] = "<a><b><d></d></b></a>";
     static uint16_t parent[NODES], kind[NODES], begin[NODES], end[NODES], kept_parent[KEPT], kept_kind[KEPT];
-    static uint32_t outer[ITEMS], inner[ITEMS], both[ITEMS], untouched[8];
+    static const char views[] = "/a/b/c\n/a/b/d\n";
+    static const halyardfig_role roles[] = {{1}, {2}};
+    static uint32_t outer[ITEMS], inner[ITEMS], both[ITEMS], asked[ITEMS], untouched[8];
     static uint8_t marks[NODES], followed[NODES], scratch[126];
     static uint8_t text[HALYARDFIG_TEXT_BYTES], file[sizeof xml];
 
@@ -102,6 +106,10 @@ static void call_all(void)
     uint64_t size = calls.compose(outer, o, inner, i, LENT(both));
     expect("compose_lean", fewer < size);
     expect("compose", halyardfig_refused(size) == 0);
+    answers("for_role", calls.for_role(TEXT(views), TEXT(names), LENT(roles), 1, TEXT("/a[not(b/c)]"), LENT(asked)), size);
+    expect("items of for_role", memcmp(asked, both, sizeof asked) == 0);
+    answers("no such role", calls.for_role(TEXT(views), TEXT(names), LENT(roles), 2, TEXT("/"), LENT(untouched)),
+            REFUSED(15, 2));
     uint64_t printed = calls.print(both, size, TEXT(names), LENT(text));
     expect("print", memcmp(text, "/child::a[", 10) == 0);
     answers("print with no room", calls.print(both, size, TEXT(names), text, 0), REFUSED(10, printed));

@@ -14,6 +14,14 @@ NODES, ITEMS, TEXT = 7, 4096, 32768
 ITEM, NODE, BYTE = ctypes.c_uint32, ctypes.c_uint16, ctypes.c_uint8
 VERSION_1, VERSION_3 = ctypes.c_uint32(1), ctypes.c_uint32(3)
 
+
+
+class Role(ctypes.Structure):
+    """A role: the views that it may see, bit v for view v."""
+
+    _fields_ = [("views", ctypes.c_uint32)]
+
+
 library = ctypes.CDLL(sys.argv[1])
 wrong = 0
 
@@ -84,6 +92,10 @@ size = call("compose", outer, inner, both)
 expect("compose is accepted", size >> 32, 0)
 expect("compose_lean has fewer items", call("compose_lean", outer, inner, room(ITEM, ITEMS)) < size, True)
 both = part(both, size if size >> 32 == 0 else 0)
+roles, asked, untouched = (Role * 2)(Role(1), Role(2)), room(ITEM, ITEMS), room(ITEM, 8)
+expect("for_role", call("for_role", VIEWS, NAMES, roles, ctypes.c_uint32(1), OUTER, asked), size)
+expect("items of for_role", list(asked)[:size], list(both))
+expect("no such role", call("for_role", VIEWS, NAMES, roles, ctypes.c_uint32(2), OUTER, untouched), refusal(15, 2))
 text = room(BYTE, TEXT)
 printed = call("print", both, NAMES, text)
 expect("print", bytes(text)[:10], b"/child::a[")

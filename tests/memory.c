@@ -299,6 +299,44 @@ static bool scratch_of_anything(struct dice *dice)
     return twin_scratch(numbers) && in_range("scratch", first, 100679680, HALYARDFIG_REFUSED_LENGTH);
 }
 
+/* Any bytes as views, cut into lines, or good ones, and any masks. */
+static bool role_of_anything(struct dice *dice)
+{
+    static struct text views, asked;
+    static halyardfig_role roles[HALYARDFIG_ROLES + 1];
+    list_of(&list, "a b");
+    if (chance(dice, 30))
+        any_list(dice);
+    any_text(dice);
+    views = text;
+    if (chance(dice, 50)) {
+        clear_text(&views);
+        for (size_t lines = below(dice, 5); lines > 0; lines--)
+            put_word(&views, chance(dice, 95) ? "/a|//b[a]\n" : "/.\n\n");
+    } else if (views.length > 0) {
+        views.bytes[views.length - 1] = '\n';
+    }
+    any_text(dice);
+    asked = text;
+    if (chance(dice, 40)) {
+        clear_text(&asked);
+        put_word(&asked, chance(dice, 50) ? "/a[not(b)]" : "//node()|/b");
+    }
+    size_t count = chance(dice, 95) ? below(dice, 5) : HALYARDFIG_ROLES + below(dice, 2);
+    for (size_t i = 0; i < count; i++)
+        roles[i].views = chance(dice, 90) ? (uint32_t)between(dice, 0, 3) : (uint32_t)roll(dice);
+    uint32_t role = (uint32_t)(chance(dice, 90) ? below(dice, count) : chance(dice, 50) ? count : roll(dice));
+    size_t room = any_length(dice, 1000, ITEM_ROOM);
+    uint64_t first = 0;
+    for (unsigned time = 0; time < 2; time++) {
+        if (!twin_for_role(dice, views.bytes, views.length, list.bytes, list.length, roles, count, role, asked.bytes,
+                           asked.length, room))
+            return false;
+        first = time == 0 ? twin_answer : first;
+    }
+    return in_range("for_role", first, room, HALYARDFIG_REFUSED_VIEW);
+}
+
 int main(void)
 {
     group_start("memory");
@@ -313,5 +351,6 @@ int main(void)
     try_cases("height", 6000, height_of_anything);
     try_cases("paths", 6000, paths_of_anything);
     try_cases("scratch", 5000, scratch_of_anything);
+    try_cases("for_role", 10000, role_of_anything);
     return group_end();
 }

@@ -34,6 +34,10 @@ uint64_t model_is_cut(const uint16_t *parent, size_t parent_len, const uint16_t 
                       const uint16_t *cut_parent, size_t cut_parent_len, const uint16_t *cut_kind, size_t cut_kind_len,
                       const uint16_t *cut_node, size_t cut_node_len);
 
+uint64_t model_for_role(const uint8_t *views, size_t views_len, const uint8_t *names, size_t names_len,
+                        const halyardfig_role *roles, size_t roles_len, uint32_t role, const uint8_t *text,
+                        size_t text_len, uint32_t *out, size_t out_len);
+
 uint64_t model_height(const uint32_t *query, size_t query_len);
 uint64_t model_paths(const uint32_t *query, size_t query_len);
 uint64_t model_scratch(size_t nodes, size_t outer_height, size_t outer_paths, size_t inner_height, size_t inner_paths);

@@ -14,9 +14,27 @@ enum { STACK_BYTES = 1 << 18, PAINT = 0xC7 };
 enum { SCRATCH_ROOM = 1 << 25, PRINT_ROOM = 1 << 19, MIXED_TEXTS = 60, NAMED_MOST = 100 };
 enum { CHAIN_NODES = 80, LONG_ITEMS = 500 };
 
-enum call { READ, PRINT, COMPOSE, RUN, EXTRACT, READ_XML, WRITE_XML, HEIGHT, PATHS, SCRATCH, IS_CUT, FOLLOW, CALLS };
-static const char *const call_names[CALLS] = {"read",      "print",  "compose", "run",     "extract", "read_xml",
-                                              "write_xml", "height", "paths",   "scratch", "is_cut",  "follow"};
+enum call {
+    READ,
+    PRINT,
+    PRINT_LONG,
+    COMPOSE,
+    COMPOSE_LEAN,
+    RUN,
+    EXTRACT,
+    READ_XML,
+    WRITE_XML,
+    HEIGHT,
+    PATHS,
+    SCRATCH,
+    IS_CUT,
+    FOLLOW,
+    FOR_ROLE,
+    CALLS
+};
+static const char *const call_names[CALLS] = {"read",    "print",    "print_long", "compose", "compose_lean", "run",
+                                              "extract", "read_xml", "write_xml",  "height",  "paths",
+                                              "scratch",  "is_cut",    "follow",     "for_role"};
 
 static struct {
     size_t bytes;
@@ -36,6 +54,10 @@ static uint8_t kept[NODE_ROOM], scratch[SCRATCH_ROOM], printed[PRINT_ROOM];
 static uint16_t columns[COLUMNS][NODE_ROOM];
 static uint8_t column_marks[NODE_ROOM];
 static size_t column_nodes;
+static uint8_t role_views[TEXT_ROOM + 1];
+static size_t role_views_length;
+static const char *role_text;
+static size_t role_text_length;
 static uint64_t answer;
 
 static void call_nothing(void)
@@ -136,6 +158,13 @@ static void call_is_cut(void)
                                table.kind, table.nodes, numbers, table.nodes);
 }
 
+static void call_for_role(void)
+{
+    static const halyardfig_role roles[] = {{1}};
+    answer = halyardfig_for_role(role_views, role_views_length, list.bytes, list.length, roles, 1, 0,
+                                 (const uint8_t *)role_text, role_text_length, made.items, ITEM_ROOM);
+}
+
 /* A painted stack; below it is a page that cannot be touched. */
 static uint8_t *stack_memory(void)
 {
@@ -182,9 +211,10 @@ static size_t painted_over(void (*call)(void))
 
 static void measure_call(enum call which, const char *input)
 {
-    static void (*const calls[CALLS])(void) = {call_read,    call_print,    call_compose,   call_run,
-                                               call_extract, call_read_xml, call_write_xml, call_height,
-                                               call_paths,   call_scratch,  call_is_cut,    call_follow};
+    static void (*const calls[CALLS])(void) = {call_read,         call_print,    call_print_long, call_compose,
+                                               call_compose_lean, call_run,      call_extract,    call_read_xml,
+                                               call_write_xml,    call_height,   call_paths,      call_scratch,
+                                               call_is_cut,       call_follow,   call_for_role};
     static char trying[2 * NAMED_MOST];
     static size_t empty;
     if (empty == 0)
@@ -232,11 +262,32 @@ static void measure_query(const char *input)
     memcpy(outer.items, simple, sizeof simple);
     outer.count = 2;
     measure_call(COMPOSE, input);
+    measure_call(COMPOSE_LEAN, input);
+}
+
+/* Tries a role's query with its one view. */
+static void measure_role(const char *view, size_t view_length, const char *asked, size_t asked_length)
+{
+    memcpy(role_views, view, view_length);
+    role_views[view_length] = '\n';
+    role_views_length = view_length + 1;
+    role_text = asked;
+    role_text_length = asked_length;
+    measure_call(FOR_ROLE, text);
+}
+
+/* The text as a role's query, as its view, and as both. */
+static void measure_roles(void)
+{
+    measure_role("/a", 2, text, text_length);
+    measure_role(text, text_length, "/a", 2);
+    measure_role(text, text_length, text, text_length);
 }
 
 /* Reads the text by both versions, and where the second accepts it goes on with its query. */
 static void measure_text(void)
 {
+    measure_roles();
     version = HALYARDFIG_XPATH_1;
     measure_call(READ, text);
     version = HALYARDFIG_XPATH_2;

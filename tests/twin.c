@@ -330,3 +330,30 @@ bool twin_is_cut(const uint16_t *parent, size_t parent_len, const uint16_t *kind
     show_words("cut's node", cut_node, cut_node_len);
     return false;
 }
+
+bool twin_for_role(struct dice *dice, const uint8_t *views, size_t views_len, const uint8_t *names, size_t names_len,
+                   const halyardfig_role *roles, size_t roles_len, uint32_t role, const uint8_t *text, size_t text_len,
+                   size_t room)
+{
+    enum { VIEWS_PIECE, NAMES_PIECE, ROLES_PIECE, TEXT_PIECE, OUT_PIECE };
+    piece_count = 0;
+    const uint8_t *our_views = lend_read(views, views_len);
+    const uint8_t *our_names = lend_read(names, names_len);
+    const halyardfig_role *our_roles = lend_read(roles, roles_len * sizeof *roles);
+    const uint8_t *our_text = lend_read(text, text_len);
+    uint32_t *out = lend_write(dice, room * sizeof *out);
+    written_first = out;
+    uint64_t ours = halyardfig_for_role(our_views, views_len, our_names, names_len, our_roles, roles_len, role,
+                                        our_text, text_len, out, room);
+    uint64_t models = model_for_role(model_piece(VIEWS_PIECE), views_len, model_piece(NAMES_PIECE), names_len,
+                                     model_piece(ROLES_PIECE), roles_len, role, model_piece(TEXT_PIECE), text_len,
+                                     model_piece(OUT_PIECE), room);
+    if (compare("for_role", ours, models))
+        return true;
+    complain("for role %u of %zu, with the mask %#x", (unsigned)role, roles_len,
+             role < roles_len ? (unsigned)roles[role].views : 0);
+    show_text("views", views, views_len);
+    show_text("names", names, names_len);
+    show_text("text", text, text_len);
+    return false;
+}

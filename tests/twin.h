@@ -43,7 +43,11 @@ bool twin_is_cut(const uint16_t *parent, size_t parent_len, const uint16_t *kind
                  const uint16_t *cut_parent, size_t cut_parent_len, const uint16_t *cut_kind, size_t cut_kind_len,
                  const uint16_t *cut_node, size_t cut_node_len);
 
-/* What the last accepted read, compose, print or write of XML wrote. */
+bool twin_for_role(struct dice *dice, const uint8_t *views, size_t views_len, const uint8_t *names, size_t names_len,
+                   const halyardfig_role *roles, size_t roles_len, uint32_t role, const uint8_t *text, size_t text_len,
+                   size_t room);
+
+/* What the last accepted read, compose, for_role, print or write of XML wrote. */
 const uint32_t *twin_items(void);
 const uint8_t *twin_bytes(void);
 

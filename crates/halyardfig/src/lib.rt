@@ -1,5 +1,6 @@
 // The C interface: each call lends its slices to an entry point and answers in one number.
 use paper::Answer;
+use roles::Role;
 ghost use Prim.Native.Nat.{_+_, _*_, _<_};
 ghost use mathlib.Core.Path.{_≡_};
 ghost use lib.ListN.{length};
@@ -8,6 +9,8 @@ ghost use Rattle.paper.specs.Document.{tableOf};
 ghost use Rattle.paper.specs.Printing.{longForm, shortForm};
 ghost use Rattle.paper.specs.Answers.{readAnswer, readOut, printAnswer, printOut, composeAnswer, composeOut, runAnswer, runMarks, runScratch, extractAnswer, extractParents, extractKinds, readXmlAnswer, readXmlColumn, parentField, kindField, beginField, endField, isCutAnswer, writeXmlAnswer, writeXmlOut};
 ghost use Rattle.paper.specs.Room.{heightAnswer, pathsAnswer, scratchAnswer};
+ghost use Rattle.paper.specs.Lean.{composeLeanAnswer, composeLeanOut};
+ghost use Rattle.paper.specs.Roles.{roleAnswer, roleOut};
 ghost use Rattle.paper.specs.Told.{told};
 ghost use Rattle.follow.specs.Follows.{enough};
 ghost use Rattle.theorems.specs.Bounds.{Small};
@@ -44,6 +47,9 @@ fn code(answer: Answer) -> u64
         Answer::LeftOut(place) => refused(12, place),
         Answer::NoElement => refused(13, 0),
         Answer::OtherText => refused(14, 0),
+        Answer::NoRole(role) => refused(15, role),
+        Answer::NoView(role) => refused(16, role),
+        Answer::UnreadView(view) => refused(17, view),
     }
 }
 
@@ -219,4 +225,20 @@ pub extern "C" fn halyardfig_is_cut(
     ensures { λ r. ⌜ r ≡ codeOf (isCutAnswer (tableOf (now (parent .entry)) (now (kind .entry))) (tableOf (now («cut_parent» .entry)) (now («cut_kind» .entry))) (now («cut_node» .entry))) ⌝ }
 {
     code(cut::is_cut(parent, kind, cut_parent, cut_kind, cut_node))
+}
+
+// Composes a role's query with the union of its views: `roles::for_role` for C.
+#[no_mangle]
+pub extern "C" fn halyardfig_for_role(
+    views: &[u8],
+    names: &[u8],
+    roles: &[Role],
+    role: u32,
+    text: &[u8],
+    out: &mut [u32],
+) -> u64
+    ensures { λ r. ⌜ (r ≡ codeOf (roleAnswer (now (views .entry)) (now (names .entry)) (map (λ x. x .views) (now (roles .entry))) role (now (text .entry)) (length (now (out .entry)))))
+        × (now (out .exit) ≡ roleOut (now (views .entry)) (now (names .entry)) (map (λ x. x .views) (now (roles .entry))) role (now (text .entry)) (now (out .entry))) ⌝ }
+{
+    code(roles::for_role(views, names, roles, role, text, out))
 }

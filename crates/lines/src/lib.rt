@@ -75,6 +75,9 @@ fn number_of(answer: Answer) -> usize
         Answer::LeftOut(_) => 12,
         Answer::NoElement => 13,
         Answer::OtherText => 14,
+        Answer::NoRole(_) => 15,
+        Answer::NoView(_) => 16,
+        Answer::UnreadView(_) => 17,
     }
 }
 
@@ -98,6 +101,9 @@ fn place_of(answer: Answer) -> usize
         Answer::LeftOut(place) => place,
         Answer::NoElement => 0,
         Answer::OtherText => 0,
+        Answer::NoRole(role) => role,
+        Answer::NoView(role) => role,
+        Answer::UnreadView(view) => view,
     }
 }
 

@@ -18,6 +18,7 @@ pub mod Composition
 pub mod Answers
 pub mod Lean
 pub mod Room
+pub mod Roles
 pub mod Program
 pub mod Samples
 pub mod ShortSamples

@@ -2,7 +2,7 @@
 use Rattle.paper.specs.Answers.{value, refusal}
 use Rattle.paper.specs.Answers.{Answer as Told}
 use Rattle.paper.specs.declared.Answer.{Answer}
-use Rattle.paper.specs.declared.Answer.the-variants.{Value, TooLong, BadName, NoQuery, TooDeep, UnknownName, BadQuery, BadTable, BadMarks, TooNested, Short, NoXml, LeftOut, NoElement, OtherText}
+use Rattle.paper.specs.declared.Answer.the-variants.{Value, TooLong, BadName, NoQuery, TooDeep, UnknownName, BadQuery, BadTable, BadMarks, TooNested, Short, NoXml, LeftOut, NoElement, OtherText, NoRole, NoView, UnreadView}
 
 abbrev pub told : Answer → Told
 told (Value n) = value n
@@ -20,3 +20,6 @@ told (NoXml place) = refusal 11 place
 told (LeftOut place) = refusal 12 place
 told NoElement = refusal 13 0
 told OtherText = refusal 14 0
+told (NoRole place) = refusal 15 place
+told (NoView place) = refusal 16 place
+told (UnreadView place) = refusal 17 place

@@ -14,6 +14,10 @@ pub const BRACKET_LIMIT: usize = 64;
 pub const NAME_LIMIT: usize = 64;
 // The most names of a list.
 pub const NAMES_LIMIT: usize = 256;
+// The most views, and the most roles.
+pub const VIEW_LIMIT: usize = 32;
+
+pub const ROLE_LIMIT: usize = 16;
 // The kind of text, of an element of the first name, and the greatest kind.
 pub const TEXT_KIND: u16 = 1;
 
@@ -38,4 +42,7 @@ pub enum Answer {
     LeftOut(usize),
     NoElement,
     OtherText,
+    NoRole(usize),
+    NoView(usize),
+    UnreadView(usize),
 }

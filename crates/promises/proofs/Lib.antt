@@ -20,3 +20,9 @@ pub mod FileCalls
 pub mod Engines
 -- Lean compositions over the entry points' definitions: `lean-acceptance`, `no-more-refusals`, `lean-exactness`, `lean-secrecy`, `lean-three-in-turn`.
 pub mod LeanEntries
+-- The same over calls: `lean-as-composed`, `no-more-refusals`, `lean-exactness`, `lean-secrecy`, `lean-scratch-enough`, `lean-three-in-turn`, `lean-three-secrets`.
+pub mod LeanCalls
+-- Roles over the entry points' definitions: `role-acceptance`, `role-independence`, `role-exactness`, `union-marks`, `role-secrecy`, `role-monotony`.
+pub mod RoleEntries
+-- The same over calls.
+pub mod RoleCalls

@@ -8,7 +8,7 @@ use Rattle.paper.specs.Answers.{value, refusal}
 use Rattle.paper.specs.Answers.{Answer as Told}
 use Rattle.paper.specs.Told.{told}
 use Rattle.paper.specs.declared.Answer.{Answer}
-use Rattle.paper.specs.declared.Answer.the-variants.{Value, TooLong, BadName, NoQuery, TooDeep, UnknownName, BadQuery, BadTable, BadMarks, TooNested, Short, NoXml, LeftOut, NoElement, OtherText}
+use Rattle.paper.specs.declared.Answer.the-variants.{Value, TooLong, BadName, NoQuery, TooDeep, UnknownName, BadQuery, BadTable, BadMarks, TooNested, Short, NoXml, LeftOut, NoElement, OtherText, NoRole, NoView, UnreadView}
 
 -- The answer that tells this.
 abbrev telling : Told → Answer
@@ -26,7 +26,10 @@ telling (refusal number place) =
     (cond (eqb number 10) (Short place)
     (cond (eqb number 11) (NoXml place)
     (cond (eqb number 12) (LeftOut place)
-    (cond (eqb number 13) NoElement OtherText))))))))))))
+    (cond (eqb number 13) NoElement
+    (cond (eqb number 14) OtherText
+    (cond (eqb number 15) (NoRole place)
+    (cond (eqb number 16) (NoView place) (UnreadView place))))))))))))))))
 
 telling-told : (r : Answer) → telling (told r) ≡ r
 telling-told (Value n) = refl
@@ -44,6 +47,9 @@ telling-told (NoXml place) = refl
 telling-told (LeftOut place) = refl
 telling-told NoElement = refl
 telling-told OtherText = refl
+telling-told (NoRole place) = refl
+telling-told (NoView place) = refl
+telling-told (UnreadView place) = refl
 
 pub told-same : (r s : Answer) → told r ≡ told s → r ≡ s
 told-same r s h = sym (telling-told r) ∙ ap telling h ∙ telling-told s

@@ -6,6 +6,8 @@ use Rattle.promises.specs.UniqueEntries.{ReadForCUnique, PrintForCUnique
 use Rattle.promises.specs.UniqueEntries.{HeightUnique, PathsUnique, ScratchUnique, HeightForCUnique, PathsForCUnique, ScratchForCUnique}
 use Rattle.promises.specs.UniqueEntries.{IsCutUnique, IsCutForCUnique}
 use Rattle.promises.specs.UniqueEntries.{FollowUnique, FollowForCUnique}
+use Rattle.promises.specs.UniqueEntries.{ComposeLeanUnique, ComposeLeanForCUnique, ReportLeanUnique}
+use Rattle.promises.specs.UniqueEntries.{ForMaskUnique, ForRoleUnique, ForRoleForCUnique}
 use Rattle.promises.proofs.Telling.{same, same-told, same-slice, same-slices, same-more}
 
 pub read-unique : ReadUnique
@@ -95,3 +97,12 @@ follow-unique κs a u v x y g p q = (same-told (p .0) (q .0), same-slice (p .1) 
 
 pub follow-for-c-unique : FollowForCUnique
 follow-for-c-unique κs a u v x y g p q = (same (p .0) (q .0), same-slice (p .1) (q .1))
+
+pub for-mask-unique : ForMaskUnique
+for-mask-unique κs a u v x y g p q = (same-told (p .0) (q .0), same-slice (p .1) (q .1))
+
+pub for-role-unique : ForRoleUnique
+for-role-unique κs a u v x y p q = (same-told (p .0) (q .0), same-slice (p .1) (q .1))
+
+pub for-role-for-c-unique : ForRoleForCUnique
+for-role-for-c-unique κs a u v x y p q = (same (p .0) (q .0), same-slice (p .1) (q .1))

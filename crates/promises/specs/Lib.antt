@@ -1,4 +1,5 @@
 pub mod Uniqueness
+pub mod RoleReads
 pub mod UniqueEntries
 pub mod UniqueParts
 pub mod Entries
@@ -8,3 +9,6 @@ pub mod ChainCalls
 pub mod FileCalls
 pub mod Engines
 pub mod LeanEntries
+pub mod LeanCalls
+pub mod RoleEntries
+pub mod RoleCalls

@@ -31,7 +31,11 @@ use Rattle.halyardfig.proofs.halyardfig_height
 use Rattle.halyardfig.proofs.halyardfig_paths
 use Rattle.halyardfig.proofs.halyardfig_scratch
 use Rattle.halyardfig.proofs.halyardfig_is_cut
-use Rattle.promises.specs.Uniqueness.{Unique, UniqueAnswer}
+use Rattle.roles.proofs.for_mask
+use Rattle.roles.proofs.for_role
+use Rattle.halyardfig.proofs.halyardfig_for_role
+use Rattle.promises.specs.Uniqueness.{Unique, UniqueAnswer, UniqueSigned}
+use Rattle.promises.specs.RoleReads.{RolePost, RoleForCPost}
 
 abbrev pub ReadUnique : Type 0
 ReadUnique = Unique read.Kinds.ps read.Kinds.r read.Reads.Pre read.Reads.Post (λ κs x. now (x .1 .1 .1 .0) ∷ [])
@@ -136,3 +140,12 @@ FollowUnique = Unique follow.Kinds.ps follow.Kinds.r follow.Reads.Pre follow.Rea
 abbrev pub FollowForCUnique : Type 0
 FollowForCUnique =
     Unique halyardfig_follow.Kinds.ps halyardfig_follow.Kinds.r halyardfig_follow.Reads.Pre halyardfig_follow.Reads.Post (λ κs x. now (x .1 .1 .1 .1 .0) ∷ [])
+
+abbrev pub ForMaskUnique : Type 0
+ForMaskUnique = Unique for_mask.Kinds.ps for_mask.Kinds.r for_mask.Reads.Pre for_mask.Reads.Post (λ κs x. now (x .1 .1 .1 .1 .1 .1 .0) ∷ [])
+
+abbrev pub ForRoleUnique : Type 0
+ForRoleUnique = UniqueSigned for_role.ended RolePost (λ κs x. now (x .1 .1 .1 .1 .1 .0) ∷ [])
+
+abbrev pub ForRoleForCUnique : Type 0
+ForRoleForCUnique = UniqueSigned halyardfig_for_role.ended RoleForCPost (λ κs x. now (x .1 .1 .1 .1 .1 .0) ∷ [])

@@ -1,0 +1,1 @@
+// No code: what roles owe stands in specs/Gateway.antt, the proofs in proofs/.
