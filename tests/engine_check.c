@@ -93,9 +93,8 @@ static void run_query(const char *text)
     char *bracketed = malloc(size);
     snprintf(bracketed, size, "(%s)", text);
     memset(selected, 0, sizeof selected);
-    xmlDocPtr document = build();
-    if (!select_nodes(document, bracketed, selected))
-        tally(false, "libxml2 does not take %s", text);
+    if (!other_selects(&now, text, selected))
+        tally(false, "%s does not take %s", other_engine, text);
     keep_subtrees(selected);
     xmlFreeDoc(document);
     free(bracketed);
@@ -107,8 +106,16 @@ static void compare(const char *expected)
     for (size_t i = 0; i < now.nodes; i++)
         found[i] = (char)('0' + now.marks[i]);
     found[now.nodes] = 0;
-    tally(strcmp(found, expected) == 0, "%s, SEED=%llu: libxml2 keeps %s, the library %s\n%s", case_now(),
-          (unsigned long long)group_seed(), found, expected, case_lines());
+    tally(strcmp(found, expected) == 0, "%s, SEED=%llu: %s keeps %s, the library %s\n%s", case_now(),
+          (unsigned long long)group_seed(), other_engine, found, expected, case_lines());
+}
+
+static void take_kinds(char *words)
+{
+    static case_column kind;
+    now.nodes = take_column(words, kind);
+    for (size_t i = 0; i < now.nodes; i++)
+        now.name[i] = kind[i] < HALYARDFIG_KIND_ELEMENT ? NULL : name_of(kind[i] - HALYARDFIG_KIND_ELEMENT);
 }
 
 /* Turns \t, \n and \r back into the bytes they stand for. */

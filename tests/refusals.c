@@ -942,6 +942,10 @@ static void lent_twice(void)
     tally(answer == halyardfig_compose(good_inner, 2, copy, 2, again.items, ITEM_ROOM) && answer == 28 &&
               memcmp(once.items, again.items, 28 * sizeof(uint32_t)) == 0,
           "a query composed with itself");
+    answer = halyardfig_compose_lean(good_inner, 2, good_inner, 2, once.items, ITEM_ROOM);
+    tally(answer == halyardfig_compose_lean(good_inner, 2, copy, 2, again.items, ITEM_ROOM) && answer == 11 &&
+              memcmp(once.items, again.items, 11 * sizeof(uint32_t)) == 0,
+          "a query composed leanly with itself");
     tally(halyardfig_run(root_query, 1, zeros, 1, zeros, 1, given, 1, marks, 1, scratch, 4) == 1, "one column twice");
 }
 

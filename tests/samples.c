@@ -152,6 +152,9 @@ static void composed_samples(void)
         uint64_t answer = compose_texts(&made, samples[i].outer, samples[i].inner);
         tally(halyardfig_refused(answer) == 0, "%s is not composed", samples[i].name);
         marks_are(samples[i].name, &made, samples[i].marks);
+        uint64_t leanly = lean_texts(&made, samples[i].outer, samples[i].inner);
+        tally(leanly <= answer, "%s composed leanly is larger", samples[i].name);
+        marks_are(samples[i].name, &made, samples[i].marks);
     }
 }
 
@@ -217,6 +220,35 @@ static void size_samples(void)
     uint64_t sixty = compose_texts(&made, repeated(&built, "/a", "[a", 60, "", "]"), "/b");
     tally(halyardfig_refused(sixty) == 0, "nesting 60 on /b is refused: %u at %u", halyardfig_refused(sixty),
           halyardfig_place(sixty));
+}
+
+/* The lean composition: t(5 + 2s) with t the steps whose node may be hidden and that no step which goes down follows. */
+static void lean_samples(void)
+{
+    enum { GUARD = 17, LAST = 9 };
+    static struct query made;
+    static struct built built;
+    static char text[TEXT_ROOM];
+    answer_is("/a on /b", lean_texts(&made, "/a", "/b"), 11);
+    uint64_t bytes =
+        halyardfig_print_long(made.items, made.count, (const uint8_t *)"a\nb\n", 4, (uint8_t *)text, sizeof text);
+    static const char wanted[] = "/child::a/descendant-or-self::node()"
+                                 "[ancestor-or-self::node()[self::b/parent::node()[not(parent::node())]]]";
+    tally(bytes == sizeof wanted - 1 && memcmp(text, wanted, sizeof wanted - 1) == 0, "/a on /b is printed otherwise");
+    answer_is("lean P11", lean_texts(&made, "/", "/"), 9);
+    answer_is("a way down", lean_texts(&made, "/a/a//a", "/b"), 5 + LAST);
+    answer_is("up", lean_texts(&made, "/a/..", "/b"), 3 + GUARD + LAST);
+    answer_is("sideways, twice", lean_texts(&made, "/a/following-sibling::a/preceding::a", "/b"), 4 + 2 * GUARD + LAST);
+    answer_is("in a predicate", lean_texts(&made, "/a[a/a]", "/b"), 5 + GUARD + LAST);
+    answer_is("in a predicate, up", lean_texts(&made, "/a[a/..]", "/b"), 5 + GUARD + LAST);
+    answer_is("self after a step", lean_texts(&made, "/a[a/self::node()]", "/b"), 5 + GUARD + LAST);
+    answer_is("self where a path begins", lean_texts(&made, "/a[self::a]", "/b"), 4 + LAST);
+    answer_is("self after a way up", lean_texts(&made, "/a[../self::a]", "/b"), 5 + LAST);
+    answer_is("two paths", lean_texts(&made, "/a|/a/..", "/b"), 5 + GUARD + 2 * LAST);
+    answer_is("4086 steps", lean_texts(&made, repeated(&built, "", "/a", 4086, "", ""), "/b"), 4096);
+    answer_is("4087 steps", lean_texts(&made, repeated(&built, "", "/a", 4087, "", ""), "/b"), REFUSED(10, 4097));
+    answer_is("nesting 60", lean_texts(&made, repeated(&built, "/a", "[a", 60, "", "]"), "/b"), 2 + 2 * 60 + 60 * GUARD + LAST);
+    answer_is("nesting 61", lean_texts(&made, repeated(&built, "/a", "[a", 61, "", "]"), "/b"), REFUSED(9, 65));
 }
 
 static void read_samples(void)
@@ -347,6 +379,60 @@ static void printed_sample(void)
                                             (uint8_t *)printed, sizeof printed);
     answer_is("bytes printed", answer, strlen(expected));
     tally(memcmp(printed, expected, strlen(expected)) == 0, "printed: %.*s", (int)strlen(expected), printed);
+}
+
+/* Each text as it is printed in the short form, and read again by both versions. */
+static void short_texts(void)
+{
+#define DEEP "descendant-or-self::node()"
+    static const struct {
+        const char *text, *printed;
+    } samples[] = {
+        {"/", "/"},
+        {"/child::a", "/a"},
+        {"//a", "//a"},
+        {"/" DEEP, "/" DEEP},
+        {"/a/" DEEP, "/a/" DEEP},
+        {"/" DEEP "/" DEEP, "//" DEEP},
+        {"/" DEEP "/" DEEP "/a", "//" DEEP "/a"},
+        {"/" DEEP "/" DEEP "/" DEEP "/a", "//" DEEP "//a"},
+        {"/" DEEP "/" DEEP "/" DEEP "/" DEEP "/a", "//" DEEP "//" DEEP "/a"},
+        {"/" DEEP "/" DEEP "/" DEEP "/" DEEP "/" DEEP "/a", "//" DEEP "//" DEEP "//a"},
+        {"/a/" DEEP "/" DEEP "/b", "/a//" DEEP "/b"},
+        {"/a/" DEEP "/" DEEP "/" DEEP "/b", "/a//" DEEP "//b"},
+        {"/a/" DEEP "/" DEEP "/" DEEP, "/a//" DEEP "/" DEEP},
+        {"/a[" DEEP "/b]", "/a[" DEEP "/b]"},
+        {"/a[" DEEP "/" DEEP "/b]", "/a[" DEEP "//b]"},
+        {"/a[" DEEP "/" DEEP "/" DEEP "/b]", "/a[" DEEP "//" DEEP "/b]"},
+        {"/a[b/" DEEP "/" DEEP "]", "/a[b//" DEEP "]"},
+        {"/a[" DEEP "[b]/" DEEP "/c]", "/a[" DEEP "[b]//c]"},
+        {"/" DEEP "[a]/b", "/" DEEP "[a]/b"},
+        {"/descendant-or-self::a/b", "/descendant-or-self::a/b"},
+        {"/self::node()/parent::node()[child::b]/parent::a", "/./parent::node()[b]/parent::a"},
+        {"/a[self::node() or not(parent::node())]", "/a[. or not(..)]"},
+        {"/a/self::node()[b]|/child::node()|/child::text()|/child::*", "/a/self::node()[b]|/node()|/text()|/*"},
+        {"/ancestor-or-self::node()/a", "/ancestor-or-self::node()/a"},
+    };
+#undef DEEP
+    static struct query read, again;
+    for (size_t i = 0; i < sizeof samples / sizeof samples[0]; i++) {
+        static uint8_t printed[199];
+        const uint8_t *names = (const uint8_t *)sample_names;
+        size_t length = strlen(samples[i].printed), names_length = strlen(sample_names);
+        read.count = halyardfig_value(halyardfig_read((const uint8_t *)samples[i].text, strlen(samples[i].text),
+                                                      HALYARDFIG_XPATH_1, names, names_length, read.items, ITEM_ROOM));
+        answer_is(samples[i].text,
+                  halyardfig_print(read.items, read.count, names, names_length, printed, sizeof printed), length);
+        tally(memcmp(printed, samples[i].printed, length) == 0, "`%s` is printed %.*s", samples[i].text, (int)length,
+              (const char *)printed);
+        for (uint32_t version = HALYARDFIG_XPATH_1; version <= HALYARDFIG_XPATH_2; version++) {
+            answer_is(samples[i].printed,
+                      halyardfig_read(printed, length, version, names, names_length, again.items, ITEM_ROOM),
+                      read.count);
+            tally(memcmp(read.items, again.items, read.count * sizeof read.items[0]) == 0,
+                  "`%s` is read as another query", samples[i].printed);
+        }
+    }
 }
 
 static uint64_t read_document(const char *text, size_t room, uint16_t *parent, uint16_t *kind, uint16_t *begin,

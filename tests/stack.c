@@ -653,8 +653,9 @@ static void report(enum call which)
     printf("stack of %s: %zu bytes at most, of %zu inputs, %zu of them accepted; worst: %.60s\n", call_names[which],
            worst[which].bytes, worst[which].inputs, worst[which].accepted, worst[which].input);
     tally(worst[which].accepted > 0, "%s was never accepted", call_names[which]);
-    tally(worst[which].bytes <= HALYARDFIG_STACK_BYTES, "%s uses %zu bytes of stack, over %d, on %s", call_names[which],
-          worst[which].bytes, HALYARDFIG_STACK_BYTES, worst[which].input);
+    size_t most = which == FOR_ROLE ? HALYARDFIG_ROLE_STACK_BYTES : HALYARDFIG_STACK_BYTES;
+    tally(worst[which].bytes <= most, "%s uses %zu bytes of stack, over %zu, on %s", call_names[which],
+          worst[which].bytes, most, worst[which].input);
 }
 
 int main(void)

@@ -20,10 +20,13 @@ pub mod Lean
 pub mod Room
 pub mod Roles
 pub mod Program
+pub mod Sheet
 pub mod Samples
 pub mod ShortSamples
 pub mod XmlSamples
 pub mod CutSamples
 pub mod LeanSamples
 pub mod WriteXmlSamples
+pub mod SheetSamples
+pub mod RoleSamples
 pub mod Told

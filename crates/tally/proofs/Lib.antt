@@ -1,0 +1,2 @@
+-- How the numbers of a column grow.
+pub mod Growing
