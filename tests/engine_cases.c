@@ -10,7 +10,8 @@
 #include <stdio.h>
 #include <string.h>
 
-enum { SCRATCH_ROOM = 1 << 20, PRINT_ROOM = 1 << 18 };
+/* So many throws find compositions that keep a part of the document for about every second one. */
+enum { SCRATCH_ROOM = 1 << 20, PRINT_ROOM = 1 << 18, COMPOSITION_THROWS = 40 };
 
 static struct list list;
 static struct table table;
@@ -47,7 +48,7 @@ static void write_document(const char *what)
     write_marks('G', table.marks, table.nodes);
 }
 
-static bool write_printed(const struct query *printing)
+static bool write_printed(const struct query *printing, bool brief)
 {
     static uint8_t printed[PRINT_ROOM];
     uint64_t answer = (brief ? halyardfig_print : halyardfig_print_long)(
@@ -55,6 +56,18 @@ static bool write_printed(const struct query *printing)
     if (halyardfig_refused(answer) != 0)
         return complain("a good query is not printed");
     write_text('Q', printed, halyardfig_value(answer));
+    return true;
+}
+
+/* A query that was run, in both forms. */
+static bool write_both(const char *what, const struct query *printing)
+{
+    for (int brief = 0; brief < 2; brief++) {
+        write_document(what);
+        if (!write_printed(printing, brief))
+            return false;
+        write_marks('E', kept, table.nodes);
+    }
     return true;
 }
 
@@ -123,9 +136,7 @@ static bool single_query(struct dice *dice)
         return complain("a good text is refused");
     if (!run_query(&query))
         return false;
-    write_document("printed query");
-    bool printed = write_printed(&query);
-    write_marks('E', kept, table.nodes);
+    bool printed = write_both("printed query", &query);
     write_document("query as it was read");
     write_text(version == HALYARDFIG_XPATH_2 ? 'V' : 'Q', text.bytes, text.length);
     write_marks('E', kept, table.nodes);
@@ -144,10 +155,7 @@ static bool two_engines(struct dice *dice)
         if (kept_some() && can_follow(query.items, query.count, table.nodes))
             break;
     }
-    write_document("two engines");
-    bool printed = write_printed(&query);
-    write_marks('E', kept, table.nodes);
-    return printed;
+    return write_both("two engines", &query);
 }
 
 /* One axis by itself, in a path or in a predicate. */
@@ -161,10 +169,7 @@ static bool one_axis(struct dice *dice)
         if (kept_some())
             break;
     }
-    write_document("one axis");
-    bool printed = write_printed(&query);
-    write_marks('E', kept, table.nodes);
-    return printed;
+    return write_both("one axis", &query);
 }
 
 static uint64_t make_composed(struct dice *dice)
@@ -186,7 +191,7 @@ static uint64_t make_composed(struct dice *dice)
 static bool composed_query(struct dice *dice)
 {
     make_document(dice, 25);
-    for (unsigned throws = 0; throws < 4; throws++) {
+    for (unsigned throws = 0; throws < COMPOSITION_THROWS; throws++) {
         uint64_t refused = make_composed(dice);
         if (refused == HALYARDFIG_REFUSED_ROOM)
             return true;
@@ -198,7 +203,7 @@ static bool composed_query(struct dice *dice)
     bool printed = write_both("composed query", &composed);
     printed = write_both("lean query", &lean) && printed;
     write_document("inner then outer");
-    printed = write_printed(&inner) && write_printed(&outer) && printed;
+    printed = write_printed(&inner, chance(dice, 50)) && write_printed(&outer, chance(dice, 50)) && printed;
     write_marks('E', kept, table.nodes);
     return printed;
 }
@@ -208,25 +213,51 @@ static bool three_views(struct dice *dice)
 {
     static struct views views;
     make_document(dice, 15);
-    for (unsigned throws = 0; throws < 4; throws++) {
+    for (unsigned throws = 0; throws < COMPOSITION_THROWS; throws++) {
         make_views(dice, &views, (struct bounds){6, 1, 2, list.count});
         if (!run_query(&views.last_two))
             return false;
         if (kept_some())
             break;
     }
-    write_document("A on (B on C)");
-    bool printed = write_printed(&views.last_two);
-    write_marks('E', kept, table.nodes);
+    bool printed = write_both("A on (B on C)", &views.last_two);
     if (!run_query(&views.first_two))
         return false;
     printed = write_both("(A on B) on C", &views.first_two) && printed;
     printed = write_both("A on (B on C), lean", &views.lean_last_two) && printed;
     printed = write_both("(A on B) on C, lean", &views.lean_first_two) && printed;
     write_document("C, B and A in turn");
-    printed = write_printed(&views.inner) && write_printed(&views.middle) && write_printed(&views.outer) && printed;
+    printed = write_printed(&views.inner, chance(dice, 50)) && write_printed(&views.middle, chance(dice, 50)) &&
+              write_printed(&views.outer, chance(dice, 50)) && printed;
     write_marks('E', kept, table.nodes);
     return printed;
+}
+
+/* One to five steps of descendant-or-self with `node()` in a row, for each #: at the start of a path, inside, at its
+ * end, and in predicates. */
+static bool deep_rows(struct dice *dice)
+{
+    static const char *const places[] = {
+        "/#/*",      "/#",      "/*/#/*",        "/*/#",         "/#/.",       "/#/..",   "/*[#/*]",
+        "/*[#]",     "/*[*/#/*]", "/*[*/#]",       "/*[not(#/..)]", "/#[text()]/*", "/*[#[*]/*]",
+        "//text()|/#/*[#/text() and ..]"};
+    static const char deep[] = "/descendant-or-self::node()";
+    static char row[5 * sizeof deep], text[2 * sizeof row + 99];
+    size_t row_length = 0, length = 0;
+    for (size_t left = between(dice, 1, 5); left > 0; left--, row_length += strlen(deep))
+        memcpy(row + row_length, deep, strlen(deep));
+    for (const char *place = places[below(dice, sizeof places / sizeof places[0])]; *place != '\0'; place++) {
+        size_t count = *place == '#' ? row_length - 1 : 1;
+        memcpy(text + length, *place == '#' ? row + 1 : place, count);
+        length += count;
+    }
+    make_document(dice, 12);
+    uint64_t answer = halyardfig_read((const uint8_t *)text, length, any_version(dice), list.bytes, list.length,
+                                      query.items, ITEM_ROOM);
+    if (halyardfig_refused(answer) != 0)
+        return complain("a good text is refused");
+    query.count = halyardfig_value(answer);
+    return run_query(&query) && write_both("deep rows", &query);
 }
 
 int main(void)
@@ -235,6 +266,7 @@ int main(void)
     try_cases("single query", 8000, single_query);
     try_cases("two engines", 6000, two_engines);
     try_cases("one axis", 5000, one_axis);
+    try_cases("deep rows", 3000, deep_rows);
     try_cases("composed query", 5000, composed_query);
     try_cases("three views", 1500, three_views);
     return group_end();

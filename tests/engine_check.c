@@ -1,55 +1,14 @@
-/* Reads cases from standard input and holds them to libxml2's XPath under the subtree rule. */
+/* Reads cases from standard input and holds them to another engine's XPath under the subtree rule. */
 #include "checking.h"
+#include "other_engine.h"
 
-#include <libxml/tree.h>
-#include <libxml/xpath.h>
 #include <stdio.h>
 #include <stdlib.h>
 #include <string.h>
 
 enum { NODES = HALYARDFIG_NODES };
 
-static struct {
-    case_column parent;
-    case_column kind;
-    uint8_t marks[NODES];
-    size_t nodes;
-} now;
-
-static xmlNodePtr tree[NODES];
-
-/* Links a node as its parent's last child; libxml2's own call would join neighbouring texts. */
-static void append(xmlNodePtr parent, xmlNodePtr child)
-{
-    child->parent = parent;
-    child->prev = parent->last;
-    if (parent->last == NULL)
-        parent->children = child;
-    else
-        parent->last->next = child;
-    parent->last = child;
-}
-
-/* The document of the marked nodes. libxml2's preceding axis ends at the first child of the document, which it takes
-   for an ancestor; so a document type, which is no node of XPath, stands before several top nodes. */
-static xmlDocPtr build(void)
-{
-    xmlDocPtr document = xmlNewDoc(BAD_CAST "1.0");
-    xmlCreateIntSubset(document, BAD_CAST "d", NULL, NULL);
-    tree[0] = (xmlNodePtr)document;
-    for (size_t i = 1; i < now.nodes; i++) {
-        if (now.marks[i] == 0)
-            continue;
-        tree[i] = now.kind[i] == HALYARDFIG_KIND_TEXT
-                      ? xmlNewDocText(document, BAD_CAST "t")
-                      : xmlNewDocNode(document, NULL, BAD_CAST name_of(now.kind[i] - HALYARDFIG_KIND_ELEMENT), NULL);
-        append(tree[now.parent[i]], tree[i]);
-    }
-    for (size_t i = 0; i < now.nodes; i++)
-        if (now.marks[i] != 0)
-            tree[i]->_private = (void *)(i + 1);
-    return document;
-}
+static struct case_document now;
 
 static bool is_above_or_same(size_t high, size_t low)
 {
@@ -69,35 +28,16 @@ static void keep_subtrees(const uint8_t *selected)
     }
 }
 
-static bool select_nodes(xmlDocPtr document, const char *text, uint8_t *selected)
-{
-    xmlXPathContextPtr context = xmlXPathNewContext(document);
-    context->node = (xmlNodePtr)document;
-    xmlXPathObjectPtr found = xmlXPathEvalExpression(BAD_CAST text, context);
-    bool good = found != NULL && found->type == XPATH_NODESET;
-    for (int i = 0; good && found->nodesetval != NULL && i < found->nodesetval->nodeNr; i++)
-        selected[(size_t)found->nodesetval->nodeTab[i]->_private - 1] = 1;
-    xmlXPathFreeObject(found);
-    xmlXPathFreeContext(context);
-    return good;
-}
-
-/* Runs a query text inside the marks. In brackets libxml2 takes its general way, which a document
-   of several top nodes needs. */
+/* Runs a query text inside the marks. */
 static void run_query(const char *text)
 {
     static uint8_t selected[NODES];
     if (now.marks[0] == 0)
         return;
-    size_t size = strlen(text) + 3;
-    char *bracketed = malloc(size);
-    snprintf(bracketed, size, "(%s)", text);
     memset(selected, 0, sizeof selected);
     if (!other_selects(&now, text, selected))
         tally(false, "%s does not take %s", other_engine, text);
     keep_subtrees(selected);
-    xmlFreeDoc(document);
-    free(bracketed);
 }
 
 static void compare(const char *expected)
@@ -185,7 +125,7 @@ static void take_line(char letter, char *rest)
         now.nodes = take_column(rest, now.parent);
         return;
     case 'K':
-        now.nodes = take_column(rest, now.kind);
+        take_kinds(rest);
         return;
     case 'G':
         for (size_t i = 0; i < now.nodes; i++)
