@@ -19,7 +19,7 @@ DESTDIR ?=
 INSTALL ?= install
 
 # The first number grows where a program that was built before would not run as before; it is the soname's.
-VERSION = 2.0.0
+VERSION = 3.0.0
 MAJOR = $(firstword $(subst ., ,$(VERSION)))
 SONAME = libhalyardfig.so.$(MAJOR)
 

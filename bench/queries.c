@@ -39,7 +39,8 @@ void read_query(const struct document *document, const char *text, struct query 
     snprintf(query->text, sizeof query->text, "%s", text);
 }
 
-void compose(const struct document *document, const struct query *outer, const struct query *inner, struct query *query)
+/* The text of a composition of so many items. */
+static void print_composed(const struct document *document, struct query *query, uint32_t count)
 {
     query->count = count;
     uint32_t length = accepted(halyardfig_print_long(query->items, query->count, document->list, document->list_length,

@@ -111,7 +111,7 @@ static void call_all(void)
     answers("no such role", calls.for_role(TEXT(views), TEXT(names), LENT(roles), 2, TEXT("/"), LENT(untouched)),
             REFUSED(15, 2));
     uint64_t printed = calls.print(both, size, TEXT(names), LENT(text));
-    expect("print", memcmp(text, "/child::a[", 10) == 0);
+    expect("print", memcmp(text, "/a[", 3) == 0);
     answers("print with no room", calls.print(both, size, TEXT(names), text, 0), REFUSED(10, printed));
     printed = calls.print_long(both, size, TEXT(names), LENT(text));
     expect("print_long", memcmp(text, "/child::a[", 10) == 0);
@@ -140,7 +140,7 @@ static void call_all(void)
     answers("text that ends too early",
             calls.read_xml(TEXT("<a"), TEXT(names), LENT(parent), LENT(kind), LENT(begin), LENT(end)), REFUSED(11, 2));
     for (size_t k = 0; k < sizeof untouched / sizeof *untouched; k++)
-        expect("memory of a refused read", untouched[k] == 0);
+        expect("memory of refused calls", untouched[k] == 0);
     expect("memory of a refused read_xml", memcmp(kind, wanted_kind, sizeof kind) == 0);
 }
 

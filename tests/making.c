@@ -329,17 +329,27 @@ void make_long_query(struct dice *dice, struct query *query, size_t most_items, 
 }
 
 /* Composes two queries; false where that is refused. */
-static bool compose_two(const struct query *outer, const struct query *inner, struct query *made)
+typedef uint64_t composing(const uint32_t *, size_t, const uint32_t *, size_t, uint32_t *, size_t);
+
+static bool compose_two(composing *compose, const struct query *outer, const struct query *inner, struct query *made)
 {
-    uint64_t answer =
-        halyardfig_compose(outer->items, outer->count, inner->items, inner->count, made->items, ITEM_ROOM);
+    uint64_t answer = compose(outer->items, outer->count, inner->items, inner->count, made->items, ITEM_ROOM);
     made->count = halyardfig_value(answer);
     return halyardfig_refused(answer) == 0;
 }
 
-void make_views(struct dice *dice, struct views *views, struct bounds bounds)
+/* Both groupings; false if one is refused. */
+static bool group(composing *compose, const struct views *views, struct query *last_two, struct query *first_two)
 {
     static struct query upper, lower;
+    return compose_two(compose, &views->middle, &views->inner, &lower) &&
+           compose_two(compose, &views->outer, &lower, last_two) &&
+           compose_two(compose, &views->outer, &views->middle, &upper) &&
+           compose_two(compose, &upper, &views->inner, first_two);
+}
+
+void make_views(struct dice *dice, struct views *views, struct bounds bounds)
+{
     struct query *const each[] = {&views->outer, &views->middle, &views->inner};
     do
         for (size_t i = 0; i < 3; i++) {

@@ -129,10 +129,11 @@ static bool print_anything(struct dice *dice)
     any_query(dice, &query);
     any_list(dice);
     size_t room = any_length(dice, 3000, TEXT_ROOM);
-    if (!twin_print(dice, query.items, query.count, list.bytes, list.length, room))
+    bool brief = chance(dice, 50);
+    if (!twin_print(dice, brief, query.items, query.count, list.bytes, list.length, room))
         return false;
     uint64_t first = twin_answer;
-    return twin_print(dice, query.items, query.count, list.bytes, list.length, room) &&
+    return twin_print(dice, brief, query.items, query.count, list.bytes, list.length, room) &&
            in_range("print", first, room, HALYARDFIG_REFUSED_ROOM);
 }
 

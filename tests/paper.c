@@ -46,6 +46,7 @@ struct step {
     enum axis axis;
     unsigned test;
     size_t place;
+    bool named; /* it gets V */
     struct expr *predicates;
     struct step *next;
 };
@@ -689,11 +690,32 @@ static void print_test(struct pen *pen, unsigned test)
 
 static void print_expr(struct pen *pen, const struct expr *expr);
 
+/* Is this a step along the axis with `node()` and no predicate? */
+static bool is_plain(const struct step *step, enum axis axis)
+{
+    return step->axis == axis && step->test == TEST_NODE && step->predicates == NULL;
+}
+
+static void print_head(struct pen *pen, const struct step *step)
+{
+    if (pen->brief && is_plain(step, AXIS_SELF)) {
+        put_string(pen, ".");
+        return;
+    }
+    if (pen->brief && is_plain(step, AXIS_PARENT)) {
+        put_string(pen, "..");
+        return;
+    }
+    if (!pen->brief || step->axis != AXIS_CHILD) {
+        put_string(pen, axis_words[step->axis]);
+        put_string(pen, "::");
+    }
+    print_test(pen, step->test);
+}
+
 static void print_step(struct pen *pen, const struct step *step)
 {
-    put_string(pen, axis_words[step->axis]);
-    put_string(pen, "::");
-    print_test(pen, step->test);
+    print_head(pen, step);
     for (const struct expr *predicate = step->predicates; predicate != NULL; predicate = predicate->next) {
         put_string(pen, "[");
         print_expr(pen, predicate);
@@ -701,12 +723,28 @@ static void print_step(struct pen *pen, const struct step *step)
     }
 }
 
-static void print_steps(struct pen *pen, const struct step *step)
+/* May `//` stand for this step, which is the first of its path or not, in a predicate or not? */
+static bool may_be_deep(const struct pen *pen, const struct step *step, bool first, bool inside)
 {
-    for (; step != NULL; step = step->next) {
+    return pen->brief && is_plain(step, AXIS_DESCENDANT_OR_SELF) && step->next != NULL && !(first && inside);
+}
+
+/* In a row of steps for which `//` may stand it stands for the first, the third and so on; what follows it has no `/`.
+ */
+static void print_steps(struct pen *pen, const struct step *steps, bool inside)
+{
+    size_t row = 0;
+    bool parted = inside;
+    for (const struct step *step = steps; step != NULL; step = step->next) {
+        row = may_be_deep(pen, step, step == steps, inside) ? row + 1 : 0;
+        if (row % 2 == 1) {
+            put_string(pen, "//");
+            parted = true;
+            continue;
+        }
+        put_string(pen, parted ? "" : "/");
         print_step(pen, step);
-        if (step->next != NULL)
-            put_string(pen, "/");
+        parted = false;
     }
 }
 
@@ -735,15 +773,16 @@ static void print_expr(struct pen *pen, const struct expr *expr)
         print_side(pen, expr->left, true);
         return;
     default:
-        print_steps(pen, expr->steps);
+        print_steps(pen, expr->steps, true);
     }
 }
 
 static void print_query(struct pen *pen, const struct expr *path)
 {
     for (; path != NULL; path = path->next) {
-        put_string(pen, "/");
-        print_steps(pen, path->steps);
+        if (path->steps == NULL)
+            put_string(pen, "/");
+        print_steps(pen, path->steps, false);
         if (path->next != NULL)
             put_string(pen, "|");
     }
@@ -796,9 +835,9 @@ static struct brackets count_brackets(const uint8_t *text, size_t length)
 
 static struct brackets brackets_of(const struct expr *query)
 {
-    struct pen counting = {NULL, 0, 0, NULL};
+    struct pen counting = {NULL, 0, 0, NULL, false};
     print_query(&counting, query);
-    struct pen writing = {take_zeroed(counting.count), counting.count, 0, NULL};
+    struct pen writing = {take_zeroed(counting.count), counting.count, 0, NULL, false};
     print_query(&writing, query);
     return count_brackets(writing.out, writing.count);
 }
@@ -1033,7 +1072,7 @@ static void guard_steps(struct step *step, struct expr *selected)
     for (; step != NULL; step = step->next) {
         for (struct expr *predicate = step->predicates; predicate != NULL; predicate = predicate->next)
             guard(predicate, selected);
-        if (!guarded(step->axis))
+        if (!step->named)
             continue;
         struct expr *first = visible(selected);
         first->next = step->predicates;
@@ -1282,8 +1321,8 @@ static size_t first_unknown(const uint32_t *query, size_t query_len, size_t name
     return query_len;
 }
 
-uint64_t model_print(const uint32_t *query, size_t query_len, const uint8_t *names, size_t names_len, uint8_t *out,
-                     size_t out_len)
+uint64_t model_print(bool brief, const uint32_t *query, size_t query_len, const uint8_t *names, size_t names_len,
+                     uint8_t *out, size_t out_len)
 {
     static struct names taken;
     uint64_t refusal;
@@ -1298,11 +1337,11 @@ uint64_t model_print(const uint32_t *query, size_t query_len, const uint8_t *nam
     size_t unknown = first_unknown(query, query_len, taken.count);
     if (unknown < query_len)
         return REFUSED(5, unknown);
-    struct pen counting = {NULL, 0, 0, &taken};
+    struct pen counting = {NULL, 0, 0, &taken, brief};
     print_query(&counting, tree);
     if (counting.count > out_len)
         return REFUSED(10, counting.count);
-    struct pen writing = {out, out_len, 0, &taken};
+    struct pen writing = {out, out_len, 0, &taken, brief};
     print_query(&writing, tree);
     return writing.count;
 }
@@ -1327,8 +1366,8 @@ static uint64_t composing(bool lean, const uint32_t *outer, size_t outer_len, co
     size_t k = count_exprs(inner_tree), m = count_exprs(outer_tree), t = query_guards(said);
     size_t s = inner_len + 5 * k - 1;
     size_t size = outer_len + t * (5 + 2 * s) + m * (3 + s);
-    struct brackets outer_brackets = brackets_of(outer_tree);
-    size_t nesting = larger(outer_brackets.most, outer_brackets.most_guarded + 2 + larger(2, nesting_of(inner_tree)));
+    size_t guard_nesting = brackets_of(said).most_guarded;
+    size_t nesting = larger(nesting_of(outer_tree), guard_nesting + 2 + larger(2, nesting_of(inner_tree)));
     if (size <= BUILT_MOST) {
         struct items counted = {NULL, 0, 0};
         compose_trees(outer_tree, inner_tree);

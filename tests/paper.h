@@ -5,13 +5,15 @@
 #ifndef PAPER_H
 #define PAPER_H
 
+#include "halyardfig.h"
+
 #include <stdbool.h>
 #include <stddef.h>
 #include <stdint.h>
 
 uint64_t model_read(const uint8_t *text, size_t text_len, uint32_t version, const uint8_t *names, size_t names_len,
                     uint32_t *out, size_t out_len);
-uint64_t model_print(const uint32_t *query, size_t query_len, const uint8_t *names, size_t names_len, uint8_t *out,
+uint64_t model_print(bool brief, const uint32_t *query, size_t query_len, const uint8_t *names, size_t names_len, uint8_t *out,
                      size_t out_len);
 uint64_t model_compose(const uint32_t *outer, size_t outer_len, const uint32_t *inner, size_t inner_len, uint32_t *out,
                        size_t out_len);

@@ -6,10 +6,11 @@ cd "$(dirname "$0")/.." || exit 2
 passed=0
 failed=0
 
-# Standard input goes to the program, which must print just the second argument.
+# Standard input goes to the program, with the arguments past the second; it must print just the second.
 prints() {
     local name=$1 wanted=$2 answer
-    answer=$(bin/compose 2>/dev/null; echo end)
+    shift 2
+    answer=$(bin/compose "$@" 2>/dev/null; echo end)
     if [ "$answer" = "$wanted"$'\n'end ]; then
         passed=$((passed + 1))
     else

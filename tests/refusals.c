@@ -392,8 +392,8 @@ static void read_rooms(void)
 
 /* Queries in memory. */
 
-static void print_is(const char *what, const uint32_t *query, size_t count, const char *names, size_t room,
-                     uint64_t expected)
+static void print_form_is(bool brief, const char *what, const uint32_t *query, size_t count, const char *names,
+                          size_t room, uint64_t expected)
 {
     const uint32_t *our_query = offer(query, count * sizeof *query);
     const uint8_t *our_names = offer(names, strlen(names));
@@ -1036,7 +1036,8 @@ int main(void)
     malformed_items();
     nested_items();
     print_refusals();
-    compose_refusals();
+    compose_refusals(false);
+    compose_refusals(true);
     lengths_are_checked();
     too_many_nodes();
     bad_tables();

@@ -27,12 +27,14 @@ static void read_good(struct query *query, const char *text)
     query->count = halyardfig_refused(answer) == 0 ? halyardfig_value(answer) : 0;
 }
 
-static uint64_t compose_texts(struct query *made, const char *outer_text, const char *inner_text)
+typedef uint64_t composing(const uint32_t *, size_t, const uint32_t *, size_t, uint32_t *, size_t);
+
+static uint64_t compose_by(composing *compose, struct query *made, const char *outer_text, const char *inner_text)
 {
     static struct query outer, inner;
     read_good(&outer, outer_text);
     read_good(&inner, inner_text);
-    uint64_t answer = halyardfig_compose(outer.items, outer.count, inner.items, inner.count, made->items, ITEM_ROOM);
+    uint64_t answer = compose(outer.items, outer.count, inner.items, inner.count, made->items, ITEM_ROOM);
     made->count = halyardfig_refused(answer) == 0 ? halyardfig_value(answer) : 0;
     return answer;
 }
@@ -146,6 +148,9 @@ static void composed_samples(void)
         {"docs/VIEWS.md, row 5", "//text()", "/a/b/d", "0000000"},
         {"docs/VIEWS.md, a view of all", "/", "//b", "1111111"},
         {"docs/VIEWS.md, a view by not", "/", "//b[not(c)]", "1100011"},
+        {"self after a hidden node", "/a[not(b/c/self::node())]", "/a/b/d", "1100011"},
+        {"up from a hidden node", "/a[b/c/..]", "/a/b/d", "0000000"},
+        {"sideways from a hidden node", "//c/../following-sibling::b", "/a/b/d", "0000000"},
     };
     static struct query made;
     for (size_t i = 0; i < sizeof samples / sizeof samples[0]; i++) {

@@ -99,8 +99,8 @@ bool twin_read(struct dice *dice, const uint8_t *text, size_t text_len, uint32_t
     return false;
 }
 
-bool twin_print(struct dice *dice, const uint32_t *query, size_t query_len, const uint8_t *names, size_t names_len,
-                size_t room)
+bool twin_print(struct dice *dice, bool brief, const uint32_t *query, size_t query_len, const uint8_t *names,
+                size_t names_len, size_t room)
 {
     piece_count = 0;
     const uint32_t *our_query = lend_read(query, query_len * sizeof *query);
@@ -117,17 +117,19 @@ bool twin_print(struct dice *dice, const uint32_t *query, size_t query_len, cons
     return false;
 }
 
-bool twin_compose(struct dice *dice, const uint32_t *outer, size_t outer_len, const uint32_t *inner, size_t inner_len,
-                  size_t room)
+typedef uint64_t composing(const uint32_t *, size_t, const uint32_t *, size_t, uint32_t *, size_t);
+
+static bool twin_composing(struct dice *dice, const char *what, composing *our, composing *model, const uint32_t *outer,
+                           size_t outer_len, const uint32_t *inner, size_t inner_len, size_t room)
 {
     piece_count = 0;
     const uint32_t *our_outer = lend_read(outer, outer_len * sizeof *outer);
     const uint32_t *our_inner = lend_read(inner, inner_len * sizeof *inner);
     uint32_t *out = lend_write(dice, room * sizeof *out);
     written_first = out;
-    uint64_t ours = halyardfig_compose(our_outer, outer_len, our_inner, inner_len, out, room);
-    uint64_t models = model_compose(model_piece(0), outer_len, model_piece(1), inner_len, model_piece(2), room);
-    if (compare("compose", ours, models))
+    uint64_t ours = our(our_outer, outer_len, our_inner, inner_len, out, room);
+    uint64_t models = model(model_piece(0), outer_len, model_piece(1), inner_len, model_piece(2), room);
+    if (compare(what, ours, models))
         return true;
     show_items("outer", outer, outer_len);
     show_items("inner", inner, inner_len);

@@ -15,8 +15,8 @@ extern uint64_t twin_answer;
 
 bool twin_read(struct dice *dice, const uint8_t *text, size_t text_len, uint32_t version, const uint8_t *names,
                size_t names_len, size_t room);
-bool twin_print(struct dice *dice, const uint32_t *query, size_t query_len, const uint8_t *names, size_t names_len,
-                size_t room);
+bool twin_print(struct dice *dice, bool brief, const uint32_t *query, size_t query_len, const uint8_t *names,
+                size_t names_len, size_t room);
 bool twin_compose(struct dice *dice, const uint32_t *outer, size_t outer_len, const uint32_t *inner, size_t inner_len,
                   size_t room);
 bool twin_compose_lean(struct dice *dice, const uint32_t *outer, size_t outer_len, const uint32_t *inner,

@@ -3,6 +3,7 @@ use paper::Answer;
 use roles::Role;
 ghost use Prim.Native.Nat.{_+_, _*_, _<_};
 ghost use mathlib.Core.Path.{_≡_};
+ghost use mathlib.Core.List.{map};
 ghost use lib.ListN.{length};
 ghost use Rattle.paper.specs.Items.{decode};
 ghost use Rattle.paper.specs.Document.{tableOf};

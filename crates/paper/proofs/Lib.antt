@@ -22,6 +22,8 @@ pub mod Sizes
 pub mod Extracting
 -- Answers line by line: `line-value`, `when-none`, `Refuses`, `refused-keeps`.
 pub mod Refusing
+-- What an accepted call writes, and that it stands at the start: `read-gives`, `compose-gives`, `print-gives`.
+pub mod Giving
 -- How `tokensFrom` goes on: `blank`, `stands`, `passed`.
 pub mod Lexing
 -- Equal lists of bytes: `same-equal`, `not-same`, `part-same`, `part-differs`.

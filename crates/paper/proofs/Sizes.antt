@@ -8,7 +8,7 @@ use mathlib.Core.List.{List, [], _∷_, _++_, append-assoc, append-nil}
 use mathlib.Core.Option.{some}
 use lib.ListN.{length, length-append}
 use Rattle.paper.specs.Query.{Axis, Test, Expr, path, both, either, negated, Steps, stop, step, Preds, bare, pred, Query, paths}
-use Rattle.paper.specs.Items.{encodeExpr, encodeSteps, encodePreds, encodePaths, encode, decode}
+use Rattle.paper.specs.Items.{predCount, encodeExpr, encodeSteps, encodePreds, encodePaths, encode, decode}
 use Rattle.paper.specs.Measures.{sizeExpr, sizeSteps, sizePreds, sizePaths, size}
 use Rattle.paper.specs.Measures.{heightExpr, heightSteps, heightPreds, heightPaths, height}
 use Rattle.paper.specs.Measures.{roundLeftOfAnd, roundRightOfAnd, roundRightOfOr, inBrackets, nestExpr, nestSteps, nestPreds, nestPaths, nesting}
@@ -106,61 +106,75 @@ opens-join ps qs x y ox oy n rest = rw (append-assoc ps qs rest, ox n (qs ++ res
 opens-word : (p : Piece) → ((n : ℕ) (rest : List Piece) → mostOpen n (p ∷ rest) ≡ max n (mostOpen n rest)) → (ps : List Piece) (x : ℕ) → Opens ps x → Opens (p ∷ ps) x
 opens-word p op ps x o n rest = op n (ps ++ rest) ∙ rw (o n rest) (omega arith)
 
-opens-step : (a : Axis) (t : Test) (ps qs : List Piece) (x y : ℕ) → Opens ps x → Opens qs y → Opens (stepPieces a t ps qs) (max x y)
-opens-step a t ps qs x y ox oy =
-    opens-word (axisWord a) (λ n rest. refl) (colonsSign ∷ testWord t ∷ ps ++ qs) (max x y)
-    (opens-word colonsSign (λ n rest. refl) (testWord t ∷ ps ++ qs) (max x y)
-    (opens-word (testWord t) (λ n rest. refl) (ps ++ qs) (max x y) (opens-join ps qs x y ox oy)))
+opens-none : Opens [] 0
+opens-none n rest = omega (arith, least n rest)
+
+-- The same before no brackets.
+opens-more : (p : Piece) → ((n : ℕ) (rest : List Piece) → mostOpen n (p ∷ rest) ≡ max n (mostOpen n rest)) → (ps : List Piece) (x : ℕ) → Opens ps x → Opens (p ∷ ps) (max 0 x)
+opens-more p op ps x o n rest = opens-word p op ps x o n rest ∙ omega arith
+
+-- The head of a step has no bracket, in either form.
+opens-head : (brief : Bool) (a : Axis) (t : Test) (count : ℕ) → Opens (headPieces brief a t count) 0
+opens-head brief a t count =
+    let test = opens-word (testWord t) (λ n rest. refl) [] 0 opens-none in
+    by-head (λ ps. Opens ps 0) brief a t count (λ p. opens-word dotSign (λ n rest. refl) [] 0 opens-none) (λ p. opens-word dotsSign (λ n rest. refl) [] 0 opens-none) (λ p. test)
+    (opens-word (axisWord a) (λ n rest. refl) (colonsSign ∷ testWord t ∷ []) 0 (opens-word colonsSign (λ n rest. refl) (testWord t ∷ []) 0 test))
+
+opens-step : (hs ps qs : List Piece) (x y : ℕ) → Opens hs 0 → Opens ps x → Opens qs y → Opens (stepPieces hs ps qs) (max x y)
+opens-step hs ps qs x y oh ox oy n rest = opens-join hs (ps ++ qs) 0 (max x y) oh (opens-join ps qs x y ox oy) n rest ∙ omega arith
 
 opens-pred : (ps qs : List Piece) (x y : ℕ) → Opens ps x → Opens qs y → Opens (openPred ∷ ps ++ closePred ∷ qs) (max (1 + x) y)
 opens-pred ps qs x y ox oy n rest =
     rw (append-assoc ps (closePred ∷ qs) rest, ox (1 + n) (closePred ∷ qs ++ rest), one-less n, oy n rest) (omega arith)
 
-opens-none : Opens [] 0
-opens-none n rest = omega (arith, least n rest)
+module _ (brief : Bool) where
+  mutual
+    opens-expr : (e : Expr) → Opens (exprPieces brief e) (nestExpr e)
+    opens-expr (path s) = opens-relative s
+    opens-expr (both a b) =
+        opens-two andWord (λ n rest. refl) (grouped (roundLeftOfAnd a) (exprPieces brief a)) (grouped (roundRightOfAnd b) (exprPieces brief b))
+        (inBrackets (roundLeftOfAnd a) (nestExpr a)) (inBrackets (roundRightOfAnd b) (nestExpr b))
+        (opens-group (roundLeftOfAnd a) (exprPieces brief a) (nestExpr a) (opens-expr a)) (opens-group (roundRightOfAnd b) (exprPieces brief b) (nestExpr b) (opens-expr b))
+    opens-expr (either a b) =
+        opens-two orWord (λ n rest. refl) (exprPieces brief a) (grouped (roundRightOfOr b) (exprPieces brief b)) (nestExpr a) (inBrackets (roundRightOfOr b) (nestExpr b))
+        (opens-expr a) (opens-group (roundRightOfOr b) (exprPieces brief b) (nestExpr b) (opens-expr b))
+    opens-expr (negated a) = opens-round openNot (λ n rest. refl) (exprPieces brief a) (nestExpr a) (opens-expr a)
 
-mutual
-  opens-expr : (e : Expr) → Opens (exprPieces e) (nestExpr e)
-  opens-expr (path s) = opens-relative s
-  opens-expr (both a b) =
-      opens-two andWord (λ n rest. refl) (grouped (roundLeftOfAnd a) (exprPieces a)) (grouped (roundRightOfAnd b) (exprPieces b))
-      (inBrackets (roundLeftOfAnd a) (nestExpr a)) (inBrackets (roundRightOfAnd b) (nestExpr b))
-      (opens-group (roundLeftOfAnd a) (exprPieces a) (nestExpr a) (opens-expr a)) (opens-group (roundRightOfAnd b) (exprPieces b) (nestExpr b) (opens-expr b))
-  opens-expr (either a b) =
-      opens-two orWord (λ n rest. refl) (exprPieces a) (grouped (roundRightOfOr b) (exprPieces b)) (nestExpr a) (inBrackets (roundRightOfOr b) (nestExpr b))
-      (opens-expr a) (opens-group (roundRightOfOr b) (exprPieces b) (nestExpr b) (opens-expr b))
-  opens-expr (negated a) = opens-round openNot (λ n rest. refl) (exprPieces a) (nestExpr a) (opens-expr a)
+    opens-relative : (s : Steps) → Opens (relativePieces brief s) (nestSteps s)
+    opens-relative stop = opens-none
+    opens-relative (step a t ps rest) =
+        opens-step (headPieces brief a t (predCount ps)) (predsPieces brief ps) (laterPieces brief rest) (nestPreds ps) (nestSteps rest)
+        (opens-head brief a t (predCount ps)) (opens-preds ps) (opens-later rest)
 
-  opens-relative : (s : Steps) → Opens (relativePieces s) (nestSteps s)
-  opens-relative stop = opens-none
-  opens-relative (step a t ps rest) =
-      opens-step a t (predsPieces ps) (laterPieces rest) (nestPreds ps) (nestSteps rest) (opens-preds ps) (opens-later rest)
+    opens-later : (s : Steps) → Opens (laterPieces brief s) (nestSteps s)
+    opens-later stop = opens-none
+    opens-later (step a t ps rest) =
+        by-later (λ qs. Opens qs (max (nestPreds ps) (nestSteps rest))) brief a t ps rest
+        (λ d. rw (d .preds) (opens-more slashesSign (λ n rest. refl) (relativePieces brief rest) (nestSteps rest) (opens-relative rest)))
+        (opens-word slashSign (λ n rest. refl) (relativePieces brief (step a t ps rest)) (max (nestPreds ps) (nestSteps rest))
+        (opens-step (headPieces brief a t (predCount ps)) (predsPieces brief ps) (laterPieces brief rest) (nestPreds ps) (nestSteps rest)
+        (opens-head brief a t (predCount ps)) (opens-preds ps) (opens-later rest)))
 
-  opens-later : (s : Steps) → Opens (laterPieces s) (nestSteps s)
-  opens-later stop = opens-none
-  opens-later (step a t ps rest) =
-      opens-word slashSign (λ n rest. refl) (stepPieces a t (predsPieces ps) (laterPieces rest)) (max (nestPreds ps) (nestSteps rest))
-      (opens-step a t (predsPieces ps) (laterPieces rest) (nestPreds ps) (nestSteps rest) (opens-preds ps) (opens-later rest))
+    opens-preds : (ps : Preds) → Opens (predsPieces brief ps) (nestPreds ps)
+    opens-preds bare = opens-none
+    opens-preds (pred e ps) = opens-pred (exprPieces brief e) (predsPieces brief ps) (nestExpr e) (nestPreds ps) (opens-expr e) (opens-preds ps)
 
-  opens-preds : (ps : Preds) → Opens (predsPieces ps) (nestPreds ps)
-  opens-preds bare = opens-none
-  opens-preds (pred e ps) = opens-pred (exprPieces e) (predsPieces ps) (nestExpr e) (nestPreds ps) (opens-expr e) (opens-preds ps)
+  opens-path : (s : Steps) → Opens (pathPieces brief s) (nestSteps s)
+  opens-path stop = opens-word slashSign (λ n rest. refl) [] 0 opens-none
+  opens-path (step a t ps rest) = opens-later (step a t ps rest)
 
-opens-path : (s : Steps) → Opens (pathPieces s) (nestSteps s)
-opens-path s = opens-word slashSign (λ n rest. refl) (relativePieces s) (nestSteps s) (opens-relative s)
+  opens-paths : (ps : List Steps) → Opens (pathsPieces brief ps) (nestPaths ps)
+  opens-paths [] = opens-none
+  opens-paths (p ∷ ps) =
+      opens-word barSign (λ n rest. refl) (pathPieces brief p ++ pathsPieces brief ps) (max (nestSteps p) (nestPaths ps))
+      (opens-join (pathPieces brief p) (pathsPieces brief ps) (nestSteps p) (nestPaths ps) (opens-path p) (opens-paths ps))
 
-opens-paths : (ps : List Steps) → Opens (pathsPieces ps) (nestPaths ps)
-opens-paths [] = opens-none
-opens-paths (p ∷ ps) =
-    opens-word barSign (λ n rest. refl) (pathPieces p ++ pathsPieces ps) (max (nestSteps p) (nestPaths ps))
-    (opens-join (pathPieces p) (pathsPieces ps) (nestSteps p) (nestPaths ps) (opens-path p) (opens-paths ps))
-
--- NESTING IS THE MOST BRACKETS OPEN AT ONCE IN THE PRINTED TEXT.
-pub nesting-open : (q : Query) → mostOpen 0 (pieces q) ≡ nesting q
+-- NESTING IS THE MOST BRACKETS OPEN AT ONCE IN THE PRINTED TEXT, in either form.
+pub nesting-open : (brief : Bool) (q : Query) → mostOpen 0 (pieces brief q) ≡ nesting q
 unfolding pieces nesting
-nesting-open q =
-    let ps = pathPieces (q .first) ++ pathsPieces (q .others) in
+nesting-open brief q =
+    let ps = pathPieces brief (q .first) ++ pathsPieces brief (q .others) in
     let n = max (nestSteps (q .first)) (nestPaths (q .others)) in
     ap (mostOpen 0) (sym (append-nil ps)) ∙
-    opens-join (pathPieces (q .first)) (pathsPieces (q .others)) (nestSteps (q .first)) (nestPaths (q .others)) (opens-path (q .first)) (opens-paths (q .others)) 0 [] ∙
+    opens-join (pathPieces brief (q .first)) (pathsPieces brief (q .others)) (nestSteps (q .first)) (nestPaths (q .others)) (opens-path brief (q .first)) (opens-paths brief (q .others)) 0 [] ∙
     omega arith

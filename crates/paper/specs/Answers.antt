@@ -107,9 +107,9 @@ abbrev pub unknownFrom : ℕ → ℕ → List ℕ → Option ℕ
 unknownFrom count at [] = none
 unknownFrom count at (w ∷ ws) = let later = unknownFrom count (suc at) ws in cond (unknownItem count (stepAt w)) (some at) later
 
--- Print: 1, 2, 6, 5, 10; it answers the number of bytes.
-unfoldable pub printAnswer : List ℕ → List ℕ → ℕ → Answer
-printAnswer query list room =
+-- Print, in either form: 1, 2, 6, 5, 10; it answers the number of bytes.
+unfoldable pub printAnswer : Bool → List ℕ → List ℕ → ℕ → Answer
+printAnswer brief query list room =
     line 1 (when (tooLong query itemLimit || tooLong list listLimit) 0)
     (line 2 (namesFault list)
     (lineQuery 6 0 (decode query)
@@ -122,8 +122,9 @@ abbrev pub textGot : Bool → List (List ℕ) → Option Query → List ℕ
 textGot brief names none = []
 textGot brief names (some q) = printed brief names q
 
-unfoldable pub printOut : List ℕ → List ℕ → List ℕ → List ℕ
-printOut query list out = atExit (printAnswer query list (length out)) (textGot (namesOf list) (decode query)) out
+unfoldable pub printOut : Bool → List ℕ → List ℕ → List ℕ → List ℕ
+printOut brief query list out =
+    atExit (printAnswer brief query list (length out)) (textGot brief (namesOf list) (decode query)) out
 
 -- COMPOSE: 1, 6 (outer first), 9, 10; it answers the number of items. The way to make one query of two is an argument.
 abbrev pub composingAnswer : (Query → Query → Query) → List ℕ → List ℕ → ℕ → Answer

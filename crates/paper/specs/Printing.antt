@@ -1,12 +1,14 @@
 -- docs/SCOPE.md, "Printing": the text of a query, in the long form, with the axes written out, or in the short one (02, 2026-12).
 use Prim.Native.Nat.{ℕ, _+_, _-_, max}
-use mathlib.Core.Bool.{Bool, true, false}
+use mathlib.Core.Bool.{Bool, true, false, _&&_, cond}
 use mathlib.Core.List.{List, [], _∷_, _++_}
+use lib.Dec.{eqb, ltb}
 use lib.ListN.{getD}
 use Rattle.paper.specs.Tools.{ascii}
 use Rattle.paper.specs.Query.{Axis, self, child, parent, descendantOrSelf, ancestorOrSelf, descendant, ancestor, followingSibling, precedingSibling, following, preceding}
 use Rattle.paper.specs.Query.{Test, anyNode, textNode, named, anyElement}
 use Rattle.paper.specs.Query.{Expr, path, both, either, negated, Steps, stop, step, Preds, bare, pred, Query}
+use Rattle.paper.specs.Items.{axisNumber, testNumber, stepCount, predCount}
 use Rattle.paper.specs.Measures.{roundLeftOfAnd, roundRightOfAnd, roundRightOfOr}
 
 -- The two forms of a text: is it brief?
@@ -18,7 +20,7 @@ shortForm = true
 
 -- The pieces of a printed text: signs, the three brackets with the two that close them, the operators, an axis, a test.
 pub data Piece : Type 0 where
-  slashSign colonsSign barSign openPred closePred openGroup openNot closeRound andWord orWord : Piece
+  slashSign slashesSign dotSign dotsSign colonsSign barSign openPred closePred openGroup openNot closeRound andWord orWord : Piece
   axisWord : Axis → Piece
   testWord : Test → Piece
 
@@ -50,6 +52,9 @@ testText names anyElement = ascii "*"
 -- The text of a piece: `|` without spaces, one space each side of `and` and `or`.
 abbrev pub pieceText : List (List ℕ) → Piece → List ℕ
 pieceText names slashSign = ascii "/"
+pieceText names slashesSign = ascii "//"
+pieceText names dotSign = ascii "."
+pieceText names dotsSign = ascii ".."
 pieceText names colonsSign = ascii "::"
 pieceText names barSign = ascii "|"
 pieceText names openPred = ascii "["
@@ -88,25 +93,29 @@ unfoldable pub deepened : Bool → Axis → Test → ℕ → ℕ → Bool
 deepened brief a t count later = brief && plain descendantOrSelf a t count && ltb 0 later
 
 abbrev mutual
-  pub exprPieces : Expr → List Piece
-  exprPieces (path steps) = relativePieces steps
-  exprPieces (both a b) = grouped (roundLeftOfAnd a) (exprPieces a) ++ andWord ∷ grouped (roundRightOfAnd b) (exprPieces b)
-  exprPieces (either a b) = exprPieces a ++ orWord ∷ grouped (roundRightOfOr b) (exprPieces b)
-  exprPieces (negated a) = openNot ∷ exprPieces a ++ (closeRound ∷ [])
+  pub exprPieces : Bool → Expr → List Piece
+  exprPieces brief (path steps) = relativePieces brief steps
+  exprPieces brief (both a b) =
+      grouped (roundLeftOfAnd a) (exprPieces brief a) ++ andWord ∷ grouped (roundRightOfAnd b) (exprPieces brief b)
+  exprPieces brief (either a b) = exprPieces brief a ++ orWord ∷ grouped (roundRightOfOr b) (exprPieces brief b)
+  exprPieces brief (negated a) = openNot ∷ exprPieces brief a ++ (closeRound ∷ [])
 
-  -- A path in a predicate starts with a step.
-  pub relativePieces : Steps → List Piece
-  relativePieces stop = []
-  relativePieces (step a t ps rest) = stepPieces a t (predsPieces ps) (laterPieces rest)
+  -- A path in a predicate starts with a step, and so does what follows `//`.
+  pub relativePieces : Bool → Steps → List Piece
+  relativePieces brief stop = []
+  relativePieces brief (step a t ps rest) = stepPieces (headPieces brief a t (predCount ps)) (predsPieces brief ps) (laterPieces brief rest)
 
-  -- Each later step has its `/`.
-  pub laterPieces : Steps → List Piece
-  laterPieces stop = []
-  laterPieces (step a t ps rest) = slashSign ∷ stepPieces a t (predsPieces ps) (laterPieces rest)
+  -- Each later step has its `/`, or is the one that `//` stands for. Behind `//` a step is written, so in a row of such steps the first, third and so on are `//`.
+  pub laterPieces : Bool → Steps → List Piece
+  laterPieces brief stop = []
+  laterPieces brief (step a t ps rest) =
+      let deep = slashesSign ∷ relativePieces brief rest in
+      let told = slashSign ∷ stepPieces (headPieces brief a t (predCount ps)) (predsPieces brief ps) (laterPieces brief rest) in
+      cond (deepened brief a t (predCount ps) (stepCount rest)) deep told
 
-  pub predsPieces : Preds → List Piece
-  predsPieces bare = []
-  predsPieces (pred e ps) = openPred ∷ exprPieces e ++ closePred ∷ predsPieces ps
+  pub predsPieces : Bool → Preds → List Piece
+  predsPieces brief bare = []
+  predsPieces brief (pred e ps) = openPred ∷ exprPieces brief e ++ closePred ∷ predsPieces brief ps
 
 -- An absolute path is `/` alone, or each of its steps has what a later step has.
 abbrev pub pathPieces : Bool → Steps → List Piece
@@ -118,8 +127,8 @@ pathsPieces brief [] = []
 pathsPieces brief (p ∷ ps) = barSign ∷ pathPieces brief p ++ pathsPieces brief ps
 
 -- The pieces of a query.
-unfoldable pub pieces : Query → List Piece
-pieces q = pathPieces (q .first) ++ pathsPieces (q .others)
+unfoldable pub pieces : Bool → Query → List Piece
+pieces brief q = pathPieces brief (q .first) ++ pathsPieces brief (q .others)
 
 -- The text of pieces, one after the other.
 abbrev pub textOf : List (List ℕ) → List Piece → List ℕ
@@ -127,12 +136,15 @@ textOf names [] = []
 textOf names (p ∷ ps) = pieceText names p ++ textOf names ps
 
 -- The printed text of a query.
-unfoldable pub printed : List (List ℕ) → Query → List ℕ
-printed names q = textOf names (pieces q)
+unfoldable pub printed : Bool → List (List ℕ) → Query → List ℕ
+printed brief names q = textOf names (pieces brief q)
 
 -- How many brackets are open after a piece; those of `node()` and `text()` are no pieces.
 abbrev pub openAfter : Piece → ℕ → ℕ
 openAfter slashSign n = n
+openAfter slashesSign n = n
+openAfter dotSign n = n
+openAfter dotsSign n = n
 openAfter colonsSign n = n
 openAfter barSign n = n
 openAfter openPred n = 1 + n

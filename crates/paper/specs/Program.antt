@@ -12,6 +12,7 @@ use Rattle.paper.specs.Query.{Query}
 use Rattle.paper.specs.Names.{namesOf}
 use Rattle.paper.specs.Items.{decode}
 use Rattle.paper.specs.Measures.{nesting}
+use Rattle.paper.specs.Printing.{longForm}
 use Rattle.paper.specs.Answers.{Answer, value, refusal, line, tooLong, readAnswer, readItems, composeAnswer, composedGot, printAnswer, textGot}
 
 -- An input has at most 49,152 bytes.
@@ -58,8 +59,8 @@ nestingGot (some q) = nesting q
 -- What is printed of a composed query, in the long form: text room is 32,768 bytes.
 unfoldable pub queryPrints : List ℕ → List ℕ → List ℕ
 queryPrints query list =
-    unlessRefused "print" (printAnswer query list textLimit)
-    (resultLines (textGot (namesOf list) (decode query)) (length query) (nestingGot (decode query)))
+    unlessRefused "print" (printAnswer longForm query list textLimit)
+    (resultLines (textGot longForm (namesOf list) (decode query)) (length query) (nestingGot (decode query)))
 
 -- What is printed of the outer and the inner query: query room is 4,096 items for each query.
 unfoldable pub queriesPrint : List ℕ → List ℕ → List ℕ → List ℕ

@@ -120,7 +120,7 @@ abbrev pub printedIn : Bool → List ℕ → List ℕ → List ℕ
 printedIn brief list query = counted (printAnswer brief query list 400) (printOut brief query list room)
 
 abbrev pub printedItems : List ℕ → List ℕ → List ℕ
-printedItems list query = counted (printAnswer query list 400) (printOut query list room)
+printedItems list query = printedIn longForm list query
 
 abbrev pub composedText : String → String → String → List ℕ
 composedText list outer inner =
@@ -167,7 +167,7 @@ starRows =
 
 -- All of this holds, by computation.
 pub textsHold : T (textsRead && textPrinted && allRows starRows)
-unfolding height over goodNode tableFault goodMark marksFault reaches selects keeps kept runAnswer runMarks readAnswer readOut readItems composeAnswer composeOut printAnswer printOut printed pieces namesFault namesOf badLine tokens tokenAt readText readTail readTested readStep readOperand readTerm readExpr readPath pathAt stepAt encode decode takeOperand takeTerm takeExpr size nesting reversed selectedBy visible lastStep composedPath composed
+unfolding height over goodNode tableFault goodMark marksFault reaches selects keeps kept runAnswer runMarks readAnswer readOut readItems composeAnswer composeOut printAnswer printOut headPieces deepened printed pieces namesFault namesOf badLine tokens tokenAt readText readTail readTested readStep readOperand readTerm readExpr readPath pathAt stepAt encode decode takeOperand takeTerm takeExpr size nesting reversed selectedBy visible lastStep composedPath composed
 textsHold = tt
 
 -- Steps along self, parent and ancestor-or-self lead from visible nodes to visible nodes, and get no V: what such compositions keep, and how many items they have.
@@ -234,7 +234,7 @@ alongNumber axis = printedItems names (8 ∷ (1 + axis * 8) ∷ [])
 
 -- What printing the items answers.
 abbrev pub printsItems : List ℕ → List ℕ → Bool
-printsItems query expected = same (numbers (printAnswer query names 400)) expected
+printsItems query expected = same (numbers (printAnswer longForm query names 400)) expected
 
 -- Each number of the six has its word, `[8, 73]` among them, and a number over 10 has none.
 abbrev pub axisWords : Bool
@@ -250,7 +250,7 @@ axisWords =
 
 -- All of this holds, by computation.
 pub axesHold : T (allRows axisRows && axisWords)
-unfolding height over goodNode tableFault goodMark marksFault reaches selects keeps kept runAnswer runMarks readAnswer readOut readItems composeAnswer composeOut printAnswer printOut printed pieces namesFault namesOf badLine tokens tokenAt readText readTail readTested readStep readOperand readTerm readExpr readPath pathAt stepAt encode decode takeOperand takeTerm takeExpr size nesting reversed selectedBy visible lastStep composedPath composed
+unfolding height over goodNode tableFault goodMark marksFault reaches selects keeps kept runAnswer runMarks readAnswer readOut readItems composeAnswer composeOut printAnswer printOut headPieces deepened printed pieces namesFault namesOf badLine tokens tokenAt readText readTail readTested readStep readOperand readTerm readExpr readPath pathAt stepAt encode decode takeOperand takeTerm takeExpr size nesting reversed selectedBy visible lastStep composedPath composed
 axesHold = tt
 
 -- So many `not(` around a text.
@@ -300,7 +300,7 @@ inputsPrinted =
 
 -- All of it is printed so, by computation.
 pub inputsHold : T inputsPrinted
-unfolding decimal queryPrints queriesPrint textsPrint programPrints readAnswer readItems composeAnswer printAnswer printed pieces namesFault namesOf badLine tokens tokenAt readText readTail readTested readStep readOperand readTerm readExpr readPath pathAt stepAt encode decode takeOperand takeTerm takeExpr size nesting reversed selectedBy visible lastStep composedPath composed
+unfolding decimal queryPrints queriesPrint textsPrint programPrints readAnswer readItems composeAnswer printAnswer headPieces deepened printed pieces namesFault namesOf badLine tokens tokenAt readText readTail readTested readStep readOperand readTerm readExpr readPath pathAt stepAt encode decode takeOperand takeTerm takeExpr size nesting reversed selectedBy visible lastStep composedPath composed
 inputsHold = tt
 
 -- 02, 2026-10: what a run of a composition on the table answers, lent so many bytes of scratch.

@@ -1,6 +1,7 @@
 -- The demands over calls, from the demands over the entry points' definitions: a call's contract says what it answered and left by those. Assumes nothing.
 use Prim.Native.Nat.{ℕ}
 use mathlib.Core.Path.{_≡_, sym, _∙_, ap}
+use mathlib.Core.Bool.{Bool, true, false}
 use mathlib.Core.List.{List}
 use lib.ListN.{length, take}
 use denote.Ref.{now}
@@ -109,16 +110,35 @@ extraction query parents kinds given outParents outKinds ps ks qs ls n c v w =
     let alike = entries.extraction query (tableOf parents kinds) given (old-parents c) (old-kinds c) n (extract-value c) (v .kept) (w .kept) (v .count) (w .count) ps ks qs ls (shows v) x in
     (alike .2, alike .3)
 
+-- PRINT. What the contract says of an accepted call in either form, with the slice that it was lent.
+record Printed (brief : Bool) (query list text : List ℕ) (n : ℕ) : Type 0 where
+  old : List ℕ
+  print-value : printAnswer brief query list (length old) ≡ value n
+  print-left : text ≡ printOut brief query list old
+
+printed-so : (brief : Bool) (query list text : List ℕ) (n : ℕ) → FormCall brief query list (Value n) text → Printed brief query list text n
+printed-so true query list text n p =
+    record {
+      old = now (p .args .1 .1 .0);
+      print-value = rw (p .query-lent, p .list-lent) at (sym (p .met .0));
+      print-left = sym (p .out-left) ∙ (rw (p .query-lent, p .list-lent) at (p .met .1));
+    }
+printed-so false query list text n p =
+    record {
+      old = now (p .args .1 .1 .0);
+      print-value = rw (p .query-lent, p .list-lent) at (sym (p .met .0));
+      print-left = sym (p .out-left) ∙ (rw (p .query-lent, p .list-lent) at (p .met .1));
+    }
+
 -- ROUND TRIP.
 pub round-trip : RoundTrip
-round-trip query list text old out n version answer fine p most room r =
-    let print-value : printAnswer query list (length (now (p .args .1 .1 .0))) ≡ value n = rw (p .query-lent, p .list-lent) at (sym (p .met .0)) in
-    let print-left : text ≡ printOut query list (now (p .args .1 .1 .0)) = sym (p .out-left) ∙ (rw (p .query-lent, p .list-lent) at (p .met .1)) in
+round-trip brief query list text old out n version answer fine p most room r =
+    let print = printed-so brief query list text n p in
     let read-said : told answer ≡ readAnswer (take n text) version list (length old) = rw (r .text-lent, r .version-given, r .list-lent, r .out-lent) at (r .met .0) in
     let read-left : out ≡ readOut (take n text) version list old = sym (r .out-left) ∙ (rw (r .text-lent, r .version-given, r .list-lent, r .out-lent) at (r .met .1)) in
-    let back = entries.round-trip query list (now (p .args .1 .1 .0)) old n version fine print-value most room in (
-      told-same answer (Value (length query)) (read-said ∙ ap (λ ws. readAnswer (take n ws) version list (length old)) print-left ∙ back .0),
-      ap (take (length query)) (read-left ∙ ap (λ ws. readOut (take n ws) version list old) print-left) ∙ back .1,
+    let back = entries.round-trip brief query list (print .old) old n version fine (print .print-value) most room in (
+      told-same answer (Value (length query)) (read-said ∙ ap (λ ws. readAnswer (take n ws) version list (length old)) (print .print-left) ∙ back .0),
+      ap (take (length query)) (read-left ∙ ap (λ ws. readOut (take n ws) version list old) (print .print-left)) ∙ back .1,
     )
 
 -- SHORTER.
@@ -130,13 +150,13 @@ shorter query list long short n answer l s same-room =
     (less .0, told-same answer (Value (less .0)) (told-short ∙ ap (printAnswer shortForm query list) same-room ∙ less .1), less .2)
 
 -- SCRATCH.
-height-value : {query : List ℕ} {n : ℕ} → HeightCall query (Value n) → heightAnswer query ≡ value n
+pub height-value : {query : List ℕ} {n : ℕ} → HeightCall query (Value n) → heightAnswer query ≡ value n
 height-value c = rw (c .query-lent) at (sym (c .met))
 
-paths-value : {query : List ℕ} {n : ℕ} → PathsCall query (Value n) → pathsAnswer query ≡ value n
+pub paths-value : {query : List ℕ} {n : ℕ} → PathsCall query (Value n) → pathsAnswer query ≡ value n
 paths-value c = rw (c .query-lent) at (sym (c .met))
 
-scratch-value : {count oh op ih ip n : ℕ} → ScratchCall count oh op ih ip (Value n) → scratchAnswer count oh op ih ip ≡ value n
+pub scratch-value : {count oh op ih ip n : ℕ} → ScratchCall count oh op ih ip (Value n) → scratchAnswer count oh op ih ip ≡ value n
 scratch-value c = rw (c .count-given, c .outer-height-given, c .outer-paths-given, c .inner-height-given, c .inner-paths-given) at (sym (c .met))
 
 pub scratch-enough : ScratchEnough

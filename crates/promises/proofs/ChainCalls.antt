@@ -32,7 +32,7 @@ grouped g =
       ab-on-c = composes (g .ab-on-c);
     }
 
-runs-by : {query parents kinds given marks : List ℕ} {n : ℕ} → RunCall query parents kinds given (Value n) marks → Runs query (tableOf parents kinds) given n marks
+pub runs-by : {query parents kinds given marks : List ℕ} {n : ℕ} → RunCall query parents kinds given (Value n) marks → Runs query (tableOf parents kinds) given n marks
 runs-by c = record { old = old-marks c; room = scratch-room c; accepted = run-value c; left = run-left c }
 
 -- THREE VIEWS.

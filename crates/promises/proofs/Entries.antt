@@ -143,8 +143,8 @@ same-nodes query t given parents kinds marks again n a b room room₁ i h run-t 
 -- ROUND TRIP.
 pub round-trip : RoundTrip
 unfolding readOut
-round-trip query list out again n version fine h most room =
-    let back = trip.round-trip query list out n (length again) version fine h most room in
+round-trip brief query list out again n version fine h most room =
+    let back = trip.round-trip brief query list out n (length again) version fine h most room in
     (back .0, rw (back .0, back .1) (first-written query again (length query) refl))
 
 -- SCRATCH. A run with scratch enough gives no 10,

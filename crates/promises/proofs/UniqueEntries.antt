@@ -1,8 +1,8 @@
 -- The contracts of the entry points leave one answer and one content of each slice: each says what the answer tells and what each slice holds, by one definition. Assumes nothing.
 use mathlib.Core.Path.{subst}
 use Rattle.read_xml.proofs.read_xml
-use Rattle.promises.specs.UniqueEntries.{ReadUnique, PrintUnique, ComposeUnique, RunUnique, ExtractUnique, ReadXmlUnique, WriteXmlUnique}
-use Rattle.promises.specs.UniqueEntries.{ReadForCUnique, PrintForCUnique, ComposeForCUnique, RunForCUnique, ExtractForCUnique, ReadXmlForCUnique, WriteXmlForCUnique, ReportUnique}
+use Rattle.promises.specs.UniqueEntries.{ReadUnique, PrintUnique, PrintLongUnique, ComposeUnique, RunUnique, ExtractUnique, ReadXmlUnique, WriteXmlUnique}
+use Rattle.promises.specs.UniqueEntries.{ReadForCUnique, PrintForCUnique, PrintLongForCUnique, ComposeForCUnique, RunForCUnique, ExtractForCUnique, ReadXmlForCUnique, WriteXmlForCUnique, ReportUnique}
 use Rattle.promises.specs.UniqueEntries.{HeightUnique, PathsUnique, ScratchUnique, HeightForCUnique, PathsForCUnique, ScratchForCUnique}
 use Rattle.promises.specs.UniqueEntries.{IsCutUnique, IsCutForCUnique}
 use Rattle.promises.specs.UniqueEntries.{FollowUnique, FollowForCUnique}
@@ -15,6 +15,9 @@ read-unique κs a u v x y g p q = (same-told (p .0) (q .0), same-slice (p .1) (q
 
 pub print-unique : PrintUnique
 print-unique κs a u v x y g p q = (same-told (p .0) (q .0), same-slice (p .1) (q .1))
+
+pub print-long-unique : PrintLongUnique
+print-long-unique κs a u v x y g p q = (same-told (p .0) (q .0), same-slice (p .1) (q .1))
 
 pub compose-unique : ComposeUnique
 compose-unique κs a u v x y g p q = (same-told (p .0) (q .0), same-slice (p .1) (q .1))
@@ -42,6 +45,9 @@ read-for-c-unique κs a u v x y g p q = (same (p .0) (q .0), same-slice (p .1) (
 
 pub print-for-c-unique : PrintForCUnique
 print-for-c-unique κs a u v x y g p q = (same (p .0) (q .0), same-slice (p .1) (q .1))
+
+pub print-long-for-c-unique : PrintLongForCUnique
+print-long-for-c-unique κs a u v x y g p q = (same (p .0) (q .0), same-slice (p .1) (q .1))
 
 pub compose-for-c-unique : ComposeForCUnique
 compose-for-c-unique κs a u v x y g p q = (same (p .0) (q .0), same-slice (p .1) (q .1))

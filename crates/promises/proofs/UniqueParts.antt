@@ -36,6 +36,7 @@ use Rattle.promises.specs.UniqueParts.{FillUnique, CopyUnique, KeepUniqu
 use Rattle.promises.specs.UniqueParts.{ChildrenUnique, ParentsUnique, BelowUnique, AboveUnique, DescendantsUnique, AncestorsUnique}
 use Rattle.promises.specs.UniqueParts.{FollowingSiblingsUnique, PrecedingSiblingsUnique, FollowingUnique, PrecedingUnique, AlongUnique}
 use Rattle.promises.specs.UniqueParts.{RestrictUnique, SpreadUnique, KeepQueryUnique, OwesUnique, SkipUnique, CountPathsUnique, PutSelectedUnique, SelectedSizeUnique}
+use Rattle.promises.specs.UniqueParts.{MarkQueryUnique, ComposeByUnique}
 use Rattle.promises.specs.UniqueParts.{NarrowUnique, WideEntryUnique, FindNameUnique, FirstUnnamedUnique, KindOfUnique, AnswerUnique}
 use Rattle.promises.specs.UniqueParts.{SaysUnique, KindIsUnique, BeginsLineUnique, ReadsAsUnique, WriteKeptUnique}
 use Rattle.promises.proofs.Telling.{same, same-told, same-slice, same-slices}
@@ -338,6 +339,15 @@ put-selected-unique κs a u v x y g p q = (refl, same-slice p q)
 
 pub selected-size-unique : SelectedSizeUnique
 selected-size-unique κs a u v x y g p q = same (p .0) (q .0)
+
+-- COMPOSING.
+pub mark-query-unique : MarkQueryUnique
+mark-query-unique κs a u v x y g p q = (refl, same-slice p q)
+
+pub compose-by-unique : ComposeByUnique
+compose-by-unique κs a u v x y g p q =
+    let w = g .0 in
+    (same-told (p (w .0) (w .1) .0) (q (w .0) (w .1) .0), same-slice (p (w .0) (w .1) .1) (q (w .0) (w .1) .1))
 
 -- XML TEXT.
 pub narrow-unique : NarrowUnique

@@ -1,7 +1,7 @@
 -- The demands of docs/SCOPE.md over calls. Each record `..Call` is a call of an entry point that met its contract, by what it was lent, what it answered and what it left.
 use Prim.Native.Nat.{ℕ, _≤_}
 use mathlib.Core.Path.{_≡_}
-use mathlib.Core.Bool.{false}
+use mathlib.Core.Bool.{Bool, true, false}
 use mathlib.Core.List.{List}
 use lib.ListN.{length, take, replicate}
 use contract.Lifetimes.{Lfts}
@@ -134,10 +134,10 @@ Extraction =
     → View query parents kinds given ps ks → View query (take n outParents) (take n outKinds) (ones (take n outParents)) qs ls
     → (ps ≡ qs) × (ks ≡ ls)
 
--- ROUND TRIP: reading what was printed, at most 32,768 bytes, by either version, with the same list and room enough, is accepted and leaves the items that were printed.
+-- ROUND TRIP: reading what was printed in either form, at most 32,768 bytes, by either version, with the same list and room enough, is accepted and leaves the items that were printed.
 abbrev pub RoundTrip : Type 0
 RoundTrip =
-    (query list text old out : List ℕ) (n version : ℕ) (answer : Answer) → noVersion version ≡ false → PrintCall query list (Value n) text → n ≤ textLimit → length query ≤ length old
+    (brief : Bool) (query list text old out : List ℕ) (n version : ℕ) (answer : Answer) → noVersion version ≡ false → FormCall brief query list (Value n) text → n ≤ textLimit → length query ≤ length old
     → ReadCall (take n text) version list old answer out
     → (answer ≡ Value (length query)) × (take (length query) out ≡ query)
 

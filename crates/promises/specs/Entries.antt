@@ -1,7 +1,7 @@
 -- The demands of docs/SCOPE.md over the entry points: what lent items, marks and columns hold after calls that were accepted, as the contracts of the entry points say it.
 use Prim.Native.Nat.{ℕ, _≤_, _<_}
 use mathlib.Core.Path.{_≡_}
-use mathlib.Core.Bool.{true, false}
+use mathlib.Core.Bool.{Bool, true, false}
 use mathlib.Core.List.{List}
 use mathlib.Core.Option.{some}
 use lib.ListN.{length, getD, take}
@@ -104,11 +104,11 @@ SameNodes =
     runAnswer query t given (length marks) room ≡ value a → runAnswer query u (allMarked u) (length again) room₁ ≡ value b → i < nodes t → marked given i ≡ true
     → getD (runMarks query u (allMarked u) again room₁) (rank given i) 0 ≡ getD (runMarks query t given marks room) i 0
 
--- ROUND TRIP: where a print is accepted with at most 32,768 bytes, reading those bytes by either version, with the same list and room enough, is accepted and leaves the items that were printed.
+-- ROUND TRIP: where a print in either form is accepted with at most 32,768 bytes, reading those bytes by either version, with the same list and room enough, is accepted and leaves the items that were printed.
 abbrev pub RoundTrip : Type 0
 RoundTrip =
-    (query list out again : List ℕ) (n version : ℕ) → noVersion version ≡ false → printAnswer query list (length out) ≡ value n → n ≤ textLimit → length query ≤ length again →
-    let text = take n (printOut query list out) in
+    (brief : Bool) (query list out again : List ℕ) (n version : ℕ) → noVersion version ≡ false → printAnswer brief query list (length out) ≡ value n → n ≤ textLimit → length query ≤ length again →
+    let text = take n (printOut brief query list out) in
     (readAnswer text version list (length again) ≡ value (length query)) × (take (length query) (readOut text version list again) ≡ query)
 
 -- SCRATCH (02, 2026-10): lent the bytes that are told by the nodes of the table and by the heights and path counts of two queries, a run of their accepted composition never gets 10.

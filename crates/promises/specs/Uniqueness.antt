@@ -4,8 +4,9 @@ use Prim.Native.Nat.{ℕ}
 use mathlib.Core.Path.{_≡_}
 use mathlib.Core.List.{List}
 use contract.Lifetimes.{Lfts}
-use denote.Triple.Clauses.{AtExit}
+use denote.Triple.Clauses.{Ended, AtExit}
 use borrow.Fn.Kinds.{PK, RK, In, Out, Dens, endedOf, resT}
+use borrow.Fn.World.{ArgsD, ResD}
 
 abbrev pub Unique : {n : ℕ} (ps : List (PK n)) (r : RK n) → In n ps → Out n ps r → ((κs : Lfts n) → AtExit (endedOf n ps r) κs → List (List ℕ)) → Type 0
 Unique {n} ps r given post left =

@@ -117,7 +117,7 @@ module _ (made : Steps → List ℕ) where
     pub reached : at ≡ start + length done
     pub goes-on : done ++ eachPath made rest ≡ eachPath made (paths query)
 
-  pub writing-start : (items old : List ℕ) (start : ℕ) → IsQuery items → Writing items old old start 0 start
+  unfoldable pub writing-start : (items old : List ℕ) (start : ℕ) → IsQuery items → Writing items old old start 0 start
   writing-start items old start q =
       record {
         query = q .query;
@@ -142,7 +142,7 @@ module _ (made : Steps → List ℕ) where
         length-append (w .done) (eachPath made (w .rest)),
       )
 
-  pub writing-more : (items old out out′ : List ℕ) (start place at next at′ count : ℕ) (p : Steps) (ps : List Steps) (w : Writing items old out start place at) → w .rest ≡ p ∷ ps
+  unfoldable pub writing-more : (items old out out′ : List ℕ) (start place at next at′ count : ℕ) (p : Steps) (ps : List Steps) (w : Writing items old out start place at) → w .rest ≡ p ∷ ps
       → Top items place next count p ps → start + length (eachGot made (decode items)) ≤ length old → out′ ≡ placed (made p) at out → at′ ≡ at + length (made p)
       → Writing items old out′ start next at′
   writing-more items old out out′ start place at next at′ count p ps w e t room ew ea =

@@ -133,9 +133,9 @@ compose-small outer inner room =
     (λ e. small-room (size q) (ltb room (size q) || ltb itemLimit (size q)) few))))
 
 -- PRINT.
-pub print-small : (query list : List ℕ) (room : ℕ) → Small (printAnswer query list room)
+pub print-small : (brief : Bool) (query list : List ℕ) (room : ℕ) → Small (printAnswer brief query list room)
 unfolding printAnswer
-print-small query list room =
+print-small brief query list room =
     small-lists query list itemLimit listLimit _
     (λ items bytes.
     small-line 2 (namesFault list) _ (λ p e. omega (arith, fault-within list p e))

@@ -93,6 +93,24 @@ enum-told-3 c = search needs
 refused-requires-14 : tie.Need-refused-requires-14
 refused-requires-14 c κs = search needs
 
+enum-known-answer-13 : tie.Need-enum-known-answer-13
+enum-known-answer-13 c = search needs
+
+refused-requires-15 : tie.Need-refused-requires-15
+refused-requires-15 c κs = search needs
+
+enum-known-answer-14 : tie.Need-enum-known-answer-14
+enum-known-answer-14 c = search needs
+
+refused-requires-16 : tie.Need-refused-requires-16
+refused-requires-16 c κs = search needs
+
+enum-known-answer-15 : tie.Need-enum-known-answer-15
+enum-known-answer-15 c = search needs
+
+refused-requires-17 : tie.Need-refused-requires-17
+refused-requires-17 c κs = search needs
+
 returns : tie.Need-returns
 returns c = value-code _ _ _ (ap told (c .before .answer .given .1)) refl
 
@@ -138,6 +156,15 @@ returns-14 c = refusal-code _ 13 0 _ (ap told (c .before .enum-told2 .given .1))
 returns-15 : tie.Need-returns-15
 returns-15 c = refusal-code _ 14 0 _ (ap told (c .before .enum-told3 .given .1)) (c .refused14 .ensures)
 
+returns-16 : tie.Need-returns-16
+returns-16 c = refusal-code _ 15 _ _ (ap told (c .before .before .answer13 .given .1)) (c .refused15 .ensures)
+
+returns-17 : tie.Need-returns-17
+returns-17 c = refusal-code _ 16 _ _ (ap told (c .before .before .answer14 .given .1)) (c .refused16 .ensures)
+
+returns-18 : tie.Need-returns-18
+returns-18 c = refusal-code _ 17 _ _ (ap told (c .before .before .answer15 .given .1)) (c .refused17 .ensures)
+
 pub code-spec : {M : Type 1} → statement M
 code-spec =
     tie.close
@@ -171,6 +198,12 @@ code-spec =
     refused-requires-13
     enum-told-3
     refused-requires-14
+    enum-known-answer-13
+    refused-requires-15
+    enum-known-answer-14
+    refused-requires-16
+    enum-known-answer-15
+    refused-requires-17
     returns
     returns-2
     returns-3
@@ -185,4 +218,7 @@ code-spec =
     returns-12
     returns-13
     returns-14
-    returns-15)
+    returns-15
+    returns-16
+    returns-17
+    returns-18)

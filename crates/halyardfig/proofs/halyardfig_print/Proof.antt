@@ -17,7 +17,7 @@ same-length c = search needs
 returns : tie.Need-returns
 returns c =
     let said = c .before .before .before .print .ensures in
-    (coded (said .0) (print-small _ _ _) (c .code .ensures), said .1)
+    (coded (said .0) (print-small _ _ _ _) (c .code .ensures), said .1)
 
 pub halyardfig-print-spec : {M : Type 1} → statement M
 halyardfig-print-spec = tie.close (tie.spec print-requires code-requires same-length returns)
