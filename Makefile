@@ -1,6 +1,6 @@
-# Builds, tries, installs and uninstalls the C library, the printing program and their manual pages.
+# Builds, tries, installs and uninstalls the C library, the programs and their manual pages.
 #
-#   make              the archive, the shared library and the program
+#   make              the archive, the shared library and the programs
 #   make check        the tests in C over them (tests/run); `make test` is the same
 #   make gate         the gate (.ci/run)
 #   make install      puts all files in place; `make uninstall` takes just those away
@@ -39,7 +39,7 @@ CALLS = $(shell sed -n 's/^\(static inline \)*uint[0-9]*_t \(halyardfig_[a-z0-9_
 .PHONY: all check test gate install uninstall
 .NOTPARALLEL:
 
-all: $(LIBRARY) $(SHARED) $(PROGRAM)
+all: $(LIBRARY) $(SHARED) $(BUILT)
 
 # What rt made is dated back to the beginning of that, so that code changed meanwhile is newer.
 $(LIBRARY): $(SOURCES)
@@ -47,7 +47,7 @@ $(LIBRARY): $(SOURCES)
 	rt staticlib halyardfig
 	touch -r target/$(@F).begun $@
 
-$(PROGRAM): $(SOURCES)
+$(BUILT): $(SOURCES)
 	bash -c '. bin/running.sh && build $(@F) $@'
 
 # Nothing of the C library's start files is linked in, and what is not defined must be in the C library.
@@ -67,7 +67,10 @@ gate:
 install: all
 	$(INSTALL) -d "$(DESTDIR)$(BINDIR)" "$(DESTDIR)$(INCLUDEDIR)" "$(DESTDIR)$(LIBDIR)/pkgconfig" \
 		"$(DESTDIR)$(MANDIR)/man1" "$(DESTDIR)$(MANDIR)/man3"
-	$(INSTALL) -m 755 $(PROGRAM) "$(DESTDIR)$(BINDIR)/halyardfig-compose"
+	for program in $(PROGRAMS); do \
+		$(INSTALL) -m 755 target/bin/$${program}_main "$(DESTDIR)$(BINDIR)/halyardfig-$$program" && \
+		$(INSTALL) -m 644 man/halyardfig-$$program.1 "$(DESTDIR)$(MANDIR)/man1/halyardfig-$$program.1" || exit 1; \
+	done
 	$(INSTALL) -m 644 include/halyardfig.h "$(DESTDIR)$(INCLUDEDIR)/halyardfig.h"
 	$(INSTALL) -m 644 $(LIBRARY) "$(DESTDIR)$(LIBDIR)/libhalyardfig.a"
 	$(INSTALL) -m 644 $(SHARED) "$(DESTDIR)$(LIBDIR)/libhalyardfig.so.$(VERSION)"
@@ -78,14 +81,14 @@ install: all
 		-e 's|@LIBDIR@|$(patsubst $(PREFIX)/%,$${prefix}/%,$(LIBDIR))|' \
 		halyardfig.pc.in > "$(DESTDIR)$(LIBDIR)/pkgconfig/halyardfig.pc"
 	chmod 644 "$(DESTDIR)$(LIBDIR)/pkgconfig/halyardfig.pc"
-	$(INSTALL) -m 644 man/halyardfig-compose.1 "$(DESTDIR)$(MANDIR)/man1/halyardfig-compose.1"
 	$(INSTALL) -m 644 man/halyardfig.3 "$(DESTDIR)$(MANDIR)/man3/halyardfig.3"
 	for call in $(CALLS); do ln -sf halyardfig.3 "$(DESTDIR)$(MANDIR)/man3/$$call.3" || exit 1; done
 
 uninstall:
-	rm -f "$(DESTDIR)$(BINDIR)/halyardfig-compose" "$(DESTDIR)$(INCLUDEDIR)/halyardfig.h" \
+	rm -f $(PROGRAMS:%="$(DESTDIR)$(BINDIR)/halyardfig-%") $(PROGRAMS:%="$(DESTDIR)$(MANDIR)/man1/halyardfig-%.1") \
+		"$(DESTDIR)$(INCLUDEDIR)/halyardfig.h" \
 		"$(DESTDIR)$(LIBDIR)/libhalyardfig.a" "$(DESTDIR)$(LIBDIR)/libhalyardfig.so" \
 		"$(DESTDIR)$(LIBDIR)/$(SONAME)" "$(DESTDIR)$(LIBDIR)/libhalyardfig.so.$(VERSION)" \
 		"$(DESTDIR)$(LIBDIR)/pkgconfig/halyardfig.pc" \
-		"$(DESTDIR)$(MANDIR)/man1/halyardfig-compose.1" "$(DESTDIR)$(MANDIR)/man3/halyardfig.3"
+		"$(DESTDIR)$(MANDIR)/man3/halyardfig.3"
 	for call in $(CALLS); do rm -f "$(DESTDIR)$(MANDIR)/man3/$$call.3" || exit 1; done

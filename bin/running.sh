@@ -58,6 +58,7 @@ build() {
 }
 
 # Runs a program: by itself, or under an emulator with the loader and the C library of the kit.
+# The emulated processor is a plain one, for which the C library fills memory without `rep stosb`: an emulator takes that byte by byte.
 run_here() {
     if [ "$(uname -m)" = x86_64 ]; then
         "$1"
@@ -68,7 +69,7 @@ run_here() {
     tools=$kit/on/$(uname -m)/toolchain
     emulator=$tools/bin/qemu-x86_64
     [ -x "$emulator" ] || emulator=qemu-x86_64
-    "$emulator" "$tools/lib/ld-linux-x86-64.so.2" --library-path "$tools/lib" "$1"
+    "$emulator" -cpu qemu64 "$tools/lib/ld-linux-x86-64.so.2" --library-path "$tools/lib" "$1"
 }
 
 # Runs the program of a crate, built on first use and whenever a source is newer.
@@ -78,4 +79,12 @@ run_program() {
         build "$1" "$program" || return 2
     fi
     run_here "$program"
+}
+
+# Prints what the program of a crate prints, which ends with an LF and has no byte 0; status 0, or 1 where that begins as the second argument does.
+# Status 2 where the program is not built, fails or can't be printed.
+print_answer() {
+    local answer
+    answer=$(run_program "$1") && printf '%s\n' "$answer" || return 2
+    [[ $answer != "$2"* ]]
 }

@@ -11,8 +11,10 @@ unset MAKEFLAGS MAKEOVERRIDES MFLAGS CC LDFLAGS INSTALL DESTDIR PREFIX BINDIR IN
 # Tools say what they say in English; the emulator takes the loader and the C library from Debian's cross packages.
 export LC_ALL=C.UTF-8 QEMU_LD_PREFIX=/usr/x86_64-linux-gnu
 
-passed=0
-failed=0
+group=install
+# shellcheck source=tests/counting.sh
+. tests/counting.sh
+
 prefix=$PWD/target/tests/prefix
 shared=$prefix/lib/libhalyardfig.so
 staging="$PWD/target/tests/staging folder"
@@ -23,18 +25,6 @@ major=${version%%.*}
 # The header's calls, which the library has, and its functions that take an answer apart, which it has not.
 calls=$(sed -n 's/^uint64_t \(halyardfig_[a-z0-9_]*\).*/\1/p' include/halyardfig.h)
 inlines=$(sed -n 's/^static inline uint32_t \(halyardfig_[a-z0-9_]*\).*/\1/p' include/halyardfig.h)
-
-# Counts a step by the status of its command.
-step() {
-    local name=$1
-    shift
-    if "$@"; then
-        passed=$((passed + 1))
-    else
-        failed=$((failed + 1))
-        echo "install: $name failed"
-    fi
-}
 
 # Shows how the lines of the second text differ from those of the first, which are expected, whatever their order.
 same_lines() {
@@ -54,13 +44,15 @@ staged() {
 # Where Debian has what is installed.
 places() {
     local name
-    echo /usr/bin/halyardfig-compose
+    for name in "${programs[@]}"; do
+        echo "/usr/bin/$name"
+        echo "/usr/share/man/man1/$name.1"
+    done
     echo /usr/include/halyardfig.h
     for name in a so "so.$major" "so.$version"; do
         echo "/usr/lib/x86_64-linux-gnu/libhalyardfig.$name"
     done
     echo /usr/lib/x86_64-linux-gnu/pkgconfig/halyardfig.pc
-    echo /usr/share/man/man1/halyardfig-compose.1
     for name in halyardfig $calls $inlines; do
         echo "/usr/share/man/man3/$name.3"
     done
@@ -159,8 +151,10 @@ found_by_name() {
     for name in halyardfig $calls $inlines; do
         man -M "$prefix/share/man" -w 3 "$name" >/dev/null || return 1
     done
-    man -M "$prefix/share/man" -w 1 halyardfig-compose >/dev/null && same_lines \
-        "$(printf '%s\n' halyardfig-compose halyardfig "$calls" "$inlines")" \
+    for name in "${programs[@]}"; do
+        man -M "$prefix/share/man" -w 1 "$name" >/dev/null || return 1
+    done
+    same_lines "$(printf '%s\n' "${programs[@]}" halyardfig "$calls" "$inlines")" \
         "$(lexgrog man/*.[1-9] | sed 's/^[^"]*"\([^ ]*\) - .*/\1/')"
 }
 
@@ -216,5 +210,4 @@ step 'manual pages without warnings' without_warnings
 step 'manual pages by name' found_by_name
 step "the header's words in the manual" manual_says_it
 
-echo "install: $passed passed, $failed failed"
-[ "$failed" -eq 0 ]
+tell_counts

@@ -3,27 +3,15 @@
 set -u
 cd "$(dirname "$0")/.." || exit 2
 
-passed=0
-failed=0
+group=program
+# shellcheck source=tests/counting.sh
+. tests/counting.sh
 
 # Standard input goes to the program, with the arguments past the second; it must print just the second.
 prints() {
-    local name=$1 wanted=$2 answer
+    local name=$1 wanted=$2
     shift 2
-    answer=$(bin/compose "$@" 2>/dev/null; echo end)
-    if [ "$answer" = "$wanted"$'\n'end ]; then
-        passed=$((passed + 1))
-    else
-        failed=$((failed + 1))
-        echo "program: $name: wanted '${wanted:0:200}', got '${answer:0:200}'"
-    fi
-}
-
-# So many times the same text.
-times() {
-    local text
-    printf -v text '%*s' "$1" ''
-    printf '%s' "${text// /$2}"
+    same "$name" "$wanted"$'\n'end "$(bin/compose "$@" 2>/dev/null; echo end)"
 }
 
 seen='self::b/parent::node()[not(parent::node())]'
@@ -67,7 +55,7 @@ prints '4,097 lean items' 'refused compose 10 4097' --lean < <(printf '%s\n/b\na
 prints 'lean and unknown' 'refused outer 5 1' --lean < <(printf '/e\n/b\na\nb\n')
 prints 'lean and too long' 'refused input 1 0' --lean < <(times 49153 /)
 
-# FIRST USE, in a repository of three crates with a stand-in for the kit: what is said, and where the log is.
+# FIRST USE, in a small repository with a stand-in for the kit: what is said, and where the log is.
 small=$(mktemp -d) || exit 2
 trap 'rm -rf "$small"' EXIT
 mkdir -p "$small/bin" "$small/kit" "$small/crates/a/src"
@@ -79,34 +67,32 @@ cat >"$small/kit/rt" <<'END'
 echo 'rt: paper proved (1 s)'
 [ ! -e broken ] || { echo 'rt: a NOT PROVED'; exit 1; }
 mkdir -p target/bin
-printf '#!/bin/sh\necho composed\n' >target/bin/compose_main
-chmod +x target/bin/compose_main
+printf '#!/bin/sh\necho made\n' >"target/bin/$2"
+chmod +x "target/bin/$2"
 echo 'rt: ok, 3 crates proved'
 END
 printf '#!/bin/sh\necho x86_64\n' >"$small/kit/uname"
 chmod +x "$small/kit/rt" "$small/kit/uname"
 
-# The program of the small repository must end with the status, print and say just these.
-first_use() {
-    local name=$1 status=$2 wanted=$3 told=$4 answer said
-    answer=$(PATH=$small/kit:$PATH "$small/bin/compose" 2>"$small/said" </dev/null; echo $?)
-    said=$(<"$small/said")
-    if [ "$answer" = "$wanted$status" ] && [ "$said" = "$told" ]; then
-        passed=$((passed + 1))
-    else
-        failed=$((failed + 1))
-        echo "program: $name: got '$answer', said '$said'"
-    fi
+# A program of the small repository must end with the status, print and say just these.
+use() {
+    local name=$1 program=$2 status=$3 wanted=$4 told=$5 answer
+    answer=$(PATH=$small/kit:$PATH "$small/bin/$program" 2>"$small/said" </dev/null; echo $?)
+    same "$program, $name" "$wanted$status, said '$told'" "$answer, said '$(<"$small/said")'"
 }
 
-building='Building compose_main: its 3 crates are proved, but for those unchanged since the last time; all take about 1 min.'
-touch "$small/broken"
-first_use 'first use, not proved' 2 '' "$building"$'\n'"Building compose_main failed; $small/target/log/building-compose_main.txt says why."
-rm "$small/broken"
-first_use 'first use' 0 $'composed\n' "$building"
-first_use 'second use' 0 $'composed\n' ''
-touch -d '1 minute' "$small/crates/a/src/lib.rt"
-first_use 'a newer source' 0 $'composed\n' "$building"
+# The uses of a program that has so many crates.
+uses() {
+    local program=$1 crate=$1_main building
+    building="Building $crate: its $2 crates are proved, but for those unchanged since the last time; all take about 1 min."
+    touch "$small/crates/a/src/lib.rt" "$small/broken"
+    use 'first use, not proved' "$program" 2 '' "$building"$'\n'"Building $crate failed; $small/target/log/building-$crate.txt says why."
+    rm "$small/broken"
+    use 'first use' "$program" 0 $'made\n' "$building"
+    use 'second use' "$program" 0 $'made\n' ''
+    touch -d '1 minute' "$small/crates/a/src/lib.rt"
+    use 'a newer source' "$program" 0 $'made\n' "$building"
+}
 
 echo "program: $passed passed, $failed failed"
 [ "$failed" -eq 0 ]

@@ -13,8 +13,9 @@ use Rattle.paper.specs.Reading.{next, sees, says, startsStep}
 use Rattle.token.specs.declared.Cursor.{Cursor}
 use Rattle.ahead.specs.declared.Joint.the-variants.{Next}
 use Rattle.ahead.specs.declared.Lead.the-variants.{Alone, Before}
-use Rattle.ahead.specs.Looking.{tokensAt, Past, Joins, Leads}
-use Rattle.ahead.proofs.Lexed.{no-same, mark-letters}
+use Rattle.marks.specs.Marks.{tokensAt, Past}
+use Rattle.ahead.specs.Looking.{Joins, Leads}
+use Rattle.marks.proofs.Lexed.{no-same, mark-letters}
 
 -- PATHS. Of two sorts a token is one.
 other-sort : (m n s : ℕ) → (m ≡ n → ⊥) → eqb m s ≡ true → eqb n s ≡ false

@@ -1,8 +1,8 @@
 -- How paths and operands begin.
 pub mod Beginning
--- What a taken token says of the paper's tokens; `other-here`: no mark where another byte stands than it starts with.
-pub mod Lexed
+-- What joins absolute paths.
+pub mod Joining
 -- One answer each: `endOf` fixes the cursor that is handed back.
 pub mod Unique
--- The words of axes and tests.
+-- The words of tests, and the axis that is written.
 pub mod Words

@@ -15,8 +15,8 @@ use Rattle.paper.specs.Query.{Axis}
 use Rattle.paper.specs.Items.{axisNumber}
 use Rattle.paper.specs.Reading.{next, at, sees, says, axisAhead, startsStep}
 use Rattle.token.specs.declared.Cursor.{Cursor}
-use Rattle.ahead.specs.declared.Ahead.{Ahead}
-use Rattle.ahead.specs.declared.Ahead.the-variants.{There, Other}
+use Rattle.marks.specs.declared.Ahead.{Ahead}
+use Rattle.marks.specs.declared.Ahead.the-variants.{There, Other}
 use Rattle.ahead.specs.declared.Joint.{Joint}
 use Rattle.ahead.specs.declared.Joint.the-variants.{Next, Nothing}
 use Rattle.ahead.specs.declared.Lead.{Lead}
@@ -27,7 +27,8 @@ use Rattle.ahead.specs.declared.AxisAhead.{AxisAhead}
 use Rattle.ahead.specs.declared.AxisAhead.the-variants.{Named, Unnamed}
 use Rattle.ahead.specs.declared.Call.{Call}
 use Rattle.ahead.specs.declared.Call.the-variants.{Inside, NoCall}
-use Rattle.ahead.specs.Looking.{tokensAt, endOf, Past, Looks, Joins, Leads, Begins, Axes, callCode, Calls}
+use Rattle.marks.specs.Marks.{tokensAt, endOf, Past, Looks}
+use Rattle.ahead.specs.Looking.{Joins, Leads, Begins, Axes, callCode, Calls}
 use Rattle.ahead.proofs.Beginning.{and-false}
 
 -- The cursor where the next token ends.

@@ -1,22 +1,30 @@
-// What comes next in a text: marks, words, and how paths, operands and tests begin.
+// What comes next in a text: words, and how paths, operands and tests begin.
 // Each function takes tokens from a cursor on and hands back the cursor past those it was asked for, or says that something else comes.
+use axis_words::NO_AXIS;
+use axis_words::axis_of;
+use marks::Ahead;
+use marks::BAR;
+use marks::COLONS;
+use marks::DOT;
+use marks::DOTS;
+use marks::OPEN_ROUND;
+use marks::SLASH;
+use marks::SLASHES;
+use marks::STAR;
+use marks::WORD;
+use marks::mark;
+use marks::sort_of;
 use token::Cursor;
 use token::Token;
+use words::same_word;
 ghost use Prim.Native.Nat.{_+_, _≤_, _<_};
 ghost use mathlib.Core.Path.{_≡_};
-ghost use mathlib.Core.Bool.{true};
-ghost use lib.Dec.{eqb};
-ghost use lib.ListN.{length, getD, take, drop};
-ghost use Rattle.paper.specs.Tools.{ascii, same};
-ghost use Rattle.paper.specs.Tokens.{sort, letters};
-ghost use Rattle.paper.specs.Reading.{next, axisNamed, startsStep};
-ghost use Rattle.ahead.specs.Looking.{tokensAt, sortOf, markSorts, leads, OtherByte, Looks, Joins, Leads, Begins, axisCode, Axes, callCode, Calls};
-
-// Is the next token the one looked for? Its place, and the cursor past it.
-pub enum Ahead {
-    There { place: usize, next: Cursor },
-    Other(usize),
-}
+ghost use lib.ListN.{length, take, drop};
+ghost use Rattle.paper.specs.Tools.{same};
+ghost use Rattle.paper.specs.Tokens.{letters};
+ghost use Rattle.paper.specs.Reading.{next, joins, startsStep};
+ghost use Rattle.marks.specs.Marks.{tokensAt, Looks};
+ghost use Rattle.ahead.specs.Looking.{Joins, Leads, Begins, Axes, callCode, Calls};
 
 // Does `/` or `//` come next?
 pub enum Joint {
@@ -50,128 +58,10 @@ pub enum Call {
     NoCall,
 }
 
-// The sorts of tokens by the paper's numbers.
-const SLASH: usize = 0;
-
-const SLASHES: usize = 1;
-
-pub const DOT: usize = 2;
-
-pub const DOTS: usize = 3;
-
-const COLONS: usize = 4;
-
-pub const BAR: usize = 5;
-
-pub const OPEN_SQUARE: usize = 6;
-
-pub const CLOSE_SQUARE: usize = 7;
-
-const OPEN_ROUND: usize = 8;
-
-pub const CLOSE_ROUND: usize = 9;
-
-const STAR: usize = 10;
-
-const FINISH: usize = 11;
-
-const STRAY: usize = 12;
-
-const WORD: usize = 13;
-
-// The numbers that no axis and no called test has.
-const NO_AXIS: u32 = item::AXES;
-
+// The number that no called test has.
 const NO_CALL: u32 = item::NAMED;
 
 // MARKS AND WORDS.
-
-// Which token this is, as a number.
-fn sort_of(t: Token) -> usize
-    ensures { λ r. ⌜ r ≡ sortOf t ⌝ }
-{
-    match t {
-        Token::Slash => SLASH,
-        Token::Slashes => SLASHES,
-        Token::Dot => DOT,
-        Token::Dots => DOTS,
-        Token::Colons => COLONS,
-        Token::Bar => BAR,
-        Token::OpenSquare => OPEN_SQUARE,
-        Token::CloseSquare => CLOSE_SQUARE,
-        Token::OpenRound => OPEN_ROUND,
-        Token::CloseRound => CLOSE_ROUND,
-        Token::Star => STAR,
-        Token::Finish => FINISH,
-        Token::Stray => STRAY,
-        Token::Word(_) => WORD,
-    }
-}
-
-// A byte of a string.
-fn byte_at(bytes: &[u8], i: usize) -> u8
-    requires { ⌜ i < length (now bytes) ⌝ }
-    ensures { λ r. ⌜ r ≡ getD (now (bytes .entry)) i 0 ⌝ }
-{
-    bytes[i]
-}
-
-// The byte that a mark of this sort starts with.
-fn first_byte(wanted: usize) -> u8
-    requires { ⌜ wanted < markSorts ⌝ }
-    ensures { λ r. ⌜ r ≡ getD leads wanted 0 ⌝ }
-{
-    byte_at(b"//..:|[]()*", wanted)
-}
-
-// Does another byte than this one stand here, and no white space?
-fn other_byte(text: &[u8], at: usize, b: u8) -> bool
-    ensures { λ r. ⌜ (r ≡ true → OtherByte (now (text .entry)) at b) ⌝ }
-{
-    if at < text.len() {
-        (text[at] != b) & !token::white_space(text[at])
-    } else {
-        false
-    }
-}
-
-// Is the next token of this sort? Where another byte stands than such a token starts with, it is not, and no token is taken.
-pub fn mark(text: &[u8], cursor: Cursor, wanted: usize) -> Ahead
-    requires { ⌜ (cursor .at ≤ length (now text)) × (wanted < markSorts) ⌝ }
-    ensures { λ r. ⌜ Looks (now (text .entry)) (cursor .at) (eqb wanted (sort (next (tokensAt (now (text .entry)) (cursor .at))))) r ⌝ }
-{
-    let at = cursor.at;
-    if other_byte(text, at, first_byte(wanted)) {
-        return Ahead::Other(at);
-    }
-    let taken = cursor.take(text);
-    let place = taken.place;
-    let past = taken.next;
-    let token = taken.token;
-    if wanted == sort_of(token) {
-        Ahead::There { place, next: past }
-    } else {
-        Ahead::Other(place)
-    }
-}
-
-// Is this the word that stands in the text?
-fn same_word(text: &[u8], start: usize, len: usize, word: &[u8]) -> bool
-    requires { ⌜ start + len ≤ length (now text) ⌝ }
-    ensures { λ r. ⌜ r ≡ same (now (word .entry)) (take len (drop start (now (text .entry)))) ⌝ }
-{
-    if len != word.len() {
-        return false;
-    }
-    let mut i: usize = 0;
-    while i < len {
-        if text[start + i] != word[i] {
-            return false;
-        }
-        i += 1;
-    }
-    true
-}
 
 // Is the next token this word?
 pub fn word_ahead(text: &[u8], cursor: Cursor, word: &[u8]) -> Ahead
@@ -262,126 +152,23 @@ pub fn opening(text: &[u8], cursor: Cursor) -> Opens
     }
 }
 
+// Is the next token one that joins absolute paths: `|`, or in version 2 the word `union`?
+pub fn joins_ahead(text: &[u8], cursor: Cursor, newer: bool) -> Ahead
+    requires { ⌜ cursor .at ≤ length (now text) ⌝ }
+    ensures { λ r. ⌜ Looks (now (text .entry)) (cursor .at) (joins newer (tokensAt (now (text .entry)) (cursor .at))) r ⌝ }
+{
+    let bar = mark(text, cursor, BAR);
+    if let Ahead::There { place, next } = bar {
+        return Ahead::There { place, next };
+    }
+    if newer {
+        word_ahead(text, cursor, b"union")
+    } else {
+        bar
+    }
+}
+
 // AXES AND TESTS.
-
-// Is this word of the text the word of the axis? A function each, so that their words share one place of the stack.
-fn is_self(text: &[u8], start: usize, len: usize) -> bool
-    requires { ⌜ start + len ≤ length (now text) ⌝ }
-    ensures { λ r. ⌜ r ≡ same (ascii "self") (take len (drop start (now (text .entry)))) ⌝ }
-{
-    same_word(text, start, len, b"self")
-}
-
-fn is_child(text: &[u8], start: usize, len: usize) -> bool
-    requires { ⌜ start + len ≤ length (now text) ⌝ }
-    ensures { λ r. ⌜ r ≡ same (ascii "child") (take len (drop start (now (text .entry)))) ⌝ }
-{
-    same_word(text, start, len, b"child")
-}
-
-fn is_parent(text: &[u8], start: usize, len: usize) -> bool
-    requires { ⌜ start + len ≤ length (now text) ⌝ }
-    ensures { λ r. ⌜ r ≡ same (ascii "parent") (take len (drop start (now (text .entry)))) ⌝ }
-{
-    same_word(text, start, len, b"parent")
-}
-
-fn is_descendant_or_self(text: &[u8], start: usize, len: usize) -> bool
-    requires { ⌜ start + len ≤ length (now text) ⌝ }
-    ensures { λ r. ⌜ r ≡ same (ascii "descendant-or-self") (take len (drop start (now (text .entry)))) ⌝ }
-{
-    same_word(text, start, len, b"descendant-or-self")
-}
-
-fn is_ancestor_or_self(text: &[u8], start: usize, len: usize) -> bool
-    requires { ⌜ start + len ≤ length (now text) ⌝ }
-    ensures { λ r. ⌜ r ≡ same (ascii "ancestor-or-self") (take len (drop start (now (text .entry)))) ⌝ }
-{
-    same_word(text, start, len, b"ancestor-or-self")
-}
-
-fn is_descendant(text: &[u8], start: usize, len: usize) -> bool
-    requires { ⌜ start + len ≤ length (now text) ⌝ }
-    ensures { λ r. ⌜ r ≡ same (ascii "descendant") (take len (drop start (now (text .entry)))) ⌝ }
-{
-    same_word(text, start, len, b"descendant")
-}
-
-fn is_ancestor(text: &[u8], start: usize, len: usize) -> bool
-    requires { ⌜ start + len ≤ length (now text) ⌝ }
-    ensures { λ r. ⌜ r ≡ same (ascii "ancestor") (take len (drop start (now (text .entry)))) ⌝ }
-{
-    same_word(text, start, len, b"ancestor")
-}
-
-fn is_following_sibling(text: &[u8], start: usize, len: usize) -> bool
-    requires { ⌜ start + len ≤ length (now text) ⌝ }
-    ensures { λ r. ⌜ r ≡ same (ascii "following-sibling") (take len (drop start (now (text .entry)))) ⌝ }
-{
-    same_word(text, start, len, b"following-sibling")
-}
-
-fn is_preceding_sibling(text: &[u8], start: usize, len: usize) -> bool
-    requires { ⌜ start + len ≤ length (now text) ⌝ }
-    ensures { λ r. ⌜ r ≡ same (ascii "preceding-sibling") (take len (drop start (now (text .entry)))) ⌝ }
-{
-    same_word(text, start, len, b"preceding-sibling")
-}
-
-fn is_following(text: &[u8], start: usize, len: usize) -> bool
-    requires { ⌜ start + len ≤ length (now text) ⌝ }
-    ensures { λ r. ⌜ r ≡ same (ascii "following") (take len (drop start (now (text .entry)))) ⌝ }
-{
-    same_word(text, start, len, b"following")
-}
-
-fn is_preceding(text: &[u8], start: usize, len: usize) -> bool
-    requires { ⌜ start + len ≤ length (now text) ⌝ }
-    ensures { λ r. ⌜ r ≡ same (ascii "preceding") (take len (drop start (now (text .entry)))) ⌝ }
-{
-    same_word(text, start, len, b"preceding")
-}
-
-// The number of the axis that a word names.
-fn axis_of(text: &[u8], start: usize, len: usize) -> u32
-    requires { ⌜ start + len ≤ length (now text) ⌝ }
-    ensures { λ r. ⌜ r ≡ axisCode (axisNamed (take len (drop start (now (text .entry))))) ⌝ }
-{
-    if is_self(text, start, len) {
-        return item::SELF;
-    }
-    if is_child(text, start, len) {
-        return item::CHILD;
-    }
-    if is_parent(text, start, len) {
-        return item::PARENT;
-    }
-    if is_descendant_or_self(text, start, len) {
-        return item::DESCENDANT_OR_SELF;
-    }
-    if is_ancestor_or_self(text, start, len) {
-        return item::ANCESTOR_OR_SELF;
-    }
-    if is_descendant(text, start, len) {
-        return item::DESCENDANT;
-    }
-    if is_ancestor(text, start, len) {
-        return item::ANCESTOR;
-    }
-    if is_following_sibling(text, start, len) {
-        return item::FOLLOWING_SIBLING;
-    }
-    if is_preceding_sibling(text, start, len) {
-        return item::PRECEDING_SIBLING;
-    }
-    if is_following(text, start, len) {
-        return item::FOLLOWING;
-    }
-    if is_preceding(text, start, len) {
-        return item::PRECEDING;
-    }
-    NO_AXIS
-}
 
 // The axis that is written before `::`, if one is.
 pub fn axis_ahead(text: &[u8], cursor: Cursor) -> AxisAhead

@@ -1,12 +1,11 @@
--- The numbers of a composition, and the answer line by line. Assumes nothing.
+-- The brackets of a composition, and the answer line by line. Assumes nothing.
 use Prim.Native.Nat.{ℕ, _+_, _-_, _*_, _≤_, _<_, max}
 use native.Mathlib.Omega.{arith}
-use native.Mathlib.Nat.{mul-le-mul}
 use mathlib.Core.Path.{_≡_, refl, sym, _∙_, ap, ap₂}
-use mathlib.Core.List.{List, [], map}
+use mathlib.Core.List.{List, map}
 use mathlib.Core.Option.{Option, none, some}
 use lib.Dec.{ltb}
-use lib.ListN.{length, length-map}
+use lib.ListN.{length}
 use borrow.Author.Tests.{lt-ltb, le-ltb}
 use Rattle.paper.specs.Limits.{bracketLimit, itemLimit}
 use Rattle.paper.specs.Tools.{written, when}
@@ -15,29 +14,22 @@ use Rattle.paper.specs.Items.{encode, decode, good}
 use Rattle.paper.specs.Measures.{size, nesting}
 use Rattle.paper.specs.Answers.{Answer, value, refusal, line, atExit, shortOfItems, madeGot, composingAnswer, composingOut}
 use Rattle.paper.specs.Composition.{guardDepth, selectedSize}
-use Rattle.paper.specs.Lean.{byAxis, guardsInPathsBy, composedBy, composedSizeBy, composedNestingBy}
+use Rattle.paper.specs.Lean.{byAxis, composedBy, composedSizeBy, composedNestingBy}
 use Rattle.paper.proofs.Encoding.{encode-decode}
-use Rattle.paper.proofs.Sizes.{size-items, size-decoded}
-use Rattle.theorems.proofs.Nesting.{guards-within}
+use Rattle.paper.proofs.Sizes.{size-items}
+use Rattle.composed_measures.proofs.Nesting.{guards-within}
 use Rattle.lean_theorems.proofs.Decided.{depth-by-axis}
 use Rattle.lean_theorems.proofs.Smaller.{size-by}
 use Rattle.lean_theorems.proofs.Shallower.{nesting-by}
 use Rattle.shape.specs.Walks.{shapeOf}
 use Rattle.shape.specs.declared.Shape.{Shape}
 use Rattle.shape.specs.declared.Shape.the-variants.{Query as Fine, Malformed}
-use Rattle.reverse.specs.Reverses.{IsQuery, pathsGot, selectedGot}
+use Rattle.reverse.specs.Reverses.{IsQuery, selectedGot}
 use Rattle.reverse.proofs.Selected.{selected-length}
-use Rattle.compose.specs.Pieces.{guardItem, total, guardItems, sizeGot, Says, Nests, Nested}
-use Rattle.compose.proofs.Items.{paths-say, paths-total, paths-long}
-
--- There are as many items that say something as there are items.
-pub says-length : (outer says : List ℕ) → Says outer says → length says ≡ length outer
-unfolding encode
-says-length outer says g =
-    sym (length-map says guardItem) ∙ ap length (g .flags) ∙ paths-long (g .decides) (paths (g .query)) ∙ ap length (sym (encode-decode outer (g .query) (g .decodes) .items))
-
-pub says-query : (outer says : List ℕ) → Says outer says → IsQuery outer
-says-query outer says g = record { query = g .query; decodes = g .decodes }
+use Rattle.guards.specs.Guarded.{guardItem}
+use Rattle.composed.specs.Pieces.{sizeGot, Says}
+use Rattle.compose.specs.Pieces.{Nests, Nested}
+use Rattle.composed.proofs.Items.{paths-say}
 
 pub inner-query : (inner : List ℕ) (n : ℕ) → Nested inner n → IsQuery inner
 inner-query inner n i = record { query = i .query; decodes = i .decodes }
@@ -48,21 +40,6 @@ outer-shallow outer says m d g o = omega (arith, o .nested, encode-decode outer 
 
 pub inner-shallow : (inner : List ℕ) (n : ℕ) → Nested inner n → n ≤ bracketLimit
 inner-shallow inner n i = omega (arith, i .nested, encode-decode inner (i .query) (i .decodes) .nested)
-
--- THE SIZE OF THE COMPOSITION, from the numbers of items, guarded steps and paths. The steps are counted of all depths.
-pub size-got : (items says : List ℕ) (guards count ps : ℕ) (g : Says items says) → guards ≡ guardItems says → ps ≡ pathsGot (decode items)
-    → length items + guards * (5 + 2 * count) + ps * (3 + count) ≡ sizeGot (g .decides) (decode items) count
-size-got items says guards count ps g es ep =
-    let q = g .query in
-    let t : guards ≡ guardsInPathsBy (g .decides) (paths q) = es ∙ ap total (g .flags) ∙ paths-total (g .decides) (paths q) in
-    let m : ps ≡ length (paths q) = ep ∙ ap pathsGot (g .decodes) in
-    ap₂ (λ (a b : ℕ). length items + a * (5 + 2 * count) + b * (3 + count)) t m ∙
-    ap (λ (n : ℕ). n + guardsInPathsBy (g .decides) (paths q) * (5 + 2 * count) + length (paths q) * (3 + count)) (sym (size-decoded items q (g .decodes))) ∙
-    ap (λ (o : Option Query). sizeGot (g .decides) o count) (sym (g .decodes))
-
--- A product of two numbers within limits.
-pub product : (a b : ℕ) → a ≤ itemLimit → b ≤ 65536 → a * b ≤ 268435456
-product a b ha hb = mul-le-mul ha hb
 
 -- What the shape of items says of them.
 pub shape-none : (items : List ℕ) (s : Shape) → s ≡ shapeOf (decode items) → s ≡ Malformed → decode items ≡ none

@@ -15,15 +15,17 @@ use Rattle.paper.specs.Composition.{guarded, guardDepth}
 use Rattle.paper.specs.Lean.{downNext, Decision, byAxis, leanly, looseAfter}
 use Rattle.paper.proofs.Encoding.{encode-decode}
 use Rattle.paper.proofs.Decoding.{decode-encode}
-use Rattle.theorems.proofs.Nesting.{guards-within}
+use Rattle.composed_measures.proofs.Nesting.{guards-within}
 use Rattle.lean_theorems.specs.Marks.{saying, markExpr, markSteps, markPreds, markPath, marked}
 use Rattle.lean_theorems.proofs.Marks.{marked-measures, marked-good}
 use Rattle.lean_marks.specs.Turns.{markedGot}
 use Rattle.lean_marks.proofs.Turning.{marked-length}
 use Rattle.shape.specs.Walks.{shapeOf}
 use Rattle.shape.specs.declared.Shape.the-variants.{Query as IsQuery, Malformed}
-use Rattle.compose.specs.Pieces.{guardItem, flagsExpr, flagsSteps, flagsPreds, flagsPaths, Says, Nests, Nested}
-use Rattle.compose.proofs.Items.{paths-say}
+use Rattle.guards.specs.Guarded.{guardItem}
+use Rattle.composed.specs.Pieces.{flagsExpr, flagsSteps, flagsPreds, flagsPaths, Says}
+use Rattle.compose.specs.Pieces.{Nests, Nested}
+use Rattle.composed.proofs.Items.{paths-say}
 use Rattle.compose_lean.specs.Depths.{depthGot}
 
 -- The axis says the decision.

@@ -11,8 +11,8 @@ use Rattle.paper.specs.Document.{Table, nodes, tableFault}
 use Rattle.paper.specs.Cut.{isCut}
 use Rattle.paper.specs.Answers.{isCutAnswer}
 use Rattle.paper.proofs.Refusing.{or-none}
-use Rattle.theorems.specs.Bounds.{Small}
-use Rattle.theorems.proofs.Bounds.{small-line, small-when, table-within}
+use Rattle.answer_bounds.specs.Bounds.{Small}
+use Rattle.answer_bounds.proofs.Bounds.{small-line, small-when, table-within}
 
 bit-small : (b : Bool) → cond b 1 0 < 4294967296
 bit-small true = omega arith

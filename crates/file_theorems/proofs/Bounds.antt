@@ -16,9 +16,9 @@ use Rattle.paper.specs.WriteXml.{pruned, bytesAt, squaresBy, squaresPast, escap
 use Rattle.paper.specs.Answers.{parentField, tooLong, elementMarked, readsAs, writeXmlAnswer}
 use Rattle.paper.proofs.Tests.{and-true, decide}
 use Rattle.paper.proofs.Refusing.{or-none}
-use Rattle.theorems.specs.Bounds.{Small}
-use Rattle.theorems.proofs.NameBounds.{fault-within}
-use Rattle.theorems.proofs.Bounds.{small-line, small-when, small-room, table-within, marks-within}
+use Rattle.answer_bounds.specs.Bounds.{Small}
+use Rattle.answer_bounds.proofs.NameBounds.{fault-within}
+use Rattle.answer_bounds.proofs.Bounds.{small-line, small-when, small-room, table-within, marks-within}
 use Rattle.xml_theorems.specs.Tables.{Standing}
 use Rattle.xml_theorems.proofs.Placed.{length-table}
 use Rattle.xml_theorems.proofs.Standing.{tree-stands}

@@ -23,8 +23,9 @@ use Rattle.paper.proofs.Refusing.{line-value, when-none, or-none, Refuses, refu
 use Rattle.paper.proofs.Keeping.{length-kept}
 use Rattle.shape.specs.Walks.{shapeOf}
 use Rattle.shape.specs.declared.Shape.the-variants.{Query as IsQuery, Malformed as NoQuery}
-use Rattle.follow.specs.Follows.{Ready, enough, judged}
-use Rattle.follow.proofs.Climbing.{any-kinds}
+use Rattle.candidates.specs.Best.{Ready}
+use Rattle.follow.specs.Follows.{enough, judged}
+use Rattle.kin.proofs.Climbing.{any-kinds}
 
 -- What the shape of items says of the query that they are.
 pub shaped-none : (o : Option Query) → NoQuery ≡ shapeOf o → o ≡ none

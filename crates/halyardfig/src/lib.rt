@@ -1,7 +1,5 @@
 // The C interface: each call lends its slices to an entry point and answers in one number.
-use paper::Answer;
 use roles::Role;
-ghost use Prim.Native.Nat.{_+_, _*_, _<_};
 ghost use mathlib.Core.Path.{_≡_};
 ghost use mathlib.Core.List.{map};
 ghost use lib.ListN.{length};
@@ -12,47 +10,8 @@ ghost use Rattle.paper.specs.Answers.{readAnswer, readOut, printAnswer, printOu
 ghost use Rattle.paper.specs.Room.{heightAnswer, pathsAnswer, scratchAnswer};
 ghost use Rattle.paper.specs.Lean.{composeLeanAnswer, composeLeanOut};
 ghost use Rattle.paper.specs.Roles.{roleAnswer, roleOut};
-ghost use Rattle.paper.specs.Told.{told};
 ghost use Rattle.follow.specs.Follows.{enough};
-ghost use Rattle.theorems.specs.Bounds.{Small};
-ghost use Rattle.halyardfig.specs.Codes.{high, codeOf};
-
-// 2^32, by which a refusal's number is multiplied.
-const HIGH: u64 = 4294967296;
-
-// A refusal in one number.
-fn refused(number: u64, place: usize) -> u64
-    requires { ⌜ number < high ⌝ }
-    ensures { λ r. ⌜ (place < high → r ≡ number * high + place) ⌝ }
-{
-    number * HIGH + place as u64 % HIGH
-}
-
-// An answer in one number.
-fn code(answer: Answer) -> u64
-    ensures { λ r. ⌜ (Small (told answer) → r ≡ codeOf (told answer)) ⌝ }
-{
-    match answer {
-        Answer::Value(value) => value as u64,
-        Answer::TooLong => refused(1, 0),
-        Answer::BadName(place) => refused(2, place),
-        Answer::NoQuery(place) => refused(3, place),
-        Answer::TooDeep(place) => refused(4, place),
-        Answer::UnknownName(place) => refused(5, place),
-        Answer::BadQuery(place) => refused(6, place),
-        Answer::BadTable(place) => refused(7, place),
-        Answer::BadMarks(place) => refused(8, place),
-        Answer::TooNested(nesting) => refused(9, nesting),
-        Answer::Short(needed) => refused(10, needed),
-        Answer::NoXml(place) => refused(11, place),
-        Answer::LeftOut(place) => refused(12, place),
-        Answer::NoElement => refused(13, 0),
-        Answer::OtherText => refused(14, 0),
-        Answer::NoRole(role) => refused(15, role),
-        Answer::NoView(role) => refused(16, role),
-        Answer::UnreadView(view) => refused(17, view),
-    }
-}
+ghost use Rattle.code.specs.Codes.{codeOf};
 
 // Reads a query by a version of XPath: `read::read` for C.
 #[no_mangle]
@@ -60,7 +19,7 @@ pub extern "C" fn halyardfig_read(text: &[u8], version: u32, names: &[u8], out: 
     ensures { λ r. ⌜ r ≡ codeOf (readAnswer (now (text .entry)) version (now (names .entry)) (length (now (out .entry)))) ⌝ }
     ensures { λ _. ⌜ now (out .exit) ≡ readOut (now (text .entry)) version (now (names .entry)) (now (out .entry)) ⌝ }
 {
-    code(read::read(text, version, names, out))
+    code::code(read::read(text, version, names, out))
 }
 
 // Prints a query in the short form: `print::print` for C.
@@ -69,7 +28,7 @@ pub extern "C" fn halyardfig_print(query: &[u32], names: &[u8], out: &mut [u8]) 
     ensures { λ r. ⌜ r ≡ codeOf (printAnswer shortForm (now (query .entry)) (now (names .entry)) (length (now (out .entry)))) ⌝ }
     ensures { λ _. ⌜ now (out .exit) ≡ printOut shortForm (now (query .entry)) (now (names .entry)) (now (out .entry)) ⌝ }
 {
-    code(print::print(query, names, out))
+    code::code(print::print(query, names, out))
 }
 
 // Prints a query in the long form: `print::print_long` for C.
@@ -78,7 +37,7 @@ pub extern "C" fn halyardfig_print_long(query: &[u32], names: &[u8], out: &mut [
     ensures { λ r. ⌜ r ≡ codeOf (printAnswer longForm (now (query .entry)) (now (names .entry)) (length (now (out .entry)))) ⌝ }
     ensures { λ _. ⌜ now (out .exit) ≡ printOut longForm (now (query .entry)) (now (names .entry)) (now (out .entry)) ⌝ }
 {
-    code(print::print_long(query, names, out))
+    code::code(print::print_long(query, names, out))
 }
 
 // Composes two queries: `compose::compose` for C.
@@ -87,7 +46,7 @@ pub extern "C" fn halyardfig_compose(outer: &[u32], inner: &[u32], out: &mut [u3
     ensures { λ r. ⌜ r ≡ codeOf (composeAnswer (now (outer .entry)) (now (inner .entry)) (length (now (out .entry)))) ⌝ }
     ensures { λ _. ⌜ now (out .exit) ≡ composeOut (now (outer .entry)) (now (inner .entry)) (now (out .entry)) ⌝ }
 {
-    code(compose::compose(outer, inner, out))
+    code::code(compose::compose(outer, inner, out))
 }
 
 // Composes two queries with fewer guards: `compose_lean::compose_lean` for C.
@@ -96,7 +55,7 @@ pub extern "C" fn halyardfig_compose_lean(outer: &[u32], inner: &[u32], out: &mu
     ensures { λ r. ⌜ r ≡ codeOf (composeLeanAnswer (now (outer .entry)) (now (inner .entry)) (length (now (out .entry)))) ⌝ }
     ensures { λ _. ⌜ now (out .exit) ≡ composeLeanOut (now (outer .entry)) (now (inner .entry)) (now (out .entry)) ⌝ }
 {
-    code(compose_lean::compose_lean(outer, inner, out))
+    code::code(compose_lean::compose_lean(outer, inner, out))
 }
 
 // Runs a query: `run::run` for C.
@@ -113,7 +72,7 @@ pub extern "C" fn halyardfig_run(
     ensures { λ _. ⌜ now (marks .exit) ≡ runMarks (now (query .entry)) (tableOf (now (parent .entry)) (now (kind .entry))) (now (given .entry)) (now (marks .entry)) (length (now (scratch .entry))) ⌝ }
     ensures { λ _. ⌜ now (scratch .exit) ≡ runScratch (now (query .entry)) (tableOf (now (parent .entry)) (now (kind .entry))) (now (given .entry)) (length (now (marks .entry))) (now (scratch .entry)) ⌝ }
 {
-    code(run::run(query, parent, kind, given, marks, scratch))
+    code::code(run::run(query, parent, kind, given, marks, scratch))
 }
 
 // Runs a query node by node: `follow::follow` for C.
@@ -128,7 +87,7 @@ pub extern "C" fn halyardfig_follow(
     ensures { λ r. ⌜ r ≡ codeOf (runAnswer (now (query .entry)) (tableOf (now (parent .entry)) (now (kind .entry))) (now (given .entry)) (length (now (marks .entry))) (enough (tableOf (now (parent .entry)) (now (kind .entry))) (decode (now (query .entry))))) ⌝ }
     ensures { λ _. ⌜ now (marks .exit) ≡ runMarks (now (query .entry)) (tableOf (now (parent .entry)) (now (kind .entry))) (now (given .entry)) (now (marks .entry)) (enough (tableOf (now (parent .entry)) (now (kind .entry))) (decode (now (query .entry)))) ⌝ }
 {
-    code(follow::follow(query, parent, kind, given, marks))
+    code::code(follow::follow(query, parent, kind, given, marks))
 }
 
 // Writes the marked nodes as a table: `extract::extract` for C.
@@ -144,7 +103,7 @@ pub extern "C" fn halyardfig_extract(
     ensures { λ _. ⌜ now («out_parent» .exit) ≡ extractParents (tableOf (now (parent .entry)) (now (kind .entry))) (now (marks .entry)) (now («out_parent» .entry)) (length (now («out_kind» .entry))) ⌝ }
     ensures { λ _. ⌜ now («out_kind» .exit) ≡ extractKinds (tableOf (now (parent .entry)) (now (kind .entry))) (now (marks .entry)) (length (now («out_parent» .entry))) (now («out_kind» .entry)) ⌝ }
 {
-    code(extract::extract(parent, kind, marks, out_parent, out_kind))
+    code::code(extract::extract(parent, kind, marks, out_parent, out_kind))
 }
 
 // Reads XML text into a table: `read_xml::read_xml` for C.
@@ -163,7 +122,7 @@ pub extern "C" fn halyardfig_read_xml(
     ensures { λ _. ⌜ now (begin .exit) ≡ readXmlColumn beginField (now (text .entry)) (readXmlAnswer (now (text .entry)) (now (names .entry)) (length (now (parent .entry))) (length (now (kind .entry))) (length (now (begin .entry))) (length (now (end .entry)))) (now (begin .entry)) ⌝ }
     ensures { λ _. ⌜ now (end .exit) ≡ readXmlColumn endField (now (text .entry)) (readXmlAnswer (now (text .entry)) (now (names .entry)) (length (now (parent .entry))) (length (now (kind .entry))) (length (now (begin .entry))) (length (now (end .entry)))) (now (end .entry)) ⌝ }
 {
-    code(read_xml::read_xml(text, names, parent, kind, begin, end))
+    code::code(read_xml::read_xml(text, names, parent, kind, begin, end))
 }
 
 // Writes the kept part of a text as XML: `write_xml::write_xml` for C.
@@ -181,7 +140,7 @@ pub extern "C" fn halyardfig_write_xml(
     ensures { λ r. ⌜ r ≡ codeOf (writeXmlAnswer (now (text .entry)) (now (names .entry)) (tableOf (now (parent .entry)) (now (kind .entry))) (now (begin .entry)) (now (end .entry)) (now (marks .entry)) (length (now (out .entry)))) ⌝ }
     ensures { λ _. ⌜ now (out .exit) ≡ writeXmlOut (now (text .entry)) (now (names .entry)) (tableOf (now (parent .entry)) (now (kind .entry))) (now (begin .entry)) (now (end .entry)) (now (marks .entry)) (now (out .entry)) ⌝ }
 {
-    code(write_xml::write_xml(text, names, parent, kind, begin, end, marks, out))
+    code::code(write_xml::write_xml(text, names, parent, kind, begin, end, marks, out))
 }
 
 // The height of a query: `room::height` for C.
@@ -189,7 +148,7 @@ pub extern "C" fn halyardfig_write_xml(
 pub extern "C" fn halyardfig_height(query: &[u32]) -> u64
     ensures { λ r. ⌜ r ≡ codeOf (heightAnswer (now (query .entry))) ⌝ }
 {
-    code(room::height(query))
+    code::code(room::height(query))
 }
 
 // The number of a query's paths: `room::paths` for C.
@@ -197,7 +156,7 @@ pub extern "C" fn halyardfig_height(query: &[u32]) -> u64
 pub extern "C" fn halyardfig_paths(query: &[u32]) -> u64
     ensures { λ r. ⌜ r ≡ codeOf (pathsAnswer (now (query .entry))) ⌝ }
 {
-    code(room::paths(query))
+    code::code(room::paths(query))
 }
 
 // The scratch to lend for a run of a composition: `room::scratch` for C.
@@ -211,7 +170,7 @@ pub extern "C" fn halyardfig_scratch(
 ) -> u64
     ensures { λ r. ⌜ r ≡ codeOf (scratchAnswer nodes «outer_height» «outer_paths» «inner_height» «inner_paths») ⌝ }
 {
-    code(room::scratch(nodes, outer_height, outer_paths, inner_height, inner_paths))
+    code::code(room::scratch(nodes, outer_height, outer_paths, inner_height, inner_paths))
 }
 
 // Says whether a partner's table is a cut of ours: `cut::is_cut` for C.
@@ -225,7 +184,7 @@ pub extern "C" fn halyardfig_is_cut(
 ) -> u64
     ensures { λ r. ⌜ r ≡ codeOf (isCutAnswer (tableOf (now (parent .entry)) (now (kind .entry))) (tableOf (now («cut_parent» .entry)) (now («cut_kind» .entry))) (now («cut_node» .entry))) ⌝ }
 {
-    code(cut::is_cut(parent, kind, cut_parent, cut_kind, cut_node))
+    code::code(cut::is_cut(parent, kind, cut_parent, cut_kind, cut_node))
 }
 
 // Composes a role's query with the union of its views: `roles::for_role` for C.
@@ -241,5 +200,5 @@ pub extern "C" fn halyardfig_for_role(
     ensures { λ r. ⌜ (r ≡ codeOf (roleAnswer (now (views .entry)) (now (names .entry)) (map (λ x. x .views) (now (roles .entry))) role (now (text .entry)) (length (now (out .entry)))))
         × (now (out .exit) ≡ roleOut (now (views .entry)) (now (names .entry)) (map (λ x. x .views) (now (roles .entry))) role (now (text .entry)) (now (out .entry))) ⌝ }
 {
-    code(roles::for_role(views, names, roles, role, text, out))
+    code::code(roles::for_role(views, names, roles, role, text, out))
 }

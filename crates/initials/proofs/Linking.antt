@@ -16,9 +16,10 @@ use Rattle.paper.specs.Limits.{namesLimit}
 use Rattle.paper.proofs.Tests.{none-some, some-inj, decide}
 use Rattle.paper.proofs.Searches.{first-none}
 use Rattle.paper.proofs.Same.{same-refl, not-same, part-length, part-length-differs, part-differs}
-use Rattle.names.specs.declared.Part.{Part}
-use Rattle.names.specs.Listing.{said, partOf, Rising, FirstSame, Indexed}
-use Rattle.names.proofs.Parts.{part-room}
+use Rattle.name_lines.specs.declared.Part.{Part}
+use Rattle.name_lines.specs.Lines.{said, partOf, Rising, FirstSame}
+use Rattle.names.specs.Listing.{Indexed}
+use Rattle.name_lines.proofs.Parts.{part-room}
 use Rattle.initials.specs.Chains.{bytesCount, chainsCount, linkOf, lineByte, nextOf, Chained}
 
 -- What a search finds passes the test, and nothing before it does.

@@ -6,7 +6,7 @@ use mathlib.Core.Option.{Option, none, some}
 use lib.Dec.{eqb}
 use lib.ListN.{length, getD}
 use Rattle.paper.specs.Tools.{firstFrom}
-use Rattle.names.specs.Listing.{startsCount}
+use Rattle.name_lines.specs.Lines.{startsCount}
 
 -- How many bytes there are, and how many links are kept: one a byte and one a name.
 abbrev pub bytesCount : ℕ

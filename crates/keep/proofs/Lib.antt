@@ -4,7 +4,7 @@ pub mod Stepwise
 pub mod Running
 -- An operand.
 pub mod Operating
--- Predicates in a row, the steps of a path; steps from a place on: `fewer-readable`, `further`.
+-- Predicates in a row, the steps of a path.
 pub mod Rows
 -- A part lent and come back: `first-stays`, `second-comes`, `part-comes`, `middle-same`; two sets lent and joined: `part-joined`.
 pub mod Slices

@@ -1,5 +1,5 @@
 -- What evaluating items over all nodes at once gives: where it ends, and the set of nodes at which what stands there holds.
-use Prim.Native.Nat.{ℕ, _+_, _-_, _*_, _%_, _≤_, _<_}
+use Prim.Native.Nat.{ℕ, _+_, _*_, _≤_, _<_}
 use mathlib.Core.Path.{_≡_}
 use mathlib.Core.Bool.{Bool, _&&_}
 use mathlib.Core.List.{List}
@@ -9,11 +9,8 @@ use Rattle.paper.specs.Tools.{someBelow}
 use Rattle.paper.specs.Query.{Steps, Query}
 use Rattle.paper.specs.Measures.{height}
 use Rattle.paper.specs.Selection.{arrives}
-use Rattle.paper.specs.Items.{Taken, Head, stepAt, pathAt, takeSteps, takeWithin, decode}
+use Rattle.paper.specs.Items.{Taken, decode}
 use Rattle.paper.specs.Document.{Table, nodes}
-use Rattle.keep.specs.declared.Places.{Places}
-use Rattle.item.specs.declared.Step.{Step}
-use Rattle.item.proofs.Saying.{numbered}
 use Rattle.sets.specs.Sets.{bits}
 pub use Rattle.spread.specs.Spreading.{Ready}
 
@@ -39,29 +36,6 @@ pub record Joined (nodes base held : ℕ) (op : Bool → Bool → Bool) (before 
   pub first : held ≤ 0 → after ≡ before
   pub later : 0 < held → (f g : ℕ → Bool) → take nodes (drop base before) ≡ bits nodes f → take nodes (drop (base + nodes) before) ≡ bits nodes g → take nodes (drop base after) ≡ bits nodes (λ i. op (f i) (g i))
 
--- What was read ends at `next`.
-pub record Ends {A : Type 0} (items : List ℕ) (at : ℕ) (taken : Taken A) (next : ℕ) : Type 0 where
-  pub what : A
-  pub reads : taken ≡ some (what, drop next items)
-  pub onward : at ≤ next
-  pub inside : next ≤ length items
-
--- The places kept for the step after k others: where the last multiple of 256 of them ends, and the last multiple of 16.
-abbrev pub Known : List ℕ → ℕ → ℕ → ℕ → Places → Type 0
-Known items at depth k places =
-    (Ends items at (takeSteps (takeWithin depth) (k - k % 256) (drop at items)) (places .far)) × (Ends items at (takeSteps (takeWithin depth) (k - k % 16) (drop at items)) (places .near))
-
--- Something can be read.
-abbrev pub Readable : {A : Type 0} → Taken A → Type 0
-Readable {A} taken = (r : A × List ℕ) × (taken ≡ some r)
-
--- A step stands there, and this is what it says, in numbers.
-abbrev pub StepThere : ℕ → Type 0
-StepThere w = (h : Head) × (stepAt w ≡ some h)
-
-abbrev pub StepSaid : ℕ → Step → Type 0
-StepSaid w s = (h : Head) × (stepAt w ≡ some h) × (s ≡ numbered h)
-
 -- What was read ends at `next`, and the first set has kept the nodes at which it holds.
 pub record Narrows {A : Type 0} (items : List ℕ) (at nodes : ℕ) (taken : Taken A) (holdsAt : A → ℕ → Bool) (next : ℕ) (before after : List ℕ) : Type 0 where
   pub what : A
@@ -77,10 +51,6 @@ pub record Moves (items : List ℕ) (at : ℕ) (t : Table) (marks : List ℕ) (t
   pub onward : at ≤ next
   pub inside : next ≤ length items
   pub set : (f : ℕ → Bool) → take (nodes t) before ≡ bits (nodes t) f → take (nodes t) after ≡ bits (nodes t) (λ k. someBelow (nodes t) (λ i. f i && arrives t marks what i k))
-
--- A path stands there.
-abbrev pub PathThere : ℕ → Type 0
-PathThere w = (count : ℕ) × (pathAt w ≡ some count)
 
 -- The items are a query, and there is room for its sets.
 pub record Runs (items : List ℕ) (nodeCount room : ℕ) : Type 0 where

@@ -16,9 +16,9 @@ use Rattle.paper.specs.Answers.{Answer, tooLong, lineQuery}
 use Rattle.paper.specs.Lean.{composedLean, composeLeanAnswer}
 use Rattle.paper.proofs.Refusing.{or-none}
 use Rattle.paper.proofs.Sizes.{size-decoded}
-use Rattle.theorems.specs.Bounds.{Small}
-use Rattle.theorems.proofs.Bounds.{small-when, small-room}
-use Rattle.theorems.proofs.ComposeBounds.{nesting-size, composed-small}
+use Rattle.answer_bounds.specs.Bounds.{Small}
+use Rattle.answer_bounds.proofs.Bounds.{small-when, small-room}
+use Rattle.answer_bounds.proofs.ComposeBounds.{nesting-size, composed-small}
 use Rattle.lean_theorems.specs.Leans.{LeanSmall}
 use Rattle.lean_theorems.proofs.Smaller.{no-larger}
 

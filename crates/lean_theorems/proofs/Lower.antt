@@ -10,7 +10,7 @@ use Rattle.paper.specs.Document.{nodes}
 use Rattle.paper.specs.Room.{pathCount, heightBound}
 use Rattle.paper.specs.Composition.{visible, append, lastStep}
 use Rattle.paper.specs.Lean.{downNext, Decision, leanly, looseAfter, guardExprBy, guardStepsBy, guardPredsBy, composedPathBy, composedBy, composedLean}
-use Rattle.theorems.proofs.Height.{guardHeight, visible-height, last-height, append-height, on-height}
+use Rattle.composed_measures.proofs.Height.{guardHeight, visible-height, last-height, append-height, on-height}
 use Rattle.lean_theorems.specs.Leans.{LeanHeight, LeanScratchEnough}
 
 module _ (decides : Decision) (v : Expr) (d : ℕ) (low : heightExpr v ≤ d) where

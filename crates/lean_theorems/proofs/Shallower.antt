@@ -10,7 +10,7 @@ use Rattle.paper.specs.Measures.{isAnd, isOr, roundLeftOfAnd, roundRightOfAnd, 
 use Rattle.paper.specs.Composition.{guarded, visible, append, lastStep, guardDepthExpr, guardDepthSteps, guardDepthPreds, guardDepthPaths, guardDepth, composed, composedNesting}
 use Rattle.paper.specs.Lean.{isSelf, mayBeHidden, downNext, Decision, leanly, looseAfter, guardExprBy, guardStepsBy, guardPredsBy, composedPathBy, composedBy, composedLean}
 use Rattle.paper.specs.Lean.{guardDepthExprBy, guardDepthStepsBy, guardDepthPredsBy, guardDepthPathsBy, guardDepthBy, composedNestingBy, leanNesting}
-use Rattle.theorems.proofs.Nesting.{guardNest, visible-nest, last-nest, append-nest, brackets, Deepens, both-deepen, on-nest, composed-nesting}
+use Rattle.composed_measures.proofs.Nesting.{guardNest, visible-nest, last-nest, append-nest, brackets, Deepens, both-deepen, on-nest, composed-nesting}
 use Rattle.lean_theorems.specs.Leans.{NestingBy, LeanNesting, NoDeeper}
 
 -- Guarding changes no operator.

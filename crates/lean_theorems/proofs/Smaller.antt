@@ -12,7 +12,7 @@ use Rattle.paper.specs.Measures.{sizeExpr, sizeSteps, sizePreds, sizePaths, siz
 use Rattle.paper.specs.Composition.{guarded, visible, append, lastStep, guardsInExpr, guardsInSteps, guardsInPreds, guardsInPaths, selectedSize, composed, composedSize}
 use Rattle.paper.specs.Lean.{isSelf, mayBeHidden, downNext, Decision, leanly, looseAfter, guardExprBy, guardStepsBy, guardPredsBy, composedPathBy, composedBy, composedLean}
 use Rattle.paper.specs.Lean.{guardsInExprBy, guardsInStepsBy, guardsInPredsBy, guardsInPathsBy, composedSizeBy, leanSize}
-use Rattle.theorems.proofs.Sizes.{visible-size, last-size, append-size, on-size, composed-size}
+use Rattle.composed_measures.proofs.Sizes.{visible-size, last-size, append-size, on-size, composed-size}
 use Rattle.lean_theorems.specs.Leans.{SizeBy, LeanSize, NoLarger}
 
 module _ (decides : Decision) (v : Expr) where

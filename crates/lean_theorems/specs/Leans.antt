@@ -16,7 +16,7 @@ use Rattle.paper.specs.Room.{pathCount, scratchBytes}
 use Rattle.paper.specs.Composition.{visible, guardExpr, composed, composedSize, composedNesting}
 use Rattle.paper.specs.Lean.{goesDown, Decision, byAxis, leanly, guardExprBy, composedBy, composedSizeBy, composedNestingBy, composedLean, leanSize, leanNesting, composeLeanAnswer}
 use Rattle.theorems.specs.Demands.{view, Proper}
-use Rattle.theorems.specs.Bounds.{Small}
+use Rattle.answer_bounds.specs.Bounds.{Small}
 use Rattle.chain_theorems.specs.Chains.{keptInTurn}
 
 -- THE SAME BUT THE DECISION: where the axis alone decides which step is guarded, it is the composition, with its size and nesting.

@@ -1,11 +1,10 @@
 -- What is promised of the lines of an input and of those of a report.
 use Prim.Native.Nat.{ℕ, suc, _≤_, _+_}
 use mathlib.Core.Path.{_≡_}
+use mathlib.Core.Bool.{true}
 use mathlib.Core.List.{List}
 use lib.ListN.{length, take, drop}
 use Rattle.paper.specs.Limits.{textLimit}
-use Rattle.paper.specs.Answers.{value, refusal}
-use Rattle.paper.specs.Answers.{Answer as Told}
 use Rattle.pen.specs.Putting.{Puts}
 use Rattle.paper.specs.Program.{firstLine, afterLine}
 

@@ -9,7 +9,8 @@ ghost use Rattle.paper.specs.Limits.{textLimit};
 ghost use Rattle.paper.specs.Told.{told};
 ghost use Rattle.paper.specs.Program.{decimal, refusalLine, resultLines};
 ghost use Rattle.pen.specs.Putting.{Puts};
-ghost use Rattle.lines.specs.Lines.{Ends, Starts, numberTold, placeTold, reportLimit, Reports, lineRoom};
+ghost use Rattle.code.specs.Codes.{numberTold, placeTold};
+ghost use Rattle.lines.specs.Lines.{Ends, Starts, Parts, reportLimit, Reports, lineRoom};
 
 // Where the first line of the bytes ends: at its LF, or where the bytes end.
 pub fn line_end(bytes: &[u8]) -> usize
@@ -55,65 +56,13 @@ fn put_decimal(out: &mut [u8], pen: usize, n: usize) -> usize
     put_digit(out, next, n % 10)
 }
 
-// The number of a refusal.
-fn number_of(answer: Answer) -> usize
-    ensures { λ r. ⌜ r ≡ numberTold (told answer) ⌝ }
-{
-    match answer {
-        Answer::Value(_) => 0,
-        Answer::TooLong => 1,
-        Answer::BadName(_) => 2,
-        Answer::NoQuery(_) => 3,
-        Answer::TooDeep(_) => 4,
-        Answer::UnknownName(_) => 5,
-        Answer::BadQuery(_) => 6,
-        Answer::BadTable(_) => 7,
-        Answer::BadMarks(_) => 8,
-        Answer::TooNested(_) => 9,
-        Answer::Short(_) => 10,
-        Answer::NoXml(_) => 11,
-        Answer::LeftOut(_) => 12,
-        Answer::NoElement => 13,
-        Answer::OtherText => 14,
-        Answer::NoRole(_) => 15,
-        Answer::NoView(_) => 16,
-        Answer::UnreadView(_) => 17,
-    }
-}
-
-// The place of a refusal.
-fn place_of(answer: Answer) -> usize
-    ensures { λ r. ⌜ r ≡ placeTold (told answer) ⌝ }
-{
-    match answer {
-        Answer::Value(_) => 0,
-        Answer::TooLong => 0,
-        Answer::BadName(place) => place,
-        Answer::NoQuery(place) => place,
-        Answer::TooDeep(place) => place,
-        Answer::UnknownName(place) => place,
-        Answer::BadQuery(place) => place,
-        Answer::BadTable(place) => place,
-        Answer::BadMarks(place) => place,
-        Answer::TooNested(nesting) => nesting,
-        Answer::Short(needed) => needed,
-        Answer::NoXml(place) => place,
-        Answer::LeftOut(place) => place,
-        Answer::NoElement => 0,
-        Answer::OtherText => 0,
-        Answer::NoRole(role) => role,
-        Answer::NoView(role) => role,
-        Answer::UnreadView(view) => view,
-    }
-}
-
 // Puts the line of a refusal: which part of the work refuses, the number and the place.
 pub fn put_refusal(out: &mut [u8], part: &[u8], answer: Answer) -> usize
     requires { ⌜ length (now part) ≤ 8 ⌝ }
     ensures { λ r. ⌜ Reports (refusalLine (now (part .entry)) (numberTold (told answer)) (placeTold (told answer))) lineRoom (now (out .entry)) (now (out .exit)) r ⌝ }
 {
-    let number = number_of(answer);
-    let place = place_of(answer);
+    let number = code::number_of(answer);
+    let place = code::place_of(answer);
     let begun = pen::put(out, 0, b"refused ");
     let named = pen::put(out, begun, part);
     let spaced = pen::put(out, named, b" ");

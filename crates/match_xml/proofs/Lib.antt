@@ -1,8 +1,2 @@
--- Lines that agree with columns: `told-joined`, `told-closed`, `more-compares`, `end-compares`.
-pub mod Agreeing
--- What is counted and compared past each piece: `start-comes`, `empty-comes`, `end-comes`, `text-comes`.
-pub mod Pieces
--- Comparing from piece to piece: `deep`, `takes`, `root-faces`, `element-read`, `ends-wanted`.
-pub mod Matching
 -- Reading gives these columns exactly if the lines of the text agree with them: `told-as`, `refused-as`.
 pub mod Reading

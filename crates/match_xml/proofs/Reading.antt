@@ -21,10 +21,10 @@ use Rattle.paper.proofs.Same.{same-equal, same-refl}
 use Rattle.paper.proofs.Refusing.{line-value, when-none, or-none}
 use Rattle.xml_lines.specs.Kept.{Columns, columns, xmlAnswer}
 use Rattle.xml_lines.proofs.Answered.{wrong, good-list}
-use Rattle.match_xml.specs.Lines.{LineIs, Agree}
+use Rattle.match_lines.specs.Lines.{LineIs, Agree}
 use Rattle.line_tests.specs.Telling.{Has}
-use Rattle.match_xml.specs.Compared.{IsRefused, Matched, Wanted}
-use Rattle.match_xml.specs.declared.Progress.{Progress}
+use Rattle.match_lines.specs.Compared.{IsRefused, Says}
+use Rattle.match_lines.specs.declared.Match.{Match}
 
 -- COLUMNS. What is left of a column from an index on is what the lines say.
 has-field : (column : List ℕ) (n v : ℕ) (vs : List ℕ) → drop n column ≡ v ∷ vs → Has column n v × (drop (suc n) column ≡ vs)
@@ -176,16 +176,16 @@ module _ (text list : List ℕ) (cols : Columns) where
             many,
           )
 
-    pub told-as : (p : Progress) → Wanted text list cols p → (p .same && eqb (p .nodes) (length (cols .parents))) ≡ readsAs text list ours (cols .begins) (cols .ends)
+    pub told-as : (p : Match) → Says text list cols p → (p .same && eqb (p .nodes) (length (cols .parents))) ≡ readsAs text list ours (cols .begins) (cols .ends)
     told-as p w =
         agree (p .same && eqb (p .nodes) (length (cols .parents))) (readsAs text list ours (cols .begins) (cols .ends))
         (λ h.
         let (agrees, many) = and-true (p .same) (eqb (p .nodes) (length (cols .parents))) h in
-        gives (w .tree) (w .is) (w .matched .yes agrees) (sym (w .matched .nodes) ∙ eqb-true (p .nodes) (length (cols .parents)) many))
+        gives (w .tree) (w .is) (w .yes agrees) (sym (w .nodes) ∙ eqb-true (p .nodes) (length (cols .parents)) many))
         (λ h.
         let (agrees, many) = given (w .tree) (w .is) h in
-        true-and (is-same (p .same) refl agrees) (eq-eqb (p .nodes) (length (cols .parents)) (w .matched .nodes ∙ many)))
+        true-and (is-same (p .same) refl agrees) (eq-eqb (p .nodes) (length (cols .parents)) (w .nodes ∙ many)))
       where
         is-same : (b : Bool) → p .same ≡ b → Agree list cols 0 (table (length text) (w .tree)) → p .same ≡ true
         is-same true e a = e
-        is-same false e a = absurd (w .matched .no e a)
+        is-same false e a = absurd (w .no e a)

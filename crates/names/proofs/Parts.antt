@@ -1,54 +1,29 @@
--- What the kept starts say of a line: it lies within the list, and it says what the paper's line says. Assumes nothing.
-use Prim.Native.Nat.{ℕ, zero, suc, _+_, _≤_, _<_}
+-- The number of a word by the first line that says it, and that a name has a first byte. Assumes nothing.
+use Prim.Native.Nat.{ℕ, _<_}
 use native.Mathlib.Omega.{arith}
-use native.Mathlib.Decide.{decLt, ℕ-discrete}
+use native.Mathlib.Decide.{decLt}
 use borrow.Author.Tests.{lt-ltb, le-ltb}
-use mathlib.Core.Path.{_≡_, refl, sym, _∙_, ap, subst}
-use mathlib.Core.Bool.{Bool, true, false}
+use mathlib.Core.Path.{_≡_}
+use mathlib.Core.Bool.{true, false}
 use mathlib.Core.List.{List}
 use mathlib.Core.Logic.{by-cases}
 use lib.Dec.{ltb}
 use lib.ListN.{length}
-use Rattle.paper.specs.Tools.{same, someOf, when}
+use Rattle.paper.specs.Tools.{when}
 use Rattle.paper.specs.Names.{namesOf, numberOf}
 use Rattle.paper.proofs.Lines.{number-found, number-none}
-use Rattle.paper.proofs.Tests.{or-left, or-right}
-use Rattle.paper.proofs.Same.{same-turned}
-use Rattle.names.specs.declared.Part.{Part}
-use Rattle.names.specs.Listing.{Rising, FirstSame, Indexed, partOf, bytesOf, said, earlier}
+use Rattle.name_lines.specs.Lines.{FirstSame, said}
+use Rattle.names.specs.Listing.{Indexed}
+use mathlib.Core.Bool.{false≢true}
+use mathlib.Core.List.{[], _∷_}
+use Rattle.paper.specs.Names.{isName}
 
--- A line lies within the list.
-pub part-room : {list starts : List ℕ} {count : ℕ} → Rising list starts count → (v : ℕ) → v < count → (p : Part) → p ≡ partOf starts v → p .start + p .len ≤ length list
-part-room rising v inside p line = rw line (omega (arith, rising .rises v inside, rising .within v inside))
-
--- A test of the part is a test of what the line says.
-pub part-test : (list starts word : List ℕ) (v : ℕ) {p : Part} {b : Bool} → p ≡ partOf starts v → same (bytesOf list p) word ≡ b → same (said list starts v) word ≡ b
-part-test list starts word v {b = b} line h = subst (λ q. same (bytesOf list q) word ≡ b) line h
+-- A name has a first byte.
+pub name-length : (word : List ℕ) → isName word ≡ true → 0 < length word
+name-length [] h = absurd (false≢true h)
+name-length (b ∷ bs) h = omega arith
 
 module _ (list starts : List ℕ) where
-  -- As many lines are earlier as were counted.
-  pub earlier-length : (count : ℕ) → length (earlier list starts count) ≡ count
-  earlier-length zero = refl
-  earlier-length (suc count) = ap suc (earlier-length count)
-
-  -- An earlier line that passes a test is found, and where none passes none is.
-  earlier-some : (test : List ℕ → Bool) (count v : ℕ) → v < count → test (said list starts v) ≡ true → someOf test (earlier list starts count) ≡ true
-  earlier-some test zero v l h = absurd (omega arith)
-  earlier-some test (suc count) v l h =
-      by-cases (ℕ-discrete v count) (λ e. or-left (someOf test (earlier list starts count)) (subst (λ u. test (said list starts u) ≡ true) e h))
-      (λ e. or-right (test (said list starts count)) (earlier-some test count v (omega arith) h))
-
-  pub earlier-none : (test : List ℕ → Bool) (count : ℕ) → ((u : ℕ) → u < count → test (said list starts u) ≡ false) → someOf test (earlier list starts count) ≡ false
-  earlier-none test zero h = refl
-  earlier-none test (suc count) h = rw (h count (omega arith)) (earlier-none test count (λ u l. h u (omega arith)))
-
-  -- A word repeats an earlier line exactly if a first line that says it was found.
-  pub repeats-first : (count : ℕ) (word : List ℕ) (v : ℕ) → FirstSame list starts count word v → someOf (same word) (earlier list starts count) ≡ ltb v count
-  repeats-first count word v f =
-      by-cases (decLt v count)
-      (λ l. earlier-some (same word) count v l (same-turned word (said list starts v) ∙ f .here l) ∙ sym (lt-ltb v count l))
-      (λ n. earlier-none (same word) count (λ u l. same-turned word (said list starts u) ∙ f .before u (omega arith)) ∙ sym (le-ltb v count (omega arith)))
-
   -- The number of a word is the first line that says it.
   pub number-first : (count : ℕ) (word : List ℕ) (v : ℕ) → Indexed list starts count → FirstSame list starts count word v → numberOf (namesOf list) word ≡ when (ltb v count) v
   number-first count word v known f =

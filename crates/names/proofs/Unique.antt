@@ -9,8 +9,9 @@ use Rattle.names.specs.declared.Listed.{Listed}
 use Rattle.names.specs.declared.Listed.the-variants.{Good, Bad}
 use Rattle.names.specs.declared.Found.{Found}
 use Rattle.names.specs.declared.Found.the-variants.{At, Nothing}
-use Rattle.names.specs.declared.Part.{Part}
-use Rattle.names.specs.Listing.{Checked, Indexed, Spelled, foundAt, said}
+use Rattle.name_lines.specs.declared.Part.{Part}
+use Rattle.names.specs.Listing.{Checked, Indexed, Spelled, foundAt}
+use Rattle.name_lines.specs.Lines.{said}
 use Rattle.paper.specs.Names.{namesOf}
 
 -- The starts say as many names as the list has.

@@ -18,10 +18,12 @@ use Rattle.paper.specs.Names.{linesFrom, firstBad, badLine, isName, namesFault,
 use Rattle.paper.proofs.Searches.{column-same}
 use Rattle.paper.proofs.Lines.{first-line, bad-name, bad-long, bad-open, bad-many}
 use Rattle.paper.proofs.Tests.{decide}
-use Rattle.names.specs.Listing.{Ends, Rising, Keyed, Indexed, Checked, keyOf, said, earlier, lineTo, opened, startsCount}
+use Rattle.names.specs.Listing.{Ends, Indexed, Checked, lineTo, opened}
+use Rattle.name_lines.specs.Lines.{Rising, said, startsCount}
+use Rattle.name_keys.specs.Keys.{Keyed, keyOf, earlier}
 use Rattle.names.specs.declared.Listed.the-variants.{Good, Bad}
-use Rattle.names.proofs.Parts.{earlier-length}
-use Rattle.names.proofs.Keys.{name-length}
+use Rattle.name_keys.proofs.Earlier.{earlier-length}
+use Rattle.names.proofs.Parts.{name-length}
 
 pub record Upto (list old starts : List ℕ) (count start : ℕ) : Type 0 where
   pub rising : Rising list starts count

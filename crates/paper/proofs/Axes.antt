@@ -2,9 +2,9 @@
 -- What tells one axis from another stands here as far as it can. A new axis touches
 --   definitions: `Axis` in Query; `axisNumber`, `axes` and `axisOf` in Items, with `axisBound` and the layout where a number needs more bits; `axisNamed` in Reading;
 --     `axisText` in Printing; `leads` in Selection; `turned` and `guarded` in Composition; `rises` in theorems/specs/Demands; rows for it in Samples;
---   code: the constants, `AXES`, `turn` and `guarded` of item; `axis_of` of ahead; `put_axis` of pen; `along` of sets, with a pass for it;
---   proofs: this file; theorems/proofs/Axes (it stays inside marks if it rises, it is guarded if it does not, and renumbering keeps it, by a law in Renumber); ahead/proofs/Words (`inOrder`) and axis_of (its word);
---     an arm in each of item/proofs/turn, item/proofs/guarded, pen/proofs/put_axis and sets/proofs/along; the proof of its pass in sets;
+--   code: the constants, `AXES`, `turn` and `guarded` of item; `axis_of` of axis_words; `put_axis` of put_axes; `axis_leads` of kin; `along` of axes, with a pass for it in vertical or sideways;
+--   proofs: this file; theorems/proofs/Axes (it stays inside marks if it rises, it is guarded if it does not, and renumbering keeps it, by a law in Renumber); axis_words/proofs/Words (`inOrder`) and axis_of (its word);
+--     an arm in each of item/proofs/turn, item/proofs/guarded, put_axes/proofs/put_axis and axes/proofs/along; the proof of its pass;
 --   edits: theorems/must-fail/descendant_turned_into_itself, which writes `turned` out;
 --   tests in C: the axes, their words, `turned`, `guarded` and `leads` in tests/paper.c; those that tests/making.c makes; the numbers of no axis and the words of none in tests/refusals.c; rows in tests/samples.c;
 --   pages: docs/VIEWS.md, and what else lists the axes.

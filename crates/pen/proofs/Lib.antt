@@ -2,5 +2,3 @@
 pub mod Putting
 -- What stands in a slice with room enough and with none: `puts-written`, `puts-nothing`.
 pub mod Room
--- The words of tests.
-pub mod Words

@@ -14,12 +14,13 @@ use Rattle.paper.specs.Names.{namesFault, namesOf}
 use Rattle.paper.specs.Items.{decode}
 use Rattle.paper.specs.Printing.{printed}
 use Rattle.paper.specs.Answers.{value, refusal, unknownFrom, printAnswer, textGot, printOut}
-use Rattle.names.specs.Listing.{Indexed, said}
+use Rattle.names.specs.Listing.{Indexed}
+use Rattle.name_lines.specs.Lines.{said}
 use Rattle.shape.specs.Walks.{shapeOf}
 use Rattle.shape.specs.declared.Shape.the-variants.{Query as IsQuery, Malformed as NoQuery}
-use Rattle.print.specs.Writing.{Names}
-use Rattle.print.specs.Writing.{Query as IsPrintable}
-use Rattle.print.proofs.Unknowns.{all-known}
+use Rattle.put_query.specs.Writing.{Names}
+use Rattle.put_query.specs.Writing.{Query as IsPrintable}
+use Rattle.unknown_names.proofs.Unknowns.{all-known}
 
 -- The index counts the names.
 count-names : (list starts : List ℕ) (count : ℕ) → Indexed list starts count → length (namesOf list) ≡ count

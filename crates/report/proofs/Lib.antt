@@ -1,4 +1,2 @@
--- What one part of the work makes of the report: `refused-part`, `given-part`.
-pub mod Parts
--- What an accepted composition answers and writes, in either way: `compose-gives`.
-pub mod Composing
+-- What the first line says of an input: `input-long`, `input-taken`.
+pub mod Inputs

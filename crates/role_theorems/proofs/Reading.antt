@@ -22,11 +22,11 @@ use Rattle.paper.proofs.Refusing.{line-value, when-none, or-none}
 use Rattle.paper.proofs.Decoding.{decode-encode}
 use Rattle.paper.proofs.Sizes.{size-items}
 use Rattle.theorems.specs.Demands.{ProperExpr, ProperSteps, ProperPreds, ProperPaths, Proper}
-use Rattle.theorems.specs.Grammar.{PredsIn, no-pred, one-pred, TestIn, star-test, node-test, text-test, name-test}
-use Rattle.theorems.specs.Grammar.{DotIn, dot-alone, dot-preds, StepIn, dot-step, dots-step, child-step, axis-step, StepsIn, last-step, slash-step, slashes-step}
-use Rattle.theorems.specs.Grammar.{OperandIn, path-operand, round-operand, not-operand, TermIn, one-operand, and-operand, ExprIn, one-term, or-term}
-use Rattle.theorems.specs.Grammar.{PathIn, root-path, slash-path, slashes-path, QueryIn, one-path, join-path, Within, Derives}
-use Rattle.theorems.proofs.Accepted.{accepted-text, all-read}
+use Rattle.query_grammar.specs.Grammar.{PredsIn, no-pred, one-pred, TestIn, star-test, node-test, text-test, name-test}
+use Rattle.query_grammar.specs.Grammar.{DotIn, dot-alone, dot-preds, StepIn, dot-step, dots-step, child-step, axis-step, StepsIn, last-step, slash-step, slashes-step}
+use Rattle.query_grammar.specs.Grammar.{OperandIn, path-operand, round-operand, not-operand, TermIn, one-operand, and-operand, ExprIn, one-term, or-term}
+use Rattle.query_grammar.specs.Grammar.{PathIn, root-path, slash-path, slashes-path, QueryIn, one-path, join-path, Within, Derives}
+use Rattle.query_grammar.proofs.Accepted.{accepted-text, all-read}
 use Rattle.theorems.proofs.Forms.{proper-good}
 use Rattle.role_theorems.specs.Gateway.{ReadIsQuery}
 

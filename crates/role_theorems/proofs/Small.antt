@@ -15,9 +15,9 @@ use Rattle.paper.specs.Answers.{Answer, value, refusal, line, tooLong, readAnsw
 use Rattle.paper.specs.Roles.{viewLimit, roleLimit, viewsOf, unended, bit, chosen, beyond, isRefused, unread, firstUnread, unionItems, roleViews, roleUnion, lineAnswer, unionAnswer, maskAnswer}
 use Rattle.paper.proofs.Tests.{none-some, some-inj}
 use Rattle.paper.proofs.Refusing.{or-none}
-use Rattle.theorems.specs.Bounds.{Small}
-use Rattle.theorems.proofs.NameBounds.{fault-within}
-use Rattle.theorems.proofs.Bounds.{small-line, small-when, read-small, compose-small}
+use Rattle.answer_bounds.specs.Bounds.{Small}
+use Rattle.answer_bounds.proofs.NameBounds.{fault-within}
+use Rattle.answer_bounds.proofs.Bounds.{small-line, small-when, read-small, compose-small}
 use Rattle.role_theorems.specs.Gateway.{RoleSmall}
 use Rattle.role_theorems.proofs.Reading.{read-few}
 use Rattle.role_theorems.proofs.Unions.{first-read, chosen-read, read-value}

@@ -14,7 +14,7 @@ use Rattle.paper.specs.Document.{Table, nodes, marked}
 use Rattle.paper.specs.Selection.{keeps}
 use Rattle.paper.specs.Answers.{value, refusal, readAnswer, readItems, composeAnswer}
 use Rattle.paper.specs.Roles.{viewLimit, roleLimit, viewsOf, unended, bit, chosen, beyond, firstUnread, unionItems, roleViews, roleUnion, union, roleAnswer, roleOut}
-use Rattle.theorems.specs.Bounds.{Small}
+use Rattle.answer_bounds.specs.Bounds.{Small}
 
 -- A text that is accepted leaves the items of a query: they can stand in memory.
 abbrev pub ReadIsQuery : Type 0

@@ -1,1 +1,1 @@
-pub mod Gathering
+pub mod Judging

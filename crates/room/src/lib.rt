@@ -62,6 +62,6 @@ pub fn scratch(
     if wrong {
         return Answer::TooLong;
     }
-    let bound = outer_height + shape::larger(3, inner_height) + inner_paths + 1;
+    let bound = outer_height + heights::larger(3, inner_height) + inner_paths + 1;
     Answer::Value(nodes * 2 * (bound + 1))
 }

@@ -28,7 +28,8 @@ use denote.Enum.Declared.{tagOf}
 use types.Run.{OneOf, miss}
 use Rattle.shape.specs.declared.Walked.{Walked}
 use Rattle.shape.specs.declared.Walked.the-variants.{Done, Malformed}
-use Rattle.shape.specs.Walks.{nestOperand, opened, openInExpr, openInOperand, openInSteps, operators, Walks, raisedBy, Small}
+use Rattle.shape.specs.Walks.{nestOperand, openInExpr, openInOperand, openInSteps, operators, Walks, raisedBy, Small}
+use Rattle.heights.specs.Heights.{opened}
 use Rattle.shape.proofs.Operators.{Operator, isJoined, each, run, operators-some}
 
 -- A number that is a path's is no operator's and not `not`.

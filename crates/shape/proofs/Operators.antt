@@ -19,7 +19,8 @@ use Rattle.paper.specs.Measures.{isAnd, isOr, inBrackets, nestExpr, heightExpr}
 use Rattle.paper.proofs.Tests.{decide}
 use Rattle.paper.proofs.Encoding.{from-operand, from-term, from-within}
 use Rattle.paper.specs.Composition.{guardDepthExpr}
-use Rattle.shape.specs.Walks.{nestTerm, nestOperand, opened, openInExpr, openInTerm, openInOperand, operators}
+use Rattle.shape.specs.Walks.{nestTerm, nestOperand, openInExpr, openInTerm, openInOperand, operators}
+use Rattle.heights.specs.Heights.{opened}
 
 -- One of the two, by its item.
 abbrev pub Operator : ℕ → Type 0

@@ -15,7 +15,8 @@ use Rattle.paper.specs.Items.{pathAt, takeSteps, takeWithin, takePaths, asQuery
 use Rattle.paper.specs.Measures.{nestSteps, nestPaths, nesting, heightSteps, heightPaths, height}
 use Rattle.paper.specs.Composition.{guardDepthSteps, guardDepthPaths, guardDepth}
 use Rattle.paper.proofs.Tests.{or-right}
-use Rattle.shape.specs.Walks.{opened, openInSteps, Walk, shapeOf}
+use Rattle.heights.specs.Heights.{opened}
+use Rattle.shape.specs.Walks.{openInSteps, Walk, shapeOf}
 use Rattle.shape.specs.declared.Shape.the-variants.{Query as IsQuery, Malformed as NoQuery}
 
 -- What has been read: these paths, and as many more as the items that are left hold.

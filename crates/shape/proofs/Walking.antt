@@ -13,9 +13,11 @@ use Rattle.paper.specs.Query.{Expr, path, both, either, negated, Steps, stop, s
 use Rattle.paper.specs.Items.{andItem, orItem, Head, stepAt, leading, Taken, takePreds, takeSteps, takeOperand, takeExpr, takeWithin}
 use Rattle.paper.specs.Measures.{nestExpr, nestSteps, nestPreds, heightExpr, heightSteps, heightPreds}
 use Rattle.paper.specs.Composition.{append, guardDepthSteps, guardDepthPreds}
-use Rattle.shape.specs.Walks.{nestOperand, opened, openInExpr, openInOperand, openInSteps, openInPreds, operators, joinedHeight, Walk}
+use Rattle.shape.specs.Walks.{nestOperand, openInExpr, openInOperand, openInSteps, openInPreds, operators, Walk}
+use Rattle.heights.specs.Heights.{opened, joinedHeight}
 use Rattle.shape.proofs.Operators.{takeRun, takePart, takeMore, joinBy, nestRun, nestPart, openInRun, openInPart, Run, run-starts, first-alone, operators-run}
 use Rattle.shape.proofs.Operators.{ands as ands-laws, ors as ors-laws}
+use Rattle.heights.proofs.Joining.{joined-more}
 
 -- Every expression has a height.
 pub some-height : (e : Expr) → 1 ≤ heightExpr e
@@ -23,11 +25,6 @@ some-height (path s) = omega arith
 some-height (both a b) = omega arith
 some-height (either a b) = omega arith
 some-height (negated a) = omega arith
-
--- What is joined to something is one higher than the higher of the two.
-pub joined-more : (high height : ℕ) → 1 ≤ high → joinedHeight high height ≡ 1 + max high height
-joined-more zero height z = absurd (omega arith)
-joined-more (suc high) height z = refl
 
 -- Walking over a run of an operator that begins at `at`.
 module _ (operator depth : ℕ) (items : List ℕ) (at : ℕ) where

@@ -1,5 +1,5 @@
 -- What walking over items tells: where it ends, and nesting and height of what stands there, with the brackets open at its deepest guarded step.
-use Prim.Native.Nat.{ℕ, zero, suc, _+_, _-_, _^_, _≤_, _<_, max}
+use Prim.Native.Nat.{ℕ, _+_, _^_, _≤_, _<_}
 use mathlib.Core.Path.{_≡_}
 use mathlib.Core.Bool.{_||_}
 use mathlib.Core.List.{List}
@@ -15,6 +15,7 @@ use Rattle.shape.specs.declared.Walked.{Walked}
 use Rattle.shape.specs.declared.Walked.the-variants.{Done, Malformed}
 use Rattle.shape.specs.declared.Shape.{Shape}
 use Rattle.shape.specs.declared.Shape.the-variants.{Query as IsQuery, Malformed as NoQuery}
+use Rattle.heights.specs.Heights.{opened}
 
 -- The nesting of an expression as a term of `or` and as an operand of `and`: with the bracket that it gets there.
 abbrev pub nestTerm : Expr → ℕ
@@ -22,10 +23,6 @@ nestTerm e = inBrackets (isOr e) (nestExpr e)
 
 abbrev pub nestOperand : Expr → ℕ
 nestOperand e = inBrackets (isOr e || isAnd e) (nestExpr e)
-
--- How many brackets are open where so many more may be opened.
-unfoldable pub opened : ℕ → ℕ
-opened depth = bracketLimit - depth
 
 -- The most brackets open at a guarded step of what stands there, 0 where there is none: as a predicate's whole expression, as a term of `or` and as an operand of `and`;
 abbrev pub openInExpr : ℕ → Expr → ℕ
@@ -47,11 +44,6 @@ openInPreds depth ps = guardDepthPreds ps (opened depth)
 -- How many items of operators an expression begins with: those of `or`, then those of `and`.
 abbrev pub operators : List ℕ → ℕ
 operators ws = leading orItem ws + leading andItem (drop (leading orItem ws) ws)
-
--- The height of a part joined to what was read before it, whose height is 0 where nothing was.
-abbrev pub joinedHeight : ℕ → ℕ → ℕ
-joinedHeight zero height = height
-joinedHeight (suc high) height = 1 + max (suc high) height
 
 -- The walk from `at` took something, and ended at `next` with these measures of it.
 pub record Walk {A : Type 0} (items : List ℕ) (at depth : ℕ) (taken : Taken A) (nestOf heightOf guardOf : A → ℕ) (next nest high guard : ℕ) : Type 0 where

@@ -1,14 +1,12 @@
 // A query in memory: is it one, and then its nesting and height, and how deep its guarded steps stand. Recursion opens a bracket each time, so it is at most one deeper than brackets may be.
 use item::Item;
 ghost use mathlib.Core.Path.{_≡_};
-ghost use mathlib.Core.Bool.{cond};
-ghost use Prim.Native.Nat.{_+_, _^_, _≤_, _<_, max};
+ghost use Prim.Native.Nat.{_+_, _≤_};
 ghost use lib.ListN.{length, drop};
 ghost use Rattle.paper.specs.Limits.{bracketLimit};
 ghost use Rattle.paper.specs.Items.{leading, takePreds, takeSteps, takeOperand, takeExpr, takeWithin, decode};
 ghost use Rattle.paper.specs.Measures.{nestExpr, nestSteps, nestPreds, heightExpr, heightSteps, heightPreds};
-ghost use Rattle.item.specs.Unpacked.{guardedNumber};
-ghost use Rattle.shape.specs.Walks.{Small, raisedBy, joinedHeight, Walks, nestOperand, opened, openInExpr, openInOperand, openInSteps, openInPreds, shapeOf};
+ghost use Rattle.shape.specs.Walks.{Small, raisedBy, Walks, nestOperand, openInExpr, openInOperand, openInSteps, openInPreds, shapeOf};
 
 // What a walk over items finds: where it ends, with nesting, height and the most brackets open at a guarded step (0 where there is none), or that the items are malformed.
 pub enum Walked {
@@ -29,13 +27,6 @@ pub enum Shape {
         guards: usize,
     },
     Malformed,
-}
-
-// The larger of two numbers.
-pub fn larger(a: usize, b: usize) -> usize
-    ensures { λ r. ⌜ r ≡ max a b ⌝ }
-{
-    if a < b { b } else { a }
 }
 
 // A walk with more nesting and height.
@@ -74,30 +65,6 @@ pub fn run_of(items: &[u32], at: usize, item: u32) -> usize
     end - at
 }
 
-// The height of a part joined to what was read before it, whose height is 0 where nothing was.
-fn joined(high: usize, height: usize) -> usize
-    requires { ⌜ (high < 2 ^ 63) × (height < 2 ^ 63) ⌝ }
-    ensures { λ r. ⌜ r ≡ joinedHeight high height ⌝ }
-{
-    if high == 0 {
-        height
-    } else {
-        larger(high, height) + 1
-    }
-}
-
-// How many brackets are open at a step, where so many more may be opened and the step is guarded; 0 where it is not.
-fn own_depth(axis: u32, depth: usize) -> usize
-    requires { ⌜ depth ≤ bracketLimit ⌝ }
-    ensures { λ r. ⌜ r ≡ cond (guardedNumber axis) (opened depth) 0 ⌝ }
-{
-    if item::guarded(axis) {
-        paper::BRACKET_LIMIT - depth
-    } else {
-        0
-    }
-}
-
 // An expression: terms of `or`, each of them operands of `and`.
 fn expression(items: &[u32], at: usize, depth: usize) -> Walked
     requires { ⌜ (at ≤ length (now items)) × (depth ≤ bracketLimit) ⌝ }
@@ -122,13 +89,13 @@ fn expression(items: &[u32], at: usize, depth: usize) -> Walked
             return Walked::Malformed;
         };
         place = next;
-        deep = larger(deep, nesting);
-        guarded = larger(guarded, guards);
-        term = joined(term, height);
+        deep = heights::larger(deep, nesting);
+        guarded = heights::larger(guarded, guards);
+        term = heights::joined(term, height);
         if 0 < ands {
             ands -= 1;
         } else {
-            high = joined(high, term);
+            high = heights::joined(high, term);
             if ors == 0 {
                 return Walked::Done {
                     next: place,
@@ -188,7 +155,7 @@ pub fn steps(items: &[u32], at: usize, count: usize, depth: usize) -> Walked
         let Item::Step(step) = item else {
             return Walked::Malformed;
         };
-        guarded = larger(guarded, own_depth(step.axis, depth));
+        guarded = heights::larger(guarded, heights::own_depth(step.axis, depth));
         let more = predicates(items, place + 1, step.count, depth);
         let Walked::Done {
             next,
@@ -200,9 +167,9 @@ pub fn steps(items: &[u32], at: usize, count: usize, depth: usize) -> Walked
             return Walked::Malformed;
         };
         place = next;
-        deep = larger(deep, nesting);
-        high = larger(high, height);
-        guarded = larger(guarded, guards);
+        deep = heights::larger(deep, nesting);
+        high = heights::larger(high, height);
+        guarded = heights::larger(guarded, guards);
         owed -= 1;
     }
     Walked::Done {
@@ -238,9 +205,9 @@ fn predicates(items: &[u32], at: usize, count: usize, depth: usize) -> Walked
             return Walked::Malformed;
         };
         place = next;
-        deep = larger(deep, nesting + 1);
-        high = larger(high, height);
-        guarded = larger(guarded, guards);
+        deep = heights::larger(deep, nesting + 1);
+        high = heights::larger(high, height);
+        guarded = heights::larger(guarded, guards);
         owed -= 1;
     }
     Walked::Done {
@@ -278,9 +245,9 @@ pub fn measure(items: &[u32]) -> Shape
             return Shape::Malformed;
         };
         place = next;
-        deep = larger(deep, nesting);
-        high = larger(high, height + 1);
-        guarded = larger(guarded, guards);
+        deep = heights::larger(deep, nesting);
+        high = heights::larger(high, height + 1);
+        guarded = heights::larger(guarded, guards);
     }
     Shape::Query {
         nesting: deep,

@@ -13,7 +13,7 @@ ghost use Rattle.tally.specs.Tallies.{Grows, sums, times, NodesTold};
 const DOCUMENT_LIMIT: usize = 65535;
 
 // Is a document counted, where so many came before it?
-fn is_counted(before: usize) -> bool
+pub fn is_counted(before: usize) -> bool
     ensures { λ r. ⌜ r ≡ ltb before documentLimit ⌝ }
 {
     before < DOCUMENT_LIMIT
@@ -41,7 +41,7 @@ fn add_node(column: &mut [u32], kind: u16, counts: bool)
 }
 
 // Adds the elements of a table to the three columns: all of them, those that are marked and those that are not.
-fn add_nodes(kind: &[u16], marks: &[u8], all: &mut [u32], kept: &mut [u32], hidden: &mut [u32])
+pub fn add_nodes(kind: &[u16], marks: &[u8], all: &mut [u32], kept: &mut [u32], hidden: &mut [u32])
     requires { ⌜ length (now marks) ≡ length (now kind) ⌝ }
     ensures { λ _. ⌜ NodesTold (length (now (kind .entry))) (now (kind .entry)) (now (marks .entry)) (now (all .entry)) (now (all .exit)) (now (kept .entry)) (now (kept .exit)) (now (hidden .entry)) (now (hidden .exit)) ⌝ }
 {
@@ -56,7 +56,7 @@ fn add_nodes(kind: &[u16], marks: &[u8], all: &mut [u32], kept: &mut [u32], hidd
 }
 
 // Adds one to how often a refusal number was given.
-fn add_refusal(number: usize, refusals: &mut [u64])
+pub fn add_refusal(number: usize, refusals: &mut [u64])
     ensures { λ _. ⌜ Grows times (now (refusals .entry)) (now (refusals .exit)) (λ n. cond (eqb number n) 1 0) ⌝ }
 {
     if number < refusals.len() {

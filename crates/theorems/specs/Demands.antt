@@ -1,10 +1,10 @@
 -- docs/SCOPE.md, demand 3: what composition owes, in full, for every document and every pair of queries. The proofs are in proofs/, one file a concept.
-use Prim.Native.Nat.{ℕ, _+_, _≤_, _<_, max}
+use Prim.Native.Nat.{ℕ, _≤_, _<_}
 use mathlib.Core.Path.{_≡_}
 use mathlib.Core.Bool.{Bool, true, false, not, _&&_}
 use mathlib.Core.List.{List, [], _∷_}
 use mathlib.Core.Option.{none, some}
-use lib.ListN.{length, replicate}
+use lib.ListN.{replicate}
 use Rattle.paper.specs.Limits.{itemLimit, bracketLimit}
 use Rattle.paper.specs.Query.{Axis, self, child, parent, descendantOrSelf, ancestorOrSelf, descendant, ancestor, followingSibling, precedingSibling, following, preceding}
 use Rattle.paper.specs.Query.{Expr, path, both, either, negated, Steps, stop, step, Preds, bare, pred, Query, paths}
@@ -12,10 +12,8 @@ use Rattle.paper.specs.Document.{Table, nodes, tableFault, marked, marksFault}
 use Rattle.paper.specs.Selection.{leads, holds, arrives, keeps, kept}
 use Rattle.paper.specs.Extraction.{rank, extracted}
 use Rattle.paper.specs.Items.{encode, decode, stepCount, goodTest, good}
-use Rattle.paper.specs.Measures.{size, nesting, height}
-use Rattle.paper.specs.Answers.{scratchOf}
-use Rattle.paper.specs.Room.{pathCount, scratchBytes}
-use Rattle.paper.specs.Composition.{turned, reversed, visible, guarded, guardExpr, guardSteps, composed, composedSize, composedNesting}
+use Rattle.paper.specs.Measures.{size, nesting}
+use Rattle.paper.specs.Composition.{turned, reversed, visible, guarded, guardExpr, guardSteps, composed}
 
 -- Every node marked.
 abbrev pub allMarked : Table → List ℕ
@@ -129,24 +127,6 @@ ProperPaths (p ∷ ps) = ProperSteps p × ProperPaths ps
 
 abbrev pub Proper : Query → Type 0
 Proper q = ProperPaths (paths q)
-
--- SIZE, NESTING, HEIGHT: size and nesting of a composition are their formulas, 01's nesting bounds the latter, and the height has a bound.
-abbrev pub Size : Type 0
-Size = (outer inner : Query) → size (composed outer inner) ≡ composedSize outer inner
-
-abbrev pub Nesting : Type 0
-Nesting = (outer inner : Query) → nesting (composed outer inner) ≡ composedNesting outer inner
-
-abbrev pub NestingBound : Type 0
-NestingBound = (outer inner : Query) → nesting (composed outer inner) ≤ nesting outer + 2 + max 2 (nesting inner)
-
-abbrev pub Height : Type 0
-Height = (outer inner : Query) → height (composed outer inner) ≤ height outer + max 3 (height inner) + length (paths inner) + 1
-
--- SCRATCH: a run of the composition needs no more than the bytes that 2026-10 tells of the two queries before composing.
-abbrev pub ScratchEnough : Type 0
-ScratchEnough =
-    (t : Table) (outer inner : Query) → scratchOf t (composed outer inner) ≤ scratchBytes (nodes t) (height outer) (height inner) (pathCount inner)
 
 -- WELL FORMED: the composition of queries that keep 01's rules keeps them;
 abbrev pub ProperComposed : Type 0

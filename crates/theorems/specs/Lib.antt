@@ -1,6 +1,1 @@
 pub mod Demands
-pub mod Grammar
-pub mod RoundTrip
-pub mod Shortening
-pub mod Bounds
-pub mod Versions

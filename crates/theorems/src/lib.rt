@@ -1,1 +1,1 @@
-// No code: the theorems stand in specs/Demands.antt and specs/Grammar.antt, their proofs in proofs/.
+// No code: the demands on composition stand in specs/Demands.antt, their proofs in proofs/.

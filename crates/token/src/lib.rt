@@ -1,6 +1,6 @@
 // The lexer: a cursor by value that skips white space, takes the longest token and hands itself back.
-use names::name_part;
-use names::name_start;
+use good_names::name_part;
+use good_names::name_start;
 ghost use Prim.Native.Nat.{suc, _+_, _≤_, _<_};
 ghost use mathlib.Core.Path.{_≡_};
 ghost use mathlib.Core.Bool.{false};

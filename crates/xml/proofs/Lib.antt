@@ -1,7 +1,5 @@
 -- How reading goes through a start tag: `name-run`, `tag-gap`, `tag-closes`, `tag-empties`, `tag-foreign`, `tag-refused`, `empty-read`, `start-names`.
 pub mod Tagging
--- How it goes through an end tag, `Renaming`: `renaming-begins`, `renaming-more`, `renaming-done`, `end-closes`, `end-refused`; over letters of a block: `letters-again`.
-pub mod Ending
 -- What stands at a place inside an element, as a piece: `takes-text`, `takes-tag`, `takes-end`, `takes-left-out`.
 pub mod Taking
 -- The promises leave one answer: `take-unique`, `root-unique`, `finish-unique`.

@@ -15,36 +15,28 @@ use lib.Seq.{drop-cons, drop-drop}
 use Rattle.paper.specs.Tools.{runOf}
 use Rattle.paper.specs.Names.{nameStart, namePart}
 use Rattle.paper.specs.Tokens.{white}
-use Rattle.paper.specs.Xml.{Nodes, nothing, element, xmlStart, xmlPart, Frame, State, add, opening, inName, inTag, emptied, content, closing, tagGoesOn, stepMode, leftOut, leftOutAnywhere}
+use Rattle.paper.specs.Xml.{nothing, element, xmlStart, xmlPart, Frame, State, opening, inName, inTag, emptied, content, tagGoesOn, stepMode, leftOut, leftOutAnywhere}
 use Rattle.paper.proofs.Axes.{same-turned}
 use Rattle.paper.proofs.Tests.{decide}
 use Rattle.paper.proofs.Lexing.{run-more}
 use Rattle.xml_bytes.specs.Seeking.{stops, settled, seek}
 use Rattle.xml_bytes.specs.Promised.{state, seekAt, reached, refusalAt, calm, Reads}
-use Rattle.xml.specs.Pieces.{nameAt, opened, added, tagMode, foreignIn, Past, refusedPiece, tagTook, TagBounds, TagEnds, EmptyEnds, HasName, Tags}
+use Rattle.end_tags.specs.Renaming.{nameAt, added}
+use Rattle.xml.specs.Pieces.{opened, tagMode, foreignIn, Past, refusedPiece, tagTook, TagBounds, TagEnds, EmptyEnds, HasName, Tags}
 use Rattle.xml_bytes.specs.declared.Reach.{Reach}
 use Rattle.xml_bytes.specs.declared.Reach.the-variants.{At, Wrong, LeftOut}
 use Rattle.xml.specs.declared.Piece.{Piece}
 use Rattle.xml.specs.declared.Piece.the-variants.{Start, Empty, End, Text}
 use Rattle.xml.specs.declared.Piece.the-variants as piece
+use Rattle.end_tags.proofs.Ending.{added-stops, add-added}
 use Rattle.xml_bytes.proofs.Steps.{Calm, is-calm, Waits, calm-opens, text-ends, opens-here, steps-on, refused-here, opens-not}
 use Rattle.xml_bytes.proofs.Rows.{Refused, reads-bounds, wait-read, byte-calm}
 use Rattle.xml_bytes.proofs.Signs.{part-calm, calm-part, start-part, white-calm}
 
--- Where a node is read, a piece ends.
-pub added-stops : (at : ℕ) (node : Nodes) (frames : List Frame) (bs : List ℕ) → seek at (added node frames) bs ≡ stops at (added node frames)
-added-stops at node [] [] = refl
-added-stops at node [] (b ∷ bs) = refl
-added-stops at node (f ∷ fs) [] = refl
-added-stops at node (f ∷ fs) (b ∷ bs) = refl
-
+-- Between two pieces inside an element reading stops.
 pub content-stops : (at : ℕ) (frames : List Frame) (bs : List ℕ) → seek at (state content frames) bs ≡ stops at (state content frames)
 content-stops at frames [] = refl
 content-stops at frames (b ∷ bs) = refl
-
-pub add-added : (node : Nodes) (frames : List Frame) → add node frames ≡ some (added node frames)
-add-added node [] = refl
-add-added node (f ∷ fs) = refl
 
 -- NAMES.
 module _ (begin : ℕ) (frames : List Frame) where
@@ -68,7 +60,7 @@ module _ (begin : ℕ) (frames : List Frame) where
           ∙ ap (λ (v : List ℕ). seek (at + suc (runOf namePart bs)) (state (inName begin v) frames) (drop (runOf namePart bs) bs)) f)
       go false h later = rw (h, add-zero at, append-nil w, h)
 
-  -- White space in a start tag and in an end tag.
+  -- White space in a start tag.
   pub tag-gap : (at : ℕ) (w bs : List ℕ) → seek at (state (inTag begin w) frames) bs ≡ seek (at + runOf white bs) (state (inTag begin w) frames) (drop (runOf white bs) bs)
   unfolding leftOut
   tag-gap at w [] = rw (add-zero at)
@@ -97,18 +89,6 @@ module _ (begin : ℕ) (frames : List Frame) where
           (tag-gap (suc at) w bs ∙ ap (λ n. seek n (state (inTag begin w) frames) (drop (runOf white bs) bs)) e)
       go false h = rw (h, add-zero at, le-ltb at at (omega arith), h)
 
-pub end-gap : (at : ℕ) (frames : List Frame) (bs : List ℕ) → seek at (state (closing []) frames) bs ≡ seek (at + runOf white bs) (state (closing []) frames) (drop (runOf white bs) bs)
-unfolding leftOut
-end-gap at frames [] = rw (add-zero at)
-end-gap at frames (b ∷ bs) = go (white b) refl (end-gap (suc at) frames bs)
-  where
-    go : (t : Bool) → white b ≡ t → seek (suc at) (state (closing []) frames) bs ≡ seek (suc at + runOf white bs) (state (closing []) frames) (drop (runOf white bs) bs)
-        → seek at (state (closing []) frames) (b ∷ bs) ≡ seek (at + runOf white (b ∷ bs)) (state (closing []) frames) (drop (runOf white (b ∷ bs)) (b ∷ bs))
-    go true h later =
-        let e : suc at + runOf white bs ≡ at + suc (runOf white bs) = omega arith in
-        rw (h, calm-opens b bs (white-calm b h .calm)) (later ∙ ap (λ n. seek n (state (closing []) frames) (drop (runOf white bs) bs)) e)
-    go false h later = rw (h, add-zero at, h)
-
 -- THE STATES THAT WAIT IN TAGS.
 pub wait-empty : (begin at : ℕ) (name : List ℕ) (frames : List Frame) → Waits (state (emptied begin name) frames) at (eqb 62) (added (element name begin (suc at) nothing nothing) frames)
 unfolding leftOut
@@ -118,10 +98,6 @@ wait-empty begin at name frames =
       goes = λ b. rw (same-turned b 62) (ap (λ (o : Option State). cond (eqb 62 b) o none) (add-added (element name begin (suc at) nothing nothing) frames));
       opens = λ bs. refl;
     }
-
-pub wait-letter : (at x : ℕ) (xs : List ℕ) (frames : List Frame) → Waits (state (closing (x ∷ xs)) frames) at (eqb x) (state (closing xs) frames)
-unfolding leftOut
-wait-letter at x xs frames = record { unsettled = λ bs. refl; goes = λ b. rw (same-turned b x); opens = λ bs. refl }
 
 -- In a start tag, past its name: a byte opens what is left out by where it stands, or goes on with the tag.
 module _ (m : Bool) (begin at b : ℕ) (name bs : List ℕ) (frames : List Frame) (past : m ≡ false → namePart b ≡ false) where

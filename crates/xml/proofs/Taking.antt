@@ -12,7 +12,8 @@ use Rattle.paper.specs.Xml.{Frame, opening, content, closing, leftOut, leftOutA
 use Rattle.xml_bytes.specs.Seeking.{seekNext}
 use Rattle.xml_bytes.specs.Promised.{state, seekAt}
 use Rattle.xml_runs.specs.Runs.{Runs}
-use Rattle.xml.specs.Pieces.{refusedPiece, Tags, Ends, took, Takes}
+use Rattle.end_tags.specs.Renaming.{Ends}
+use Rattle.xml.specs.Pieces.{refusedPiece, Tags, took, Takes}
 use Rattle.xml_bytes.specs.declared.Reach.{Reach}
 use Rattle.xml_bytes.specs.declared.Reach.the-variants.{At, Wrong, LeftOut}
 use Rattle.xml.specs.declared.Piece.{Piece}

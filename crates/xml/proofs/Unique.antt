@@ -10,7 +10,8 @@ use Rattle.paper.specs.Tools.{runOf}
 use Rattle.paper.specs.Names.{namePart}
 use Rattle.paper.specs.Xml.{Nodes, nothing, element, chars, Frame, Mode, start, first, heading, ahead, opening, inName, inTag, emptied, content, run, partly, closing, ended, Judged, wanted, unwanted}
 use Rattle.xml_bytes.specs.Seeking.{Sought, stops, refused}
-use Rattle.xml.specs.Pieces.{nameAt, opened, took, TookBounds, Takes, tagTook, TagBounds, Roots, finished, FinishBounds, Finishes}
+use Rattle.end_tags.specs.Renaming.{nameAt}
+use Rattle.xml.specs.Pieces.{opened, took, TookBounds, Takes, tagTook, TagBounds, Roots, finished, FinishBounds, Finishes}
 use Rattle.xml.specs.declared.Cursor.{Cursor}
 use Rattle.xml_bytes.specs.declared.Reach.{Reach}
 use Rattle.xml_bytes.specs.declared.Reach.the-variants as reach

@@ -1,21 +1,21 @@
 // XML text, piece by piece: a cursor by value that takes the next tag or run of characters and hands itself back, or says why there is none.
-use names::name_part;
-use names::name_start;
+use end_tags::end_tag;
+use good_names::name_part;
+use good_names::name_start;
 use token::run_end;
 use token::skip;
 use xml_bytes::Reach;
 use xml_bytes::byte;
 use xml_bytes::markup;
 use xml_bytes::refuse;
-use xml_bytes::sooner;
 use xml_runs::run;
-ghost use Prim.Native.Nat.{ℕ, suc, _+_, _≤_, _<_};
+ghost use Prim.Native.Nat.{ℕ, suc, _≤_, _<_};
 ghost use mathlib.Core.Path.{_≡_};
 ghost use mathlib.Core.Bool.{false};
 ghost use lib.ListN.{length, getD, drop};
 ghost use Rattle.paper.specs.Xml.{xmlStart, xmlPart, leftOutAnywhere};
-ghost use Rattle.xml_bytes.specs.Blocks.{block, AllFit};
-ghost use Rattle.xml.specs.Pieces.{repeatedFrom, refusedPiece, foreignIn, EmptyEnds, Past, TagEnds, Tags, Named, Renames, Ends, Takes, Roots, Finishes};
+ghost use Rattle.end_tags.specs.Renaming.{Named};
+ghost use Rattle.xml.specs.Pieces.{refusedPiece, foreignIn, EmptyEnds, Past, TagEnds, Tags, Takes, Roots, Finishes};
 
 // Where the next piece is looked for.
 pub struct Cursor {
@@ -130,77 +130,6 @@ fn start_tag(text: &[u8], at: usize) -> Piece
     }
     let name_end = run_end(text, at + 1);
     tag_end(text, name_end, skip(text, name_end))
-}
-
-// How many bytes of a block go on with a name at `letter` and stand at `place` too, up to the first that does not. No branch, so that they are looked at together.
-fn same_block(text: &[u8], place: usize, letter: usize) -> usize
-    requires { ⌜ (place + block ≤ length (now text)) × (letter + block ≤ length (now text)) ⌝ }
-    ensures { λ r. ⌜ (r ≤ block) × AllFit (repeatedFrom (now (text .entry)) place letter) r ⌝ }
-{
-    let mut stop = xml_bytes::BLOCK;
-    let mut i: u8 = 0;
-    while i < xml_bytes::BLOCK {
-        let b = text[letter + i as usize];
-        stop = sooner(stop, i, name_part(b) & (b == text[place + i as usize]));
-        i += 1;
-    }
-    stop as usize
-}
-
-// How many letters of the name at `letter` stand at `place` too, in a block if both places have one and the name has three letters or more.
-fn same_letters(text: &[u8], place: usize, letter: usize) -> usize
-    requires { ⌜ (place ≤ length (now text)) × (letter ≤ length (now text)) ⌝ }
-    ensures { λ r. ⌜ (place + r ≤ length (now (text .entry))) × AllFit (repeatedFrom (now (text .entry)) place letter) r ⌝ }
-{
-    if text.len() < place + xml_bytes::BLOCK as usize {
-        return 0;
-    }
-    if text.len() < letter + xml_bytes::BLOCK as usize {
-        return 0;
-    }
-    if !name_part(text[letter + 2]) {
-        return 0;
-    }
-    same_block(text, place, letter)
-}
-
-// The name of the element that begins at `inner` must come again.
-fn same_name(text: &[u8], at: usize, inner: usize) -> Reach
-    requires { ⌜ (at ≤ length (now text)) × Named (now text) inner ⌝ }
-    ensures { λ r. ⌜ Renames (now (text .entry)) at inner r ⌝ }
-{
-    let passed = same_letters(text, at, inner + 1);
-    let mut place = at + passed;
-    let mut letter = inner + 1 + passed;
-    while name_part(text[letter]) {
-        let one = byte(text, place, text[letter]);
-        let Reach::At(next) = one else {
-            return one;
-        };
-        place = next;
-        letter += 1;
-    }
-    Reach::At(place)
-}
-
-// An end tag, past the `</`.
-fn end_tag(text: &[u8], at: usize, inner: usize) -> Reach
-    requires { ⌜ (at ≤ length (now text)) × Named (now text) inner ⌝ }
-    ensures { λ r. ⌜ Ends (now (text .entry)) at inner r ⌝ }
-{
-    let named = same_name(text, at, inner);
-    let Reach::At(name_end) = named else {
-        return named;
-    };
-    let place = skip(text, name_end);
-    if text.len() <= place {
-        return Reach::Wrong(place);
-    }
-    if text[place] == b'>' {
-        Reach::At(place + 1)
-    } else {
-        refuse(text, place)
-    }
 }
 
 // PIECES.

@@ -13,7 +13,8 @@ use Rattle.paper.specs.Names.{namePart, namesOf, numberFrom, numberOf}
 use Rattle.paper.specs.Xml.{Row, row, named, kindBy, lacks, unnamed}
 use Rattle.paper.proofs.Tests.{none-some, some-inj}
 use Rattle.paper.proofs.Searches.{length-column}
-use Rattle.names.specs.Listing.{said, foundAt, Indexed}
+use Rattle.name_lines.specs.Lines.{said}
+use Rattle.names.specs.Listing.{foundAt, Indexed}
 use Rattle.names.specs.declared.Found.{Found}
 use Rattle.names.specs.declared.Found.the-variants.{At, Nothing}
 use Rattle.xml.specs.Pieces.{nameAt}

@@ -14,10 +14,10 @@ use Rattle.paper.specs.Xml.{Nodes, nothing, element, chars, Mode, start, first,
 use Rattle.paper.specs.Answers.{Answer, value, line, tooLong, lineXml, shortOfNodes, readXmlLast, readXmlAnswer}
 use Rattle.paper.proofs.Tests.{none-some, some-inj}
 use Rattle.paper.proofs.Refusing.{or-none}
-use Rattle.theorems.specs.Bounds.{Small}
-use Rattle.theorems.proofs.Seeing.{chosen}
-use Rattle.theorems.proofs.NameBounds.{fault-within}
-use Rattle.theorems.proofs.Bounds.{small-line, small-when, small-room}
+use Rattle.answer_bounds.specs.Bounds.{Small}
+use Rattle.query_grammar.proofs.Seeing.{chosen}
+use Rattle.answer_bounds.proofs.NameBounds.{fault-within}
+use Rattle.answer_bounds.proofs.Bounds.{small-line, small-when, small-room}
 use Rattle.xml_theorems.specs.Tables.{Nested}
 use Rattle.xml_theorems.proofs.Nesting.{tree-nests}
 

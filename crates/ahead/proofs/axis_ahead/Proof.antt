@@ -1,5 +1,5 @@
 -- `ahead::axis_ahead` meets its contract: a word, `::` and the name of an axis. Assumes nothing.
-use Rattle.ahead.proofs.Lexed.{none-letters, word-letters, word-past, word-inside}
+use Rattle.marks.proofs.Lexed.{none-letters, word-letters, word-past, word-inside}
 use Rattle.ahead.proofs.Words.{unnamed, no-colons, no-axis-word, axis-there}
 use borrow.Author.Needs.{needs}
 use Rattle.ahead.proofs.axis_ahead.Statement.{statement}

@@ -1,5 +1,5 @@
 -- `ahead::starts_step` meets its contract: the four sorts are compared. Assumes nothing.
-use Rattle.ahead.proofs.Lexed.{taken-sort}
+use Rattle.marks.proofs.Lexed.{taken-sort}
 use borrow.Author.Needs.{needs}
 use Rattle.ahead.proofs.starts_step.Statement.{statement}
 use Rattle.ahead.proofs.starts_step.Tie as tie

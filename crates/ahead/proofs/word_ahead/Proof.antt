@@ -1,5 +1,5 @@
 -- `ahead::word_ahead` meets its contract: a word's letters are compared, and nothing else has letters. Assumes nothing.
-use Rattle.ahead.proofs.Lexed.{none-letters, no-same, word-letters, word-past, word-inside, taken-at}
+use Rattle.marks.proofs.Lexed.{none-letters, no-same, word-letters, word-past, word-inside, taken-at}
 use mathlib.Core.Path.{sym, _∙_}
 use borrow.Author.Needs.{needs}
 use Rattle.ahead.proofs.word_ahead.Statement.{statement}

@@ -1,7 +1,6 @@
 -- `compose::compose` meets its contract: each return is the first line of the table that holds, and past line 6 the axes of the outer items decide. Assumes nothing.
 use Prim.Native.Nat.{ℕ, _≤_}
 use native.Mathlib.Omega.{arith}
-use mathlib.Core.Path.{_≡_}
 use mathlib.Core.List.{List}
 use denote.Ref.{now}
 use lib.ListN.{length}
@@ -10,7 +9,8 @@ use Rattle.paper.specs.Composition.{composed}
 use Rattle.paper.specs.Answers.{composeAnswer, composeOut}
 use Rattle.paper.specs.Lean.{byAxis, composedBy}
 use Rattle.lean_theorems.proofs.Decided.{by-axis}
-use Rattle.compose.specs.Pieces.{Says, Nests}
+use Rattle.composed.specs.Pieces.{Says}
+use Rattle.compose.specs.Pieces.{Nests}
 use Rattle.compose.proofs.Answering.{shape-none, Shaped, shape-some, inner-nests, own-axes, own-nests, refused, same-way}
 use Rattle.compose.proofs.Answering.{line-1-outer, line-1-inner, line-6-outer, line-6-inner}
 use borrow.Author.Needs.{needs}

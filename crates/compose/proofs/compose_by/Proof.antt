@@ -6,7 +6,8 @@ use mathlib.Core.List.{List}
 use denote.Ref.{now}
 use lib.ListN.{length}
 use Rattle.paper.specs.Lean.{composedBy}
-use Rattle.compose.specs.Pieces.{Says, Nests}
+use Rattle.composed.specs.Pieces.{Says}
+use Rattle.compose.specs.Pieces.{Nests}
 use Rattle.compose.proofs.Answering.{inner-query, outer-shallow, inner-shallow, refused, accepted, number-is, line-9, Ending, ending}
 use borrow.Author.Needs.{needs}
 use Rattle.compose.proofs.compose_by.Statement.{statement}

@@ -8,7 +8,8 @@ use lib.ListN.{length, take, length-replicate}
 use lib.Seq.{length-take-le}
 use Rattle.paper.specs.Limits.{itemLimit}
 use Rattle.paper.specs.Lean.{composeLeanAnswer, composeLeanOut}
-use Rattle.compose.specs.Pieces.{Says, Nests}
+use Rattle.composed.specs.Pieces.{Says}
+use Rattle.compose.specs.Pieces.{Nests}
 use Rattle.compose_lean.proofs.Saying.{Marked, copy-marked, marked-says, marked-nests}
 use borrow.Author.Needs.{needs}
 use Rattle.compose_lean.proofs.compose_marked.Statement.{statement}

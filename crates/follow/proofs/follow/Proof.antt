@@ -36,31 +36,28 @@ returns c =
       refused-marks (now (a .query)) t (now (a .given)) (now (a .marks)) (said .result) (c .match .keys2) (said .ensures),
     )
 
-slice-aggregate-keep : tie.Need-slice-aggregate-keep
-slice-aggregate-keep c = search needs
-
-keep-requires : tie.Need-keep-requires
-keep-requires c κs =
-    let told-so = c .before .before in
+mark-kept-requires : tie.Need-mark-kept-requires
+mark-kept-requires c κs =
+    let told-so = c .before in
     let a = begun told-so .args in
     let ok = agreed told-so in
     (searchable (now (a .query)) (now (a .parent)) (now (a .kind)) (now (a .given)) (length (now (a .marks))) ok, (ok .agree .marks-all, omega (arith, ok .agree .items-few), (ok .query-is, ok .decodes)))
 
 count-requires : tie.Need-count-requires
 count-requires c κs =
-    let ok = agreed (c .before .before .before .before .before .before .before) in
-    omega (arith, c .before .before .before .before .keep .kept .1 .1 .1 .1 .0, ok .agree .marks-all, ok .agree .nodes-few)
+    let ok = agreed (c .before .before .before .before .before) in
+    omega (arith, c .before .before .before .mark-kept .kept .1 .1 .1 .1 .0, ok .agree .marks-all, ok .agree .nodes-few)
 
 same-length : tie.Need-same-length
 same-length c = search needs
 
 returns-2 : tie.Need-returns-2
 returns-2 c =
-    let told-so = c .before .before .before .before .before .before .before .before in
+    let told-so = c .before .before .before .before .before .before in
     let a = begun told-so .args in
     let t = tableOf (now (a .parent)) (now (a .kind)) in
     let ok = agreed told-so in
-    let done = c .before .before .before .before .before .keep in
+    let done = c .before .before .before .before .mark-kept in
     let marks1 = done .last .1 .1 .1 .1 .0 in
     let same : marks1 ≡ kept t (now (a .given)) (ok .query-is) = done .ensures (ok .query-is) (ok .decodes) in
     let many : length marks1 ≡ length (now (a .parent)) = done .kept .1 .1 .1 .1 .0 ∙ ok .agree .marks-all in (
@@ -75,8 +72,7 @@ follow-spec =
     judge-requires
     enum-told
     returns
-    slice-aggregate-keep
-    keep-requires
+    mark-kept-requires
     count-requires
     same-length
     returns-2)

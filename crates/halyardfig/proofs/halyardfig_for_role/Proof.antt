@@ -44,19 +44,20 @@ use Rattle.paper.specs.Roles.{roleAnswer, roleOut}
 use Rattle.paper.specs.declared.Answer.{Answer}
 use Rattle.paper.proofs.Answer as E
 use Rattle.paper.proofs.Answer.Laws as E′
-use Rattle.theorems.specs.Bounds.{Small}
+use Rattle.answer_bounds.specs.Bounds.{Small}
 use Rattle.role_theorems.proofs.Small.{role-small}
-use Rattle.halyardfig.specs.Codes.{codeOf}
+use Rattle.code.specs.Codes.{codeOf}
+use Rattle.code.proofs.Coding.{Codes}
 use Rattle.roles.specs.declared.Role.{Role}
 use Rattle.roles.proofs.Role as T
 use Rattle.roles.proofs.for_role as role
 use Rattle.roles.proofs.for_role.Symbol as role-def
 use Rattle.roles.proofs.for_role.Symbol.{name as #roles·for-role}
 use Rattle.roles.proofs.for_role.Met as role-thm
-use Rattle.halyardfig.proofs.code as coding
-use Rattle.halyardfig.proofs.code.Symbol as coding-def
-use Rattle.halyardfig.proofs.code.Symbol.{name as #halyardfig·code}
-use Rattle.halyardfig.proofs.code.Met as coding-thm
+use Rattle.code.proofs.code as coding
+use Rattle.code.proofs.code.Symbol as coding-def
+use Rattle.code.proofs.code.Symbol.{name as #code·code}
+use Rattle.code.proofs.code.Met as coding-thm
 use Rattle.halyardfig.proofs.halyardfig_for_role.Key.{name as #halyardfig·halyardfig-for-role}
 use Rattle.halyardfig.proofs.halyardfig_for_role as outside
 use Rattle.halyardfig.proofs.halyardfig_for_role.Statement as stated
@@ -169,15 +170,15 @@ module _ {M : Type 1} (𝓤 : URA M) (H : Heap 𝓤) (A : Atoms 𝓤) (W : Given
     asked₂ : ent 𝓤 (⋆ 𝓤 H A (‵ (E.the-row .own r (u ∷ [])) ∷ [])) (Coded 𝓤 H A mem run .pre to₂)
     asked₂ = qed W (‵ (E.the-row .own r (u ∷ [])) ∷ []) ∵ nothing ! $ nothing ! $ move ! (2 ∷ 0 ∷ []) $ fjoin ! $ move ! (1 ∷ 0 ∷ []) $ join ! $ frame ! $ done !
 
-    counted : (c : ℕ) → ent 𝓤 (ensured 𝓤 H A coding.ended (coding.clauses 𝓤 H A mem run) tt (r, tt) tt c) (fact 𝓤 (Small (told r) → c ≡ codeOf (told r)))
-    counted c = exE 𝓤 _ (λ ws. snd∗ 𝓤 (sem 𝓤 H A (lasts coding.ended tt (r, tt) ws)) (fact 𝓤 (Small (told r) → c ≡ codeOf (told r))))
+    counted : (c : ℕ) → ent 𝓤 (ensured 𝓤 H A coding.ended (coding.clauses 𝓤 H A mem run) tt (r, tt) tt c) (fact 𝓤 (Codes (told r) c))
+    counted c = exE 𝓤 _ (λ ws. snd∗ 𝓤 (sem 𝓤 H A (lasts coding.ended tt (r, tt) ws)) (fact 𝓤 (Codes (told r) c)))
 
     -- the answer is small, so its number is what is to be shown
-    shown : (c : ℕ) (zs : List ℕ) → (Small (told r) → c ≡ codeOf (told r)) → Ensured r zs
+    shown : (c : ℕ) (zs : List ℕ) → Codes (told r) c → Ensured r zs
         → (c ≡ codeOf (roleAnswer (s₀ .now) (s₁ .now) (masks (s₂ .now)) n (s₃ .now) (length ys))) × (zs ≡ roleOut (s₀ .now) (s₁ .now) (masks (s₂ .now)) n (s₃ .now) ys)
-    shown c zs s (f, g) = (s (subst Small (sym f) (role-small (s₀ .now) (s₁ .now) (masks (s₂ .now)) n (s₃ .now) (length ys) (omega (arith, n-fits)))) ∙ ap codeOf f, g)
+    shown c zs s (f, g) = (s .0 (subst Small (sym f) (role-small (s₀ .now) (s₁ .now) (masks (s₂ .now)) n (s₃ .now) (length ys) (omega (arith, n-fits)))) ∙ ap codeOf f, g)
 
-    exits : (c : ℕ) (w : Val) (zs : List ℕ) → (Small (told r) → c ≡ codeOf (told r)) → Ensured r zs → length zs ≡ length ys
+    exits : (c : ℕ) (w : Val) (zs : List ℕ) → Codes (told r) c → Ensured r zs → length zs ≡ length ys
         → ent 𝓤 (⋆ 𝓤 H A (tokens ∷ ‵ (finally u32 γ zs) ∷ ‵ (u64 .own c (w ∷ [])) ∷ ‵ Owned ∷ [])) (Post w)
     exits c w zs s e l =
         qed W (tokens ∷ ‵ (finally u32 γ zs) ∷ ‵ (u64 .own c (w ∷ [])) ∷ ‵ Owned ∷ []) ∵
@@ -187,7 +188,7 @@ module _ {M : Type 1} (𝓤 : URA M) (H : Heap 𝓤) (A : Atoms 𝓤) (W : Given
         move ! (0 ∷ 5 ∷ []) $ fjoin ! $ owned ! u32 (Is u32) (uint-makes 𝓤 H A W w32) n _ (refl, n-fits) $ fjoin ! $ move ! (2 ∷ 0 ∷ []) $ fjoin ! $ move ! (2 ∷ 0 ∷ []) $ fjoin ! $ move ! (2 ∷ 0 ∷ []) $ fjoin ! $
         move ! (1 ∷ []) $ drop ! $ done !
 
-  module _ (C : Calls 𝓤 H) (Λ : Loops 𝓤 H) (fm : FmC 𝓤 H (W .laws) C) (known₁ : Triple 𝓤 (C #roles·for-role) (ForRole 𝓤 H A mem run)) (known₂ : Triple 𝓤 (C #halyardfig·code) (Coded 𝓤 H A mem run)) where
+  module _ (C : Calls 𝓤 H) (Λ : Loops 𝓤 H) (fm : FmC 𝓤 H (W .laws) C) (known₁ : Triple 𝓤 (C #roles·for-role) (ForRole 𝓤 H A mem run)) (known₂ : Triple 𝓤 (C #code·code) (Coded 𝓤 H A mem run)) where
     walk : Is (ShrSlice (named 0) κ₀ u8) s₀ (v₀ ∷ [])
         → Is (ShrSlice (named 1) κ₁ u8) s₁ (v₁ ∷ [])
         → Is (ShrSlice (named 2) κ₂ T.the-row) s₂ (v₂ ∷ [])
@@ -218,7 +219,7 @@ module _ {M : Type 1} (𝓤 : URA M) (H : Heap 𝓤) (A : Atoms 𝓤) (W : Given
         use1 W (raw (Coded 𝓤 H A mem run .pre (to₂ r u))) (asked₂ r u) $
         calls-at ! fm (Coded 𝓤 H A mem run) known₂ (to₂ r u) (and-then ! (load ! (from ! (stop !)) (look ! 14 refl)) (no-more !)) (λ w.
         use1 W (later (some (λ (c : ℕ). (‵ ftrue ⊛ ‵ (u64 .own c (w ∷ []))) ⊛ raw (ensured 𝓤 H A coding.ended (coding.clauses 𝓤 H A mem run) tt (r, tt) tt c)))) (id⊢ 𝓤 _) $ await ! tt $ pick ! (λ c.
-        split ! $ move ! (1 ∷ []) $ use1 W (raw (fact 𝓤 (Small (told r) → c ≡ codeOf (told r)))) (counted r u c) $ heard ! (Small (told r) → c ≡ codeOf (told r)) (λ s. split ! $ drop ! $
+        split ! $ move ! (1 ∷ []) $ use1 W (raw (fact 𝓤 (Codes (told r) c))) (counted r u c) $ heard ! (Codes (told r) c) (λ s. split ! $ drop ! $
         -- [the number; the tokens; the last list; true, six times; what the shared slices own; _9; …]
         peeks ! u64 (Is u64) (shows 𝓤 H A u64) c (w ∷ []) (λ is′.
         land ! (from ! (stop !)) (init ! 28 refl (uint-lawful 𝓤 H A W w64 .typed c _ is′ .0)) $
@@ -227,7 +228,7 @@ module _ {M : Type 1} (𝓤 : URA M) (H : Heap 𝓤) (A : Atoms 𝓤) (W : Given
         keep ! (1 ∷ 2 ∷ 0 ∷ 9 ∷ []) $ by ! (exits r u c w (zs .1 .1 .1 .1 .1 .0) s e l)))))))))))))))))))))
 
 module _ {M : Type 1} (𝓤 : URA M) (H : Heap 𝓤) (A : Atoms 𝓤) (W : Given 𝓤 H A) (mem : Memory → SProp 𝓤) (run : Routine → Fun 𝓤) where
-  halyardfig-for-role-walks : (C : Calls 𝓤 H) (Λ : Loops 𝓤 H) → FmC 𝓤 H (W .laws) C → Triple 𝓤 (C #roles·for-role) (ForRole 𝓤 H A mem run) → Triple 𝓤 (C #halyardfig·code) (Coded 𝓤 H A mem run)
+  halyardfig-for-role-walks : (C : Calls 𝓤 H) (Λ : Loops 𝓤 H) → FmC 𝓤 H (W .laws) C → Triple 𝓤 (C #roles·for-role) (ForRole 𝓤 H A mem run) → Triple 𝓤 (C #code·code) (Coded 𝓤 H A mem run)
       → Walks 𝓤 H A outside.ended stayed (WpFn 𝓤 H C Λ code.function) (outside.clauses 𝓤 H A mem run)
   halyardfig-for-role-walks C Λ fm known₁ known₂ = walked 𝓤 H A outside.ended stayed (outside.clauses 𝓤 H A mem run) (WpFn 𝓤 H C Λ code.function)
       (λ κs. (slice-vals, (slice-vals, (slice-vals, (uint-vals w32, (slice-vals, (slice-vals, tt)))))))
@@ -238,7 +239,7 @@ module _ {M : Type 1} (𝓤 : URA M) (H : Heap 𝓤) (A : Atoms 𝓤) (W : Given
       (are .1 .1 .1 .0 .1) C Λ fm known₁ known₂ (are .0) (are .1 .0) (are .1 .1 .0) (are .1 .1 .1 .1 .0) (are .1 .1 .1 .1 .1 .0)))
 
 halyardfig-for-role-meets : {M : Type 1} (𝓤 : URA M) (H : Heap 𝓤) (A : Atoms 𝓤) → Given 𝓤 H A → (mem : Memory → SProp 𝓤) (run : Routine → Fun 𝓤) (𝓣 : Tables 𝓤 H)
-    → Triple 𝓤 (𝓣 .C #roles·for-role) (ForRole 𝓤 H A mem run) → Triple 𝓤 (𝓣 .C #halyardfig·code) (Coded 𝓤 H A mem run)
+    → Triple 𝓤 (𝓣 .C #roles·for-role) (ForRole 𝓤 H A mem run) → Triple 𝓤 (𝓣 .C #code·code) (Coded 𝓤 H A mem run)
     → Meets 𝓤 H A outside.signature (WpFn 𝓤 H (𝓣 .C) (𝓣 .Λ) code.function) (outside.spec 𝓤 H A mem run)
 halyardfig-for-role-meets 𝓤 H A W mem run 𝓣 known₁ known₂ =
     walk-meets 𝓤 H A outside.ended stayed W (goes-none-slice 𝓤 H A W 5 (0 ∷ []) tt (plain (λ _. u8)) yes, (goes-none-slice 𝓤 H A W 5 (1 ∷ []) tt (plain (λ _. u8)) yes, (goes-none-slice 𝓤 H A W 5 (2 ∷ []) tt (plain (λ _. T.the-row)) yes, (goes-none 𝓤 H A W 5 (λ _. u32) yes (λ κs x f. refl), (goes-none-slice 𝓤 H A W 5 (3 ∷ []) tt (plain (λ _. u8)) yes, (goes-gave-slice 𝓤 H A W 5 4 tt (plain (λ _. u32)), tt)))))) (outside.clauses 𝓤 H A mem run)
@@ -251,4 +252,4 @@ halyardfig-for-role-spec 𝓤 H 𝓜 𝓖 𝓡 =
     (tables 𝓤 H 𝓜 𝓡 code.env .C) (tables 𝓤 H 𝓜 𝓡 code.env .Λ) #halyardfig·halyardfig-for-role code.function (code.unfolded 𝓤 H 𝓜 𝓡)
     (halyardfig-for-role-meets 𝓤 H (𝓖 .A) (givenOf 𝓤 H 𝓜 𝓖) (𝓜 .mem) (𝓡 .run) (tablesOf 𝓤 H 𝓜 (tables 𝓤 H 𝓜 𝓡 code.env))
     (cited 𝓤 H (ForRole 𝓤 H (𝓖 .A) (𝓜 .mem) (𝓡 .run)) 𝓜 𝓡 code.env #roles·for-role role-def.routine code.calls-roles·for-role (role-thm.met 𝓤 H 𝓜 𝓖 𝓡))
-    (cited 𝓤 H (Coded 𝓤 H (𝓖 .A) (𝓜 .mem) (𝓡 .run)) 𝓜 𝓡 code.env #halyardfig·code coding-def.routine code.calls-halyardfig·code (coding-thm.met 𝓤 H 𝓜 𝓖 𝓡)))
+    (cited 𝓤 H (Coded 𝓤 H (𝓖 .A) (𝓜 .mem) (𝓡 .run)) 𝓜 𝓡 code.env #code·code coding-def.routine code.calls-code·code (coding-thm.met 𝓤 H 𝓜 𝓖 𝓡)))

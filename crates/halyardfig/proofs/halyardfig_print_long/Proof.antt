@@ -1,7 +1,7 @@
 -- `halyardfig_print_long` meets its contract: the code of what `print::print_long` answers, which is small, and what that writes. Assumes nothing.
 use borrow.Author.Needs.{needs}
-use Rattle.theorems.proofs.Bounds.{print-small}
-use Rattle.halyardfig.proofs.Coding.{coded}
+use Rattle.answer_bounds.proofs.Bounds.{print-small}
+use Rattle.code.proofs.Coding.{coded}
 use Rattle.halyardfig.proofs.halyardfig_print_long.Statement.{statement}
 use Rattle.halyardfig.proofs.halyardfig_print_long.Tie as tie
 
@@ -17,7 +17,7 @@ same-length c = search needs
 returns : tie.Need-returns
 returns c =
     let said = c .before .before .before .print-long .ensures in
-    (coded (said .0) (print-small _ _ _ _) (c .code .ensures), said .1)
+    (coded (said .0) (print-small _ _ _ _) (c .code .ensures .0), said .1)
 
 pub halyardfig-print-long-spec : {M : Type 1} → statement M
 halyardfig-print-long-spec = tie.close (tie.spec print-long-requires code-requires same-length returns)

@@ -1,5 +1,5 @@
 -- `halyardfig_read_xml` meets its contract: the code of what `read_xml::read_xml` answers, which is small, and what that writes. Assumes nothing.
-use Rattle.halyardfig.proofs.Coding.{coded}
+use Rattle.code.proofs.Coding.{coded}
 use Rattle.halyardfig.proofs.halyardfig_read_xml.Statement.{statement}
 use Rattle.halyardfig.proofs.halyardfig_read_xml.Tie as tie
 use Rattle.paper.specs.Answers.{readXmlColumn, parentField, kindField, beginField, endField}
@@ -35,7 +35,7 @@ returns c =
     let call = c .before .before .before .before .before .before .before .before .before in
     let said = call .read-xml .ensures in
     let a = begun call .args in (
-      coded (said .0) (read-xml-small _ _ _ _ _ _) (c .code .ensures),
+      coded (said .0) (read-xml-small _ _ _ _ _ _) (c .code .ensures .0),
       (
         said .1 .0 ∙ ap (λ answer. readXmlColumn parentField (now (a .text)) answer (now (a .parent))) (said .0),
         (

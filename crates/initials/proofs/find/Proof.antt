@@ -5,7 +5,8 @@ use Rattle.initials.proofs.find.Statement.{statement}
 use Rattle.initials.proofs.find.Tie as tie
 use Rattle.initials.specs.Chains.{bytesCount}
 use Rattle.names.proofs.Parts.{number-first}
-use Rattle.names.specs.Listing.{said, Indexed}
+use Rattle.name_lines.specs.Lines.{said}
+use Rattle.names.specs.Listing.{Indexed}
 use Rattle.paper.specs.Tools.{same, when}
 use borrow.Author.Needs.{needs}
 use borrow.Author.Tests.{lt-ltb, le-ltb}

@@ -22,7 +22,8 @@ use Rattle.paper.specs.Composition.{turned}
 use Rattle.paper.specs.Document.{marked, tableOf}
 use Rattle.sets.specs.Sets.{bits, image}
 use Rattle.paper.specs.Measures.{heightExpr, heightPreds}
-use Rattle.keep.specs.Evals.{Fits, Known, Narrows}
+use Rattle.places.specs.Standing.{Known}
+use Rattle.keep.specs.Evals.{Fits, Narrows}
 use Rattle.keep.proofs.Slices.{part-length, first-stays, second-comes, length-stays, front-is, front-back, front-length}
 use Rattle.keep.proofs.Running.{one-fits, Turn, turn-start, turn-fits, turn-room, turn-held, turn-base, turn-onward, turn-and, turn-or, turn-done}
 use Rattle.keep.proofs.Operating.{operand-there, operand-room, not-deep, path-fits, path-set, opens-joined, opens-not, closes-joined, closes-not, must-join}
@@ -45,11 +46,11 @@ use Rattle.keep.proofs.predicates.Kinds as predicates-kinds
 use Rattle.keep.proofs.+expression+operand+path+predicates.Lts-predicates as predicates-lts
 use Rattle.item.proofs.turn.Reads as turn-reads
 use Rattle.item.proofs.unpack.Reads as unpack-reads
-use Rattle.keep.proofs.look.Reads as look-reads
-use Rattle.keep.proofs.look_first.Reads as look-first-reads
+use Rattle.places.proofs.look.Reads as look-reads
+use Rattle.places.proofs.look_first.Reads as look-first-reads
 use Rattle.keep.proofs.narrow.Reads as narrow-reads
 use Rattle.spread.proofs.restrict.Reads as restrict-reads
-use Rattle.keep.proofs.step_at.Reads as step-at-reads
+use Rattle.places.proofs.step_at.Reads as step-at-reads
 use Rattle.keep.proofs.widen.Reads as widen-reads
 use Rattle.axes.proofs.along.Reads as along-reads
 use Rattle.sets.proofs.fill.Reads as fill-reads

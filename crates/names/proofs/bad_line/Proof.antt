@@ -7,9 +7,10 @@ use mathlib.Core.Path.{sym, _∙_}
 use lib.ListN.{take, drop}
 use Rattle.paper.proofs.Same.{part-length}
 use Rattle.paper.proofs.Lines.{bad-name, bad-long, bad-open, bad-many, bad-repeat}
-use Rattle.names.specs.Listing.{earlier, lineTo}
-use Rattle.names.proofs.Parts.{earlier-length}
-use Rattle.names.proofs.Keys.{name-length}
+use Rattle.name_keys.specs.Keys.{earlier}
+use Rattle.names.specs.Listing.{lineTo}
+use Rattle.name_keys.proofs.Earlier.{earlier-length}
+use Rattle.names.proofs.Parts.{name-length}
 use Rattle.names.proofs.bad_line.Statement.{statement}
 use Rattle.names.proofs.bad_line.Tie as tie
 

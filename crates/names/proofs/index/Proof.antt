@@ -8,7 +8,8 @@ use mathlib.Core.Path.{_≡_, sym, _∙_}
 use lib.ListN.{length, set, length-set}
 use lib.Seq.{getD-set-same}
 use Rattle.paper.specs.Limits.{namesLimit}
-use Rattle.names.specs.Listing.{Keyed, startsCount}
+use Rattle.name_keys.specs.Keys.{Keyed}
+use Rattle.name_lines.specs.Lines.{startsCount}
 use Rattle.names.proofs.Upto.{Upto, at-first, since-entry, at-last, at-fault, at-next, room, has-key, keyed-next}
 use Rattle.names.proofs.index.Statement.{statement}
 use Rattle.names.proofs.index.Tie as tie

@@ -4,8 +4,8 @@ use mathlib.Core.Path.{sym, _∙_, ap}
 use mathlib.Core.List.{[]}
 use lib.ListN.{getD}
 use Rattle.paper.proofs.Searches.{column-at}
-use Rattle.names.specs.Listing.{bytesOf, said}
-use Rattle.names.proofs.Parts.{part-room}
+use Rattle.name_lines.specs.Lines.{bytesOf, said}
+use Rattle.name_lines.proofs.Parts.{part-room}
 use Rattle.names.proofs.spell.Statement.{statement}
 use Rattle.names.proofs.spell.Tie as tie
 

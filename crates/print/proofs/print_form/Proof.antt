@@ -78,13 +78,13 @@ ready c =
     }
 
 none-unknown : (c : tie.Else3) → unknownFrom (c .before .before .before .before .before .before .listed2 .given .0 .0) 0 (now (c .before .before .before .before .before .before .before .before .before .before .before .before .before .before .before .args .query)) ≡ none
-none-unknown c = c .before .first-unknown .ensures ∙ ap (λ b. when b (c .before .first-unknown .result)) (le-ltb _ _ (c .if3 .left))
+none-unknown c = c .before .first-unknown .ensures .0 ∙ ap (λ b. when b (c .before .first-unknown .result)) (le-ltb _ _ (c .if3 .left))
 
 returns-5 : tie.Need-returns-5
 returns-5 c =
     let a = c .before .before .before .before .before .before .before .before .before .before .before .before .before .before .before .args in
     refuses (a .brief) (now (a .query)) (now (a .list)) (now (a .out)) 5 _
-    (unknown-name (a .brief) (now (a .query)) (now (a .list)) (now (a .out)) (c .before .before .before .before .before .before .before .before .index .last .1 .0) (c .before .before .before .before .before .before .listed2 .given .0 .0) (ready (c .before)) _ (c .before .first-unknown .ensures ∙ ap (λ b. when b (c .before .first-unknown .result)) (lt-ltb _ _ (c .if3 .taken))))
+    (unknown-name (a .brief) (now (a .query)) (now (a .list)) (now (a .out)) (c .before .before .before .before .before .before .before .before .index .last .1 .0) (c .before .before .before .before .before .before .listed2 .given .0 .0) (ready (c .before)) _ (c .before .first-unknown .ensures .0 ∙ ap (λ b. when b (c .before .first-unknown .result)) (lt-ltb _ _ (c .if3 .taken))))
 
 slice-relend-prefix-paths : tie.Need-slice-relend-prefix-paths
 slice-relend-prefix-paths c = search needs

@@ -42,14 +42,14 @@ use denote.Signature.{Slot, plain, mutSlice, namedLft}
 use denote.Signature.Struct.{structAt, inStruct, makes}
 use Rattle.paper.specs.WriteXml.{keptXml}
 use Rattle.pen.specs.Putting.{Puts}
-use Rattle.put_xml.specs.Writing.{Lent}
+use Rattle.put_kept.specs.Lending.{Lent}
 use Rattle.put_xml.specs.declared.Pen.{Pen}
 use Rattle.put_xml.proofs.Pen as T
 use Rattle.put_xml.proofs.Pen.Laws as T′
-use Rattle.put_xml.proofs.put_kept as put-kept
-use Rattle.put_xml.proofs.put_kept.Symbol as put-kept-def
-use Rattle.put_xml.proofs.put_kept.Symbol.{name as #put-xml·put-kept}
-use Rattle.put_xml.proofs.put_kept.Met as put-kept-thm
+use Rattle.put_kept.proofs.put_kept as put-kept
+use Rattle.put_kept.proofs.put_kept.Symbol as put-kept-def
+use Rattle.put_kept.proofs.put_kept.Symbol.{name as #put-kept·put-kept}
+use Rattle.put_kept.proofs.put_kept.Met as put-kept-thm
 use Rattle.put_xml.proofs.keep.Key.{name as #put-xml·keep}
 use Rattle.put_xml.proofs.keep as keeps
 use Rattle.put_xml.proofs.keep.Statement as stated
@@ -213,7 +213,7 @@ module _ {M : Type 1} (𝓤 : URA M) (H : Heap 𝓤) (A : Atoms 𝓤) (W : Given
       -- [what the last shared slice owns; true; the others; what is had of the pen]
       move ! (0 ∷ 7 ∷ []) $ fjoin ! $ move ! (2 ∷ 0 ∷ []) $ fjoin ! $ move ! (2 ∷ 0 ∷ []) $ fjoin ! $ move ! (2 ∷ 0 ∷ []) $ fjoin ! $ move ! (2 ∷ 0 ∷ []) $ fjoin ! $ move ! (2 ∷ 0 ∷ []) $ fjoin ! $ move ! (1 ∷ []) $ drop ! $ done !
 
-  module _ (C : Calls 𝓤 H) (Λ : Loops 𝓤 H) (fm : FmC 𝓤 H (W .laws) C) (known : Triple 𝓤 (C #put-xml·put-kept) (PutKept 𝓤 H A mem run)) where
+  module _ (C : Calls 𝓤 H) (Λ : Loops 𝓤 H) (fm : FmC 𝓤 H (W .laws) C) (known : Triple 𝓤 (C #put-kept·put-kept) (PutKept 𝓤 H A mem run)) where
     walk : Is (ShrSlice (named 0) κ₀ u8) s₀ (v₀ ∷ [])
         → Is (ShrSlice (named 1) κ₁ u16) s₁ (v₁ ∷ [])
         → Is (ShrSlice (named 2) κ₂ u16) s₂ (v₂ ∷ [])
@@ -251,14 +251,14 @@ module _ {M : Type 1} (𝓤 : URA M) (H : Heap 𝓤) (A : Atoms 𝓤) (W : Given
         keep ! (1 ∷ 2 ∷ 0 ∷ 10 ∷ []) $ by ! (exits r w (zs .1 .1 .1 .1 .1 .1 .0) e l))))))))))))))))))
 
 module _ {M : Type 1} (𝓤 : URA M) (H : Heap 𝓤) (A : Atoms 𝓤) (W : Given 𝓤 H A) (mem : Memory → SProp 𝓤) (run : Routine → Fun 𝓤) where
-  keep-walks : (C : Calls 𝓤 H) (Λ : Loops 𝓤 H) → FmC 𝓤 H (W .laws) C → Triple 𝓤 (C #put-xml·put-kept) (PutKept 𝓤 H A mem run) → Walks 𝓤 H A keeps.ended stayed (WpFn 𝓤 H C Λ code.function) (keeps.clauses 𝓤 H A mem run)
+  keep-walks : (C : Calls 𝓤 H) (Λ : Loops 𝓤 H) → FmC 𝓤 H (W .laws) C → Triple 𝓤 (C #put-kept·put-kept) (PutKept 𝓤 H A mem run) → Walks 𝓤 H A keeps.ended stayed (WpFn 𝓤 H C Λ code.function) (keeps.clauses 𝓤 H A mem run)
   keep-walks C Λ fm known = walked 𝓤 H A keeps.ended stayed (keeps.clauses 𝓤 H A mem run) (WpFn 𝓤 H C Λ code.function)
       (λ κs. (slice-vals, (slice-vals, (slice-vals, (slice-vals, (slice-vals, (slice-vals, (LL.vals (T.the-type (namedLft 7 6 tt κs)) (T′.the-laws (namedLft 7 6 tt κs)), tt)))))))) (λ κs. (shr-slice-tells (named 0) (κs .0) u8, (shr-slice-tells (named 1) (κs .1 .0) u16, (shr-slice-tells (named 2) (κs .1 .1 .0) u16, (shr-slice-tells (named 3) (κs .1 .1 .1 .0) u16, (shr-slice-tells (named 4) (κs .1 .1 .1 .1 .0) u16, (shr-slice-tells (named 5) (κs .1 .1 .1 .1 .1 .0) u8, (LL.tells (T.the-type (namedLft 7 6 tt κs)) (T′.the-laws (namedLft 7 6 tt κs)), tt))))))))
       (λ κs qs bounds a g are. needs 𝓤 (Lent (a .0 .now) (a .1 .0 .now) (a .1 .1 .0 .now) (a .1 .1 .1 .0 .now) (a .1 .1 .1 .1 .0 .now) (a .1 .1 .1 .1 .1 .0 .now) × (a .1 .1 .1 .1 .1 .1 .0 .at < 2 ^ 32)) _ (λ ok.
       let fields = LL.owed (T.the-type (namedLft 7 6 tt κs)) (T′.the-laws (namedLft 7 6 tt κs)) (a .1 .1 .1 .1 .1 .1 .0) _ (are .1 .1 .1 .1 .1 .1 .0) in
       walk 𝓤 H A W mem run (κs .0) (κs .1 .0) (κs .1 .1 .0) (κs .1 .1 .1 .0) (κs .1 .1 .1 .1 .0) (κs .1 .1 .1 .1 .1 .0) (κs .1 .1 .1 .1 .1 .1 .0) (qs .0) (qs .1 .0) (qs .1 .1 .0) (qs .1 .1 .1 .0) (qs .1 .1 .1 .1 .0) (qs .1 .1 .1 .1 .1 .0) (qs .1 .1 .1 .1 .1 .1 .0) (a .0) (a .1 .0) (a .1 .1 .0) (a .1 .1 .1 .0) (a .1 .1 .1 .1 .0) (a .1 .1 .1 .1 .1 .0) (a .1 .1 .1 .1 .1 .1 .0 .out .ptr .0) (a .1 .1 .1 .1 .1 .1 .0 .out .ptr .1) (a .1 .1 .1 .1 .1 .1 .0 .out .name) (a .1 .1 .1 .1 .1 .1 .0 .out .now) (a .1 .1 .1 .1 .1 .1 .0 .at) (fields .1 .0 .1) C Λ fm known (are .0) (are .1 .0) (are .1 .1 .0) (are .1 .1 .1 .0) (are .1 .1 .1 .1 .0) (are .1 .1 .1 .1 .1 .0) (are .1 .1 .1 .1 .1 .1 .0) (fields .0 .0 .1) ok))
 
-keep-meets : {M : Type 1} (𝓤 : URA M) (H : Heap 𝓤) (A : Atoms 𝓤) → Given 𝓤 H A → (mem : Memory → SProp 𝓤) (run : Routine → Fun 𝓤) (𝓣 : Tables 𝓤 H) → Triple 𝓤 (𝓣 .C #put-xml·put-kept) (PutKept 𝓤 H A mem run)
+keep-meets : {M : Type 1} (𝓤 : URA M) (H : Heap 𝓤) (A : Atoms 𝓤) → Given 𝓤 H A → (mem : Memory → SProp 𝓤) (run : Routine → Fun 𝓤) (𝓣 : Tables 𝓤 H) → Triple 𝓤 (𝓣 .C #put-kept·put-kept) (PutKept 𝓤 H A mem run)
     → Meets 𝓤 H A keeps.signature (WpFn 𝓤 H (𝓣 .C) (𝓣 .Λ) code.function) (keeps.spec 𝓤 H A mem run)
 keep-meets 𝓤 H A W mem run 𝓣 known =
     walk-meets 𝓤 H A keeps.ended stayed W (goes-none-slice 𝓤 H A W 7 (0 ∷ []) tt (plain (λ _. u8)) yes, (goes-none-slice 𝓤 H A W 7 (1 ∷ []) tt (plain (λ _. u16)) yes, (goes-none-slice 𝓤 H A W 7 (2 ∷ []) tt (plain (λ _. u16)) yes, (goes-none-slice 𝓤 H A W 7 (3 ∷ []) tt (plain (λ _. u16)) yes, (goes-none-slice 𝓤 H A W 7 (4 ∷ []) tt (plain (λ _. u16)) yes, (goes-none-slice 𝓤 H A W 7 (5 ∷ []) tt (plain (λ _. u8)) yes, (pen-gave-goes 𝓤 H A W, tt))))))) (keeps.clauses 𝓤 H A mem run)
@@ -270,4 +270,4 @@ keep-spec 𝓤 H 𝓜 𝓖 𝓡 =
     entered 𝓤 H (tripleOf 𝓤 H (𝓖 .A) keeps.signature (keeps.spec 𝓤 H (𝓖 .A) (𝓜 .mem) (𝓡 .run)))
     (tables 𝓤 H 𝓜 𝓡 code.env .C) (tables 𝓤 H 𝓜 𝓡 code.env .Λ) #put-xml·keep code.function (code.unfolded 𝓤 H 𝓜 𝓡)
     (keep-meets 𝓤 H (𝓖 .A) (givenOf 𝓤 H 𝓜 𝓖) (𝓜 .mem) (𝓡 .run) (tablesOf 𝓤 H 𝓜 (tables 𝓤 H 𝓜 𝓡 code.env))
-    (cited 𝓤 H (PutKept 𝓤 H (𝓖 .A) (𝓜 .mem) (𝓡 .run)) 𝓜 𝓡 code.env #put-xml·put-kept put-kept-def.routine code.calls-put-xml·put-kept (put-kept-thm.met 𝓤 H 𝓜 𝓖 𝓡)))
+    (cited 𝓤 H (PutKept 𝓤 H (𝓖 .A) (𝓜 .mem) (𝓡 .run)) 𝓜 𝓡 code.env #put-kept·put-kept put-kept-def.routine code.calls-put-kept·put-kept (put-kept-thm.met 𝓤 H 𝓜 𝓖 𝓡)))

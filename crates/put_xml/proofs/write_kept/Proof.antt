@@ -41,7 +41,7 @@ use denote.Exit.{yes}
 use denote.Signature.{plain}
 use Rattle.paper.specs.WriteXml.{keptXml}
 use Rattle.pen.specs.Putting.{Puts}
-use Rattle.put_xml.specs.Writing.{Lent}
+use Rattle.put_kept.specs.Lending.{Lent}
 use Rattle.put_xml.specs.declared.Pen.{Pen}
 use Rattle.put_xml.proofs.Pen as T
 use Rattle.put_xml.proofs.Pen.Laws as T′

@@ -6,8 +6,10 @@ use mathlib.Core.Bool.{true}
 use borrow.Author.Needs.{needs}
 use denote.Ref.{now}
 use Rattle.paper.specs.Reading.{readText}
-use Rattle.read.specs.Parts.{lookOf, Sized, Whole, Kept}
-use Rattle.read.proofs.Queries.{measured, whole-sized, refused-told, refused-value, goes-later, any-later, short-room, short-value, over-items, enough-room, value-same, kept-few}
+use Rattle.heads.specs.Heads.{lookOf}
+use Rattle.read.specs.Parts.{Sized, Kept}
+use Rattle.read_paths.specs.Parts.{Whole}
+use Rattle.read.proofs.Answering.{measured, whole-sized, refused-told, refused-value, goes-later, any-later, short-room, short-value, over-items, enough-room, value-same, kept-few}
 use Rattle.read.proofs.answer.Statement.{statement}
 use Rattle.read.proofs.answer.Tie as tie
 
@@ -44,14 +46,14 @@ same-length-2 c = search needs
 returns-2 : tie.Need-returns-2
 returns-2 c =
     let first = c .before .before .before .before .before .before .before .paths in (
-      refused-told _ (first .result) _ _ (c .before .before .before .before .match .keys2) (measured _ _ _ (first .result) (first .ensures)) (c .answer-of2 .ensures) ∙
+      refused-told _ (first .result) _ _ (c .before .before .before .before .match .keys2) (measured _ _ _ (first .result) (first .ensures .0)) (c .answer-of2 .ensures) ∙
           goes-later _ _ _ (rw (c .before .enum-told .given .1) at (c .before .before .before .measure .ensures)),
       λ n e. refused-value (first .result) _ (c .before .before .before .before .match .keys2) (c .answer-of2 .ensures) n e,
     )
 
 -- The text was read with the list's names.
 whole : (c : tie.After-known-told) → Whole (now (c .before .before .before .before .before .before .before .before .before .before .args .few)) (c .before .before .before .before .before .paths .last .1 .1 .1 .1 .1 .0) (readText (c .before .before .before .before .before .before .before .before .before .before .args .newer) (lookOf true (now (c .before .before .before .before .before .before .before .before .before .before .args .list))) (now (c .before .before .before .before .before .before .before .before .before .before .args .text))) (c .before .whole .given .0 .1 .0)
-whole c = rw (c .before .whole .given .1) at (c .before .before .before .before .before .paths .ensures)
+whole c = rw (c .before .whole .given .1) at (c .before .before .before .before .before .paths .ensures .0)
 
 sized : (c : tie.After-known-told) → Sized (readText (c .before .before .before .before .before .before .before .before .before .before .args .newer) (lookOf true (now (c .before .before .before .before .before .before .before .before .before .before .args .list))) (now (c .before .before .before .before .before .before .before .before .before .before .args .text))) (c .before .whole .given .0 .1 .0)
 sized c = whole-sized _ _ _ _ (whole c)

@@ -1,5 +1,5 @@
 -- `read::read` meets its contract: the lines of the paper in their order; what is written is the query that was measured. Assumes nothing.
-use Rattle.read.proofs.Queries.{text-long, list-long, no-version, bad-list, good-list, kept, kept-refusal, accepted}
+use Rattle.read.proofs.Answering.{text-long, list-long, no-version, bad-list, good-list, kept, kept-refusal, accepted}
 use Prim.Native.Nat.{ℕ}
 use native.Mathlib.Omega.{arith}
 use mathlib.Core.Path.{_≡_, sym, _∙_, ap}
@@ -11,7 +11,7 @@ use Rattle.paper.specs.Reading.{readText}
 use Rattle.paper.specs.Answers.{isNewer, anyName, lineGot, readLast, readAnswer}
 use Rattle.paper.specs.Told.{told}
 use Rattle.names.specs.Listing.{faultOf}
-use Rattle.read.specs.Parts.{Ready}
+use Rattle.read_paths.specs.Parts.{Ready}
 use borrow.Author.Needs.{needs}
 use Rattle.read.proofs.read.Statement.{statement}
 use Rattle.read.proofs.read.Tie as tie

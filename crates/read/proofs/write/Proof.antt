@@ -4,7 +4,7 @@ use mathlib.Core.Path.{sym}
 use borrow.Author.Needs.{needs}
 use denote.Ref.{now}
 use lib.Seq.{length-take-le}
-use Rattle.read.proofs.Queries.{copied, reread}
+use Rattle.read.proofs.Answering.{copied, reread}
 use Rattle.read.proofs.write.Statement.{statement}
 use Rattle.read.proofs.write.Tie as tie
 
@@ -27,7 +27,7 @@ same-length-2 : tie.Need-same-length-2
 same-length-2 c = search needs
 
 returns-2 : tie.Need-returns-2
-returns-2 c = reread _ _ _ _ _ (c .before .before .paths .result) (c .before .before .before .before .before .before .before .before .before .pre .1 .1) (c .before .before .before .before .before .before .before .before .before .pre .1 .0) (c .before .before .paths .ensures)
+returns-2 c = reread _ _ _ _ _ (c .before .before .paths .result) (c .before .before .before .before .before .before .before .before .before .pre .1 .1) (c .before .before .before .before .before .before .before .before .before .pre .1 .0) (c .before .before .paths .ensures .0)
 
 pub write-spec : {M : Type 1} → statement M
 write-spec = tie.close (tie.spec slice-aggregate-put-items put-items-requires paths-requires same-length returns same-length-2 returns-2)

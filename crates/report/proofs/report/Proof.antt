@@ -1,7 +1,9 @@
 -- `report::report` meets its contract: what is printed by the composition is what the program prints. Assumes nothing.
 use borrow.Author.Needs.{needs}
 use Rattle.paper.specs.Program.{queriesPrint, textsPrint, programPrints}
-use Rattle.report.specs.Ways.{queriesPrintBy, textsPrintBy, programPrintsBy}
+use Rattle.query_report.specs.Ways.{queriesPrintBy}
+use Rattle.text_report.specs.Texts.{textsPrintBy}
+use Rattle.report.specs.Printing.{programPrintsBy}
 use Rattle.report.proofs.report.Statement.{statement}
 use Rattle.report.proofs.report.Tie as tie
 

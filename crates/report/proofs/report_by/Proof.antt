@@ -9,9 +9,10 @@ use lib.Seq.{length-take-le, take-all}
 use denote.Ref.{now}
 use Rattle.paper.specs.declared.Answer.the-variants.{TooLong}
 use Rattle.paper.specs.Program.{firstLine, afterLine}
-use Rattle.report.specs.Ways.{programPrintsBy}
+use Rattle.report.specs.Printing.{programPrintsBy}
 use Rattle.lines.specs.Lines.{Ends, Starts}
-use Rattle.report.proofs.Parts.{refused-part, given-part, input-long, input-taken}
+use Rattle.query_report.proofs.Parts.{refused-part, given-part}
+use Rattle.report.proofs.Inputs.{input-long, input-taken}
 use borrow.Author.Needs.{needs}
 use Rattle.report.proofs.report_by.Statement.{statement}
 use Rattle.report.proofs.report_by.Tie as tie

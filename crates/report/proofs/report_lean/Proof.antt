@@ -1,6 +1,6 @@
 -- `report::report_lean` meets its contract. Assumes nothing.
 use borrow.Author.Needs.{needs}
-use Rattle.report.specs.Ways.{leanPrints}
+use Rattle.report.specs.Printing.{leanPrints}
 use Rattle.report.proofs.report_lean.Statement.{statement}
 use Rattle.report.proofs.report_lean.Tie as tie
 

@@ -7,7 +7,8 @@ use denote.Ref.{now}
 use lib.ListN.{length, drop, length-drop}
 use Rattle.paper.specs.Limits.{textLimit}
 use Rattle.lines.specs.Lines.{Ends}
-use Rattle.roles.proofs.Viewing.{whole-part, Counting, none-counted, counted-open, one-counted, all-counted}
+use Rattle.view_union.proofs.Viewing.{whole-part}
+use Rattle.roles.proofs.Counting.{Counting, none-counted, counted-open, one-counted, all-counted}
 use borrow.Author.Needs.{needs}
 use Rattle.roles.proofs.count_views.Statement.{statement}
 use Rattle.roles.proofs.count_views.Tie as tie

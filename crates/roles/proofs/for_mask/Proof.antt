@@ -13,7 +13,7 @@ use Rattle.paper.specs.Roles.{viewLimit, roleLimit, beyond, maskOut}
 use Rattle.paper.specs.Told.{told}
 use Rattle.paper.proofs.Refusing.{refusal-told, or-none}
 use lib.Dec.{ltb}
-use Rattle.roles.specs.Gathering.{viewsCounted, listAnswer}
+use Rattle.roles.specs.Judging.{viewsCounted, listAnswer}
 use Rattle.roles.proofs.Answering.{long, lines, too-long, too-many, bad-list, no-role, no-view, not-given, to-union, kept-out, union-out}
 use borrow.Author.Needs.{needs}
 use Rattle.roles.proofs.for_mask.Statement.{statement}

@@ -13,7 +13,8 @@ use Rattle.paper.specs.Query.{stop, step, bare, pred}
 use Rattle.paper.specs.Composition.{guarded, guardDepthExpr}
 use Rattle.item.proofs.Saying.{said, not-step}
 use Rattle.item.proofs.GuardedAxes.{guarded-number}
-use Rattle.shape.specs.Walks.{opened, operators}
+use Rattle.heights.specs.Heights.{opened}
+use Rattle.shape.specs.Walks.{operators}
 use Rattle.shape.proofs.Walking.{Turn, turn-start, turn-stuck, turn-onward, term-low, turn-and, turn-or, turn-done}
 use Rattle.shape.proofs.Walking.{Row, row-start, row-more, row-stuck, row-done, stepRows, step-row, no-step-row, bad-step-row, past-step-row}
 use Rattle.shape.proofs.Walking.{predRows, pred-next, bad-pred-row}
@@ -34,9 +35,9 @@ use Rattle.shape.proofs.steps.Reads as steps
 use Rattle.shape.proofs.steps.Kinds as steps-kinds
 use Rattle.shape.proofs.+expression+operand+predicates+steps.Lts-steps as steps-lts
 use Rattle.item.proofs.unpack.Reads as unpack-reads
-use Rattle.shape.proofs.joined.Reads as joined-reads
-use Rattle.shape.proofs.larger.Reads as larger-reads
-use Rattle.shape.proofs.own_depth.Reads as own-depth-reads
+use Rattle.heights.proofs.joined.Reads as joined-reads
+use Rattle.heights.proofs.larger.Reads as larger-reads
+use Rattle.heights.proofs.own_depth.Reads as own-depth-reads
 use Rattle.shape.proofs.raised.Reads as raised-reads
 use Rattle.shape.proofs.run_of.Reads as run-of-reads
 use Rattle.shape.proofs.+expression+operand+predicates+steps.{statement}

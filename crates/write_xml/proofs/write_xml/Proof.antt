@@ -7,8 +7,8 @@ use borrow.Author.Needs.{needs}
 use denote.Ref.{now}
 use Rattle.paper.specs.Names.{namesFault}
 use Rattle.names.specs.Listing.{faultOf, Indexed}
-use Rattle.write_xml.specs.Filing.{Lengths}
-use Rattle.write_xml.proofs.Lines.{lengths, too-long, bad-list}
+use Rattle.write_listed.specs.Lengths.{Lengths}
+use Rattle.write_listed.proofs.Lines.{lengths, too-long, bad-list}
 use Rattle.write_xml.proofs.write_xml.Statement.{statement}
 use Rattle.write_xml.proofs.write_xml.Tie as tie
 

@@ -5,7 +5,7 @@ use lib.ListN.{length}
 use mathlib.Core.Path.{refl, subst}
 use native.Mathlib.Omega.{arith}
 use Rattle.xml.proofs.Taking.{takes-end, end-refused}
-use Rattle.xml.specs.Pieces.{Ends}
+use Rattle.end_tags.specs.Renaming.{Ends}
 use Rattle.xml_bytes.specs.declared.Reach.the-variants.{At}
 use Rattle.xml.proofs.end_piece.Statement.{statement}
 use Rattle.xml.proofs.end_piece.Tie as tie

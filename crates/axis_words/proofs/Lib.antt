@@ -1,0 +1,2 @@
+-- The words of axes.
+pub mod Words

@@ -1,0 +1,4 @@
+pub mod Entries
+pub mod Chains
+pub mod LeanEntries
+pub mod RoleEntries

@@ -1,0 +1,2 @@
+-- Files over calls: `read-back`, `file-secrecy`.
+pub mod FileCalls

@@ -1,2 +1,0 @@
--- An answer in one number: `coded`.
-pub mod Coding

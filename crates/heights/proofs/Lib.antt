@@ -1,0 +1,2 @@
+-- The height of a part joined to another: `joined-more`.
+pub mod Joining

@@ -1,0 +1,4 @@
+-- Where a line stands: `part-room`.
+pub mod Parts
+-- One answer.
+pub mod Unique

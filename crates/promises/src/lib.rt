@@ -1,1 +1,0 @@
-// No code: the theorems stand in specs/UniqueEntries.antt, specs/UniqueParts.antt, specs/Entries.antt and specs/Calls.antt, their proofs in proofs/.

@@ -1,0 +1,2 @@
+-- The text of an axis.
+pub mod Words

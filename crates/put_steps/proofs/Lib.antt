@@ -1,0 +1,2 @@
+-- The words of tests, and the text of a head.
+pub mod Words

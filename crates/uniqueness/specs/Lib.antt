@@ -1,0 +1,5 @@
+pub mod Uniqueness
+pub mod RoleForCReads
+pub mod UniqueEntries
+pub mod UniqueParts
+pub mod UniqueSheets

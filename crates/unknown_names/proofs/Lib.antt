@@ -1,0 +1,4 @@
+-- Names that the list lacks.
+pub mod Unknowns
+-- One answer: `first-unique`.
+pub mod Unique

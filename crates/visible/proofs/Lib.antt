@@ -1,0 +1,2 @@
+-- Items that stand further on: `then-chosen`.
+pub mod Copying
