@@ -30,7 +30,9 @@ endif
 
 LIBRARY = target/staticlib/libhalyardfig.a
 SHARED = target/shared/libhalyardfig.so.$(VERSION)
-PROGRAM = target/bin/compose_main
+# What each program is called where it is installed: a crate of that name and _main.
+PROGRAMS = compose sheet
+BUILT = $(PROGRAMS:%=target/bin/%_main)
 SOURCES := crates.txt $(shell find crates -type f \( -name '*.rt' -o -name crates.txt \))
 
 # The functions of the header: the manual has a link for each.

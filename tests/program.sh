@@ -59,9 +59,8 @@ prints 'lean and too long' 'refused input 1 0' --lean < <(times 49153 /)
 small=$(mktemp -d) || exit 2
 trap 'rm -rf "$small"' EXIT
 mkdir -p "$small/bin" "$small/kit" "$small/crates/a/src"
-cp bin/compose bin/running.sh "$small/bin"
-printf '# crates\npaper:\na: paper\nb: paper\ncompose_main: a io libc\n' >"$small/crates.txt"
-touch "$small/crates/a/src/lib.rt"
+cp bin/compose bin/sheet bin/running.sh "$small/bin"
+printf '# crates\npaper:\na: paper\nb: paper\ncompose_main: a io libc\nsheet_main: a b os io\n' >"$small/crates.txt"
 cat >"$small/kit/rt" <<'END'
 #!/bin/sh
 echo 'rt: paper proved (1 s)'
@@ -94,5 +93,7 @@ uses() {
     use 'a newer source' "$program" 0 $'made\n' "$building"
 }
 
-echo "program: $passed passed, $failed failed"
-[ "$failed" -eq 0 ]
+uses compose 3
+uses sheet 4
+
+tell_counts

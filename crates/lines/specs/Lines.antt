@@ -7,6 +7,7 @@ use lib.ListN.{length, take, drop}
 use Rattle.paper.specs.Limits.{textLimit}
 use Rattle.pen.specs.Putting.{Puts}
 use Rattle.paper.specs.Program.{firstLine, afterLine}
+use Rattle.paper.specs.Sheet.{listPart, filesPart}
 
 -- The first line of the bytes ends at `end`.
 pub record Ends (bytes : List ℕ) (end : ℕ) : Type 0 where
@@ -19,14 +20,11 @@ pub record Starts (bytes : List ℕ) (end start : ℕ) : Type 0 where
   pub inside : start ≤ length bytes
   pub follows : drop start bytes ≡ drop (suc end) bytes
 
--- The number of a refusal, and its place.
-abbrev pub numberTold : Told → ℕ
-numberTold (value n) = 0
-numberTold (refusal number place) = number
-
-abbrev pub placeTold : Told → ℕ
-placeTold (value n) = 0
-placeTold (refusal number place) = place
+-- The name list at the start of the bytes ends at `end`, and a blank line stands between it and the rest.
+pub record Parts (bytes : List ℕ) (end : ℕ) : Type 0 where
+  pub inside : end ≤ length bytes
+  pub names : take end bytes ≡ listPart true bytes
+  pub rest : drop (suc end) bytes ≡ filesPart true bytes
 
 -- No report has more bytes beside the text of a query.
 abbrev pub lineRoom : ℕ

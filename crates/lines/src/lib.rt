@@ -34,6 +34,23 @@ pub fn line_start(bytes: &[u8], end: usize) -> usize
     if end < bytes.len() { end + 1 } else { end }
 }
 
+// Where a name list ends: before the LF of a blank line, or where the bytes end.
+pub fn list_end(bytes: &[u8]) -> usize
+    ensures { λ r. ⌜ Parts (now (bytes .entry)) r ⌝ }
+{
+    let mut starts = true;
+    let mut at = 0;
+    while at < bytes.len() {
+        let ends = bytes[at] == b'\n';
+        if starts & ends {
+            return at;
+        }
+        starts = ends;
+        at += 1;
+    }
+    at
+}
+
 // Puts a digit.
 fn put_digit(out: &mut [u8], pen: usize, digit: usize) -> usize
     requires { ⌜ (pen < 2 ^ 39) × (digit < 10) ⌝ }
@@ -44,7 +61,7 @@ fn put_digit(out: &mut [u8], pen: usize, digit: usize) -> usize
 }
 
 // Puts a number in decimal digits.
-fn put_decimal(out: &mut [u8], pen: usize, n: usize) -> usize
+pub fn put_decimal(out: &mut [u8], pen: usize, n: usize) -> usize
     requires { ⌜ pen < 2 ^ 38 ⌝ }
     ensures { λ r. ⌜ Puts (decimal n) pen (now (out .entry)) (now (out .exit)) r ⌝ }
     ensures { λ r. ⌜ r ≤ pen + 20 ⌝ }

@@ -12,7 +12,7 @@ use Rattle.paper.specs.Answers.{value, refusal, line, atExit}
 use Rattle.paper.specs.Answers.{Answer as Told}
 use Rattle.paper.specs.Told.{told}
 use Rattle.paper.specs.declared.Answer.{Answer}
-use Rattle.paper.specs.declared.Answer.the-variants.{Value, TooLong, BadName, NoQuery, TooDeep, UnknownName, BadQuery, BadTable, BadMarks, TooNested, Short, NoXml, LeftOut, NoElement, OtherText, NoRole, NoView, UnreadView}
+use Rattle.paper.specs.declared.Answer.the-variants.{Value, TooLong, BadName, NoQuery, TooDeep, UnknownName, BadQuery, BadTable, BadMarks, TooNested, Short, NoXml, LeftOut, NoElement, OtherText, NoRole, NoView, UnreadView, Unreadable}
 use Rattle.paper.proofs.Answer.{the-type}
 
 -- Where a value is answered, no line before it holds.
@@ -57,6 +57,7 @@ refusal-told OtherText h = (14, 0, refl)
 refusal-told (NoRole place) h = (15, place, refl)
 refusal-told (NoView place) h = (16, place, refl)
 refusal-told (UnreadView place) h = (17, place, refl)
+refusal-told Unreadable h = (18, 0, refl)
 
 -- A refused call writes nothing.
 pub refused-keeps : (a : Answer) (new old : List ℕ) → Refuses a → atExit (told a) new old ≡ old

@@ -45,4 +45,5 @@ pub enum Answer {
     NoRole(usize),
     NoView(usize),
     UnreadView(usize),
+    Unreadable,
 }

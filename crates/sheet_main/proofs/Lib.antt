@@ -1,0 +1,2 @@
+-- `list-fine`.
+pub mod Listing
