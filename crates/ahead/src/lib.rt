@@ -1,5 +1,7 @@
 // What comes next in a text: words, and how paths, operands and tests begin.
 // Each function takes tokens from a cursor on and hands back the cursor past those it was asked for, or says that something else comes.
+#![tactic(auto)]
+
 ghost use Rattle.std.specs.Prelude.{◌+◌, ◌≤◌, ◌<◌, ◌≡◌, length, take, drop};
 ghost use Rattle.paper.specs.Tools.{same};
 ghost use Rattle.paper.specs.Tokens.{letters};
@@ -13,14 +15,14 @@ use token::{Cursor, Token};
 use words::same_word;
 
 // Does `/` or `//` come next?
-#[derive(Drop)]
+#[derive(Clone, Copy)]
 pub enum Joint {
     Next { next: Cursor, deep: bool },
     Nothing(usize),
 }
 
 // How an absolute path begins.
-#[derive(Drop)]
+#[derive(Clone, Copy)]
 pub enum Lead {
     Alone(Cursor),
     Before { next: Cursor, deep: bool },
@@ -28,7 +30,7 @@ pub enum Lead {
 }
 
 // How an operand begins: the place of its bracket and the cursor past that, or a path.
-#[derive(Drop)]
+#[derive(Clone, Copy)]
 pub enum Opens {
     Not { place: usize, next: Cursor },
     Round { place: usize, next: Cursor },
@@ -36,14 +38,14 @@ pub enum Opens {
 }
 
 // An axis that is written, and the cursor past its `::`.
-#[derive(Drop)]
+#[derive(Clone, Copy)]
 pub enum AxisAhead {
     Named { axis: u32, next: Cursor },
     Unnamed,
 }
 
 // A test that is written as a call, and the cursor past its `(`.
-#[derive(Drop)]
+#[derive(Clone, Copy)]
 pub enum Call {
     Inside { test: u32, next: Cursor },
     NoCall,

@@ -1,4 +1,6 @@
 // A set of nodes moved along any axis, by the pass for that axis.
+#![tactic(auto)]
+
 ghost use Rattle.std.specs.Prelude.{◌≡◌, Bool, List, ℕ, length};
 ghost use Rattle.paper.specs.Document.{table_of};
 ghost use Rattle.paper.specs.Query.{Axis};

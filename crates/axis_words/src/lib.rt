@@ -1,4 +1,6 @@
 // The words that name axes.
+#![tactic(auto)]
+
 ghost use Rattle.std.specs.Prelude.{◌+◌, ◌≤◌, ◌≡◌, length, take, drop};
 ghost use Rattle.paper.specs.Tools.{ascii, same};
 ghost use Rattle.paper.specs.Reading.{axis_named};

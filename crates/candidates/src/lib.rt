@@ -1,4 +1,6 @@
 // The nodes to which a step leads from a node, from the last one on: its axis and its test, for one node at a time.
+#![tactic(auto)]
+
 ghost use Rattle.std.specs.Prelude.{ℕ, ◌≤◌, ◌<◌, ◌≡◌, true, false, length};
 ghost use Rattle.paper.specs.Query.{Axis, Test};
 ghost use Rattle.paper.specs.Document.{table_of};

@@ -1,4 +1,6 @@
 // An answer in numbers: the number of a refusal, its place, and for C all that an answer tells in one number.
+#![tactic(auto)]
+
 ghost use Rattle.std.specs.Prelude.{◌+◌, ◌*◌, ◌%◌, ◌<◌, ◌≡◌};
 ghost use Rattle.paper.specs.Told.{told};
 ghost use Rattle.answer_bounds.specs.Bounds.{Small};

@@ -1,5 +1,7 @@
 // Composition of two queries in memory: everything lent is examined and the items are counted before one is written.
 // Which steps are guarded is said by the axes of other items beside them, `says`. For `compose` they are the outer items themselves.
+#![tactic(auto)]
+
 ghost use Rattle.std.specs.Prelude.{◌≡◌, ◌≤◌, length};
 ghost use Rattle.paper.specs.Limits.{item_limit};
 ghost use Rattle.paper.specs.Answers.{composing_answer, composing_out, compose_answer, compose_out};

@@ -1,4 +1,6 @@
 // The lean composition of two queries in memory: the composition with fewer guards. Which steps are guarded is marked in a copy of the outer items, and all else is done by `compose_by`.
+#![tactic(auto)]
+
 ghost use Rattle.std.specs.Prelude.{◌≡◌, ◌≤◌, length};
 ghost use Rattle.paper.specs.Limits.{item_limit};
 ghost use Rattle.paper.specs.Items.{decode};

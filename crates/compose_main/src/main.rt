@@ -1,4 +1,5 @@
 // Composes two queries: reads them with a name list from standard input, and writes the report on them.
+#![tactic(auto)]
 
 // One byte more than an input may have, so that a longer input is seen to be too long.
 const ROOM: usize = report::INPUT_LIMIT + 1;

@@ -1,4 +1,6 @@
 // The items of a composition and their number. S is written once, at the end of the output, and copied from there; guarding is one pass over the outer items.
+#![tactic(auto)]
+
 ghost use Rattle.std.specs.Prelude.{◌≡◌, ◌+◌, ◌*◌, ◌≤◌, length, take, drop};
 ghost use Rattle.paper.specs.Limits.{item_limit};
 ghost use Rattle.paper.specs.Items.{decode};

@@ -1,4 +1,6 @@
 // A partner's table against ours: is it a sub-document, down to the leaves?
+#![tactic(auto)]
+
 ghost use Rattle.std.specs.Prelude.{◌≡◌};
 ghost use Rattle.paper.specs.Document.{table_of};
 ghost use Rattle.paper.specs.Answers.{is_cut_answer};

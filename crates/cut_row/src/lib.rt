@@ -1,4 +1,6 @@
 // One row of a partner's table against ours: its node, its kind, its place and its leaves.
+#![tactic(auto)]
+
 ghost use Rattle.std.specs.Prelude.{ℕ, ◌<◌, ◌≡◌, ◌&&◌, List, length, get_or};
 ghost use Rattle.paper.specs.Document.{table_of};
 ghost use Rattle.paper.specs.Cut.{parent_stands, rising};

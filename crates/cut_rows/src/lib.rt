@@ -1,4 +1,6 @@
 // All rows of a partner's table against ours, the first of which stands for the root.
+#![tactic(auto)]
+
 ghost use Rattle.std.specs.Prelude.{ℕ, ◌<◌, ◌≡◌, List, length};
 ghost use Rattle.std.proofs.Math.Option.{none};
 ghost use Rattle.paper.specs.Document.{Table, table_fault, table_of};

@@ -1,4 +1,6 @@
 // What a document adds to the tallies of a sheet: its text is read as XML with the names of a list, and the view is run on its table with every mark 1. Its elements are counted, or else the number of its refusal.
+#![tactic(auto)]
+
 ghost use Rattle.std.specs.Prelude.{◌≡◌, ◌≤◌, length};
 ghost use Rattle.paper.specs.Limits.{node_limit};
 ghost use Rattle.paper.specs.Document.{table_of};

@@ -1,4 +1,6 @@
 // End tags in XML text: the name of the element that is open must come again, then white space and the `>`.
+#![tactic(auto)]
+
 ghost use Rattle.std.specs.Prelude.{◌+◌, ◌≤◌, length};
 ghost use Rattle.xml_bytes.specs.Blocks.{block, AllFit};
 ghost use Rattle.end_tags.specs.Renaming.{repeated_from, Named, Renames, Ends};

@@ -1,4 +1,6 @@
 // The marked nodes of a table as a table of their own.
+#![tactic(auto)]
+
 ghost use Rattle.std.specs.Prelude.{◌+◌, ◌<◌, ◌≤◌, ◌≡◌, true, length, get_or};
 ghost use Rattle.paper.specs.Tools.{written};
 ghost use Rattle.paper.specs.Document.{over, marked, table_of};

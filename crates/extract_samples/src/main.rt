@@ -1,4 +1,6 @@
 // Tries `extract` on the document of 01's samples and on bad tables, marks and rooms: for each call the number, the place and both columns.
+#![tactic(auto)]
+
 use paper::Answer;
 
 // The last decimal digit of a number.

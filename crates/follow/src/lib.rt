@@ -1,4 +1,6 @@
 // A second engine, slow and plain: for each node the definition of selection is followed directly, one node and one step at a time, with no sets and no scratch.
+#![tactic(auto)]
+
 ghost use Rattle.std.specs.Prelude.{◌≡◌, length};
 ghost use Rattle.paper.specs.Document.{table_of};
 ghost use Rattle.paper.specs.Items.{decode};

@@ -1,4 +1,6 @@
 // Is a word a name?
+#![tactic(auto)]
+
 ghost use Rattle.std.specs.Prelude.{◌≤◌, ◌≡◌, length, drop};
 ghost use Rattle.paper.specs.Names.{name_start, name_part, is_name, name_parts};
 

@@ -17,14 +17,14 @@ pub record Guarded (chosen steps says old out : List ℕ) (start place at : ℕ)
   pub wrote : out ≡ placed done start old
   pub size : length out ≡ length old
   pub reached : at ≡ start + length done
-  pub goes_on_lem : done ++ guarded_items chosen (map guard_item (drop place says)) (drop place steps) ≡ guarded_items chosen (map guard_item says) steps
+  pub goes_on : done ++ guarded_items chosen (map guard_item (drop place says)) (drop place steps) ≡ guarded_items chosen (map guard_item says) steps
   pub raisable : Raisable (drop place steps)
   pub inside : place ≤ length steps
   pub beside : length says ≡ length steps
 
 pub guarded_start : (steps says old : List ℕ) (start : ℕ) (chosen : List ℕ) → Raisable steps → length says ≡ length steps → Guarded chosen steps says old old start 0 start
 guarded_start steps says old start chosen r long =
-    record { done = []; wrote = sym (placed_nil old start); size = refl; reached = omega arith; goes_on_lem = refl; raisable = r; inside = omega arith; beside = long }
+    record { done = []; wrote = sym (placed_nil old start); size = refl; reached = omega arith; goes_on = refl; raisable = r; inside = omega arith; beside = long }
 
 -- What is still to be written begins with the next item.
 next_item : (chosen steps says : List ℕ) (place : ℕ) → place < length steps → length says ≡ length steps
@@ -82,7 +82,7 @@ guarded_more steps says old out out' start place at at' from count l g room fits
       wrote = wrote';
       size = same_size (g.done ++ guarded_item chosen flag w) old out' start wrote' (omega (arith, g.reached, asks.1));
       reached = omega (arith, g.reached);
-      goes_on_lem =
+      goes_on =
           append_assoc g.done (guarded_item chosen flag w) (guarded_items chosen (map guard_item (drop (place + 1) says)) (drop (place + 1) steps)) ∙
           ap (λ (x : List ℕ). g.done ++ x) (sym (next_item chosen steps says place l g.beside)) ∙ g.goes_on;
       raisable = r.1;

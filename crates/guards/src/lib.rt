@@ -1,5 +1,7 @@
 // Guarding the items of a path: one pass over them, in which each step that is named gets V.
 // Which steps are named is said by the axes of other items beside them, `says`: where a guarded step stands in them, the step gets V.
+#![tactic(auto)]
+
 ghost use Rattle.std.specs.Prelude.{◌≡◌, [], ◌∷◌, map, ◌+◌, ◌≤◌, ◌<◌, length, take, drop};
 ghost use Rattle.paper.specs.Limits.{item_limit};
 ghost use Rattle.paper.specs.Items.{axis_bound, test_bound, count_limit};

@@ -1,4 +1,6 @@
 // The C interface: each call lends its slices to an entry point and answers in one number.
+#![tactic(auto)]
+
 ghost use Rattle.std.specs.Prelude.{◌≡◌, map, length};
 ghost use Rattle.paper.specs.Items.{decode};
 ghost use Rattle.paper.specs.Document.{table_of};

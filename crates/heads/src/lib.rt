@@ -1,6 +1,8 @@
 // The head of a step in a text: its axis and its test.
 // `newer` says that the text is read by version 2 of XPath.
 // The list, its starts and their count are arguments of their own, since every function over a struct that holds a reference is proved by hand; `lookup` says whether names are looked up in the list.
+#![tactic(auto)]
+
 ghost use Rattle.std.specs.Prelude.{◌+◌, ◌≤◌, ◌≡◌, Bool, length, take, drop};
 ghost use Rattle.paper.specs.Query.{Axis};
 ghost use Rattle.paper.specs.Items.{axis_number};
@@ -15,7 +17,7 @@ use names::Found;
 use token::{Cursor, Token};
 
 // Axis and test of a step, after which predicates may stand; or `.` and `..` of version 1, after which none may.
-#[derive(Drop)]
+#[derive(Clone, Copy)]
 pub enum Head {
     Plain { axis: u32, next: Cursor },
     Tested { axis: u32, test: u32, next: Cursor },

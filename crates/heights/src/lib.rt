@@ -1,4 +1,6 @@
 // The height of parts that are joined, and the brackets open at a step.
+#![tactic(auto)]
+
 ghost use Rattle.std.specs.Prelude.{◌≡◌, cond, ◌^◌, ◌≤◌, ◌<◌, max};
 ghost use Rattle.paper.specs.Limits.{bracket_limit};
 ghost use Rattle.item.specs.Unpacked.{guarded_number};

@@ -1,4 +1,6 @@
 // The names of a list by their first byte: a word is compared only with the names that begin as it does.
+#![tactic(auto)]
+
 ghost use Rattle.std.specs.Prelude.{ℕ, ◌+◌, ◌≤◌, ◌<◌, ◌≡◌, length, replicate, take, drop};
 ghost use Rattle.paper.specs.Tools.{same};
 ghost use Rattle.paper.specs.Names.{names_of, number_of};

@@ -1,4 +1,6 @@
 // The items of a query: the fields of one by shifts and masks, and several written from a place on. Only this crate knows bit positions.
+#![tactic(auto)]
+
 ghost use Rattle.std.specs.Prelude.{◌≡◌, ◌+◌, ◌%◌, ◌≤◌, ◌<◌, length, replicate};
 ghost use Rattle.paper.specs.Query.{Axis};
 ghost use Rattle.paper.specs.Items.{axis_number, axis_bound, test_bound, count_bound, pack_path};
@@ -51,7 +53,7 @@ pub const ANY_ELEMENT: u32 = 258;
 pub const COUNT_BOUND: usize = 8192;
 
 // What a step item says: the numbers of its axis and its test, and how many predicates follow.
-#[derive(Drop)]
+#[derive(Clone, Copy)]
 pub struct Step {
     pub axis: u32,
     pub test: u32,
@@ -59,7 +61,7 @@ pub struct Step {
 }
 
 // What an item says; a path says how many steps follow.
-#[derive(Drop)]
+#[derive(Clone, Copy)]
 pub enum Item {
     Path(usize),
     Step(Step),

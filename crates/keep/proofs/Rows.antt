@@ -55,7 +55,7 @@ module _ (t : Table) (m : List ℕ) (items : List ℕ) (at nodes depth : ℕ) wh
   -- What has been read of a row of predicates, with so many owed, has narrowed the first set.
   pub record PredSet (whole : Taken Preds) (place owed : ℕ) (before sets : List ℕ) : Type 0 where
     pub so_far : Preds
-    pub goes_on_lem : whole ≡ ahead (append_preds so_far) (take_preds (take_within depth) owed (drop place items))
+    pub goes_on : whole ≡ ahead (append_preds so_far) (take_preds (take_within depth) owed (drop place items))
     pub set : (f : ℕ → Bool) → take nodes before ≡ bits nodes f → take nodes sets ≡ bits nodes (λ i. f i && all_hold t m so_far i)
     pub onward : at ≤ place
     pub inside : place ≤ length items
@@ -64,7 +64,7 @@ module _ (t : Table) (m : List ℕ) (items : List ℕ) (at nodes depth : ℕ) wh
   preds_begin count sets l =
       record {
         so_far = bare;
-        goes_on_lem = go (take_preds (take_within depth) count (drop at items));
+        goes_on = go (take_preds (take_within depth) count (drop at items));
         set = λ f h. h ∙ bits_same nodes f (λ i. f i && true) (λ i. and_all (f i));
         onward = omega arith;
         inside = l;
@@ -112,7 +112,7 @@ module _ (t : Table) (m : List ℕ) (items : List ℕ) (at nodes depth : ℕ) wh
   preds_more whole_row place (suc owed) next e before sets part after z d l p o i s joins =
       record {
         so_far = append_preds l.so_far (pred e bare);
-        goes_on_lem =
+        goes_on =
             l.goes_on ∙ ap (ahead (append_preds l.so_far)) (pred_next depth items place e next d p owed) ∙ go (take_preds (take_within depth) owed (drop next items)) ∙
             ap (λ (n : ℕ). ahead (append_preds (append_preds l.so_far (pred e bare))) (take_preds (take_within depth) n (drop next items))) (let q : owed ≡ suc owed - 1 = omega arith in q);
         set =

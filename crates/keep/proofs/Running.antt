@@ -60,7 +60,7 @@ module _ (t : Table) (m : List ℕ) (operator depth : ℕ) (items : List ℕ) (a
   -- What has been read of the run, with so many parts owed, has its set.
   pub record Left (place owed : ℕ) (sets : List ℕ) : Type 0 where
     pub so_far : Expr
-    pub goes_on_lem : take_run operator (take_within depth) (drop at items) ≡ take_more operator (take_within depth) owed so_far (drop place items)
+    pub goes_on : take_run operator (take_within depth) (drop at items) ≡ take_more operator (take_within depth) owed so_far (drop place items)
     pub set : take nodes sets ≡ bits nodes (holds t m so_far)
     pub onward : at ≤ place
     pub inside : place ≤ length items
@@ -108,7 +108,7 @@ module _ (t : Table) (m : List ℕ) (operator depth : ℕ) (items : List ℕ) (a
           gives = λ next part after v c.
               record {
                 so_far = v.what;
-                goes_on_lem = starts ∙ ap (λ (o : Taken Expr). found o (λ r. take_more operator (take_within depth) count r.0 r.1)) v.reads;
+                goes_on = starts ∙ ap (λ (o : Taken Expr). found o (λ r. take_more operator (take_within depth) count r.0 r.1)) v.reads;
                 set = c.first (omega arith) ∙ v.set;
                 onward = omega (arith, v.onward);
                 inside = v.inside;
@@ -140,7 +140,7 @@ module _ (t : Table) (m : List ℕ) (operator depth : ℕ) (items : List ℕ) (a
           gives = λ next part after v c.
               record {
                 so_far = join_by operator left.so_far v.what;
-                goes_on_lem = goes ∙ ap (λ (o : Taken Expr). found o (λ r. take_more operator (take_within depth) (suc owed - 1) (join_by operator left.so_far r.0) r.1)) v.reads;
+                goes_on = goes ∙ ap (λ (o : Taken Expr). found o (λ r. take_more operator (take_within depth) (suc owed - 1) (join_by operator left.so_far r.0) r.1)) v.reads;
                 set =
                     c.later rooted (holds t m left.so_far) (holds t m v.what) left.set v.set ∙
                     ap (bits nodes) (fun_ext (λ i. sym (means left.so_far v.what i)));

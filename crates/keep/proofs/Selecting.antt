@@ -65,7 +65,7 @@ pub record Going (t : Table) (m : List ℕ) (items : List ℕ) (at count place l
   pub ahead : Steps
   pub rest : List ℕ
   pub reads : take_steps (take_within bracket_limit) count (drop at items) ≡ some (steps, rest)
-  pub goes_on_lem : take_steps (take_within bracket_limit) left (drop place items) ≡ some (ahead, rest)
+  pub goes_on : take_steps (take_within bracket_limit) left (drop place items) ≡ some (ahead, rest)
   pub low : height_steps ahead ≤ height_steps steps
   pub set : (f : ℕ → Bool) → take (nodes t) before ≡ bits (nodes t) f
       → (g : ℕ → Bool) × (take (nodes t) sets ≡ bits (nodes t) g) × ((k : ℕ) → some_below (nodes t) (λ i. f i && arrives t m steps i k) ≡ some_below (nodes t) (λ j. g j && arrives t m ahead j k))
@@ -134,7 +134,7 @@ module _ (t : Table) (m : List ℕ) (items : List ℕ) (at count room : ℕ) (f 
         ahead = n.later;
         rest = g.rest;
         reads = g.reads;
-        goes_on_lem = ap (take_steps (take_within bracket_limit) (left - 1)) (ap (λ (z : Preds × List ℕ). z.1) same_preds) ∙ n.then_read;
+        goes_on = ap (take_steps (take_within bracket_limit) (left - 1)) (ap (λ (z : Preds × List ℕ). z.1) same_preds) ∙ n.then_read;
         low = omega (arith, g.low, ap height_steps n.here);
         set =
             λ x e.
@@ -184,7 +184,7 @@ pub record PathsDone (t : Table) (m : List ℕ) (items : List ℕ) (place : ℕ)
   pub so_far : List Steps
   pub ahead : List Steps
   pub fuel : ℕ
-  pub goes_on_lem : take_paths fuel (drop place items) ≡ some ahead
+  pub goes_on : take_paths fuel (drop place items) ≡ some ahead
   pub all : paths query ≡ so_far ++ ahead
   pub inside : place ≤ length items
   pub set : marks ≡ bits (nodes t) (λ k. some_of (λ p. marked m 0 && arrives t m p 0 k) so_far)
@@ -208,7 +208,7 @@ paths_begin t m items room marks r e =
       so_far = [];
       ahead = ps;
       fuel = length items;
-      goes_on_lem = u;
+      goes_on = u;
       all = query_paths ps r.query v;
       inside = omega arith;
       set = e ∙ nothing_yet (nodes t) 0;
@@ -277,7 +277,7 @@ module _ (t : Table) (m : List ℕ) (items : List ℕ) (room : ℕ) (r : Runs it
         so_far = d.so_far ++ (v.what ∷ []);
         ahead = n.later;
         fuel = n.fuel;
-        goes_on_lem = ap (take_paths n.fuel) (ap (λ (x : Steps × List ℕ). x.1) same) ∙ n.then_read;
+        goes_on = ap (take_paths n.fuel) (ap (λ (x : Steps × List ℕ). x.1) same) ∙ n.then_read;
         all =
             d.all ∙ ap (λ (z : List Steps). d.so_far ++ z) (n.here ∙ ap (λ (s : Steps). s ∷ n.later) (sym (ap (λ (x : Steps × List ℕ). x.0) same))) ∙
             sym (append_assoc d.so_far (v.what ∷ []) n.later);

@@ -1,4 +1,6 @@
 // The nodes that a query keeps: predicates for all nodes at once, from a path's last step back; top-level paths forward from the root; then all above and below.
+#![tactic(auto)]
+
 ghost use Rattle.std.specs.Prelude.{◌+◌, ◌-◌, ◌*◌, ◌/◌, ◌≤◌, ◌<◌, ◌≡◌, true, ◌&&◌, ◌||◌, ◌⊎◌, eqb, length, get_or, take, drop, replicate};
 ghost use Rattle.std.proofs.Math.Option.{some};
 ghost use Rattle.paper.specs.Limits.{bracket_limit};

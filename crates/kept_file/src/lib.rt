@@ -1,4 +1,6 @@
 // The file of a kept part: is an element marked, and the bytes, which are counted before one is written.
+#![tactic(auto)]
+
 ghost use Rattle.std.specs.Prelude.{◌≡◌, ℕ, List, length};
 ghost use Rattle.paper.specs.Document.{table_of};
 ghost use Rattle.paper.specs.WriteXml.{kept_xml};

@@ -1,4 +1,6 @@
 // How two nodes of a table stand to each other: above, below, beside or behind, and whether an axis leads from one to the other; the marks of all above and below a node.
+#![tactic(auto)]
+
 ghost use Rattle.std.specs.Prelude.{ℕ, ◌<◌, ◌≡◌, Bool, ◌&&◌, ◌||◌, cond, List, length};
 ghost use Rattle.paper.specs.Tools.{column};
 ghost use Rattle.paper.specs.Query.{Axis};

@@ -1,5 +1,7 @@
 // The lean composition's decision on each step of a query, as the axis of a copy: child where the step is guarded, self where it is not.
 // One pass in the order of the items: a step finds in the copy what the step before it in its path left there, and leaves the same for the next one.
+#![tactic(auto)]
+
 ghost use Rattle.std.specs.Prelude.{◌≡◌, ◌&&◌, ◌||◌, cond, ◌+◌, ◌*◌, ◌≤◌, ◌<◌, ◌^◌, eqb, length, get_or, set, replicate};
 ghost use Rattle.paper.specs.Limits.{item_limit};
 ghost use Rattle.paper.specs.Items.{decode, axis_bound, test_bound, count_limit};

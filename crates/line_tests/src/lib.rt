@@ -1,4 +1,6 @@
 // Lent columns against a line: a number at an index, the kind of a name that was looked for, where a line begins.
+#![tactic(auto)]
+
 ghost use Rattle.std.specs.Prelude.{ℕ, ◌+◌, ◌<◌, ◌≡◌, List};
 ghost use Rattle.std.proofs.Math.Option.{Option, some};
 ghost use Rattle.paper.specs.Limits.{names_limit};

@@ -1,5 +1,7 @@
 // The lines of a report: where a line of an input ends and the next one starts, and the lines of a refusal and of a result.
 // What is put goes into the lent bytes as far as these go, and its length is answered.
+#![tactic(auto)]
+
 ghost use Rattle.std.specs.Prelude.{◌≡◌, [], ◌∷◌, ◌+◌, ◌^◌, ◌≤◌, ◌<◌, length};
 ghost use Rattle.paper.specs.Limits.{text_limit};
 ghost use Rattle.paper.specs.Told.{told};

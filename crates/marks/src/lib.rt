@@ -1,4 +1,6 @@
 // The marks of a text: is the next token of a sort?
+#![tactic(auto)]
+
 ghost use Rattle.std.specs.Prelude.{◌≤◌, ◌<◌, ◌≡◌, true, eqb, length, get_or};
 ghost use Rattle.paper.specs.Tokens.{sort};
 ghost use Rattle.paper.specs.Reading.{next};
@@ -7,7 +9,7 @@ ghost use Rattle.marks.specs.Marks.{tokens_at, sort_of, mark_sorts, leads, Other
 use token::{Cursor, Token};
 
 // Is the next token the one looked for? Its place, and the cursor past it.
-#[derive(Drop)]
+#[derive(Clone, Copy)]
 pub enum Ahead {
     There { place: usize, next: Cursor },
     Other(usize),

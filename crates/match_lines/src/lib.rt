@@ -1,4 +1,6 @@
 // An XML text against lent columns: its pieces are compared with their lines one by one, and no second table is made.
+#![tactic(auto)]
+
 ghost use Rattle.std.specs.Prelude.{ℕ, ◌+◌, ◌≤◌, ◌<◌, ◌≡◌, List, length, get_or};
 ghost use Rattle.paper.specs.Limits.{text_limit};
 ghost use Rattle.prolog.specs.Heading.{Leads};
@@ -16,7 +18,7 @@ use xml_lines::{find_name, narrow, wide};
 const OPEN: usize = paper::TEXT_LIMIT / 3;
 
 // How far comparing has come: the place, how many elements are open, the innermost of them by its number, how many nodes there are, and whether all lines so far are those of the columns.
-#[derive(Drop)]
+#[derive(Clone, Copy)]
 struct Progress {
     at: usize,
     depth: usize,
@@ -26,21 +28,21 @@ struct Progress {
 }
 
 // What comparing on comes to.
-#[derive(Drop)]
+#[derive(Clone, Copy)]
 enum Step {
     On(Progress),
     Refused,
 }
 
 // A text that is compared: how many nodes it has, and whether their lines are those of the columns.
-#[derive(Drop)]
+#[derive(Clone, Copy)]
 pub struct Match {
     pub nodes: usize,
     pub same: bool,
 }
 
 // What is said of a text.
-#[derive(Drop)]
+#[derive(Clone, Copy)]
 pub enum Verdict {
     On(Match),
     Refused,

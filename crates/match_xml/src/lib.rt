@@ -1,4 +1,6 @@
 // Does an XML text read as these columns? All its lines are those of the columns, and they are as many.
+#![tactic(auto)]
+
 ghost use Rattle.std.specs.Prelude.{◌≤◌, ◌≡◌, length};
 ghost use Rattle.std.proofs.Math.Option.{none};
 ghost use Rattle.paper.specs.Limits.{text_limit, list_limit, node_limit};

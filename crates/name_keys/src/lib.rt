@@ -1,4 +1,6 @@
 // Does a line before say the same? Lines are compared only where one has the same key.
+#![tactic(auto)]
+
 ghost use Rattle.std.specs.Prelude.{◌≤◌, ◌<◌, ◌≡◌, eqb, length, get_or};
 ghost use Rattle.paper.specs.Tools.{same, some_below, some_of};
 ghost use Rattle.paper.specs.Limits.{name_limit, names_limit};

@@ -1,4 +1,6 @@
 // The lines of a list of names by their kept starts: where a line stands, and the first that says a word.
+#![tactic(auto)]
+
 ghost use Rattle.std.specs.Prelude.{suc, ◌<◌, ◌≡◌, get_or};
 ghost use Rattle.paper.specs.Limits.{names_limit};
 ghost use Rattle.name_lines.specs.Lines.{Rising, FirstSame, part_of};
@@ -9,7 +11,7 @@ use paper::NAMES_LIMIT;
 pub const STARTS: usize = NAMES_LIMIT + 1;
 
 // Where a name stands in the list, and its number of bytes.
-#[derive(Drop)]
+#[derive(Clone, Copy)]
 pub struct Part {
     pub start: usize,
     pub len: usize,

@@ -1,4 +1,6 @@
 // The lent list of names: is it good, find a word's number, spell a number's name.
+#![tactic(auto)]
+
 ghost use Rattle.std.specs.Prelude.{◌+◌, ◌≤◌, ◌<◌, ◌≡◌, length, take, drop};
 ghost use Rattle.paper.specs.Limits.{list_limit};
 ghost use Rattle.paper.specs.Names.{number_of, names_of, bad_line};
@@ -13,14 +15,14 @@ use paper::{NAME_LIMIT, NAMES_LIMIT};
 pub const STARTS: usize = name_lines::STARTS;
 
 // What checking the list finds: so many good names, or where the first bad line starts.
-#[derive(Drop)]
+#[derive(Clone, Copy)]
 pub enum Listed {
     Good(usize),
     Bad(usize),
 }
 
 // The number of a word among the names, if it is one of them.
-#[derive(Drop)]
+#[derive(Clone, Copy)]
 pub enum Found {
     At(usize),
     Nothing,

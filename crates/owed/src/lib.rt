@@ -1,4 +1,6 @@
 // Where things end in the items of a query: each item says how many others belong to it, so what is owed is counted item by item.
+#![tactic(auto)]
+
 ghost use Rattle.std.specs.Prelude.{◌≡◌, ◌+◌, ◌≤◌, length, drop};
 ghost use Rattle.paper.specs.Limits.{item_limit};
 ghost use Rattle.paper.specs.Items.{count_limit};

@@ -1,4 +1,5 @@
 // The limits of docs/SCOPE.md, for code; the same numbers stand in specs/Limits.antt, and those of kinds in specs/Document.antt, for the promises.
+#![tactic(auto)]
 
 // The most bytes of a text lent for reading.
 pub const TEXT_LIMIT: usize = 32768;
@@ -26,7 +27,7 @@ pub const ELEMENT_KIND: u16 = 2;
 pub const KIND_LIMIT: u16 = 257;
 
 // What an entry point answers: the value, or a refusal with its place. specs/Told.antt gives its number.
-#[derive(Drop)]
+#[derive(Clone, Copy)]
 pub enum Answer {
     Value(usize),
     TooLong,

@@ -1,5 +1,7 @@
 // The pieces that a text is put together from: bytes, signs and words.
 // A piece is put into the lent bytes from a place on as far as these go, and the place after it is answered: what does not fit is only counted.
+#![tactic(auto)]
+
 ghost use Rattle.std.specs.Prelude.{[], ◌∷◌, ◌+◌, ◌^◌, ◌<◌, length};
 ghost use Rattle.paper.specs.Tools.{ascii};
 ghost use Rattle.pen.specs.Putting.{Puts, between};

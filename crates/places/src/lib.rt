@@ -1,4 +1,6 @@
 // Where the steps of a path stand in the items of a query, and what stands at a place.
+#![tactic(auto)]
+
 ghost use Rattle.std.specs.Prelude.{suc, ◌≤◌, ◌<◌, ◌≡◌, true, false, length, get_or, drop};
 ghost use Rattle.std.proofs.Math.Option.{some};
 ghost use Rattle.paper.specs.Limits.{bracket_limit};
@@ -27,7 +29,7 @@ pub fn past_steps(items: &[u32], at: usize, count: usize, depth: usize) -> usize
 }
 
 // Where steps of a path stand: the last one after a multiple of 256 others, the last one after a multiple of 16, and the one looked for.
-#[derive(Drop)]
+#[derive(Clone, Copy)]
 pub struct Places {
     pub far: usize,
     pub near: usize,

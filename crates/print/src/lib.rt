@@ -1,4 +1,6 @@
 // The text of a query, in the long form or in the short one: what is lent is examined and the text counted before a byte is written.
+#![tactic(auto)]
+
 ghost use Rattle.std.specs.Prelude.{◌≡◌, length};
 ghost use Rattle.paper.specs.Printing.{long_form, short_form};
 ghost use Rattle.paper.specs.Answers.{print_answer, print_out};

@@ -1,4 +1,6 @@
 // What stands before the one element of an XML text: the declaration and white space.
+#![tactic(auto)]
+
 ghost use Rattle.std.specs.Prelude.{◌+◌, ◌-◌, ◌≤◌, ◌<◌, ◌≡◌, true, false, [], ◌∷◌, map, length, take, drop, eqb};
 ghost use Rattle.std.proofs.Math.Option.{none, some};
 ghost use Rattle.paper.specs.Tools.{ascii, begins, same, run_of};

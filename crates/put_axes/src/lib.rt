@@ -1,4 +1,6 @@
 // The axis of a step as its text.
+#![tactic(auto)]
+
 ghost use Rattle.std.specs.Prelude.{◌≡◌, ◌+◌, ◌^◌, ◌≤◌, ◌<◌};
 ghost use Rattle.paper.specs.Query.{Axis};
 ghost use Rattle.paper.specs.Items.{axis_number};

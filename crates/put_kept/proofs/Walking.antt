@@ -72,7 +72,7 @@ pub record Walking (text marks : List ℕ) (lines : List Row) (pen : ℕ) (old o
   pub past_root : 0 < i
   pub done : List ℕ
   pub puts : Puts done pen old out at
-  pub goes_on_lem : done ++ onward text marks lines left i top k ≡ kept_xml text marks
+  pub goes_on : done ++ onward text marks lines left i top k ≡ kept_xml text marks
   pub rests : Rests text marks lines top left i
 
 -- The same by other names.
@@ -170,7 +170,7 @@ module _ (text parents kinds begins ends marks : List ℕ) (g : Lent text parent
         past_root = omega arith;
         done = [];
         puts = puts_none pen old;
-        goes_on_lem = sym (kept_is ∙ kept_onward g.list text marks (length text) g.tree closed_marks);
+        goes_on = sym (kept_is ∙ kept_onward g.list text marks (length text) g.tree closed_marks);
         rests = start_rests g.list text marks (length text) g.tree closed_marks;
       }
 
@@ -252,7 +252,7 @@ module _ (text parents kinds begins ends marks : List ℕ) (g : Lent text parent
           past_root = omega arith;
           done = w.done ++ (n.bytes ++ piece);
           puts = puts_both w.puts q.puts;
-          goes_on_lem = rw (add-one i, q.opens, q.counts) (split l m);
+          goes_on = rw (add-one i, q.opens, q.counts) (split l m);
           rests =
               rw (add-one i, q.opens)
               (subst (λ j. Rests text marks lines j n.more (suc i)) (inner_is i w.past_root (in_lines l)) (node_rests g.list text marks (length text) g.tree closed_marks i n.more w.past_root counts));
@@ -269,7 +269,7 @@ module _ (text parents kinds begins ends marks : List ℕ) (g : Lent text parent
           past_root = omega arith;
           done = w.done;
           puts = w.puts;
-          goes_on_lem = rw (add-one i) (ap (λ (x : List ℕ). w.done ++ x) (sym passed) ∙ ap (λ j. w.done ++ onward text marks lines j i top k) (sym less.1) ∙ w.goes_on);
+          goes_on = rw (add-one i) (ap (λ (x : List ℕ). w.done ++ x) (sym passed) ∙ ap (λ j. w.done ++ onward text marks lines j i top k) (sym less.1) ∙ w.goes_on);
           rests = rw (add-one i) (r.1 m);
         }
 

@@ -1,4 +1,6 @@
 // The kept part of a text as XML, put into the lent bytes from a place on as far as these go: what does not fit is only counted.
+#![tactic(auto)]
+
 ghost use Rattle.std.specs.Prelude.{◌^◌, ◌<◌};
 ghost use Rattle.paper.specs.WriteXml.{kept_xml};
 ghost use Rattle.pen.specs.Putting.{Puts};

@@ -1,4 +1,6 @@
 // A node of the kept part put into the lent bytes from a place on as far as these go: the end tags up to its parent, then its own.
+#![tactic(auto)]
+
 ghost use Rattle.std.specs.Prelude.{◌≡◌, List, ℕ, ◌^◌, ◌≤◌, ◌<◌, length, get_or};
 ghost use Rattle.put_tags.specs.Tags.{Open};
 ghost use Rattle.put_node.specs.Placing.{past_tags, PutsPiece, inner_by, PutsNode, Placeable};
@@ -7,7 +9,7 @@ use put_tags::{close, start_at};
 use put_text::{Point, put_text};
 
 // How far a walk over the nodes has come: where the pen stands, and the innermost element that is open.
-#[derive(Drop)]
+#[derive(Clone, Copy)]
 pub struct Walk {
     pub at: usize,
     pub squares: u8,

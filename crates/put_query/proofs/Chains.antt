@@ -78,7 +78,7 @@ module _ (brief : Bool) (names : List (List ℕ)) (operator depth : ℕ) (items 
   -- What has been read and printed of the run, with so many parts owed.
   pub record Left (out : List ℕ) (place byte owed : ℕ) : Type 0 where
     pub so_far : Expr
-    pub goes_on_lem : take_run operator (take_within depth) (drop at items) ≡ take_more operator (take_within depth) owed so_far (drop place items)
+    pub goes_on : take_run operator (take_within depth) (drop at items) ≡ take_more operator (take_within depth) owed so_far (drop place items)
     pub puts : Puts (text_of names (run_pieces brief operator so_far)) pen old out byte
     pub onward : base ≤ place
     pub inside : place ≤ length items
@@ -103,7 +103,7 @@ module _ (brief : Bool) (names : List (List ℕ)) (operator depth : ℕ) (items 
             gives = λ new r w.
                 record {
                   so_far = w.what;
-                  goes_on_lem = starts ∙ ap (λ (o : Taken Expr). found o (λ t. take_more operator (take_within depth) count t.0 t.1)) w.reads;
+                  goes_on = starts ∙ ap (λ (o : Taken Expr). found o (λ t. take_more operator (take_within depth) count t.0 t.1)) w.reads;
                   puts = puts_as (j.text_alone w.what (first_alone operator depth l items at count e (w.what, drop r.item items) w.reads)) w.puts;
                   onward = omega (arith, b, w.onward);
                   inside = w.inside;
@@ -126,7 +126,7 @@ module _ (brief : Bool) (names : List (List ℕ)) (operator depth : ℕ) (items 
             gives = λ new r w.
                 record {
                   so_far = join_by operator left.so_far w.what;
-                  goes_on_lem = goes ∙ ap (λ (o : Taken Expr). found o (λ t. take_more operator (take_within depth) (suc owed - 1) (join_by operator left.so_far t.0) t.1)) w.reads;
+                  goes_on = goes ∙ ap (λ (o : Taken Expr). found o (λ t. take_more operator (take_within depth) (suc owed - 1) (join_by operator left.so_far t.0) t.1)) w.reads;
                   puts = puts_as (j.text_join left.so_far w.what) (puts_both (puts_both left.puts p) w.puts);
                   onward = omega (arith, left.onward, w.onward, j.ahead items place);
                   inside = w.inside;

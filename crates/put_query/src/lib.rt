@@ -1,6 +1,8 @@
 // The text of a query, in the long form or in the short one, put into the lent bytes by the same functions.
 // They count its bytes, with no room, and write them, with room enough: what does not fit is only counted.
 // Path, step and expression call each other; each round of calls opens a bracket, so there is at most one more than brackets may be open.
+#![tactic(auto)]
+
 ghost use Rattle.std.specs.Prelude.{◌≡◌, ◌+◌, ◌*◌, ◌^◌, ◌≤◌, ◌<◌, length, drop};
 ghost use Rattle.paper.specs.Tools.{ascii};
 ghost use Rattle.paper.specs.Names.{names_of};
@@ -14,7 +16,7 @@ ghost use Rattle.put_query.specs.Writing.{operand_pieces, Names, Some, Prints, Q
 use item::Item;
 
 // How far printing has come: the next item, and the place of the next byte.
-#[derive(Drop)]
+#[derive(Clone, Copy)]
 struct Reached {
     item: usize,
     byte: usize,

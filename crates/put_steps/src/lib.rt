@@ -1,4 +1,6 @@
 // A step without its predicates as its text: axis and test.
+#![tactic(auto)]
+
 ghost use Rattle.std.specs.Prelude.{◌≡◌, true, ◌+◌, ◌^◌, ◌≤◌, ◌<◌, length};
 ghost use Rattle.paper.specs.Limits.{list_limit};
 ghost use Rattle.paper.specs.Query.{Axis, Test};

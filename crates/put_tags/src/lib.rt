@@ -1,4 +1,6 @@
 // The tags of elements put into the lent bytes from a place on as far as these go: a start tag, and the end tags of the elements that are open.
+#![tactic(auto)]
+
 ghost use Rattle.std.specs.Prelude.{List, [], ◌∷◌, ◌++◌, ℕ, ◌+◌, ◌^◌, ◌<◌, length};
 ghost use Rattle.pen.specs.Putting.{Puts};
 ghost use Rattle.put_tags.specs.Tags.{name_at, Open, Closable};

@@ -1,11 +1,13 @@
 // The bytes of a text put into the lent bytes from a place on as far as these go, escaped behind the `]` that are counted.
+#![tactic(auto)]
+
 ghost use Rattle.std.specs.Prelude.{◌≡◌, [], ◌∷◌, ◌+◌, ◌*◌, ◌^◌, ◌<◌, length};
 ghost use Rattle.paper.specs.WriteXml.{squares_by, escaped};
 ghost use Rattle.pen.specs.Putting.{Puts};
 ghost use Rattle.put_text.specs.Escaping.{PutsText};
 
 // Where the pen stands: the place that it has reached, and how many `]` end what is written, 2 at most.
-#[derive(Drop)]
+#[derive(Clone, Copy)]
 pub struct Point {
     pub at: usize,
     pub squares: u8,

@@ -1,4 +1,6 @@
 // The kept part of a text as XML, written with a pen: the lent bytes, and the place that it has reached.
+#![tactic(auto)]
+
 ghost use Rattle.std.specs.Prelude.{◌≡◌, ◌^◌, ◌<◌};
 ghost use Rattle.paper.specs.WriteXml.{kept_xml};
 ghost use Rattle.pen.specs.Putting.{Puts};

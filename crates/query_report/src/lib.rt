@@ -1,5 +1,7 @@
 // The report on two queries: their composition, in the way given, with its size and nesting, or the line of a refusal.
 // It is put into the lent bytes as far as these go, and its length is answered.
+#![tactic(auto)]
+
 ghost use Rattle.std.specs.Prelude.{◌≡◌, length};
 ghost use Rattle.paper.specs.Items.{decode};
 ghost use Rattle.paper.specs.Told.{told};

@@ -1,5 +1,7 @@
 // The reader: from text to query. One pass measures the text and keeps its items if they are few; those are then copied, or the same functions write into the output.
 // `newer` says that the text is read by version 2 of XPath; `lookup` says whether names are looked up in the list.
+#![tactic(auto)]
+
 ghost use Rattle.std.specs.Prelude.{ℕ, ◌≤◌, ◌≡◌, true, false, length};
 ghost use Rattle.paper.specs.Tools.{written};
 ghost use Rattle.paper.specs.Limits.{bracket_limit};

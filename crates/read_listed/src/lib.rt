@@ -1,4 +1,6 @@
 // XML text into the table, with a list of names that has no fault. The text is gone through once, piece by piece: the places at which the open elements begin are kept, and beside them the lines of the table; where the text is accepted, the lines are copied into the columns.
+#![tactic(auto)]
+
 ghost use Rattle.std.specs.Prelude.{ℕ, ◌+◌, ◌≤◌, ◌<◌, ◌≡◌, List, length, get_or, set, take};
 ghost use Rattle.paper.specs.Tools.{written};
 ghost use Rattle.paper.specs.Limits.{text_limit, node_limit};

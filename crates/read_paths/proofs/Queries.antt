@@ -70,7 +70,7 @@ pub record PathRow (newer : Bool) (look : List ℕ → Option ℕ) (within : ℕ
   pub fuel : ℕ
   pub raw : List ℕ
   pub codes : (q : Query) → encode (build q) ≡ raw ++ encode q
-  pub goes_on_lem : all ≡ then (read_paths newer look within fuel (tokens_at text here)) (λ q. got (build q))
+  pub goes_on : all ≡ then (read_paths newer look within fuel (tokens_at text here)) (λ q. got (build q))
   pub enough : length (tokens_at text here) ≤ fuel
   pub wrote : Wrote old out 0 raw
   pub ends : filled ≡ length raw
@@ -85,7 +85,7 @@ paths_start newer look text old =
       fuel = length (tokens text);
       raw = [];
       codes = λ q. refl;
-      goes_on_lem = then_got (read_paths newer look (read_within newer look bracket_limit) (length (tokens text)) (tokens text));
+      goes_on = then_got (read_paths newer look (read_within newer look bracket_limit) (length (tokens text)) (tokens text));
       enough = omega arith;
       wrote = wrote_nothing old 0;
       ends = refl;
@@ -131,7 +131,7 @@ module _ (newer : Bool) (look : List ℕ → Option ℕ) (within : ℕ → List 
           codes =
               λ q.
               l.codes (record { first = g.what; others = paths q }) ∙ ap (λ x. l.raw ++ x) (first_code g.what q) ∙ sym (append_assoc l.raw (path_items g.what) (encode q));
-          goes_on_lem =
+          goes_on =
               after f z ∙
               rw (s, p.rest)
               (then_then (read_paths newer look within f (tokens_at text mid)) (λ (q : Query). record { first = g.what; others = paths q }) l.build);

@@ -43,7 +43,7 @@ pub record PredRow (newer : Bool) (look : List ℕ → Option ℕ) (within : ℕ
   pub raw : List ℕ
   pub counts : (ps : Preds) → pred_count (build ps) ≡ taken + pred_count ps
   pub codes : (ps : Preds) → encode_preds (build ps) ≡ raw ++ encode_preds ps
-  pub goes_on_lem : read_preds newer look within (length (tokens_at text from)) (tokens_at text from) ≡ then (read_preds newer look within fuel (tokens_at text here)) (λ ps. got (build ps))
+  pub goes_on : read_preds newer look within (length (tokens_at text from)) (tokens_at text from) ≡ then (read_preds newer look within fuel (tokens_at text here)) (λ ps. got (build ps))
   pub enough : length (tokens_at text here) ≤ fuel
   pub wrote : Wrote old out (slot + 1) raw
   pub ends : filled ≡ slot + 1 + length raw
@@ -62,7 +62,7 @@ module _ (newer : Bool) (look : List ℕ → Option ℕ) (within : ℕ → List 
         raw = [];
         counts = λ ps. omega arith;
         codes = λ ps. refl;
-        goes_on_lem = then_got (read_preds newer look within (length (tokens_at text from)) (tokens_at text from));
+        goes_on = then_got (read_preds newer look within (length (tokens_at text from)) (tokens_at text from));
         enough = omega arith;
         wrote = wrote_nothing old (slot + 1);
         ends = omega arith;
@@ -95,7 +95,7 @@ module _ (newer : Bool) (look : List ℕ → Option ℕ) (within : ℕ → List 
             raw = l.raw ++ code;
             counts = λ ps. l.counts (pred g.what ps) ∙ (omega arith);
             codes = λ ps. l.codes (pred g.what ps) ∙ sym (append_assoc l.raw code (encode_preds ps));
-            goes_on_lem =
+            goes_on =
                 l.goes_on ∙ ap (λ o. then o (λ ps. got (l.build ps))) (there f z ∙ ap (λ o. then o (λ e left. then (read_preds newer look within f left) (λ ps. got (pred e ps)))) g.reads) ∙
                 then_then (read_preds newer look within f (tokens_at text past)) (pred g.what) l.build;
             enough = omega (arith, l.enough, p.fewer, g.fewer);
@@ -162,7 +162,7 @@ pub record StepRow (newer : Bool) (look : List ℕ → Option ℕ) (within : ℕ
   pub raw : List ℕ
   pub counts : (s : Steps) → step_count (build s) ≡ taken + step_count s
   pub codes : (s : Steps) → encode_steps (build s) ≡ raw ++ encode_steps s
-  pub goes_on_lem : all ≡ then (read_steps newer look within fuel (tokens_at text here)) (λ s. got (build (deep_if lead s)))
+  pub goes_on : all ≡ then (read_steps newer look within fuel (tokens_at text here)) (λ s. got (build (deep_if lead s)))
   pub enough : length (tokens_at text here) ≤ fuel
   pub wrote : Wrote old out (slot + 1) raw
   pub ends : filled ≡ slot + 1 + length raw
@@ -179,7 +179,7 @@ pub record Stepped (newer : Bool) (look : List ℕ → Option ℕ) (within : ℕ
   pub raw : List ℕ
   pub counts : (s : Steps) → step_count (build s) ≡ taken + step_count s
   pub codes : (s : Steps) → encode_steps (build s) ≡ raw ++ encode_steps s
-  pub goes_on_lem : all
+  pub goes_on : all
       ≡ cond (sees paper.slash (tokens_at text past)) (then (read_steps newer look within fuel (drop 1 (tokens_at text past))) (λ s. got (build s)))
       (cond (sees paper.slashes (tokens_at text past)) (then (read_steps newer look within fuel (drop 1 (tokens_at text past))) (λ s. got (build (deep s)))) (got (build stop) (tokens_at text past)))
   pub enough : length (tokens_at text past) ≤ suc fuel
@@ -210,7 +210,7 @@ module _ (newer : Bool) (look : List ℕ → Option ℕ) (within : ℕ → List 
         raw = [];
         counts = λ s. omega arith;
         codes = λ s. refl;
-        goes_on_lem = refl;
+        goes_on = refl;
         enough = omega arith;
         wrote = wrote_nothing old (slot + 1);
         ends = omega arith;
@@ -239,7 +239,7 @@ module _ (newer : Bool) (look : List ℕ → Option ℕ) (within : ℕ → List 
           raw = l.raw ++ code;
           counts = λ rest. omega (arith, l.counts (deep_if lead (before s rest)), before_count lead s rest);
           codes = λ rest. l.codes (deep_if lead (before s rest)) ∙ ap (λ x. l.raw ++ x) (before_code lead s rest) ∙ sym (append_assoc l.raw code (encode_steps rest));
-          goes_on_lem =
+          goes_on =
               l.goes_on ∙ ap (λ n. then (read_steps newer look within n (tokens_at text here)) (λ r. got (l.build (deep_if lead r)))) z ∙
               rw g.reads
               (spread (sees paper.slash (tokens_at text past)) (sees paper.slashes (tokens_at text past)) (read_steps newer look within f (drop 1 (tokens_at text past))) (before s)
@@ -271,7 +271,7 @@ module _ (newer : Bool) (look : List ℕ → Option ℕ) (within : ℕ → List 
           raw = l.raw;
           counts = l.counts;
           codes = l.codes;
-          goes_on_lem = l.goes_on ∙ rw (j.0, j.1, j.2.rest);
+          goes_on = l.goes_on ∙ rw (j.0, j.1, j.2.rest);
           enough = omega (arith, l.enough, j.2.fewer);
           wrote = l.wrote;
           ends = l.ends;
@@ -288,7 +288,7 @@ module _ (newer : Bool) (look : List ℕ → Option ℕ) (within : ℕ → List 
           raw = l.raw;
           counts = l.counts;
           codes = l.codes;
-          goes_on_lem = l.goes_on ∙ rw (j.0, j.1.rest);
+          goes_on = l.goes_on ∙ rw (j.0, j.1.rest);
           enough = omega (arith, l.enough, j.1.fewer);
           wrote = l.wrote;
           ends = l.ends;

@@ -108,7 +108,7 @@ pub record Left (op : Operator) (text old out : List ℕ) (from slot : ℕ) (all
   pub so_far : Expr
   pub fuel : ℕ
   pub raw : List ℕ
-  pub goes_on_lem : all ≡ op.more fuel so_far (tokens_at text here)
+  pub goes_on : all ≡ op.more fuel so_far (tokens_at text here)
   pub enough : length (tokens_at text here) ≤ fuel
   pub coded : encode_expr so_far ≡ replicate run op.item ++ raw
   pub wrote : Wrote old out slot raw
@@ -127,7 +127,7 @@ module _ (op : Operator) (text old : List ℕ) (from slot : ℕ) (all : Got Expr
         so_far = g.what;
         fuel = length (tokens_at text here);
         raw = encode_expr g.what;
-        goes_on_lem = is ∙ ap (λ o. then o (λ a left. op.more (length left) a left)) g.reads;
+        goes_on = is ∙ ap (λ o. then o (λ a left. op.more (length left) a left)) g.reads;
         enough = omega arith;
         coded = refl;
         wrote = g.wrote;
@@ -159,7 +159,7 @@ module _ (op : Operator) (text old : List ℕ) (from slot : ℕ) (all : Got Expr
             so_far = op.join l.so_far g.what;
             fuel = f;
             raw = l.raw ++ code;
-            goes_on_lem = there f e ∙ ap (λ o. then o (λ b. op.more f (op.join l.so_far b))) g.reads;
+            goes_on = there f e ∙ ap (λ o. then o (λ b. op.more f (op.join l.so_far b))) g.reads;
             enough = omega (arith, l.enough, p.fewer, g.fewer);
             coded =
                 op.codes l.so_far g.what ∙ ap (λ x. op.item ∷ (x ++ code)) l.coded ∙ ap (λ x. op.item ∷ x) (append_assoc (replicate run op.item) l.raw code) ∙

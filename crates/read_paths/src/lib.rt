@@ -3,6 +3,8 @@
 // Recursion opens a bracket each time, so it goes one deeper than the limit on brackets.
 // `newer` says that the text is read by version 2 of XPath.
 // The list, its starts and their count are arguments of their own, since every function over a struct that holds a reference is proved by hand; `lookup` says whether names are looked up in the list.
+#![tactic(auto)]
+
 ghost use Rattle.std.specs.Prelude.{◌+◌, ◌*◌, ◌≤◌, ◌<◌, ◌≡◌, length};
 ghost use Rattle.paper.specs.Limits.{bracket_limit};
 ghost use Rattle.paper.specs.Query.{Axis, Test};
@@ -18,7 +20,7 @@ use marks::{Ahead, mark};
 use token::{Cursor, Token};
 
 // What reading a part of a query comes to: the cursor past it and the slot past its items, or a refusal with its place in the text.
-#[derive(Drop)]
+#[derive(Clone, Copy)]
 pub enum Part {
     Done { next: Cursor, end: usize },
     NoQuery(usize),

@@ -1,4 +1,6 @@
 // XML text into the table: what is lent is judged line by line, then the text is read.
+#![tactic(auto)]
+
 ghost use Rattle.std.specs.Prelude.{◌≡◌, length};
 ghost use Rattle.paper.specs.Answers.{read_xml_answer, read_xml_column, parent_field, kind_field, begin_field, end_field};
 ghost use Rattle.paper.specs.Told.{told};

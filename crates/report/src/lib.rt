@@ -1,5 +1,7 @@
 // What the printing program prints for any input: the composed query with its size and nesting, or the line of a refusal.
 // A report is put into the lent bytes as far as these go, and its length is answered. Whether the composition is lean is passed down to where it is made.
+#![tactic(auto)]
+
 ghost use Rattle.paper.specs.Program.{program_prints};
 ghost use Rattle.lines.specs.Lines.{report_limit, Reports};
 ghost use Rattle.report.specs.Printing.{program_prints_by, lean_prints};

@@ -116,7 +116,7 @@ module _ (made : Steps → List ℕ) where
     pub wrote : out ≡ placed done start old
     pub size : length out ≡ length old
     pub reached : at ≡ start + length done
-    pub goes_on_lem : done ++ each_path made rest ≡ each_path made (paths query)
+    pub goes_on : done ++ each_path made rest ≡ each_path made (paths query)
 
   unfoldable pub writing_start : (items old : List ℕ) (start : ℕ) → IsQuery items → Writing items old old start 0 start
   writing_start items old start q =
@@ -129,7 +129,7 @@ module _ (made : Steps → List ℕ) where
         wrote = sym (placed_nil old start);
         size = refl;
         reached = omega arith;
-        goes_on_lem = refl;
+        goes_on = refl;
       }
 
   -- The room that is left is enough for what is left.
@@ -161,7 +161,7 @@ module _ (made : Steps → List ℕ) where
         wrote = wrote';
         size = same_size (w.done ++ made p) old out' start wrote' (omega (arith, w.reached));
         reached = omega (arith, w.reached);
-        goes_on_lem = append_assoc w.done (made p) (each_path made ps) ∙ ap (λ (x : List Steps). w.done ++ each_path made x) (sym e) ∙ w.goes_on;
+        goes_on = append_assoc w.done (made p) (each_path made ps) ∙ ap (λ (x : List Steps). w.done ++ each_path made x) (sym e) ∙ w.goes_on;
       }
 
   pub writing_done : (items old out : List ℕ) (start place at : ℕ) → length items ≤ place → Writing items old out start place at → out ≡ placed (each_got made (decode items)) start old

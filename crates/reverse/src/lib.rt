@@ -1,5 +1,7 @@
 // S of an inner query: the reverses of its paths joined by `or`, written in memory.
 // A path is reversed in one pass over its items, which writes the way back from its end to its start.
+#![tactic(auto)]
+
 ghost use Rattle.std.specs.Prelude.{◌≡◌, ◌+◌, ◌*◌, ◌≤◌, ◌<◌, true, length};
 ghost use Rattle.paper.specs.Limits.{item_limit};
 ghost use Rattle.paper.specs.Query.{Steps, anyNode, stop, bare, pred};

@@ -1,5 +1,7 @@
 // The subscriber gateway, a layer above the library: a role's query is composed with the union of the views that the role names.
 // The union and the composition are those of `view_union`, of which only the contract is used.
+#![tactic(auto)]
+
 ghost use Rattle.std.specs.Prelude.{◌≤◌, ◌≡◌, map, length, get_or};
 ghost use Rattle.paper.specs.Limits.{text_limit};
 ghost use Rattle.paper.specs.Told.{told};
@@ -10,7 +12,7 @@ use paper::Answer;
 
 // A role: the views that it may see, bit v for view v. Its number is its index among the roles.
 #[repr(C)]
-#[derive(Drop)]
+#[derive(Clone, Copy)]
 pub struct Role {
     pub views: u32,
 }

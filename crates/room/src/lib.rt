@@ -1,4 +1,6 @@
 // How much scratch a run of a composition needs at most, told before composing, and what of the two queries tells it.
+#![tactic(auto)]
+
 ghost use Rattle.std.specs.Prelude.{◌≡◌};
 ghost use Rattle.paper.specs.Room.{height_answer, paths_answer, outside, scratch_answer};
 ghost use Rattle.paper.specs.Told.{told};

@@ -1,4 +1,6 @@
 // Running a query: all that is lent is examined, and then what the query keeps is marked and counted.
+#![tactic(auto)]
+
 ghost use Rattle.std.specs.Prelude.{◌≡◌, length};
 ghost use Rattle.paper.specs.Answers.{run_answer, run_marks, run_scratch};
 ghost use Rattle.paper.specs.Told.{told};

@@ -18,13 +18,13 @@ use Rattle.search.specs.declared.Held.{Held}
 module _ (t : Table) (m : List ℕ) (i : ℕ) (items : List ℕ) (at depth : ℕ) where
   -- The predicates read so far hold: what is read of the whole row is read of those owed, and they decide it.
   pub record Owed (count place owed : ℕ) : Type 0 where
-    pub goes_on_lem : (ps : Preds) (rest : List ℕ) → take_preds (take_within depth) count (drop at items) ≡ some (ps, rest)
+    pub goes_on : (ps : Preds) (rest : List ℕ) → take_preds (take_within depth) count (drop at items) ≡ some (ps, rest)
         → (qs : Preds) × (take_preds (take_within depth) owed (drop place items) ≡ some (qs, rest)) × (all_hold t m ps i ≡ all_hold t m qs i)
     pub onward : at ≤ place
     pub inside : place ≤ length items
 
   pub owed_all : (count : ℕ) → at ≤ length items → Owed count at count
-  owed_all count l = record { goes_on_lem = λ ps rest e. (ps, e, refl); onward = omega arith; inside = l }
+  owed_all count l = record { goes_on = λ ps rest e. (ps, e, refl); onward = omega arith; inside = l }
 
   -- An owed predicate can be read, in a bracket more.
   pub pred_fits {ℓ} : {C : Type ℓ} (room count place owed : ℕ) → 0 < owed → Fits items at room (take_preds (take_within depth) count (drop at items)) → Owed count place owed
@@ -68,7 +68,7 @@ module _ (t : Table) (m : List ℕ) (i : ℕ) (items : List ℕ) (at depth : ℕ
     row_goes : held.holds ≡ true → Owed count held.next owed
     row_goes h =
         record {
-          goes_on_lem = λ ps rest e. let o = one_more ps rest e in (o.0, o.1, o.2 ∙ ap (λ c. c && all_hold t m o.0 i) h);
+          goes_on = λ ps rest e. let o = one_more ps rest e in (o.0, o.1, o.2 ∙ ap (λ c. c && all_hold t m o.0 i) h);
           onward = omega (arith, l.onward, v.ends.onward);
           inside = v.ends.inside;
         }

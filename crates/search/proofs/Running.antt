@@ -39,7 +39,7 @@ module _ (t : Table) (m : List ℕ) (i : ℕ) (operator depth : ℕ) (items : Li
   -- What has been read of the run, with so many parts owed, is decided.
   pub record Left (place owed : ℕ) (acc : Bool) : Type 0 where
     pub so_far : Expr
-    pub goes_on_lem : take_run operator (take_within depth) (drop at items) ≡ take_more operator (take_within depth) owed so_far (drop place items)
+    pub goes_on : take_run operator (take_within depth) (drop at items) ≡ take_more operator (take_within depth) owed so_far (drop place items)
     pub tells : acc ≡ holds t m so_far i
     pub onward : at ≤ place
     pub inside : place ≤ length items
@@ -60,7 +60,7 @@ module _ (t : Table) (m : List ℕ) (i : ℕ) (operator depth : ℕ) (items : Li
           gives = λ held v.
               record {
                 so_far = v.ends.what;
-                goes_on_lem = starts ∙ ap (λ (o : Taken Expr). found o (λ r. take_more operator (take_within depth) count r.0 r.1)) v.ends.reads;
+                goes_on = starts ∙ ap (λ (o : Taken Expr). found o (λ r. take_more operator (take_within depth) count r.0 r.1)) v.ends.reads;
                 tells = unit held.holds ∙ v.tells;
                 onward = omega (arith, v.ends.onward);
                 inside = v.ends.inside;
@@ -82,7 +82,7 @@ module _ (t : Table) (m : List ℕ) (i : ℕ) (operator depth : ℕ) (items : Li
           gives = λ held v.
               record {
                 so_far = join_by operator left.so_far v.ends.what;
-                goes_on_lem = goes ∙ ap (λ (o : Taken Expr). found o (λ r. take_more operator (take_within depth) (suc owed - 1) (join_by operator left.so_far r.0) r.1)) v.ends.reads;
+                goes_on = goes ∙ ap (λ (o : Taken Expr). found o (λ r. take_more operator (take_within depth) (suc owed - 1) (join_by operator left.so_far r.0) r.1)) v.ends.reads;
                 tells = ap₂ (op_of operator) left.tells v.tells ∙ sym (means left.so_far v.ends.what);
                 onward = omega (arith, left.onward, v.ends.onward);
                 inside = v.ends.inside;

@@ -49,8 +49,8 @@ module _ (t : Table) (m : List ℕ) (items : List ℕ) (place depth from bound :
         let is = said.2 ∙ ap numbered same in
         v h.axis h.test (step_found _ h p).1 (ap (λ (x : Step). x.axis) is) (ap (λ (x : Step). x.test) is)
 
-    pub step_count_lem : (h : Head) → step_at (get_or items place 0) ≡ some h → step.count ≡ h.count
-    step_count_lem h p = ap (λ (x : Step). x.count) (said.2 ∙ ap numbered (some_inj (sym said.1 ∙ p)))
+    pub step_count : (h : Head) → step_at (get_or items place 0) ≡ some h → step.count ≡ h.count
+    step_count h p = ap (λ (x : Step). x.count) (said.2 ∙ ap numbered (some_inj (sym said.1 ∙ p)))
 
     -- The nodes that are not led to are passed.
     pub past_led : Past c → Past r

@@ -40,7 +40,7 @@ module _ (t : Table) (m : List ℕ) (items : List ℕ) (k : ℕ) where
   pub record PathsLeft (place : ℕ) : Type 0 where
     pub ahead : List Steps
     pub fuel : ℕ
-    pub goes_on_lem : take_paths fuel (drop place items) ≡ some ahead
+    pub goes_on : take_paths fuel (drop place items) ≡ some ahead
     pub inside : place ≤ length items
     pub answer : (q : Query) → decode items ≡ some q → Some (paths q) ≡ Some ahead
 
@@ -52,7 +52,7 @@ module _ (t : Table) (m : List ℕ) (items : List ℕ) (k : ℕ) where
       record {
         ahead = ps;
         fuel = length items;
-        goes_on_lem = u;
+        goes_on = u;
         inside = omega arith;
         answer = λ q e. ap Some (ap paths (some_inj (sym e ∙ r.1)) ∙ query_paths ps r.0 v);
       })
@@ -105,7 +105,7 @@ module _ (t : Table) (m : List ℕ) (items : List ℕ) (k : ℕ) where
           record {
             ahead = n.later;
             fuel = n.fuel;
-            goes_on_lem = ap (take_paths n.fuel) (ap (λ (x : Steps × List ℕ). x.1) same) ∙ n.then_read;
+            goes_on = ap (take_paths n.fuel) (ap (λ (x : Steps × List ℕ). x.1) same) ∙ n.then_read;
             inside = w.inside;
             answer = λ q e. d.answer q e ∙ ap Some n.here ∙ ap (λ y. y || Some n.later) (leads_there ∙ h);
           }

@@ -1,4 +1,6 @@
 // Which nodes a query selects and keeps, by the definition of selection: one node and one step at a time, with no sets.
+#![tactic(auto)]
+
 ghost use Rattle.std.specs.Prelude.{◌+◌, ◌≤◌, ◌<◌, ◌≡◌, true, length, get_or, take, drop};
 ghost use Rattle.std.proofs.Math.Option.{some};
 ghost use Rattle.paper.specs.Limits.{bracket_limit, item_limit};
@@ -70,14 +72,14 @@ fn arrived(node: usize, wanted: usize, n: usize) -> bool
 // THE SEARCH.
 
 // What items say of a node: where they end, and whether it holds.
-#[derive(Drop)]
+#[derive(Clone, Copy)]
 pub struct Held {
     pub next: usize,
     pub holds: bool,
 }
 
 // One more than the node found, or 0, and where the step's items end.
-#[derive(Drop)]
+#[derive(Clone, Copy)]
 pub struct Sought {
     pub bound: usize,
     pub next: usize,

@@ -1,4 +1,6 @@
 // Sets of nodes in lent bytes: each operation is one pass over the nodes, which changes each by itself.
+#![tactic(auto)]
+
 ghost use Rattle.std.specs.Prelude.{◌≡◌, Bool, true, not, ◌&&◌, ◌||◌, ◌++◌, ℕ, ◌+◌, ◌%◌, ◌≤◌, ◌<◌, length, get_or, take, drop, replicate, eqb, leb};
 ghost use Rattle.paper.specs.Query.{Test};
 ghost use Rattle.paper.specs.Items.{test_number, good_test};

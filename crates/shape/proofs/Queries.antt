@@ -23,7 +23,7 @@ use Rattle.shape.specs.declared.Shape.TheVariants.{Query as IsQuery, Malformed a
 pub record PathsLeft (items : List ℕ) (place deep high guard : ℕ) : Type 0 where
   pub so_far : List Steps
   pub fuel : ℕ
-  pub goes_on_lem : take_paths (length items) items ≡ found (take_paths fuel (drop place items)) (λ ps. some (so_far ++ ps))
+  pub goes_on : take_paths (length items) items ≡ found (take_paths fuel (drop place items)) (λ ps. some (so_far ++ ps))
   pub enough : length items ≤ place + fuel
   pub nests : deep ≡ nest_paths so_far
   pub heights : high ≡ height_paths so_far
@@ -37,7 +37,7 @@ paths_start items =
     record {
       so_far = [];
       fuel = length items;
-      goes_on_lem = go (take_paths (length items) items);
+      goes_on = go (take_paths (length items) items);
       enough = omega arith;
       nests = refl;
       heights = refl;
@@ -90,7 +90,7 @@ paths_more items place deep high guard count next nesting height' guards deep' h
     record {
       so_far = p.so_far ++ (w.what ∷ []);
       fuel = f;
-      goes_on_lem =
+      goes_on =
           p.goes_on ∙
           rw (ef, one_path items place count f l e, w.reads) (go (take_paths f (drop next items)));
       enough = omega (arith, p.enough, w.onward);

@@ -31,7 +31,7 @@ module _ (operator depth : ℕ) (items : List ℕ) (at : ℕ) where
   -- What has been read of the run, with so many parts owed.
   pub record Left (place deep high guard owed : ℕ) : Type 0 where
     pub so_far : Expr
-    pub goes_on_lem : take_run operator (take_within depth) (drop at items) ≡ take_more operator (take_within depth) owed so_far (drop place items)
+    pub goes_on : take_run operator (take_within depth) (drop at items) ≡ take_more operator (take_within depth) owed so_far (drop place items)
     pub nests : deep ≡ nest_run operator so_far
     pub heights : high ≡ height_expr so_far
     pub guards : guard ≡ open_in_run operator depth so_far
@@ -59,7 +59,7 @@ module _ (operator depth : ℕ) (items : List ℕ) (at : ℕ) where
           gives = λ next nesting height guards deep' high' guard' w ed eh eg.
               record {
                 so_far = w.what;
-                goes_on_lem = starts ∙ ap (λ (o : Taken Expr). found o (λ r. take_more operator (take_within depth) count r.0 r.1)) w.reads;
+                goes_on = starts ∙ ap (λ (o : Taken Expr). found o (λ r. take_more operator (take_within depth) count r.0 r.1)) w.reads;
                 nests = omega (arith, ed, w.nests, l.nest_alone w.what (first_alone operator depth l items at count e (w.what, drop next items) w.reads));
                 heights = eh ∙ w.heights;
                 guards = omega (arith, eg, w.guards, l.guard_alone w.what (first_alone operator depth l items at count e (w.what, drop next items) w.reads));
@@ -86,7 +86,7 @@ module _ (operator depth : ℕ) (items : List ℕ) (at : ℕ) where
               let taller : high' ≡ 1 + max high height = eh ∙ joined_more high height (omega (arith, left.heights, some_height left.so_far)) in
               record {
                 so_far = join_by operator left.so_far w.what;
-                goes_on_lem = goes ∙ ap (λ (o : Taken Expr). found o (λ r. take_more operator (take_within depth) (suc owed - 1) (join_by operator left.so_far r.0) r.1)) w.reads;
+                goes_on = goes ∙ ap (λ (o : Taken Expr). found o (λ r. take_more operator (take_within depth) (suc owed - 1) (join_by operator left.so_far r.0) r.1)) w.reads;
                 nests = ed ∙ ap₂ max left.nests w.nests ∙ sym (l.nest_join left.so_far w.what);
                 heights = omega (arith, taller, left.heights, w.heights, l.height_join left.so_far w.what);
                 guards = eg ∙ ap₂ max left.guards w.guards ∙ sym (l.guard_join left.so_far w.what);
@@ -240,7 +240,7 @@ module _ {A : Type 0} (k : Rows A) where
   -- What has been read of the row, with so many owed.
   pub record Row (items : List ℕ) (at depth : ℕ) (whole : Taken A) (place deep high guard owed : ℕ) : Type 0 where
     pub so_far : A
-    pub goes_on_lem : whole ≡ ahead (k.join so_far) (k.rows owed (drop place items))
+    pub goes_on : whole ≡ ahead (k.join so_far) (k.rows owed (drop place items))
     pub nests : deep ≡ k.nest_of so_far
     pub heights : high ≡ k.height_of so_far
     pub guards : guard ≡ k.guard_of so_far
@@ -255,7 +255,7 @@ module _ {A : Type 0} (k : Rows A) where
   row_start items at depth count l =
       record {
         so_far = k.empty;
-        goes_on_lem = go (k.rows count (drop at items));
+        goes_on = go (k.rows count (drop at items));
         nests = sym k.nest_empty;
         heights = sym k.height_empty;
         guards = sym k.guard_empty;
@@ -279,7 +279,7 @@ module _ {A : Type 0} (k : Rows A) where
   row_more items at depth whole place deep high guard (suc owed) next nesting height guards deep' high' guard' one z l goes o i en eh eg s b ed ei ej =
       record {
         so_far = k.join l.so_far one;
-        goes_on_lem =
+        goes_on =
             l.goes_on ∙ ap (ahead (k.join l.so_far)) (goes owed) ∙ go (k.rows owed (drop next items)) ∙
             ap (λ (n : ℕ). ahead (k.join (k.join l.so_far one)) (k.rows n (drop next items))) (let e : owed ≡ suc owed - 1 = omega arith in e);
         nests = ed ∙ ap₂ max l.nests en ∙ sym (k.nest_join l.so_far one);

@@ -1,4 +1,6 @@
 // A query in memory: is it one, and then its nesting and height, and how deep its guarded steps stand. Recursion opens a bracket each time, so it is at most one deeper than brackets may be.
+#![tactic(auto)]
+
 ghost use Rattle.std.specs.Prelude.{◌≡◌, ◌+◌, ◌≤◌, length, drop};
 ghost use Rattle.paper.specs.Limits.{bracket_limit};
 ghost use Rattle.paper.specs.Items.{leading, take_preds, take_steps, take_operand, take_expr, take_within, decode};
@@ -8,7 +10,7 @@ ghost use Rattle.shape.specs.Walks.{Small, raised_by, Walks, nest_operand, open_
 use item::Item;
 
 // What a walk over items finds: where it ends, with nesting, height and the most brackets open at a guarded step (0 where there is none), or that the items are malformed.
-#[derive(Drop)]
+#[derive(Clone, Copy)]
 pub enum Walked {
     Done {
         next: usize,
@@ -20,7 +22,7 @@ pub enum Walked {
 }
 
 // What a slice is: a query with its nesting, its height and the most brackets open at a guarded step, or none.
-#[derive(Drop)]
+#[derive(Clone, Copy)]
 pub enum Shape {
     Query {
         nesting: usize,

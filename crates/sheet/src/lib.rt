@@ -1,5 +1,7 @@
 // Prints a sheet: for each name of a list its three numbers, then their sums, then how often each refusal number was given.
 // What is printed goes into the lent bytes as far as these go, and its length is answered.
+#![tactic(auto)]
+
 ghost use Rattle.std.specs.Prelude.{◌≡◌, [], ◌+◌, ◌*◌, ◌^◌, ◌≤◌, ◌<◌, length, get_or};
 ghost use Rattle.std.proofs.Math.Option.{none};
 ghost use Rattle.paper.specs.Tools.{ascii};

@@ -1,4 +1,6 @@
 // Prints what a view shows: reads the view, the names and then names of files from standard input, counts the elements of these documents, and prints the sheet.
+#![tactic(auto)]
+
 ghost use Rattle.std.specs.Prelude.{◌≡◌, ◌-◌, ◌≤◌, length};
 ghost use Rattle.std.proofs.Math.Option.{none};
 ghost use Rattle.paper.specs.Limits.{list_limit};
@@ -20,21 +22,21 @@ const VERSION: u32 = 1;
 const TELLING: usize = 100;
 
 // What reading a file came to: so many bytes, or a failure.
-#[derive(Drop)]
+#[derive(Clone, Copy)]
 enum Got {
     Bytes(usize),
     Failed,
 }
 
 // What is left of the bytes read: from one place to another.
-#[derive(Drop)]
+#[derive(Clone, Copy)]
 struct Span {
     at: usize,
     end: usize,
 }
 
 // How far the file names have been read: what is left of the bytes read, the length of a name, and whether there is one.
-#[derive(Drop)]
+#[derive(Clone, Copy)]
 struct Stream {
     at: usize,
     end: usize,

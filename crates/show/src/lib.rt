@@ -1,5 +1,7 @@
 // What the showing program prints for any input: the file that a query keeps of an XML text, or the line of a refusal.
 // It is put into the lent bytes as far as these go, and its length is answered.
+#![tactic(auto)]
+
 ghost use Rattle.std.specs.Prelude.{◌+◌};
 ghost use Rattle.paper.specs.Show.{file_room, text_shows, query_shows, show_prints};
 ghost use Rattle.lines.specs.Lines.{Reports};

@@ -1,5 +1,7 @@
 // What a query keeps of an XML text that was read into columns, as a file: the query is run, and the kept part is written.
 // The file is put into the lent bytes as far as these go, and its length is answered.
+#![tactic(auto)]
+
 ghost use Rattle.std.specs.Prelude.{◌+◌, ◌≤◌, ◌≡◌, length};
 ghost use Rattle.paper.specs.Limits.{node_limit};
 ghost use Rattle.paper.specs.Document.{table_of};

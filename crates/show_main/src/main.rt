@@ -1,4 +1,5 @@
 // Shows what a query keeps of a file: reads the query, the names and an XML text from standard input, and writes the kept file.
+#![tactic(auto)]
 
 // One byte more than an input may have, so that a longer input is seen to be too long.
 const ROOM: usize = show::INPUT_LIMIT + 1;

@@ -1,4 +1,6 @@
 // Sets of nodes moved to siblings and to what follows or precedes: each axis is one pass over the nodes or two, in document order or against it.
+#![tactic(auto)]
+
 ghost use Rattle.std.specs.Prelude.{◌≡◌, Bool, cond, List, ℕ, ◌+◌, ◌%◌, ◌<◌, length, get_or};
 ghost use Rattle.paper.specs.Tools.{column};
 ghost use Rattle.paper.specs.Document.{table_of};

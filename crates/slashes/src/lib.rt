@@ -1,4 +1,6 @@
 // Where `//` stands for a step in the text of a query.
+#![tactic(auto)]
+
 ghost use Rattle.std.specs.Prelude.{◌≡◌};
 ghost use Rattle.slashes.specs.Deep.{passed};
 

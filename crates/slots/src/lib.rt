@@ -1,4 +1,6 @@
 // Items put into the slots of an output, where there are such slots: one at its slot, and operators before a run.
+#![tactic(auto)]
+
 ghost use Rattle.std.specs.Prelude.{◌+◌, ◌≤◌, ◌<◌, ◌≡◌, [], ◌∷◌, length};
 ghost use Rattle.paper.specs.Items.{pack_path, axis_bound, test_bound, count_bound};
 ghost use Rattle.item.specs.Unpacked.{packed};

@@ -1,4 +1,6 @@
 // Sets of nodes kept to the marked ones: those that meet a test, and with the nodes of a set all above and below them.
+#![tactic(auto)]
+
 ghost use Rattle.std.specs.Prelude.{ℕ, ◌≡◌, Bool, true, ◌&&◌, length, get_or};
 ghost use Rattle.paper.specs.Query.{Test, descendantOrSelf};
 ghost use Rattle.paper.specs.Document.{marked, table_of};

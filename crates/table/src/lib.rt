@@ -1,4 +1,5 @@
 // The node table and its marks: are they good, and how many nodes are marked.
+#![tactic(auto)]
 
 ghost use Rattle.std.specs.Prelude.{◌≡◌, true, List, ℕ, ◌+◌, ◌<◌, ◌≤◌, length, get_or};
 ghost use Rattle.paper.specs.Limits.{node_limit};
@@ -9,7 +10,7 @@ ghost use Rattle.table.specs.Climbs.{Falls};
 ghost use Rattle.table.specs.Passing.{fits_kind, good_parent, KindsFit, AllGood, AllMarked, Inside};
 
 // The first bad node, if there is one.
-#[derive(Drop)]
+#[derive(Clone, Copy)]
 pub enum Fault {
     Nothing,
     At(usize),

@@ -1,5 +1,7 @@
 // The tallies of a sheet: for each name how many elements the documents so far had, how many a view kept and how many it hid, and how often each refusal number was given.
 // What a column has no room for is not counted, and a sum that no longer fits begins anew at 0.
+#![tactic(auto)]
+
 ghost use Rattle.std.specs.Prelude.{◌≡◌, ◌+◌, ◌&&◌, length, if◌then◌else◌, nat_eq, nat_lt};
 ghost use Rattle.paper.specs.Document.{element_kind};
 ghost use Rattle.paper.specs.Sheet.{document_limit};

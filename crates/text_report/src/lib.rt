@@ -1,4 +1,6 @@
 // The report on the texts of two queries: what `query_report` puts of the queries that are read, or the line of a refusal.
+#![tactic(auto)]
+
 ghost use Rattle.lines.specs.Lines.{report_limit, Reports};
 ghost use Rattle.text_report.specs.Texts.{texts_print_by};
 

@@ -1,4 +1,6 @@
 // The lexer: a cursor by value that skips white space, takes the longest token and hands itself back.
+#![tactic(auto)]
+
 ghost use Rattle.std.specs.Prelude.{suc, ◌+◌, ◌≤◌, ◌<◌, ◌≡◌, false, length, get_or, drop};
 ghost use Rattle.paper.specs.Tools.{begins, run_of};
 ghost use Rattle.paper.specs.Names.{name_start, name_part};
@@ -8,13 +10,13 @@ ghost use Rattle.token.specs.Taking.{Longest, Takes, width_of};
 use good_names::{name_part, name_start};
 
 // Where the next token is looked for.
-#[derive(Drop)]
+#[derive(Clone, Copy)]
 pub struct Cursor {
     pub at: usize,
 }
 
 // The tokens; a word holds its number of bytes. Finish is the end of the text, Stray a byte that starts no token.
-#[derive(Drop)]
+#[derive(Clone, Copy)]
 pub enum Token {
     Slash,
     Slashes,
@@ -33,7 +35,7 @@ pub enum Token {
 }
 
 // A token, where it starts, and the cursor past it.
-#[derive(Drop)]
+#[derive(Clone, Copy)]
 pub struct Taken {
     pub place: usize,
     pub token: Token,

@@ -1,4 +1,6 @@
 // The first item of a query that names what a list has no name for.
+#![tactic(auto)]
+
 ghost use Rattle.std.specs.Prelude.{◌≡◌, ◌≤◌, ltb, length};
 ghost use Rattle.paper.specs.Tools.{when};
 ghost use Rattle.paper.specs.Limits.{names_limit};

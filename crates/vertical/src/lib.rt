@@ -1,4 +1,6 @@
 // Sets of nodes moved up and down the tree: each axis is one pass over the nodes or two, in document order or against it.
+#![tactic(auto)]
+
 ghost use Rattle.std.specs.Prelude.{◌≡◌, Bool, List, ℕ, ◌+◌, ◌<◌, length};
 ghost use Rattle.paper.specs.Document.{table_of};
 ghost use Rattle.paper.specs.Query.{Axis, child, descendantOrSelf, ancestorOrSelf, descendant, ancestor};

@@ -90,7 +90,7 @@ pub record Gathering (views list : List ℕ) (mask : ℕ) (spare room : List ℕ
   pub read_on : first_unread list 0 (views_of views) ≡ first_unread list view (said (drop at views))
   pub done : List ℕ
   pub holds : Holds done room size
-  pub goes_on_lem : role_union views list mask ≡ done ++ union_items list (chosen (bit left) (said (drop at views)))
+  pub goes_on : role_union views list mask ≡ done ++ union_items list (chosen (bit left) (said (drop at views)))
 
 pub begin : (views list : List ℕ) (mask : ℕ) (spare room : List ℕ) → length spare ≡ item_limit → length room ≡ item_limit → Gathering views list mask spare room 0 0 mask 0
 unfolding role_union
@@ -104,7 +104,7 @@ begin views list mask spare room s l =
       read_on = ap (first_unread list 0) (views_are views);
       done = [];
       holds = record { counts = refl; stands = λ f. refl };
-      goes_on_lem = ap (λ vs. union_items list (chosen (bit mask) vs)) (views_are views);
+      goes_on = ap (λ vs. union_items list (chosen (bit mask) vs)) (views_are views);
     }
 
 -- One view that is named or not, before the others.
@@ -150,7 +150,7 @@ module _ (views list : List ℕ) (mask : ℕ) (spare room : List ℕ) (at view l
         read_on = g.read_on ∙ ap (first_unread list view) left_views ∙ rw (u, add-one view);
         done = g.done ++ named_items left items;
         holds = h;
-        goes_on_lem =
+        goes_on =
             g.goes_on ∙
             ap (λ vs. g.done ++ union_items list (chosen (bit left) vs)) left_views ∙
             ap (λ l. g.done ++ l) (chosen_union list line left rest ∙ ap (λ x. named_items left x ++ union_items list (chosen (bit (left / 2)) rest)) (sym i)) ∙

@@ -1,5 +1,7 @@
 // The union of the views that a role names, and a query composed with it.
 // Views and queries are read by `read` and composed by `compose`; of both only the contracts are used.
+#![tactic(auto)]
+
 ghost use Rattle.std.specs.Prelude.{◌+◌, ◌*◌, ◌≤◌, ◌≡◌, length};
 ghost use Rattle.paper.specs.Limits.{text_limit, item_limit};
 ghost use Rattle.paper.specs.Told.{told};
@@ -12,7 +14,7 @@ use paper::Answer;
 pub const VERSION: u32 = 1;
 
 // What gathering the views of a role comes to: the number of items of their union, or the first view that can't be read.
-#[derive(Drop)]
+#[derive(Clone, Copy)]
 pub enum Gathered {
     Items(usize),
     Unread(usize),

@@ -1,4 +1,6 @@
 // The items of V and of the last step that every top-level path gets: S stands once, further on in the output, and is copied from there.
+#![tactic(auto)]
+
 ghost use Rattle.std.specs.Prelude.{◌≡◌, ◌+◌, ◌≤◌, ◌<◌, length, take, drop};
 ghost use Rattle.paper.specs.Items.{axis_bound};
 ghost use Rattle.item.specs.Placed.{placed};

@@ -1,4 +1,6 @@
 // Running a query on a whole document: every mark is given.
+#![tactic(auto)]
+
 ghost use Rattle.std.specs.Prelude.{◌≡◌, ◌≤◌, length};
 ghost use Rattle.paper.specs.Limits.{node_limit};
 ghost use Rattle.paper.specs.Document.{table_of};

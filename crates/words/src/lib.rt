@@ -1,4 +1,6 @@
 // Words of a text compared with a given one.
+#![tactic(auto)]
+
 ghost use Rattle.std.specs.Prelude.{◌+◌, ◌≤◌, ◌≡◌, length, take, drop};
 ghost use Rattle.paper.specs.Tools.{same};
 

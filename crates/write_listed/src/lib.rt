@@ -1,4 +1,6 @@
 // The kept part of a text back to XML, with a list of names that has no fault: the table, the marks and the text are judged, then the file is written.
+#![tactic(auto)]
+
 ghost use Rattle.std.specs.Prelude.{◌≡◌, length};
 ghost use Rattle.std.proofs.Math.Option.{none};
 ghost use Rattle.paper.specs.Names.{names_fault};

@@ -1,4 +1,6 @@
 // The kept part of a text back to XML: what is lent is judged line by line, then the file is measured, then it is written.
+#![tactic(auto)]
+
 ghost use Rattle.std.specs.Prelude.{◌≡◌, length};
 ghost use Rattle.paper.specs.Document.{table_of};
 ghost use Rattle.paper.specs.Answers.{write_xml_answer, write_xml_out};

@@ -1,4 +1,6 @@
 // XML text, piece by piece: a cursor by value that takes the next tag or run of characters and hands itself back, or says why there is none.
+#![tactic(auto)]
+
 ghost use Rattle.std.specs.Prelude.{ℕ, suc, ◌≤◌, ◌<◌, ◌≡◌, false, length, get_or, drop};
 ghost use Rattle.paper.specs.Xml.{xml_start, xml_part, left_out_anywhere};
 ghost use Rattle.end_tags.specs.Renaming.{Named};
@@ -11,13 +13,13 @@ use xml_bytes::{Reach, byte, markup, refuse};
 use xml_runs::run;
 
 // Where the next piece is looked for.
-#[derive(Drop)]
+#[derive(Clone, Copy)]
 pub struct Cursor {
     pub at: usize,
 }
 
 // What stands next inside an element; a start tag says where its name ends.
-#[derive(Drop)]
+#[derive(Clone, Copy)]
 pub enum Piece {
     Start { name_end: usize, next: Cursor },
     Empty { name_end: usize, next: Cursor },

@@ -1,11 +1,13 @@
 // Bytes of XML text that must come, one after the other: the place past them, or why no wanted text goes on; and the first place of a block that does not fit.
+#![tactic(auto)]
+
 ghost use Rattle.std.specs.Prelude.{◌+◌, ◌≤◌, ◌<◌, ◌≡◌, [], ◌∷◌, length, drop, eqb};
 ghost use Rattle.paper.specs.Xml.{left_out_anywhere};
 ghost use Rattle.xml_bytes.specs.Blocks.{block, Sooner};
 ghost use Rattle.xml_bytes.specs.Promised.{refusal_at, Reads, spelling};
 
 // What reading a part comes to: the place past it; or where no wanted text goes on, or where a thing that is left out opens.
-#[derive(Drop)]
+#[derive(Clone, Copy)]
 pub enum Reach {
     At(usize),
     Wrong(usize),

@@ -77,11 +77,11 @@ pub data Sofar (from : ℕ) (ds : List ℕ) : Bool → Nodes → ℕ → List �
   element_more : {fresh : Bool} {q r : ℕ} {bs rest name : List ℕ} {row inside : Nodes} → Sofar from ds fresh row q bs → ElementIn q bs name inside r rest
       → Sofar from ds true (beside row (element name q r inside nothing)) r rest
 
-sofar_row : {fresh : Bool} {from at to : ℕ} {ds bs rest : List ℕ} {row more : Nodes} → Sofar from ds fresh row at bs → RowIn fresh at bs more to rest → RowIn true from ds (beside row more) to rest
+sofar_row : {from : ℕ} {ds : List ℕ} {fresh : Bool} {at to : ℕ} {bs rest : List ℕ} {row more : Nodes} → Sofar from ds fresh row at bs → RowIn fresh at bs more to rest → RowIn true from ds (beside row more) to rest
 sofar_row none_yet r = r
-sofar_row {from = from} {to = to} {ds = ds} {rest = rest} {more = more} (run_more {q = q} {r = e} {row = row} s u) r =
+sofar_row {from = from} {ds = ds} {to = to} {rest = rest} {more = more} (run_more {q = q} {r = e} {row = row} s u) r =
     subst (λ n. RowIn true from ds n to rest) (sym (beside_assoc row (chars q e nothing) more)) (sofar_row s (run_first u r))
-sofar_row {from = from} {to = to} {ds = ds} {rest = rest} {more = more} (element_more {q = q} {r = e} {name = name} {row = row} {inside = inside} s u) r =
+sofar_row {from = from} {ds = ds} {to = to} {rest = rest} {more = more} (element_more {q = q} {r = e} {name = name} {row = row} {inside = inside} s u) r =
     subst (λ n. RowIn true from ds n to rest) (sym (beside_assoc row (element name q e inside nothing) more)) (sofar_row s (element_row u r))
 
 pub beside_nothing : (a : Nodes) → beside a nothing ≡ a
@@ -97,7 +97,7 @@ pub data Grown (from : ℕ) (ds : List ℕ) : ℕ → ℕ → List ℕ → Type 
   no_atoms : Grown from ds 0 from ds
   atom_more : {k at to : ℕ} {bs rest : List ℕ} {x : Atom} → Grown from ds k at bs → AtomIn at bs x to rest → (is_the 62 x && eqb k 2) ≡ false → Grown from ds (more k x) to rest
 
-grown_run : {from at to k : ℕ} {ds bs rest : List ℕ} {x : Atom} {xs : List Atom} → Grown from ds k at bs → AtomsIn at bs (x ∷ xs) to rest → fine k (x ∷ xs) ≡ true → RunIn from ds to rest
+grown_run : {from : ℕ} {ds : List ℕ} {at to k : ℕ} {bs rest : List ℕ} {x : Atom} {xs : List Atom} → Grown from ds k at bs → AtomsIn at bs (x ∷ xs) to rest → fine k (x ∷ xs) ≡ true → RunIn from ds to rest
 grown_run {x = x} {xs = xs} no_atoms a f = a_run a (fine_marks (x ∷ xs) f)
 grown_run (atom_more g b o) a f = grown_run g (one_atom b a) (rw o f)
 

@@ -1,4 +1,6 @@
 // What XML text is read into: the number of a start tag's name and the kind of its element, the first name that the list lacks, and the answer where the text was judged.
+#![tactic(auto)]
+
 ghost use Rattle.std.specs.Prelude.{ℕ, suc, ◌+◌, ◌<◌, ◌≡◌, List, [], ◌∷◌, ◌++◌};
 ghost use Rattle.std.proofs.Math.Option.{Option, some};
 ghost use Rattle.paper.specs.Limits.{names_limit};
@@ -15,7 +17,7 @@ use names::Found;
 use paper::Answer;
 
 // How far reading has come: the place, how many elements are open, the innermost of them by its number, 0 where none is open, how many nodes there are, and where the first name stands that the list lacks, 0 where it lacks none.
-#[derive(Drop)]
+#[derive(Clone, Copy)]
 pub struct Progress {
     pub at: usize,
     pub depth: usize,
@@ -25,7 +27,7 @@ pub struct Progress {
 }
 
 // What reading on comes to.
-#[derive(Drop)]
+#[derive(Clone, Copy)]
 pub enum Step {
     On(Progress),
     Wrong(usize),

@@ -1,4 +1,6 @@
 // Runs of characters in XML text: one character after the other, ordinary bytes a block at a time, up to the `<` that ends the run.
+#![tactic(auto)]
+
 ghost use Rattle.std.specs.Prelude.{ℕ, ◌+◌, ◌≤◌, ◌<◌, ◌≡◌, [], ◌∷◌, length, get_or};
 ghost use Rattle.paper.specs.Xml.{from, reference, run, partly};
 ghost use Rattle.paper.specs.Xml as xml;

@@ -1,1 +1,2 @@
 // No code: what the table owes stands in specs/Tables.antt, the proofs in proofs/.
+#![tactic(auto)]

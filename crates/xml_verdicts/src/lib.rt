@@ -1,1 +1,2 @@
 // No code: what reading owes to the productions stands in specs/Owed.antt, the proofs in proofs/.
+#![tactic(auto)]

@@ -6,44 +6,35 @@ use borrow.Author.Rules.{rules}
 use Rattle.ahead.proofs.call_of.Statement.{statement}
 use Rattle.ahead.proofs.call_of.Tie as tie
 
-slice-aggregate-same-word : tie.Need-slice-aggregate-same-word
-slice-aggregate-same-word c =
-    search rules
-
-same-word-requires : tie.Need-same-word-requires
+same-word-requires : tie.Need-same_word-requires
 same-word-requires c κs = search rules
 
-returns : tie.Need-returns
+returns : tie.Need-returns-then-same_word
 returns c =
-    node_word (take c.before.before.before.before.args.len (drop c.before.before.before.before.args.start c.before.before.before.before.args.text.now))
-    (sym c.before.same_word.ensures ∙ c.if1.true)
+    node_word (take c.args.len (drop c.args.start c.args.text.now))
+    (sym c.same_word.ensures ∙ c.if-same_word.true)
 
-slice-aggregate-same-word-2 : tie.Need-slice-aggregate-same-word-2
-slice-aggregate-same-word-2 c = search rules
-
-same-word-requires-2 : tie.Need-same-word-requires-2
+same-word-requires-2 : tie.Need-same_word-requires-2
 same-word-requires-2 c κs = search rules
 
-returns-2 : tie.Need-returns-2
+returns-2 : tie.Need-returns-then-same_word-2
 returns-2 c =
-    text_word (take c.before.before.before.before.before.before.before.args.len (drop c.before.before.before.before.before.before.before.args.start c.before.before.before.before.before.before.before.args.text.now))
-    (sym c.before.before.before.before.same_word.ensures ∙ c.before.before.before.if1.false)
-    (sym c.before.same-word2.ensures ∙ c.if2.true)
+    text_word (take c.args.len (drop c.args.start c.args.text.now))
+    (sym c.same_word.ensures ∙ c.if-same_word.false)
+    (sym c.same_word-2.ensures ∙ c.if-same_word-2.true)
 
-returns-3 : tie.Need-returns-3
+returns-3 : tie.Need-returns
 returns-3 c =
-    no_call_word (take c.before.before.before.before.before.before.before.args.len (drop c.before.before.before.before.before.before.before.args.start c.before.before.before.before.before.before.before.args.text.now))
-    (sym c.before.before.before.before.same_word.ensures ∙ c.before.before.before.if1.false)
-    (sym c.before.same-word2.ensures ∙ c.if2.false)
+    no_call_word (take c.args.len (drop c.args.start c.args.text.now))
+    (sym c.same_word.ensures ∙ c.if-same_word.false)
+    (sym c.same_word-2.ensures ∙ c.if-same_word-2.false)
 
 pub call_of_spec : {M : Type 1} → statement M
 call_of_spec =
     tie.close
     (tie.spec
-    slice-aggregate-same-word
     same-word-requires
     returns
-    slice-aggregate-same-word-2
     same-word-requires-2
     returns-2
     returns-3)

@@ -6,58 +6,55 @@ use borrow.Author.Rules.{rules}
 use Rattle.ahead.proofs.opening.Statement.{statement}
 use Rattle.ahead.proofs.opening.Tie as tie
 
-mark-requires : tie.Need-mark-requires
+mark-requires : tie.Need-mark-round-requires
 mark-requires c κs = search rules
 
-enum-known-round : tie.Need-enum-known-round
+enum-known-round : tie.Need-enum_known-round
 enum-known-round c = search rules
 
-returns : tie.Need-returns
+returns : tie.Need-returns-in-There
 returns c =
-    let l = rw c.before.round.given.1 at c.before.before.before.mark.ensures in
+    let l = rw c.in-There.is at c.mark-round.ensures in
     (round_no_word _ (ascii "not") _ _ (omega arith) l.0, l.0, l.1, l.2)
 
-enum_told : tie.Need-enum-told
+enum_told : tie.Need-enum_told-1
 enum_told c = search rules
 
-slice-aggregate-word-ahead : tie.Need-slice-aggregate-word-ahead
-slice-aggregate-word-ahead c = search rules
-
-word-ahead-requires : tie.Need-word-ahead-requires
+word-ahead-requires : tie.Need-word_ahead-word-requires
 word-ahead-requires c κs = search rules
 
-enum-known-word : tie.Need-enum-known-word
+enum-known-word : tie.Need-enum_known-word
 enum-known-word c = search rules
 
-enum-told-2 : tie.Need-enum-told-2
+enum-told-2 : tie.Need-enum_told-in_default-word
 enum-told-2 c = search rules
 
-returns-2 : tie.Need-returns-2
+returns-2 : tie.Need-returns-in_default-word
 returns-2 c =
-    let l = rw c.before.before.before.before.enum_told.given.1 at c.before.before.before.before.before.before.mark.ensures in
-    let w = rw c.enum-told2.given.1 at c.before.before.word-ahead.ensures in
+    let l = rw c.in_default.is at c.mark-round.ensures in
+    let w = rw c.in_default-word.is at c.word_ahead-word.ensures in
     (no_word_and _ (ascii "not") _ _ w.0, l.0)
 
-mark-requires-2 : tie.Need-mark-requires-2
-mark-requires-2 c κs = ((rw c.before.word.given.1 at c.before.before.before.word-ahead.ensures).2.inside, search rules)
+mark-requires-2 : tie.Need-mark-call-requires
+mark-requires-2 c κs = ((rw c.in-There-word.is at c.word_ahead-word.ensures).2.inside, search rules)
 
-enum-known-call : tie.Need-enum-known-call
+enum-known-call : tie.Need-enum_known-call
 enum-known-call c = search rules
 
-enum-told-3 : tie.Need-enum-told-3
+enum-told-3 : tie.Need-enum_told-in-Other
 enum-told-3 c = search rules
 
-returns-3 : tie.Need-returns-3
+returns-3 : tie.Need-returns-in-There-call
 returns-3 c =
-    let w = rw c.before.before.before.before.before.word.given.1 at c.before.before.before.before.before.before.before.word-ahead.ensures in
-    let m = rw c.before.call.given.1 at c.before.before.before.mark2.ensures in
+    let w = rw c.in-There-word.is at c.word_ahead-word.ensures in
+    let m = rw c.in-There-call.is at c.mark-call.ensures in
     record { word = _; says_not = w.0; first = w.2; opens = m.0; place = m.1; second = m.2 }
 
-returns-4 : tie.Need-returns-4
+returns-4 : tie.Need-returns-in-Other
 returns-4 c =
-    let l = rw c.before.before.before.before.before.before.before.before.enum_told.given.1 at c.before.before.before.before.before.before.before.before.before.before.mark.ensures in
-    let w = rw c.before.before.before.before.word.given.1 at c.before.before.before.before.before.before.word-ahead.ensures in
-    let m = rw c.enum-told3.given.1 at c.before.before.mark2.ensures in
+    let l = rw c.in_default.is at c.mark-round.ensures in
+    let w = rw c.in-There-word.is at c.word_ahead-word.ensures in
+    let m = rw c.in-Other.is at c.mark-call.ensures in
     (no_round_and _ (ascii "not") _ _ w.2 m.0, l.0)
 
 pub opening_spec : {M : Type 1} → statement M
@@ -68,7 +65,6 @@ opening_spec =
     enum-known-round
     returns
     enum_told
-    slice-aggregate-word-ahead
     word-ahead-requires
     enum-known-word
     enum-told-2

@@ -8,29 +8,29 @@ use borrow.Author.Rules.{rules}
 use Rattle.ahead.proofs.test_call.Statement.{statement}
 use Rattle.ahead.proofs.test_call.Tie as tie
 
-call-of-requires : tie.Need-call-of-requires
+call-of-requires : tie.Need-call_of-test-requires
 call-of-requires c κs = search rules
 
-returns : tie.Need-returns
-returns c = inl (sym c.before.call-of.ensures ∙ c.if1.true)
+returns : tie.Need-returns-then-test-eq-NO_CALL
+returns c = inl (sym c.call_of-test.ensures ∙ c.if-test-eq-NO_CALL.true)
 
-mark-requires : tie.Need-mark-requires
+mark-requires : tie.Need-mark-round-requires
 mark-requires c κs = search rules
 
-enum-known-round : tie.Need-enum-known-round
+enum-known-round : tie.Need-enum_known-round
 enum-known-round c = search rules
 
-enum_told : tie.Need-enum-told
+enum_told : tie.Need-enum_told-1
 enum_told c = search rules
 
-returns-2 : tie.Need-returns-2
+returns-2 : tie.Need-returns-in-There
 returns-2 c =
-    let m = rw c.before.round.given.1 at c.before.before.before.mark.ensures in
-    (c.before.before.before.before.before.call-of.ensures, omega (arith, c.before.before.before.before.before.call-of.ensures, c.before.before.before.before.if1.false, call_small (take c.before.before.before.before.before.before.before.args.len (drop c.before.before.before.before.before.before.before.args.start c.before.before.before.before.before.before.before.args.text.now))), m.0, m.2)
+    let m = rw c.in-There.is at c.mark-round.ensures in
+    (c.call_of-test.ensures, omega (arith, c.call_of-test.ensures, c.if-test-eq-NO_CALL.false, call_small (take c.args.len (drop c.args.start c.args.text.now))), m.0, m.2)
 
-returns-3 : tie.Need-returns-3
+returns-3 : tie.Need-returns-in-Other
 returns-3 c =
-    let m = rw c.enum_told.given.1 at c.before.before.mark.ensures in
+    let m = rw c.in-Other.is at c.mark-round.ensures in
     inr m.0
 
 pub test_call_spec : {M : Type 1} → statement M

@@ -30,10 +30,10 @@ descendants-requires c κs = search rules
 ancestors-requires : tie.Need-ancestors-requires
 ancestors-requires c κs = search rules
 
-following-siblings-requires : tie.Need-following-siblings-requires
+following-siblings-requires : tie.Need-following_siblings-requires
 following-siblings-requires c κs = search rules
 
-preceding-siblings-requires : tie.Need-preceding-siblings-requires
+preceding-siblings-requires : tie.Need-preceding_siblings-requires
 preceding-siblings-requires c κs = search rules
 
 following-requires : tie.Need-following-requires
@@ -45,98 +45,98 @@ preceding-requires c κs = search rules
 fill-requires : tie.Need-fill-requires
 fill-requires c κs = search rules
 
-returns : tie.Need-returns
+returns : tie.Need-returns-in-0
 returns c = λ kinds a f e s.
-    let d = c.before.before.before.args in
+    let d = c.args in
     let t = table_of d.parent.now kinds in
     let n = length d.set.now in
     same_image t f n d.axis self a (omega arith) e (s ∙ bits_same n f (image t self f) (λ k l. sym (self_image t f k (omega arith))))
 
-same_length : tie.Need-same-length
+same_length : tie.Need-shape_of-set-in-1
 same_length c = search rules
 
-returns-2 : tie.Need-returns-2
+returns-2 : tie.Need-returns-in-1
 returns-2 c = λ kinds a f e s.
-    let d = c.before.before.before.before.before.before.before.args in
-    same_image (table_of d.parent.now kinds) f (length d.set.now) d.axis child a (omega arith) e (c.before.before.children.ensures kinds f s)
+    let d = c.args in
+    same_image (table_of d.parent.now kinds) f (length d.set.now) d.axis child a (omega arith) e (c.children.ensures kinds f s)
 
-same-length-2 : tie.Need-same-length-2
+same-length-2 : tie.Need-shape_of-set-in-2
 same-length-2 c = search rules
 
-returns-3 : tie.Need-returns-3
+returns-3 : tie.Need-returns-in-2
 returns-3 c = λ kinds a f e s.
-    let d = c.before.before.before.before.before.before.before.args in
-    same_image (table_of d.parent.now kinds) f (length d.set.now) d.axis Axis.parent a (omega arith) e (c.before.before.parents.ensures kinds f s)
+    let d = c.args in
+    same_image (table_of d.parent.now kinds) f (length d.set.now) d.axis Axis.parent a (omega arith) e (c.parents.ensures kinds f s)
 
-same-length-3 : tie.Need-same-length-3
+same-length-3 : tie.Need-shape_of-set-in-3
 same-length-3 c = search rules
 
-returns-4 : tie.Need-returns-4
+returns-4 : tie.Need-returns-in-3
 returns-4 c = λ kinds a f e s.
-    let d = c.before.before.before.before.before.before.before.args in
-    same_image (table_of d.parent.now kinds) f (length d.set.now) d.axis descendantOrSelf a (omega arith) e (c.before.before.below.ensures kinds f s)
+    let d = c.args in
+    same_image (table_of d.parent.now kinds) f (length d.set.now) d.axis descendantOrSelf a (omega arith) e (c.below.ensures kinds f s)
 
-same-length-4 : tie.Need-same-length-4
+same-length-4 : tie.Need-shape_of-set-in-4
 same-length-4 c = search rules
 
-returns-5 : tie.Need-returns-5
+returns-5 : tie.Need-returns-in-4
 returns-5 c = λ kinds a f e s.
-    let d = c.before.before.before.before.before.before.before.args in
-    same_image (table_of d.parent.now kinds) f (length d.set.now) d.axis ancestorOrSelf a (omega arith) e (c.before.before.above.ensures kinds f s)
+    let d = c.args in
+    same_image (table_of d.parent.now kinds) f (length d.set.now) d.axis ancestorOrSelf a (omega arith) e (c.above.ensures kinds f s)
 
-same-length-5 : tie.Need-same-length-5
+same-length-5 : tie.Need-shape_of-set-in-5
 same-length-5 c = search rules
 
-returns-6 : tie.Need-returns-6
+returns-6 : tie.Need-returns-in-5
 returns-6 c = λ kinds a f e s.
-    let d = c.before.before.before.before.before.before.before.args in
-    same_image (table_of d.parent.now kinds) f (length d.set.now) d.axis descendant a (omega arith) e (c.before.before.descendants.ensures kinds f s)
+    let d = c.args in
+    same_image (table_of d.parent.now kinds) f (length d.set.now) d.axis descendant a (omega arith) e (c.descendants.ensures kinds f s)
 
-same-length-6 : tie.Need-same-length-6
+same-length-6 : tie.Need-shape_of-set-in-6
 same-length-6 c = search rules
 
-returns-7 : tie.Need-returns-7
+returns-7 : tie.Need-returns-in-6
 returns-7 c = λ kinds a f e s.
-    let d = c.before.before.before.before.before.before.before.args in
-    same_image (table_of d.parent.now kinds) f (length d.set.now) d.axis ancestor a (omega arith) e (c.before.before.ancestors.ensures kinds f s)
+    let d = c.args in
+    same_image (table_of d.parent.now kinds) f (length d.set.now) d.axis ancestor a (omega arith) e (c.ancestors.ensures kinds f s)
 
-same-length-7 : tie.Need-same-length-7
+same-length-7 : tie.Need-shape_of-set-in-7
 same-length-7 c = search rules
 
-returns-8 : tie.Need-returns-8
+returns-8 : tie.Need-returns-in-7
 returns-8 c = λ kinds a f e s.
-    let d = c.before.before.before.before.before.before.before.args in
-    same_image (table_of d.parent.now kinds) f (length d.set.now) d.axis followingSibling a (omega arith) e (c.before.before.following-siblings.ensures kinds f s)
+    let d = c.args in
+    same_image (table_of d.parent.now kinds) f (length d.set.now) d.axis followingSibling a (omega arith) e (c.following_siblings.ensures kinds f s)
 
-same-length-8 : tie.Need-same-length-8
+same-length-8 : tie.Need-shape_of-set-in-8
 same-length-8 c = search rules
 
-returns-9 : tie.Need-returns-9
+returns-9 : tie.Need-returns-in-8
 returns-9 c = λ kinds a f e s.
-    let d = c.before.before.before.before.before.before.before.args in
-    same_image (table_of d.parent.now kinds) f (length d.set.now) d.axis precedingSibling a (omega arith) e (c.before.before.preceding-siblings.ensures kinds f s)
+    let d = c.args in
+    same_image (table_of d.parent.now kinds) f (length d.set.now) d.axis precedingSibling a (omega arith) e (c.preceding_siblings.ensures kinds f s)
 
-same-length-9 : tie.Need-same-length-9
+same-length-9 : tie.Need-shape_of-set-in-9
 same-length-9 c = search rules
 
-returns-10 : tie.Need-returns-10
+returns-10 : tie.Need-returns-in-9
 returns-10 c = λ kinds a f e s.
-    let d = c.before.before.before.before.before.before.before.args in
-    same_image (table_of d.parent.now kinds) f (length d.set.now) d.axis Axis.following a (omega arith) e (c.before.before.following.ensures kinds f s)
+    let d = c.args in
+    same_image (table_of d.parent.now kinds) f (length d.set.now) d.axis Axis.following a (omega arith) e (c.following.ensures kinds f s)
 
-same-length-10 : tie.Need-same-length-10
+same-length-10 : tie.Need-shape_of-set-in-10
 same-length-10 c = search rules
 
-returns-11 : tie.Need-returns-11
+returns-11 : tie.Need-returns-in-10
 returns-11 c = λ kinds a f e s.
-    let d = c.before.before.before.before.before.before.before.args in
-    same_image (table_of d.parent.now kinds) f (length d.set.now) d.axis Axis.preceding a (omega arith) e (c.before.before.preceding.ensures kinds f s)
+    let d = c.args in
+    same_image (table_of d.parent.now kinds) f (length d.set.now) d.axis Axis.preceding a (omega arith) e (c.preceding.ensures kinds f s)
 
-same-length-11 : tie.Need-same-length-11
+same-length-11 : tie.Need-shape_of-set-in_default
 same-length-11 c = search rules
 
-returns-12 : tie.Need-returns-12
-returns-12 c = λ kinds a f e s. absurd (no_axis a c.before.before.before.before.before.before.before.args.axis e c.before.before.before.before.match.rest)
+returns-12 : tie.Need-returns-in_default
+returns-12 c = λ kinds a f e s. absurd (no_axis a c.args.axis e c.in_default.in_default-own.rest)
 
 pub along_spec : {M : Type 1} → statement M
 along_spec =

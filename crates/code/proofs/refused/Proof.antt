@@ -4,10 +4,10 @@ use borrow.Author.Rules.{rules}
 use Rattle.code.proofs.refused.Statement.{statement}
 use Rattle.code.proofs.refused.Tie as tie
 
-mul-result : tie.Need-overflow-mul-result
+mul-result : tie.Need-overflow_mul-result
 mul-result c = search rules
 
-add-result : tie.Need-overflow-add-result
+add-result : tie.Need-overflow_add-result
 add-result c = search rules
 
 returns : tie.Need-returns

@@ -23,102 +23,99 @@ abbrev old : tie.Start → List ℕ
 old start = start.args.out.now
 
 -- Past line 1 both queries are short enough.
-abbrev begun : tie.Else2 → tie.Start
+abbrev begun : tie.Else-inner-gt-ITEM_LIMIT → tie.Start
 begun c = c.before.before.before.before.before
+outer_few : (c : tie.Else-inner-gt-ITEM_LIMIT) → length (outer (begun c)) ≤ item_limit
+outer_few c = omega (arith, c.if-outer-gt-ITEM_LIMIT.false)
 
-outer_few : (c : tie.Else2) → length (outer (begun c)) ≤ item_limit
-outer_few c = omega (arith, c.before.if1.false)
-
-inner_few : (c : tie.Else2) → length (inner (begun c)) ≤ item_limit
-inner_few c = omega (arith, c.if2.false)
+inner_few : (c : tie.Else-inner-gt-ITEM_LIMIT) → length (inner (begun c)) ≤ item_limit
+inner_few c = omega (arith, c.if-inner-gt-ITEM_LIMIT.false)
 
 -- Halfway through line 6 the outer items are a query.
-abbrev outer-read : tie.After-outer-shape → tie.Else2
-outer-read c = c.before.before.before
+abbrev outer-read : tie.In-Query → tie.Else-inner-gt-ITEM_LIMIT
+outer-read c = c.before.before
+abbrev outer-nesting : tie.In-Query → ℕ
+outer-nesting c = c.in-Query.outer_nesting
 
-abbrev outer-nesting : tie.After-outer-shape → ℕ
-outer-nesting c = c.outer_shape.given.0.0
+abbrev outer-guards : tie.In-Query → ℕ
+outer-guards c = c.in-Query.guards
 
-abbrev outer-guards : tie.After-outer-shape → ℕ
-outer-guards c = c.outer_shape.given.0.1.1.0
-
-outer_shaped : (c : tie.After-outer-shape) → Shaped (outer (begun (outer-read c))) (outer-nesting c) (outer-guards c)
-outer_shaped c = shape_some _ c.before.before.measure.result (outer-nesting c) _ (outer-guards c) c.before.before.measure.ensures c.outer_shape.given.1
+outer_shaped : (c : tie.In-Query) → Shaped (outer (begun (outer-read c))) (outer-nesting c) (outer-guards c)
+outer_shaped c = shape_some _ c.measure-outer_shape.result (outer-nesting c) _ (outer-guards c) c.measure-outer_shape.ensures c.in-Query.is
 
 -- Past line 6 the inner items are one too.
-abbrev inner-read : tie.After-inner-shape → tie.After-outer-shape
-inner-read c = c.before.before.before.before
-
-abbrev past-1 : tie.After-inner-shape → tie.Else2
+abbrev inner-read : tie.In-Query-inner_shape → tie.In-Query
+inner-read c = c.before.before
+abbrev past-1 : tie.In-Query-inner_shape → tie.Else-inner-gt-ITEM_LIMIT
 past-1 c = outer-read (inner-read c)
 
-abbrev inner-nesting : tie.After-inner-shape → ℕ
-inner-nesting c = c.inner-shape.given.0.0
+abbrev inner-nesting : tie.In-Query-inner_shape → ℕ
+inner-nesting c = c.in-Query-inner_shape.inner_nesting
 
-abbrev inner-guards : tie.After-inner-shape → ℕ
-inner-guards c = c.inner-shape.given.0.1.1.0
+abbrev inner-guards : tie.In-Query-inner_shape → ℕ
+inner-guards c = c.in-Query-inner_shape.guards
 
-inner_shaped : (c : tie.After-inner-shape) → Shaped (inner (begun (past-1 c))) (inner-nesting c) (inner-guards c)
-inner_shaped c = shape_some _ c.before.before.measure2.result (inner-nesting c) _ (inner-guards c) c.before.before.measure2.ensures c.inner-shape.given.1
+inner_shaped : (c : tie.In-Query-inner_shape) → Shaped (inner (begun (past-1 c))) (inner-nesting c) (inner-guards c)
+inner_shaped c = shape_some _ c.measure-inner_shape.result (inner-nesting c) _ (inner-guards c) c.measure-inner_shape.ensures c.in-Query-inner_shape.is
 
-returns : tie.Need-returns
+returns : tie.Need-returns-then-outer-gt-ITEM_LIMIT
 unfolding compose_lean_answer compose_lean_out
 returns c =
-    let start = c.before.before.before.before in
-    refused composed_lean (outer start) (inner start) (old start) 1 0 (line_1_outer composed_lean (outer start) (inner start) (length (old start)) c.if1.true)
+    let start = c in
+    refused composed_lean (outer start.before.before.before.before) (inner start.before.before.before.before) (old start.before.before.before.before) 1 0 (line_1_outer composed_lean (outer start.before.before.before.before) (inner start.before.before.before.before) (length (old start.before.before.before.before)) c.if-outer-gt-ITEM_LIMIT.true)
 
-returns-2 : tie.Need-returns-2
+returns-2 : tie.Need-returns-then-inner-gt-ITEM_LIMIT
 unfolding compose_lean_answer compose_lean_out
 returns-2 c =
-    let start = c.before.before.before.before.before in
-    refused composed_lean (outer start) (inner start) (old start) 1 0 (line_1_inner composed_lean (outer start) (inner start) (length (old start)) c.before.if1.false c.if2.true)
+    let start = c in
+    refused composed_lean (outer start.before.before.before.before.before) (inner start.before.before.before.before.before) (old start.before.before.before.before.before) 1 0 (line_1_inner composed_lean (outer start.before.before.before.before.before) (inner start.before.before.before.before.before) (length (old start.before.before.before.before.before)) c.if-outer-gt-ITEM_LIMIT.false c.if-inner-gt-ITEM_LIMIT.true)
 
-measure-requires : tie.Need-measure-requires
+measure-requires : tie.Need-measure-outer_shape-requires
 measure-requires c κs = search rules
 
-enum-known-outer-shape : tie.Need-enum-known-outer-shape
+enum-known-outer-shape : tie.Need-enum_known-outer_shape
 enum-known-outer-shape c = search rules
 
-enum_told : tie.Need-enum-told
+enum_told : tie.Need-enum_told-1
 enum_told c = search rules
 
-returns-3 : tie.Need-returns-3
+returns-3 : tie.Need-returns-in_default
 unfolding compose_lean_answer compose_lean_out
 returns-3 c =
-    let measured = c.before.before in
-    let one = measured.before in
-    let start = begun one in
-    refused composed_lean (outer start) (inner start) (old start) 6 0 (line_6_outer composed_lean (outer start) (inner start) (length (old start)) (outer_few one) (inner_few one) (shape_none _ measured.measure.result measured.measure.ensures c.enum_told.given.1))
+    let measured = c in
+    let one = measured in
+    let start = begun one.before.before in
+    refused composed_lean (outer start) (inner start) (old start) 6 0 (line_6_outer composed_lean (outer start) (inner start) (length (old start)) (outer_few one.before.before) (inner_few one.before.before) (shape_none _ measured.measure-outer_shape.result measured.measure-outer_shape.ensures c.in_default.is))
 
-measure-requires-2 : tie.Need-measure-requires-2
+measure-requires-2 : tie.Need-measure-inner_shape-requires
 measure-requires-2 c κs = search rules
 
-enum-known-inner-shape : tie.Need-enum-known-inner-shape
+enum-known-inner-shape : tie.Need-enum_known-inner_shape
 enum-known-inner-shape c = search rules
 
-enum-told-2 : tie.Need-enum-told-2
+enum-told-2 : tie.Need-enum_told-in_default-inner_shape
 enum-told-2 c = search rules
 
-returns-4 : tie.Need-returns-4
+returns-4 : tie.Need-returns-in_default-inner_shape
 unfolding compose_lean_answer compose_lean_out
 returns-4 c =
-    let measured = c.before.before in
-    let half = measured.before.before in
-    let one = outer-read half in
+    let measured = c in
+    let half = measured in
+    let one = outer-read half.before.before in
     let start = begun one in
     refused composed_lean (outer start) (inner start) (old start) 6 1
-    (line_6_inner composed_lean (outer start) (inner start) (length (old start)) (outer_few one) (inner_few one) _ _ (outer_shaped half) (shape_none _ measured.measure2.result measured.measure2.ensures c.enum-told2.given.1))
+    (line_6_inner composed_lean (outer start) (inner start) (length (old start)) (outer_few one) (inner_few one) _ _ (outer_shaped half.before.before) (shape_none _ measured.measure-inner_shape.result measured.measure-inner_shape.ensures c.in_default-inner_shape.is))
 
-compose-marked-requires : tie.Need-compose-marked-requires
+compose-marked-requires : tie.Need-compose_marked-requires
 compose-marked-requires c κs =
-    let both = c.before.before in
-    (inner_nests _ _ _ (outer_shaped (inner-read both)), outer_few (past-1 both), inner_nests _ _ _ (inner_shaped both), inner_few (past-1 both))
+    let both = c in
+    (inner_nests _ _ _ (outer_shaped (inner-read both.before)), outer_few (past-1 both.before), inner_nests _ _ _ (inner_shaped both.before), inner_few (past-1 both.before))
 
-same_length : tie.Need-same-length
+same_length : tie.Need-shape_of-out
 same_length c = search rules
 
-returns-5 : tie.Need-returns-5
-returns-5 c = c.before.before.compose-marked.ensures
+returns-5 : tie.Need-returns
+returns-5 c = c.compose_marked.ensures
 
 pub compose_lean_spec : {M : Type 1} → statement M
 compose_lean_spec =

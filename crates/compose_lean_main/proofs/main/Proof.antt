@@ -5,31 +5,31 @@ use borrow.Author.Rules.{rules}
 use Rattle.compose_lean_main.proofs.main.Statement.{statement}
 use Rattle.compose_lean_main.proofs.main.Tie as tie
 
-slice-aggregate-read-full : tie.Need-slice-aggregate-read-full
+slice-aggregate-read-full : tie.Need-slice_bounds-read_full-end
 slice-aggregate-read-full c = search rules
 
-read-full-requires : tie.Need-read-full-requires
+read-full-requires : tie.Need-read_full-count-requires
 read-full-requires c κs = search rules
 
-array-share-prefix-input : tie.Need-array-share-prefix-input
+array-share-prefix-input : tie.Need-slice_bounds-input-end
 array-share-prefix-input c = search rules
 
-slice-aggregate-report-lean : tie.Need-slice-aggregate-report-lean
+slice-aggregate-report-lean : tie.Need-slice_bounds-report_lean-end
 slice-aggregate-report-lean c = search rules
 
-slice-aggregate-report-lean-2 : tie.Need-slice-aggregate-report-lean-2
+slice-aggregate-report-lean-2 : tie.Need-slice_bounds-report_lean-end-2
 slice-aggregate-report-lean-2 c = search rules
 
-report-lean-requires : tie.Need-report-lean-requires
+report-lean-requires : tie.Need-report_lean-size-requires
 report-lean-requires c κs = search rules
 
-array-share-prefix-out : tie.Need-array-share-prefix-out
+array-share-prefix-out : tie.Need-slice_bounds-out-end
 array-share-prefix-out c = search rules
 
-slice-aggregate-write-all : tie.Need-slice-aggregate-write-all
+slice-aggregate-write-all : tie.Need-slice_bounds-write_all-end
 slice-aggregate-write-all c = sym (length-take-le _ _ (search rules))
 
-write-all-requires : tie.Need-write-all-requires
+write-all-requires : tie.Need-write_all-requires
 write-all-requires c κs = search rules
 
 returns : tie.Need-returns

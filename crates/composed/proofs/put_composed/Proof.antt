@@ -49,62 +49,61 @@ fits : (start : tie.Start) → from start + length (chosen start) ≤ length (ol
 fits start = omega (arith, least start, start.requires.5, start.requires.7)
 
 -- S is written.
-abbrev begun : tie.After-put-selected → tie.Start
+abbrev begun : tie.After-put_selected → tie.Start
 begun c = c.before.before.before.before.before.before
+abbrev mid : tie.After-put_selected → List ℕ
+mid c = c.put_selected.new.1.1.0
 
-abbrev mid : tie.After-put-selected → List ℕ
-mid c = c.put-selected.new.1.1.0
-
-same : (c : tie.After-put-selected) → length (mid c) ≡ length (old (begun c))
+same : (c : tie.After-put_selected) → length (mid c) ≡ length (old (begun c))
 same c =
     let start = begun c in
-    same_size (chosen start) (old start) (mid c) (from start) c.put-selected.ensures (fits start)
+    same_size (chosen start) (old start) (mid c) (from start) c.put_selected.ensures (fits start)
 
-there : (c : tie.After-put-selected) → take (begun c).args.count (drop (from (begun c)) (mid c)) ≡ chosen (begun c)
+there : (c : tie.After-put_selected) → take (begun c).args.count (drop (from (begun c)) (mid c)) ≡ chosen (begun c)
 there c =
     let start = begun c in
-    chosen_is (chosen start) (old start) (mid c) (from start) start.args.count c.put-selected.ensures (omega (arith, start.pre.7)) start.pre.5
+    chosen_is (chosen start) (old start) (mid c) (from start) start.args.count c.put_selected.ensures (omega (arith, start.requires.7)) start.requires.5
 
-sub-from : tie.Need-overflow-sub-from
+sub-from : tie.Need-overflow_sub-from
 sub-from c = least c.before.before.before.before
 
-put-selected-requires : tie.Need-put-selected-requires
+put-selected-requires : tie.Need-put_selected-requires
 put-selected-requires c κs =
-    let start = c.before.before.before.before.before in
-    (start.requires.2, start.requires.3, start.requires.4, fits start)
+    let start = c in
+    (start.requires.2, start.requires.3, start.requires.4, fits start.before.before.before.before.before)
 
-guard-paths-requires : tie.Need-guard-paths-requires
+guard-paths-requires : tie.Need-guard_paths-requires
 guard-paths-requires c κs =
-    let put = c.before.before.before in
-    let start = begun put in
-    let room : (g : Said start) → length (each_got (guarded_path g.decides (take start.args.count (drop (from start) (mid put)))) (decode (outer start))) ≤ from start + start.args.count =
+    let put = c in
+    let start = begun put.before.before.before in
+    let room : (g : Said start) → length (each_got (guarded_path g.decides (take start.args.count (drop (from start) (mid put.before.before.before)))) (decode (outer start))) ≤ from start + start.args.count =
     λ g.
     omega (
       arith,
-      ap (λ (x : List ℕ). length (each_got (guarded_path g.decides x) (decode (outer start)))) (there put),
-      ap length (composed_parts (outer start) (inner start) (says start) g start.pre.2),
+      ap (λ (x : List ℕ). length (each_got (guarded_path g.decides x) (decode (outer start)))) (there put.before.before.before),
+      ap length (composed_parts (outer start) (inner start) (says start) g start.requires.2),
       least start,
-      start.pre.6 g,
+      start.requires.6 g,
     ) in (
-      start.pre.0,
-      start.pre.1,
+      start.requires.0,
+      start.requires.1,
       room,
-      omega (arith, same put, least start, start.pre.7),
+      omega (arith, same put.before.before.before, least start, start.requires.7),
     )
 
-same_length : tie.Need-same-length
+same_length : tie.Need-shape_of-out
 same_length c = search rules
 
 returns : tie.Need-returns
 returns c =
-    let guarded = c.before.before in
-    let put = guarded.before.before.before.before in
-    let start = begun put in
+    let guarded = c in
+    let put = guarded in
+    let start = begun put.before.before.before.before.before.before in
     λ g.
-    let parts = composed_parts (outer start) (inner start) (says start) g start.pre.2 in
-    whole_written (chosen start) (whole start g) (old start) (mid put) guarded.guard-paths.new.1.0 (from start) put.put-selected.ensures (omega (arith, start.pre.7))
-    (omega (arith, least start, start.pre.5, start.pre.6 g))
-    (guarded.guard-paths.ensures g ∙ ap (λ (x : List ℕ). placed (each_got (guarded_path g.decides x) (decode (outer start))) 0 (mid put)) (there put) ∙ ap (λ (x : List ℕ). placed x 0 (mid put)) (sym parts))
+    let parts = composed_parts (outer start) (inner start) (says start) g start.requires.2 in
+    whole_written (chosen start) (whole start g) (old start) (mid put.before.before.before.before.before.before) guarded.guard_paths.new.1.0 (from start) put.put_selected.ensures (omega (arith, start.requires.7))
+    (omega (arith, least start, start.requires.5, start.requires.6 g))
+    (guarded.guard_paths.ensures g ∙ ap (λ (x : List ℕ). placed (each_got (guarded_path g.decides x) (decode (outer start))) 0 (mid put.before.before.before.before.before.before)) (there put.before.before.before.before.before.before) ∙ ap (λ (x : List ℕ). placed x 0 (mid put.before.before.before.before.before.before)) (sym parts))
 
 pub put_composed_spec : {M : Type 1} → statement M
 put_composed_spec =

@@ -11,72 +11,72 @@ use borrow.Author.Rules.{rules}
 use Rattle.documents.proofs.add_marked.Statement.{statement}
 use Rattle.documents.proofs.add_marked.Tie as tie
 
-run-all-requires : tie.Need-run-all-requires
+run-all-requires : tie.Need-run_all-ran-requires
 run-all-requires c κs = search rules
 
-enum_told : tie.Need-enum-told
+enum_told : tie.Need-enum_told-1
 enum_told c = search rules
 
-number-of-requires : tie.Need-number-of-requires
+number-of-requires : tie.Need-number_of-requires
 number-of-requires c κs = search rules
 
-add-refusal-requires : tie.Need-add-refusal-requires
+add-refusal-requires : tie.Need-add_refusal-requires
 add-refusal-requires c κs = search rules
 
-same_length : tie.Need-same-length
+same_length : tie.Need-shape_of-marks-in_default
 same_length c = search rules
 
-same-length-2 : tie.Need-same-length-2
+same-length-2 : tie.Need-shape_of-refusals-in_default
 same-length-2 c = search rules
 
 -- The run answers as the sheet's: there is a mark for each node.
-answered : (c : tie.After-run-all) →
+answered : (c : tie.After-run_all-ran) →
     let start = c.before.before.before.before.before.before.before.before.before.before in
     let t = table_of start.args.parent.now start.args.kind.now in
-    told c.run-all.result ≡ run_answer start.args.view.now t (all_marked t) (nodes t) scratch_room
+    told c.run_all-ran.result ≡ run_answer start.args.view.now t (all_marked t) (nodes t) scratch_room
 answered c =
-    let start = c.before.before.before.before.before.before.before.before.before.before in
+    let start = c in
     let t = table_of start.args.parent.now start.args.kind.now in
-    c.run-all.ensures.0 ∙ ap (λ many. run_answer start.args.view.now t (all_marked t) many scratch_room) start.requires.2
+    c.run_all-ran.ensures.0 ∙ ap (λ many. run_answer start.args.view.now t (all_marked t) many scratch_room) start.requires.2
 
-returns : tie.Need-returns
+returns : tie.Need-returns-in_default
 returns c =
-    let added = c.before.before in
-    let number = added.before.before in
-    let ran = number.before.before.before.before in
-    let start = ran.before.before.before.before.before.before.before.before.before.before in
+    let added = c in
+    let number = added in
+    let ran = number in
+    let start = ran in
     let view = start.args.view.now in
     let t = table_of start.args.parent.now start.args.kind.now in
-    let knows = ran.before.before in
-    refusal_adds _ _ _ _ _ _ _ (table_refused view t ran.run-all.result number.before.match.keys2 (answered ran)) (λ v l. omega (arith, knows.before.before.before.slice-known2.given v)) (λ v l. omega (arith, knows.before.before.slice-known3.given v)) (λ v l. omega (arith, knows.before.slice-known4.given v)) (rw number.number_of_lem.ensures at added.add-refusal.ensures)
+    let knows = ran in
+    refusal_adds _ _ _ _ _ _ _ (table_refused view t ran.run_all-ran.result number.in-Value.in-Value-own.keys2 (answered ran.before.before.before.before.before.before.before.before)) (λ v l. omega (arith, knows.slice_known-2-1.given v)) (λ v l. omega (arith, knows.slice_known-3-1.given v)) (λ v l. omega (arith, knows.slice_known-4-1.given v)) (rw number.number_of_lem.ensures at added.add_refusal.ensures)
 
-add-nodes-requires : tie.Need-add-nodes-requires
+add-nodes-requires : tie.Need-add_nodes-requires
 add-nodes-requires c κs = search rules
 
-same-length-3 : tie.Need-same-length-3
+same-length-3 : tie.Need-shape_of-marks
 same-length-3 c = search rules
 
-same-length-4 : tie.Need-same-length-4
+same-length-4 : tie.Need-shape_of-all
 same-length-4 c = search rules
 
-same-length-5 : tie.Need-same-length-5
+same-length-5 : tie.Need-shape_of-kept
 same-length-5 c = search rules
 
-same-length-6 : tie.Need-same-length-6
+same-length-6 : tie.Need-shape_of-hidden
 same-length-6 c = search rules
 
-returns-2 : tie.Need-returns-2
+returns-2 : tie.Need-returns
 returns-2 c =
-    let told-nodes = c.before.before.before.before.before.before in
-    let seen = told-nodes.before.before.before.before.before in
-    let ran = seen.before.before.before.before in
-    let start = ran.before.before.before.before.before.before.before.before.before.before in
+    let told-nodes = c in
+    let seen = told-nodes in
+    let ran = seen in
+    let start = ran in
     let view = start.args.view.now in
     let t = table_of start.args.parent.now start.args.kind.now in
     let given = seen.enum_told.given in
-    let accepted = ap told (sym given.1) ∙ answered ran in
-    let marks = marks_kept view t scratch_room start.args.marks.now ran.run-all.new.1.1.1.0 _ (ap told (sym given.1) ∙ ran.run-all.ensures.0) start.requires.2 ran.run-all.ensures.1 in
-    shown_adds _ _ _ _ _ t _ _ _ _ (table_shown view t _ accepted) (λ n l. omega (arith, ran.before.before.slice-known5.given n)) (rw (marks, start.requires.1) at told-nodes.add-nodes.ensures)
+    let accepted = ap told (sym given.1) ∙ answered ran.before.before.before.before.before.before.before.before.before.before.before.before.before in
+    let marks = marks_kept view t scratch_room start.args.marks.now ran.run_all-ran.new.1.1.1.0 _ (ap told (sym given.1) ∙ ran.run_all-ran.ensures.0) start.requires.2 ran.run_all-ran.ensures.1 in
+    shown_adds _ _ _ _ _ t _ _ _ _ (table_shown view t _ accepted) (λ n l. omega (arith, ran.slice_known-5-1.given n)) (rw (marks, start.requires.1) at told-nodes.add_nodes.ensures)
 
 pub add_marked_spec : {M : Type 1} → statement M
 add_marked_spec =

@@ -16,115 +16,114 @@ use borrow.Author.Rules.{rules}
 use Rattle.documents.proofs.add_text.Statement.{statement}
 use Rattle.documents.proofs.add_text.Tie as tie
 
-slice-aggregate-read-xml : tie.Need-slice-aggregate-read-xml
+slice-aggregate-read-xml : tie.Need-slice_bounds-read_xml-end
 slice-aggregate-read-xml c = search rules
 
-slice-aggregate-read-xml-2 : tie.Need-slice-aggregate-read-xml-2
+slice-aggregate-read-xml-2 : tie.Need-slice_bounds-read_xml-end-2
 slice-aggregate-read-xml-2 c = search rules
 
-slice-aggregate-read-xml-3 : tie.Need-slice-aggregate-read-xml-3
+slice-aggregate-read-xml-3 : tie.Need-slice_bounds-read_xml-end-3
 slice-aggregate-read-xml-3 c = search rules
 
-slice-aggregate-read-xml-4 : tie.Need-slice-aggregate-read-xml-4
+slice-aggregate-read-xml-4 : tie.Need-slice_bounds-read_xml-end-4
 slice-aggregate-read-xml-4 c = search rules
 
-read-xml-requires : tie.Need-read-xml-requires
+read-xml-requires : tie.Need-read_xml-said-requires
 read-xml-requires c κs = search rules
 
-enum-known-said : tie.Need-enum-known-said
+enum-known-said : tie.Need-enum_known-said
 enum-known-said c = search rules
 
-number-of-requires : tie.Need-number-of-requires
+number-of-requires : tie.Need-number_of-requires
 number-of-requires c κs = search rules
 
-add-refusal-requires : tie.Need-add-refusal-requires
+add-refusal-requires : tie.Need-add_refusal-requires
 add-refusal-requires c κs = search rules
 
-same_length : tie.Need-same-length
+same_length : tie.Need-shape_of-refusals-in_default
 same_length c = search rules
 
-returns : tie.Need-returns
+returns : tie.Need-returns-in_default
 returns c =
-    let added = c.before.before in
-    let number = added.before.before in
-    let read = number.before.before.before.before.before.before in
-    let start = read.before.before.before.before.before.before.before.before.before.before.before.before in
+    let added = c in
+    let number = added in
+    let read = number in
+    let start = read in
     let args = start.args in
-    let knows = read.before.before.before.before.before in
-    refusal_adds _ _ _ _ _ _ _ (text_refused args.view.now args.list.now args.text.now read.read-xml.result number.before.match.keys2 read.read-xml.ensures.0) (λ v l. omega (arith, knows.before.before.before.slice-known.given v)) (λ v l. omega (arith, knows.before.before.slice-known2.given v)) (λ v l. omega (arith, knows.before.slice-known3.given v)) (rw number.number_of_lem.ensures at added.add-refusal.ensures)
+    let knows = read in
+    refusal_adds _ _ _ _ _ _ _ (text_refused args.view.now args.list.now args.text.now read.read_xml-said.result number.in-Value.in-Value-own.keys2 read.read_xml-said.ensures.0) (λ v l. omega (arith, knows.slice_known-1.given v)) (λ v l. omega (arith, knows.slice_known-2-1.given v)) (λ v l. omega (arith, knows.slice_known-3-1.given v)) (rw number.number_of_lem.ensures at added.add_refusal.ensures)
 
 -- The text was read, and found to be wanted: the columns of parents and of kinds begin with its nodes.
-abbrev read : tie.After-said → tie.After-read-xml
-read c = c.before.before.before.before.before.before
-
-abbrev start : tie.After-said → tie.Start
+abbrev read : tie.In-Value → tie.After-read_xml-said
+read c = c.before.before.before.before.before
+abbrev start : tie.In-Value → tie.Start
 start c = (read c).before.before.before.before.before.before.before.before.before.before.before.before
 
-abbrev count : tie.After-said → ℕ
-count c = c.said.given.0.0
+abbrev count : tie.In-Value → ℕ
+count c = c.in-Value.n
 
-accepted : (c : tie.After-said) → value (count c) ≡ read_xml_answer (start c).args.text.now (start c).args.list.now node_limit node_limit node_limit node_limit
-accepted c = ap told (sym c.said.given.1) ∙ (read c).read-xml.ensures.0
+accepted : (c : tie.In-Value) → value (count c) ≡ read_xml_answer (start c).args.text.now (start c).args.list.now node_limit node_limit node_limit node_limit
+accepted c = ap told (sym c.in-Value.is) ∙ (read c).read_xml-said.ensures.0
 
-found : (c : tie.After-said) → Taken (start c).args.text.now (start c).args.list.now (count c)
+found : (c : tie.In-Value) → Taken (start c).args.text.now (start c).args.list.now (count c)
 found c = taken (start c).args.text.now (start c).args.list.now node_limit node_limit node_limit node_limit (count c) (sym (accepted c))
 
-parents : (c : tie.After-said) → Gives (map parent_field (rows (start c).args.text.now)) (count c) node_limit (read c).read-xml.new.1.1.0
+parents : (c : tie.In-Value) → Gives (map parent_field (rows (start c).args.text.now)) (count c) node_limit (read c).read_xml-said.new.1.1.0
 parents c =
     let text = (start c).args.text.now in
     let old : List ℕ = replicate node_limit 0 in
     column_left text (start c).args.list.now (count c) (found c) parent_field node_limit old _ (found c).few
-    ((read c).read-xml.ensures.1.0 ∙ ap (λ a. read_xml_column parent_field text (told a) old) c.said.given.1)
+    ((read c).read_xml-said.ensures.1.0 ∙ ap (λ a. read_xml_column parent_field text (told a) old) c.in-Value.is)
 
-kinds : (c : tie.After-said) → Gives (map (kind_field (start c).args.list.now) (rows (start c).args.text.now)) (count c) node_limit (read c).read-xml.new.1.1.1.0
+kinds : (c : tie.In-Value) → Gives (map (kind_field (start c).args.list.now) (rows (start c).args.text.now)) (count c) node_limit (read c).read_xml-said.new.1.1.1.0
 kinds c =
     let text = (start c).args.text.now in
     let list = (start c).args.list.now in
     let old : List ℕ = replicate node_limit 0 in
     column_left text list (count c) (found c) (kind_field list) node_limit old _ (found c).few
-    ((read c).read-xml.ensures.1.1.0 ∙ ap (λ a. read_xml_column (kind_field list) text (told a) old) c.said.given.1)
+    ((read c).read_xml-said.ensures.1.1.0 ∙ ap (λ a. read_xml_column (kind_field list) text (told a) old) c.in-Value.is)
 
-array-share-prefix-parent : tie.Need-array-share-prefix-parent
-array-share-prefix-parent c = (parents c.before).inside
+array-share-prefix-parent : tie.Need-slice_bounds-parent-end
+array-share-prefix-parent c = (parents c).inside
 
-slice-aggregate-add-table : tie.Need-slice-aggregate-add-table
-slice-aggregate-add-table c = (parents c.before.before).counts
+slice-aggregate-add-table : tie.Need-slice_bounds-add_table-end
+slice-aggregate-add-table c = (parents c.before).counts
 
-array-share-prefix-kind : tie.Need-array-share-prefix-kind
-array-share-prefix-kind c = (kinds c.before.before).inside
+array-share-prefix-kind : tie.Need-slice_bounds-kind-end
+array-share-prefix-kind c = (kinds c.before).inside
 
-slice-aggregate-add-table-2 : tie.Need-slice-aggregate-add-table-2
-slice-aggregate-add-table-2 c = (kinds c.before.before.before).counts
+slice-aggregate-add-table-2 : tie.Need-slice_bounds-add_table-end-2
+slice-aggregate-add-table-2 c = (kinds c.before.before).counts
 
-add-table-requires : tie.Need-add-table-requires
+add-table-requires : tie.Need-add_table-requires
 add-table-requires c κs =
-    let said = c.before.before.before.before.before.before.before in
-    let p = parents said in
-    let k = kinds said in
+    let said = c in
+    let p = parents said.before.before.before.before.before.before in
+    let k = kinds said.before.before.before.before.before.before in
     (omega (arith, p.counts, p.fits), sym k.counts ∙ p.counts)
 
-same-length-2 : tie.Need-same-length-2
+same-length-2 : tie.Need-shape_of-all
 same-length-2 c = search rules
 
-same-length-3 : tie.Need-same-length-3
+same-length-3 : tie.Need-shape_of-kept
 same-length-3 c = search rules
 
-same-length-4 : tie.Need-same-length-4
+same-length-4 : tie.Need-shape_of-hidden
 same-length-4 c = search rules
 
-same-length-5 : tie.Need-same-length-5
+same-length-5 : tie.Need-shape_of-refusals
 same-length-5 c = search rules
 
-returns-2 : tie.Need-returns-2
+returns-2 : tie.Need-returns
 returns-2 c =
-    let added = c.before.before.before.before.before.before.before.before in
-    let said = added.before.before.before.before.before.before.before.before in
-    let args = (start said).args in
+    let added = c in
+    let said = added in
+    let args = (start said.before.before.before.before.before.before.before.before.before.before.before.before.before.before.before).args in
     let view = args.view.now in
     let same =
-    text_read view args.list.now args.text.now (count said) (accepted said)
-    ∙ sym (ap₂ (λ p k. table_outcome view (table_of p k)) (parents said).starts (kinds said).starts) in
-    rw same added.add-table.ensures
+    text_read view args.list.now args.text.now (count said.before.before.before.before.before.before.before.before.before.before.before.before.before.before.before) (accepted said.before.before.before.before.before.before.before.before.before.before.before.before.before.before.before)
+    ∙ sym (ap₂ (λ p k. table_outcome view (table_of p k)) (parents said.before.before.before.before.before.before.before.before.before.before.before.before.before.before.before).starts (kinds said.before.before.before.before.before.before.before.before.before.before.before.before.before.before.before).starts) in
+    rw same added.add_table.ensures
 
 pub add_text_spec : {M : Type 1} → statement M
 add_text_spec =

@@ -9,23 +9,23 @@ use borrow.Author.Rules.{rules}
 use Rattle.documents.proofs.run_all.Statement.{statement}
 use Rattle.documents.proofs.run_all.Tie as tie
 
-slice-aggregate-run-whole : tie.Need-slice-aggregate-run-whole
+slice-aggregate-run-whole : tie.Need-slice_bounds-run_whole-end
 slice-aggregate-run-whole c = search rules
 
-run-whole-requires : tie.Need-run-whole-requires
+run-whole-requires : tie.Need-run_whole-requires
 run-whole-requires c κs = search rules
 
-same_length : tie.Need-same-length
+same_length : tie.Need-shape_of-marks
 same_length c = search rules
 
 returns : tie.Need-returns
 returns c =
-    let ran = c.before.before.before in
-    let args = ran.before.before.before.before.before.before.before.args in
+    let ran = c in
+    let args = ran.args in
     let t = table_of args.parent.now args.kind.now in
     let room = length-replicate {A = ℕ} scratch_room 0 in (
-      ran.run-whole.ensures.0 ∙ ap (run_answer args.view.now t (all_marked t) (length args.marks.now)) room,
-      ran.run-whole.ensures.1.0 ∙ ap (run_marks args.view.now t (all_marked t) args.marks.now) room,
+      ran.run_whole.ensures.0 ∙ ap (run_answer args.view.now t (all_marked t) (length args.marks.now)) room,
+      ran.run_whole.ensures.1.0 ∙ ap (run_marks args.view.now t (all_marked t) args.marks.now) room,
     )
 
 pub run_all_spec : {M : Type 1} → statement M

@@ -13,60 +13,60 @@ use Rattle.xml_bytes.proofs.Blocks.{Fit, fit_none, fit_more, fit_all}
 use Rattle.end_tags.proofs.same_block.Statement.{statement}
 use Rattle.end_tags.proofs.same_block.Tie as tie
 
-abbrev invariant-loop : tie.invariant-loop
+abbrev invariant-loop : tie.invariant-loop-i
 invariant-loop text place letter stop₀ i₀ stop i = (i ≤ block) × Fit (repeated_from text place letter) i stop
 
-abbrev decreases-loop : tie.decreases-loop
+abbrev decreases-loop : tie.decreases-loop-i
 decreases-loop text place letter stop₀ i₀ stop i = block - i
 
-loop-holds : tie.Need-loop-init invariant-loop decreases-loop
+loop-holds : tie.Need-loop-i-init invariant-loop decreases-loop
 loop-holds c = (omega arith, fit_none _)
 
-cast-b : tie.Need-overflow-cast-b invariant-loop decreases-loop
+cast-b : tie.Need-overflow_cast-b invariant-loop decreases-loop
 cast-b c = omega arith
 
-add-b : tie.Need-overflow-add-b invariant-loop decreases-loop
-add-b c = omega (arith, c.before.before.before.requires.1, c.before.before.before.well_formed)
+add-b : tie.Need-overflow_add-b invariant-loop decreases-loop
+add-b c = omega (arith, c.requires.1, c.well_formed)
 
-shared-slice-read-b : tie.Need-shared-slice-read-b invariant-loop decreases-loop
-shared-slice-read-b c = omega (arith, c.before.before.before.before.requires.1)
+shared-slice-read-b : tie.Need-bounds-text-letter invariant-loop decreases-loop
+shared-slice-read-b c = omega (arith, c.requires.1)
 
-name-part-requires : tie.Need-name-part-requires invariant-loop decreases-loop
+name-part-requires : tie.Need-name_part-requires invariant-loop decreases-loop
 name-part-requires c κs = search rules
 
-cast-sooner : tie.Need-overflow-cast-sooner invariant-loop decreases-loop
+cast-sooner : tie.Need-overflow_cast-i invariant-loop decreases-loop
 cast-sooner c = omega arith
 
-add-sooner : tie.Need-overflow-add-sooner invariant-loop decreases-loop
-add-sooner c = omega (arith, c.before.before.before.before.before.requires.0, c.before.before.before.before.before.well_formed)
+add-sooner : tie.Need-overflow_add-place invariant-loop decreases-loop
+add-sooner c = omega (arith, c.requires.0, c.well_formed)
 
-shared-slice-read-sooner : tie.Need-shared-slice-read-sooner invariant-loop decreases-loop
-shared-slice-read-sooner c = omega (arith, c.before.before.before.before.before.before.requires.0)
+shared-slice-read-sooner : tie.Need-bounds-text-place invariant-loop decreases-loop
+shared-slice-read-sooner c = omega (arith, c.requires.0)
 
-sooner-requires : tie.Need-sooner-requires invariant-loop decreases-loop
+sooner-requires : tie.Need-sooner-stop-requires invariant-loop decreases-loop
 sooner-requires c κs = omega arith
 
-add-i : tie.Need-overflow-add-i invariant-loop decreases-loop
+add-i : tie.Need-overflow_add-i invariant-loop decreases-loop
 add-i c = omega arith
 
-loop-less : tie.Need-loop-smaller invariant-loop decreases-loop
+loop-less : tie.Need-loop-i-smaller invariant-loop decreases-loop
 loop-less c = omega arith
 
-loop-again : tie.Need-loop-preserved invariant-loop decreases-loop
+loop-again : tie.Need-loop-i-preserved invariant-loop decreases-loop
 loop-again c =
-    let head = c.before.before.before.before.before in
-    let text = head.before.before.args.text.now in
-    let place = head.before.before.args.place in
-    let letter = head.before.before.args.letter in
-    let i = head.loop.i in
-    let turn : Sooner head.loop.stop i (repeated_from text place letter i) c.sooner.result = subst (λ t. Sooner head.loop.stop i (t && eqb (get_or text (letter + i) 0) (get_or text (place + i) 0)) c.sooner.result) c.before.before.name-part.ensures c.sooner.ensures in
-    (omega arith, fit_more _ _ _ _ head.loop.invariant.1 turn)
+    let head = c in
+    let text = head.args.text.now in
+    let place = head.args.place in
+    let letter = head.args.letter in
+    let i = head.loop-i.i in
+    let turn : Sooner head.loop-i.stop i (repeated_from text place letter i) c.sooner-stop.result = subst (λ t. Sooner head.loop-i.stop i (t && eqb (get_or text (letter + i) 0) (get_or text (place + i) 0)) c.sooner-stop.result) c.name_part.ensures c.sooner-stop.ensures in
+    (omega arith, fit_more _ _ _ _ head.loop-i.invariant.1 turn)
 
-cast-result : tie.Need-overflow-cast-result invariant-loop decreases-loop
-cast-result c = omega (arith, c.before.loop.invariant.1.most)
+cast-result : tie.Need-overflow_cast-result invariant-loop decreases-loop
+cast-result c = omega (arith, c.loop-i.invariant.1.most)
 
 returns : tie.Need-returns invariant-loop decreases-loop
-returns c = (c.before.loop.invariant.1.most, fit_all _ _ _ (omega arith) c.before.loop.invariant.1)
+returns c = (c.loop-i.invariant.1.most, fit_all _ _ _ (omega arith) c.loop-i.invariant.1)
 
 pub same_block_spec : {M : Type 1} → statement M
 same_block_spec =

@@ -16,100 +16,96 @@ use Rattle.xml_bytes.specs.declared.Reach.TheVariants.{At}
 use Rattle.end_tags.proofs.same_name.Statement.{statement}
 use Rattle.end_tags.proofs.same_name.Tie as tie
 
-abbrev invariant-loop : tie.invariant-loop
+abbrev invariant-loop : tie.invariant-loop-one
 invariant-loop text at inner passed place₀ letter₀ place letter = Renaming text at inner place letter
 
-abbrev decreases-loop : tie.decreases-loop
+abbrev decreases-loop : tie.decreases-loop-one
 decreases-loop text at inner passed place₀ letter₀ place letter = length text - letter
 
 abbrev Turn : Type 0
-Turn = tie.At-loop invariant-loop decreases-loop
+Turn = tie.At-loop-one invariant-loop decreases-loop
 
 abbrev text : Turn → List ℕ
-text t = t.before.before.before.args.text.now
+text t = t.args.text.now
 
 -- The letter of a turn goes on with the name.
 abbrev letter : Turn → ℕ
-letter t = get_or (text t) t.loop.letter 0
+letter t = get_or (text t) t.loop-one.letter 0
 
-abbrev turn : tie.Then1 invariant-loop decreases-loop → Turn
+abbrev turn : tie.In-loop-one invariant-loop decreases-loop → Turn
 turn c = c.before.before.before
-
-part : (c : tie.Then1 invariant-loop decreases-loop) → name_part (letter (turn c)) ≡ true
-part c = sym c.before.name-part.ensures ∙ c.if1.true
+part : (c : tie.In-loop-one invariant-loop decreases-loop) → name_part (letter (turn c)) ≡ true
+part c = sym c.name_part.ensures ∙ c.loop-one-test.true
 
 -- The way back from where it came again.
-abbrev sought : tie.After-byte invariant-loop decreases-loop → tie.Then1 invariant-loop decreases-loop
+abbrev sought : tie.After-byte-one invariant-loop decreases-loop → tie.In-loop-one invariant-loop decreases-loop
 sought c = c.before.before
-
-abbrev found : tie.After-known-told invariant-loop decreases-loop → tie.After-byte invariant-loop decreases-loop
-found c = c.before.before.before
-
-abbrev found_in : tie.After-known-told invariant-loop decreases-loop → Turn
+abbrev found : tie.In-At invariant-loop decreases-loop → tie.After-byte-one invariant-loop decreases-loop
+found c = c.before
+abbrev found_in : tie.In-At invariant-loop decreases-loop → Turn
 found_in c = turn (sought (found c))
 
 -- The letters that were looked at together have come again.
-abbrev begun : tie.After-same-letters invariant-loop decreases-loop → tie.Start invariant-loop decreases-loop
+abbrev begun : tie.After-same_letters-passed invariant-loop decreases-loop → tie.Start invariant-loop decreases-loop
 begun c = c.before.before
-
-so_far : (c : tie.After-same-letters invariant-loop decreases-loop) →
+so_far : (c : tie.After-same_letters-passed invariant-loop decreases-loop) →
     let a = (begun c).args in
-    Renaming a.text.now a.at a.inner (a.at + c.same-letters.result) (a.inner + 1 + c.same-letters.result)
+    Renaming a.text.now a.at a.inner (a.at + c.same_letters-passed.result) (a.inner + 1 + c.same_letters-passed.result)
 so_far c =
-    let again = c.same-letters.ensures in
+    let again = c.same_letters-passed.ensures in
     letters_again _ _ _ _ _ again.0 again.1 (renaming_begins _ _ _ _ (begun c).requires.0 (begun c).requires.1 refl)
 
-add-same-letters : tie.Need-overflow-add-same-letters invariant-loop decreases-loop
-add-same-letters c = omega (arith, c.before.requires.1)
+add-same-letters : tie.Need-overflow_add-inner invariant-loop decreases-loop
+add-same-letters c = omega (arith, c.requires.1)
 
-same-letters-requires : tie.Need-same-letters-requires invariant-loop decreases-loop
-same-letters-requires c κs = (c.before.requires.0, omega (arith, c.before.requires.1))
+same-letters-requires : tie.Need-same_letters-passed-requires invariant-loop decreases-loop
+same-letters-requires c κs = (c.requires.0, omega (arith, c.requires.1))
 
-add-place : tie.Need-overflow-add-place invariant-loop decreases-loop
-add-place c = omega (arith, c.same-letters.ensures.0, (begun c).well_formed)
+add-place : tie.Need-overflow_add-place invariant-loop decreases-loop
+add-place c = omega (arith, c.same_letters-passed.ensures.0, (begun c).well_formed)
 
-add-letter : tie.Need-overflow-add-letter invariant-loop decreases-loop
+add-letter : tie.Need-overflow_add-letter invariant-loop decreases-loop
 add-letter c = omega (arith, (begun c).requires.1)
 
-add-letter-2 : tie.Need-overflow-add-letter-2 invariant-loop decreases-loop
+add-letter-2 : tie.Need-overflow_add-letter-2 invariant-loop decreases-loop
 add-letter-2 c = omega (arith, (so_far c).within, (begun c).well_formed)
 
-loop-holds : tie.Need-loop-init invariant-loop decreases-loop
+loop-holds : tie.Need-loop-one-init invariant-loop decreases-loop
 loop-holds c = so_far c
 
-shared-slice-read-name-part : tie.Need-shared-slice-read-name-part invariant-loop decreases-loop
-shared-slice-read-name-part c = letter_inside _ _ _ _ _ c.before.loop.invariant
+shared-slice-read-name-part : tie.Need-bounds-text-letter invariant-loop decreases-loop
+shared-slice-read-name-part c = letter_inside _ _ _ _ _ c.loop-one.invariant
 
-name-part-requires : tie.Need-name-part-requires invariant-loop decreases-loop
+name-part-requires : tie.Need-name_part-requires invariant-loop decreases-loop
 name-part-requires c κs = search rules
 
-shared-slice-read-byte : tie.Need-shared-slice-read-byte invariant-loop decreases-loop
-shared-slice-read-byte c = letter_inside _ _ _ _ _ (turn c.before).loop.inv
+shared-slice-read-byte : tie.Need-bounds-text-letter-in-loop-one invariant-loop decreases-loop
+shared-slice-read-byte c = letter_inside _ _ _ _ _ (turn c.before).loop-one.invariant
 
-byte-requires : tie.Need-byte-requires invariant-loop decreases-loop
-byte-requires c κs = (turn c.before).loop.inv.most
+byte-requires : tie.Need-byte-one-requires invariant-loop decreases-loop
+byte-requires c κs = (turn c.before).loop-one.invariant.most
 
-enum-known-one : tie.Need-enum-known-one invariant-loop decreases-loop
+enum-known-one : tie.Need-enum_known-one invariant-loop decreases-loop
 enum-known-one c = search rules
 
-returns : tie.Need-returns invariant-loop decreases-loop
-returns c = let b = c.before in renaming_refused _ _ _ _ _ (turn (sought b)).loop.inv (part (sought b)) b.byte.result c.match.keys2 b.byte.ensures
+returns : tie.Need-returns-in_default invariant-loop decreases-loop
+returns c = let b = c in renaming_refused _ _ _ _ _ (turn (sought b.before)).loop-one.invariant (part (sought b.before)) b.byte-one.result c.in-At.in-At-own.keys2 b.byte-one.ensures
 
-add-letter-3 : tie.Need-overflow-add-letter-3 invariant-loop decreases-loop
-add-letter-3 c = omega (arith, letter_inside _ _ _ _ _ (found_in c).loop.invariant)
+add-letter-3 : tie.Need-overflow_add-letter-in-loop-one invariant-loop decreases-loop
+add-letter-3 c = omega (arith, letter_inside _ _ _ _ _ (found_in c).loop-one.invariant)
 
-loop-less : tie.Need-loop-smaller invariant-loop decreases-loop
-loop-less c = omega (arith, letter_inside _ _ _ _ _ (found_in c).loop.invariant)
+loop-less : tie.Need-loop-one-smaller invariant-loop decreases-loop
+loop-less c = omega (arith, letter_inside _ _ _ _ _ (found_in c).loop-one.invariant)
 
 -- The letter came again.
-letter_read : (c : tie.After-known-told invariant-loop decreases-loop) → let t = found_in c in Reads (text t) t.loop.place (eqb (letter t) ∷ []) (At c.before.one.given.0.0)
-letter_read c = let t = found_in c in subst (Reads (text t) t.loop.place (eqb (letter t) ∷ [])) c.before.one.given.1 (found c).byte.ensures
+letter_read : (c : tie.In-At invariant-loop decreases-loop) → let t = found_in c in Reads (text t) t.loop-one.place (eqb (letter t) ∷ []) (At c.before.in-At.next)
+letter_read c = let t = found_in c in subst (Reads (text t) t.loop-one.place (eqb (letter t) ∷ [])) c.in-At.is (found c).byte-one.ensures
 
-loop-again : tie.Need-loop-preserved invariant-loop decreases-loop
-loop-again c = renaming_more _ _ _ _ _ (found_in c).loop.invariant (part (sought (found c))) _ (letter_read c)
+loop-again : tie.Need-loop-one-preserved invariant-loop decreases-loop
+loop-again c = renaming_more _ _ _ _ _ (found_in c).loop-one.invariant (part (sought (found c))) _ (letter_read c)
 
-returns-2 : tie.Need-returns-2 invariant-loop decreases-loop
-returns-2 c = let named = c.before in renaming_done _ _ _ _ _ named.before.before.loop.invariant (sym named.name-part.ensures ∙ c.if1.false)
+returns-2 : tie.Need-returns invariant-loop decreases-loop
+returns-2 c = let named = c in renaming_done _ _ _ _ _ named.loop-one.invariant (sym named.name_part.ensures ∙ c.loop-one-test.false)
 
 pub same_name_spec : {M : Type 1} → statement M
 same_name_spec =

@@ -11,68 +11,68 @@ use Rattle.extract.proofs.Writes.{Written, room, nothing, one_more, no_more}
 use Rattle.extract.proofs.copy_kinds.Statement.{statement}
 use Rattle.extract.proofs.copy_kinds.Tie as tie
 
-abbrev invariant-loop : tie.invariant-loop
+abbrev invariant-loop : tie.invariant-loop-i
 invariant-loop kind marks out₀ n₀ i₀ out n i = (i ≤ length marks) × Written marks (λ k. get_or kind k 0) out₀ out n i
 
-abbrev decreases-loop : tie.decreases-loop
+abbrev decreases-loop : tie.decreases-loop-i
 decreases-loop kind marks out₀ n₀ i₀ out n i = length marks - i
 
 -- There is room for the value of a marked node.
-fits : (c : tie.Then1 invariant-loop decreases-loop) → c.before.before.before.loop.n < length c.before.before.before.before.args.out.now
+fits : (c : tie.Then-marks-i-eq1 invariant-loop decreases-loop) → c.before.before.before.loop-i.n < length c.before.before.before.before.args.out.now
 fits c =
-    let head = c.before.before.before in
-    let start = head.before in
-    room start.args.marks.now (λ k. get_or start.args.kind.now k 0) start.args.out.now head.loop.out head.loop.n head.loop.i head.loop.invariant.1 start.requires.1 (omega arith) c.if1.true
+    let head = c in
+    let start = head in
+    room start.args.marks.now (λ k. get_or start.args.kind.now k 0) start.args.out.now head.loop-i.out head.loop-i.n head.loop-i.i head.loop-i.invariant.1 start.requires.1 (omega arith) c.if-marks-i-eq1.true
 
-loop-holds : tie.Need-loop-init invariant-loop decreases-loop
+loop-holds : tie.Need-loop-i-init invariant-loop decreases-loop
 loop-holds c = (omega arith, nothing c.args.marks.now (λ k. get_or c.args.kind.now k 0) c.args.out.now)
 
-shared-slice-read-if1 : tie.Need-shared-slice-read-if1 invariant-loop decreases-loop
+shared-slice-read-if1 : tie.Need-bounds-marks-i invariant-loop decreases-loop
 shared-slice-read-if1 c = omega arith
 
-mul-out : tie.Need-overflow-mul-out invariant-loop decreases-loop
+mul-out : tie.Need-offset_bounds-kind-i invariant-loop decreases-loop
 mul-out c = omega arith
 
-shared-slice-read-out : tie.Need-shared-slice-read-out invariant-loop decreases-loop
+shared-slice-read-out : tie.Need-bounds-kind-i invariant-loop decreases-loop
 shared-slice-read-out c = omega arith
 
-mul-out-2 : tie.Need-overflow-mul-out-2 invariant-loop decreases-loop
+mul-out-2 : tie.Need-offset_bounds-out-n invariant-loop decreases-loop
 mul-out-2 c = omega (arith, fits c.before)
 
-slice-write-out : tie.Need-slice-write-out invariant-loop decreases-loop
-slice-write-out c = omega (arith, fits c.before, c.before.before.before.before.loop.invariant.1.long)
+slice-write-out : tie.Need-bounds-out-n invariant-loop decreases-loop
+slice-write-out c = omega (arith, fits c.before, c.loop-i.invariant.1.long)
 
-add-n : tie.Need-overflow-add-n invariant-loop decreases-loop
+add-n : tie.Need-overflow_add-n invariant-loop decreases-loop
 add-n c = omega (arith, fits c.before)
 
-add-i : tie.Need-overflow-add-i invariant-loop decreases-loop
+add-i : tie.Need-overflow_add-i invariant-loop decreases-loop
 add-i c = omega arith
 
-loop-less : tie.Need-loop-smaller invariant-loop decreases-loop
+loop-less : tie.Need-loop-i-smaller invariant-loop decreases-loop
 loop-less c = omega arith
 
-loop-again : tie.Need-loop-preserved invariant-loop decreases-loop
+loop-again : tie.Need-loop-i-preserved invariant-loop decreases-loop
 loop-again c =
-    let head = c.before.before.before in
-    let marks = head.before.args.marks.now in
-    let kinds = head.before.args.kind.now in
-    let old = head.before.args.out.now in (
+    let head = c in
+    let marks = head.args.marks.now in
+    let kinds = head.args.kind.now in
+    let old = head.args.out.now in (
       omega arith,
       ⊎_elim
           (λ w.
-          one_more marks (λ k. get_or kinds k 0) old head.loop.out head.loop.n head.loop.i head.loop.invariant.1 c.if1.out c.if1.n (get_or kinds head.loop.i 0)
+          one_more marks (λ k. get_or kinds k 0) old head.loop-i.out head.loop-i.n head.loop-i.i head.loop-i.invariant.1 c.if-marks-i-eq1.out c.if-marks-i-eq1.n (get_or kinds head.loop-i.i 0)
           (fits (record { before = c.before; if1 = w.0 })) w.0.taken refl w.2 w.3)
-          (λ w. no_more marks (λ k. get_or kinds k 0) old head.loop.out head.loop.n head.loop.i head.loop.invariant.1 c.if1.out c.if1.n w.0.left w.1 w.2) c.if1.branch,
+          (λ w. no_more marks (λ k. get_or kinds k 0) old head.loop-i.out head.loop-i.n head.loop-i.i head.loop-i.invariant.1 c.if-marks-i-eq1.out c.if-marks-i-eq1.n w.0.left w.1 w.2) c.if-marks-i-eq1.branch,
     )
 
-same_length : tie.Need-same-length invariant-loop decreases-loop
-same_length c = c.before.loop.invariant.1.long
+same_length : tie.Need-shape_of-out invariant-loop decreases-loop
+same_length c = c.loop-i.invariant.1.long
 
 returns : tie.Need-returns invariant-loop decreases-loop
 returns c =
-    let start = c.before.before in
-    let e : c.before.loop.i ≡ length start.args.kind.now = omega (arith, start.requires.0) in
-    c.before.loop.invariant.1.is ∙ ap (λ k. written (pick_from start.args.marks.now k 0 (λ i. get_or start.args.kind.now i 0)) start.args.out.now) e
+    let start = c in
+    let e : c.loop-i.i ≡ length start.args.kind.now = omega (arith, start.requires.0) in
+    c.loop-i.invariant.1.is ∙ ap (λ k. written (pick_from start.args.marks.now k 0 (λ i. get_or start.args.kind.now i 0)) start.args.out.now) e
 
 pub copy_kinds_spec : {M : Type 1} → statement M
 copy_kinds_spec =

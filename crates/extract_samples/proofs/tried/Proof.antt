@@ -12,47 +12,47 @@ use Rattle.extract_samples.proofs.tried.Tie as tie
 abbrev nines : List ℕ
 nines = 9 ∷ 9 ∷ 9 ∷ 9 ∷ 9 ∷ 9 ∷ 9 ∷ []
 
-array-borrow-prefix-new-parent : tie.Need-array-borrow-prefix-new-parent
+array-borrow-prefix-new-parent : tie.Need-slice_bounds-new_parent-end
 array-borrow-prefix-new-parent c = search rules
 
-slice-aggregate-extract : tie.Need-slice-aggregate-extract
-slice-aggregate-extract c = sym (length-take-le c.before.before.before.before.before.before.args.parent-room nines (omega arith))
+slice-aggregate-extract : tie.Need-slice_bounds-extract-end
+slice-aggregate-extract c = sym (length-take-le c.args.parent_room nines (omega arith))
 
-array-borrow-prefix-new-kind : tie.Need-array-borrow-prefix-new-kind
+array-borrow-prefix-new-kind : tie.Need-slice_bounds-new_kind-end
 array-borrow-prefix-new-kind c = search rules
 
-slice-aggregate-extract-2 : tie.Need-slice-aggregate-extract-2
-slice-aggregate-extract-2 c = sym (length-take-le c.before.before.before.before.before.before.before.args.kind-room nines (omega arith))
+slice-aggregate-extract-2 : tie.Need-slice_bounds-extract-end-then-kind_room-le7
+slice-aggregate-extract-2 c = sym (length-take-le c.args.kind_room nines (omega arith))
 
-extract-requires : tie.Need-extract-requires
+extract-requires : tie.Need-extract-said-requires
 extract-requires c κs = search rules
 
-put-answer-requires : tie.Need-put-answer-requires
+put-answer-requires : tie.Need-put_answer-requires
 put-answer-requires c κs = search rules
 
-slice-aggregate-put-column : tie.Need-slice-aggregate-put-column
+slice-aggregate-put-column : tie.Need-slice_bounds-put_column-end
 slice-aggregate-put-column c =
-    let call = c.before.before.before.before.extract in
-    sym (length_front nines call.new.1.1.1.0 c.before.before.before.before.before.before.before.before.before.before.before.before.args.parent-room call.auto.1.1.1.0)
+    let call = c.extract-said in
+    sym (length_front nines call.new.1.1.1.0 c.args.parent_room call.auto.1.1.1.0)
 
-put-column-requires : tie.Need-put-column-requires
+put-column-requires : tie.Need-put_column-requires
 put-column-requires c κs = search rules
 
-slice-aggregate-put-column-2 : tie.Need-slice-aggregate-put-column-2
+slice-aggregate-put-column-2 : tie.Need-slice_bounds-put_column-end-then-kind_room-le7
 slice-aggregate-put-column-2 c =
-    let call = c.before.before.before.before.before.before.extract in
-    sym (length_front nines call.new.1.1.1.1.0 c.before.before.before.before.before.before.before.before.before.before.before.before.before.before.args.kind-room call.auto.1.1.1.1.0)
+    let call = c.extract-said in
+    sym (length_front nines call.new.1.1.1.1.0 c.args.kind_room call.auto.1.1.1.1.0)
 
-put-column-requires-2 : tie.Need-put-column-requires-2
+put-column-requires-2 : tie.Need-put_column-requires-then-kind_room-le7
 put-column-requires-2 c κs = search rules
 
-returns : tie.Need-returns
+returns : tie.Need-returns-then-kind_room-le7
 returns c = search rules
 
-returns-2 : tie.Need-returns-2
+returns-2 : tie.Need-returns-else-kind_room-le7
 returns-2 c = search rules
 
-returns-3 : tie.Need-returns-3
+returns-3 : tie.Need-returns-else-parent_room-le7
 returns-3 c = search rules
 
 pub tried_spec : {M : Type 1} → statement M

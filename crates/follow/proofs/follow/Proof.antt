@@ -14,49 +14,48 @@ use Rattle.follow.proofs.follow.Statement.{statement}
 use Rattle.follow.proofs.follow.Tie as tie
 
 -- Where nothing refuses.
-abbrev begun : tie.After-enum-told → tie.Start
-begun c = c.before.before.before.before.before.before.before.before
+abbrev begun : tie.In-Value → tie.Start
+begun c = c.before.before.before.before.before.before.before
+agreed : (c : tie.In-Value) → Accepted (begun c).args.query.now (table_of (begun c).args.parent.now (begun c).args.kind.now) (begun c).args.given.now (length (begun c).args.marks.now)
+agreed c = accepted _ _ _ _ _ (sym c.judge-said.ensures ∙ ap told c.in-Value.is)
 
-agreed : (c : tie.After-enum-told) → Accepted (begun c).args.query.now (table_of (begun c).args.parent.now (begun c).args.kind.now) (begun c).args.given.now (length (begun c).args.marks.now)
-agreed c = accepted _ _ _ _ _ (sym c.before.before.judge.ensures ∙ ap told c.enum_told.given.1)
-
-judge-requires : tie.Need-judge-requires
+judge-requires : tie.Need-judge-said-requires
 judge-requires c κs = search rules
 
-enum_told : tie.Need-enum-told
+enum_told : tie.Need-enum_told-1
 enum_told c = search rules
 
-returns : tie.Need-returns
+returns : tie.Need-returns-in_default
 returns c =
-    let a = c.before.before.before.before.before.before.before.args in
+    let a = c.args in
     let t = table_of a.parent.now a.kind.now in
-    let said = c.before.judge in (
-      refused_answer a.query.now t a.given.now a.marks.now said.result c.match.keys2 said.ensures,
-      refused_marks a.query.now t a.given.now a.marks.now said.result c.match.keys2 said.ensures,
+    let said = c.judge-said in (
+      refused_answer a.query.now t a.given.now a.marks.now said.result c.in-Value.in-Value-own.keys2 said.ensures,
+      refused_marks a.query.now t a.given.now a.marks.now said.result c.in-Value.in-Value-own.keys2 said.ensures,
     )
 
-mark-kept-requires : tie.Need-mark-kept-requires
+mark-kept-requires : tie.Need-mark_kept-requires
 mark-kept-requires c κs =
-    let told-so = c.before in
-    let a = (begun told-so).args in
-    let ok = agreed told-so in
+    let told-so = c in
+    let a = (begun told-so.before).args in
+    let ok = agreed told-so.before in
     (searchable a.query.now a.parent.now a.kind.now a.given.now (length a.marks.now) ok, (ok.agree.marks_all, omega (arith, ok.agree.items_few), (ok.query_is, ok.decodes)))
 
 count-requires : tie.Need-count-requires
 count-requires c κs =
-    let ok = agreed c.before.before.before.before.before in
-    omega (arith, c.before.before.before.mark-kept.auto.1.1.1.1.0, ok.agree.marks_all, ok.agree.nodes_few)
+    let ok = agreed c.before.before.before.before in
+    omega (arith, c.mark_kept.auto.1.1.1.1.0, ok.agree.marks_all, ok.agree.nodes_few)
 
-same_length : tie.Need-same-length
+same_length : tie.Need-shape_of-marks
 same_length c = search rules
 
-returns-2 : tie.Need-returns-2
+returns-2 : tie.Need-returns
 returns-2 c =
-    let told-so = c.before.before.before.before.before.before in
-    let a = (begun told-so).args in
+    let told-so = c in
+    let a = (begun told-so.before.before.before.before.before).args in
     let t = table_of a.parent.now a.kind.now in
-    let ok = agreed told-so in
-    let done = c.before.before.before.before.mark-kept in
+    let ok = agreed told-so.before.before.before.before.before in
+    let done = c.mark_kept in
     let marks1 = done.new.1.1.1.1.0 in
     let same : marks1 ≡ kept t a.given.now ok.query_is = done.ensures ok.query_is ok.decodes in
     let many : length marks1 ≡ length a.parent.now = done.auto.1.1.1.1.0 ∙ ok.agree.marks_all in (

@@ -9,49 +9,49 @@ use Rattle.guards.proofs.Reading.{counted_more, counted_end, step_item_most}
 use Rattle.guards.proofs.count_guards.Statement.{statement}
 use Rattle.guards.proofs.count_guards.Tie as tie
 
-abbrev invariant-loop : tie.invariant-loop
+abbrev invariant-loop : tie.invariant-loop-place
 invariant-loop items place₀ guards₀ place guards = (place ≤ length items) × (guards ≤ place) × (guard_items items ≡ guards + guard_items (drop place items))
 
-abbrev decreases-loop : tie.decreases-loop
+abbrev decreases-loop : tie.decreases-loop-place
 decreases-loop items place₀ guards₀ place guards = length items - place
 
-loop-holds : tie.Need-loop-init invariant-loop decreases-loop
+loop-holds : tie.Need-loop-place-init invariant-loop decreases-loop
 loop-holds c = (omega arith, omega arith, omega arith)
 
-mul-one-guard : tie.Need-overflow-mul-one-guard invariant-loop decreases-loop
+mul-one-guard : tie.Need-offset_bounds-items-place invariant-loop decreases-loop
 mul-one-guard c = search rules
 
-shared-slice-read-one-guard : tie.Need-shared-slice-read-one-guard invariant-loop decreases-loop
+shared-slice-read-one-guard : tie.Need-bounds-items-place invariant-loop decreases-loop
 shared-slice-read-one-guard c = search rules
 
-one-guard-requires : tie.Need-one-guard-requires invariant-loop decreases-loop
+one-guard-requires : tie.Need-one_guard-guards-requires invariant-loop decreases-loop
 one-guard-requires c κs = search rules
 
-add-guards : tie.Need-overflow-add-guards invariant-loop decreases-loop
+add-guards : tie.Need-overflow_add-guards invariant-loop decreases-loop
 add-guards c =
-    let a = c.before.before.before.before.before.args in
-    let l = c.before.before.before.loop in
-    omega (arith, c.one-guard.ensures, step_item_most (get_or a.items.now l.place 0))
+    let a = c.args in
+    let l = c.loop-place in
+    omega (arith, c.one_guard-guards.ensures, step_item_most (get_or a.items.now l.place 0))
 
-add-place : tie.Need-overflow-add-place invariant-loop decreases-loop
+add-place : tie.Need-overflow_add-place invariant-loop decreases-loop
 add-place c = search rules
 
-loop-less : tie.Need-loop-smaller invariant-loop decreases-loop
+loop-less : tie.Need-loop-place-smaller invariant-loop decreases-loop
 loop-less c = search rules
 
-loop-again : tie.Need-loop-preserved invariant-loop decreases-loop
+loop-again : tie.Need-loop-place-preserved invariant-loop decreases-loop
 loop-again c =
-    let a = c.before.before.before.before.before.args in
-    let l = c.before.before.before.loop in
+    let a = c.args in
+    let l = c.loop-place in
     let most = step_item_most (get_or a.items.now l.place 0) in
-    let more = counted_more a.items.now l.place c.before.before.loop-test.true in
-    (omega arith, omega (arith, c.one-guard.ensures), omega (arith, c.one-guard.ensures))
+    let more = counted_more a.items.now l.place c.loop-place-test.true in
+    (omega arith, omega (arith, c.one_guard-guards.ensures), omega (arith, c.one_guard-guards.ensures))
 
 returns : tie.Need-returns invariant-loop decreases-loop
 returns c =
-    let a = c.before.before.before.args in
-    let l = c.before.loop in
-    (omega (arith, counted_end a.items.now l.place c.loop-test.false), omega arith)
+    let a = c.args in
+    let l = c.loop-place in
+    (omega (arith, counted_end a.items.now l.place c.loop-place-test.false), omega arith)
 
 pub count_guards_spec : {M : Type 1} → statement M
 count_guards_spec =

@@ -24,13 +24,12 @@ abbrev chosen : tie.Start → List ℕ
 chosen start = take start.args.count (drop start.args.from (old start))
 
 -- After both are written.
-abbrev begun : tie.After-put-visible → tie.Start
+abbrev begun : tie.After-put_visible → tie.Start
 begun c = c.before.before.before.before.before
+abbrev new : tie.After-put_visible → List ℕ
+new c = c.put_visible.new.0
 
-abbrev new : tie.After-put-visible → List ℕ
-new c = c.put-visible.new.0
-
-wrote : (c : tie.After-put-visible) → new c ≡ placed (guarded_step (chosen (begun c)) (begun c).args.step) (begun c).args.at (old (begun c))
+wrote : (c : tie.After-put_visible) → new c ≡ placed (guarded_step (chosen (begun c)) (begun c).args.step) (begun c).args.at (old (begun c))
 wrote c =
     let start = begun c in
     let at = start.args.at in
@@ -38,37 +37,37 @@ wrote c =
     let count = start.args.count in
     let step = start.args.step in
     let head = packed (record { axis = step.axis; test = step.test; count = step.count + 1 }) in
-    then_chosen visible_items (head ∷ []) (old start) _ (new c) at (at + 1) from count (ap (set (old start) at) c.before.before.pack-step.ensures ∙ placed_one (old start) at head (omega arith)) c.put-visible.ensures.0
+    then_chosen visible_items (head ∷ []) (old start) _ (new c) at (at + 1) from count (ap (set (old start) at) c.pack_step.ensures ∙ placed_one (old start) at head (omega arith)) c.put_visible.ensures.0
     refl (omega arith) (omega arith)
 
-add-put-visible : tie.Need-overflow-add-put-visible
+add-put-visible : tie.Need-overflow_add-step
 add-put-visible c = search rules
 
-pack-step-requires : tie.Need-pack-step-requires
+pack-step-requires : tie.Need-pack_step-requires
 pack-step-requires c κs = search rules
 
-mul-out : tie.Need-overflow-mul-out
+mul-out : tie.Need-offset_bounds-out-at
 mul-out c = search rules
 
-slice-write-out : tie.Need-slice-write-out
+slice-write-out : tie.Need-bounds-out-at
 slice-write-out c = search rules
 
-add-put-visible-2 : tie.Need-overflow-add-put-visible-2
+add-put-visible-2 : tie.Need-overflow_add-at
 add-put-visible-2 c = search rules
 
-put-visible-requires : tie.Need-put-visible-requires
+put-visible-requires : tie.Need-put_visible-requires
 put-visible-requires c κs = (omega arith, simp length-set (omega arith))
 
-same_length : tie.Need-same-length
+same_length : tie.Need-shape_of-out
 same_length c =
-    let put = c.before.before in
-    let start = begun put in
+    let put = c in
+    let start = begun put.before.before in
     let len = part_length (old start) start.args.from start.args.count (omega arith) in
-    same_size (guarded_step (chosen start) start.args.step) (old start) _ start.args.at (wrote put)
+    same_size (guarded_step (chosen start) start.args.step) (old start) _ start.args.at (wrote put.before.before)
     (omega (arith, length-append (some_node_items (axis_number descendantOrSelf) (chosen start)) (some_node_items (axis_number ancestorOrSelf) (chosen start))))
 
 returns : tie.Need-returns
-returns c = (wrote c.before.before, omega (arith, c.before.before.put-visible.ensures.1))
+returns c = (wrote c.before.before, omega (arith, c.put_visible.ensures.1))
 
 pub guard_step_spec : {M : Type 1} → statement M
 guard_step_spec =

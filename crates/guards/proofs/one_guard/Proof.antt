@@ -6,30 +6,29 @@ use Rattle.guards.proofs.one_guard.Statement.{statement}
 use Rattle.guards.proofs.one_guard.Tie as tie
 
 -- The item is a step.
-abbrev step : tie.After-guarded → tie.After-item
-step c = c.before.before
-
-unpack-requires : tie.Need-unpack-requires
+abbrev step : tie.After-guarded → tie.In-Step
+step c = c.before
+unpack-requires : tie.Need-unpack-item-requires
 unpack-requires c κs = search rules
 
-enum-known-item : tie.Need-enum-known-item
+enum-known-item : tie.Need-enum_known-item
 enum-known-item c = search rules
 
-returns : tie.Need-returns
-returns c = no_step_counted _ _ c.before.unpack.ensures c.match.keys2
+returns : tie.Need-returns-in_default
+returns c = no_step_counted _ _ c.unpack-item.ensures c.in-Step.in-Step-own.keys2
 
 guarded-requires : tie.Need-guarded-requires
 guarded-requires c κs = search rules
 
-returns-2 : tie.Need-returns-2
+returns-2 : tie.Need-returns-then-guarded
 returns-2 c =
     let s = step c.before in
-    step_counted _ _ _ _ s.before.before.unpack.ensures s.item.given.1 (sym c.if1.true ∙ c.before.guarded.ensures)
+    step_counted _ _ _ _ s.unpack-item.ensures s.in-Step.is (sym c.if-guarded.true ∙ c.guarded.ensures)
 
-returns-3 : tie.Need-returns-3
+returns-3 : tie.Need-returns-else-guarded
 returns-3 c =
     let s = step c.before in
-    step_counted _ _ _ _ s.before.before.unpack.ensures s.item.given.1 (sym c.if1.false ∙ c.before.guarded.ensures)
+    step_counted _ _ _ _ s.unpack-item.ensures s.in-Step.is (sym c.if-guarded.false ∙ c.guarded.ensures)
 
 pub one_guard_spec : {M : Type 1} → statement M
 one_guard_spec = tie.close (tie.spec unpack-requires enum-known-item returns guarded-requires returns-2 returns-3)

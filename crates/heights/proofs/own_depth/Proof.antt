@@ -8,15 +8,15 @@ use Rattle.heights.proofs.own_depth.Tie as tie
 guarded-requires : tie.Need-guarded-requires
 guarded-requires c κs = search rules
 
-sub-result : tie.Need-overflow-sub-result
+sub-result : tie.Need-overflow_sub-result
 sub-result c = search rules
 
-returns : tie.Need-returns
+returns : tie.Need-returns-then-guarded
 unfolding opened
-returns c = rw (sym c.before.guarded.ensures ∙ c.if1.true)
+returns c = rw (sym c.guarded.ensures ∙ c.if-guarded.true)
 
-returns-2 : tie.Need-returns-2
-returns-2 c = rw (sym c.before.guarded.ensures ∙ c.if1.false)
+returns-2 : tie.Need-returns-else-guarded
+returns-2 c = rw (sym c.guarded.ensures ∙ c.if-guarded.false)
 
 pub own_depth_spec : {M : Type 1} → statement M
 own_depth_spec = tie.close (tie.spec guarded-requires sub-result returns returns-2)

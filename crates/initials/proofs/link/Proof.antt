@@ -10,86 +10,84 @@ use lib.ListN.{length, get_or}
 use mathlib.Core.Path.{◌≡◌, refl, sym, ◌∙◌, ap, subst}
 use native.Mathlib.Omega.{arith}
 
-abbrev invariant-loop : tie.invariant-loop
+abbrev invariant-loop : tie.invariant-loop-v
 invariant-loop list starts count chains₀ v₀ chains v = Upto list starts count chains v
 
-abbrev decreases-loop : tie.decreases-loop
+abbrev decreases-loop : tie.decreases-loop-v
 decreases-loop list starts count chains₀ v₀ chains v = v
 
 abbrev Start : Type 0
 Start = tie.Start invariant-loop decreases-loop
 
 abbrev Spelled : Type 0
-Spelled = tie.After-spell invariant-loop decreases-loop
+Spelled = tie.After-spell-name invariant-loop decreases-loop
 
 abbrev begun : Spelled → Start
 begun c = c.before.before.before.before
-
-abbrev turn : Spelled → tie.At-loop invariant-loop decreases-loop
+abbrev turn : Spelled → tie.At-loop-v invariant-loop decreases-loop
 turn c = c.before.before
-
 -- The name starts within the list, and its first byte is small.
-inside : (c : Spelled) → c.spell.result.start < length (begun c).args.list.now
-inside c = start_inside _ _ (begun c).requires.0 ((turn c).loop.v - 1) _ (omega (arith, (turn c).loop.invariant.most)) c.spell.ensures.part
+inside : (c : Spelled) → c.spell-name.result.start < length (begun c).args.list.now
+inside c = start_inside _ _ (begun c).requires.0 ((turn c).loop-v.v - 1) _ (omega (arith, (turn c).loop-v.invariant.most)) c.spell-name.ensures.part
 
-first : (c : Spelled) → get_or (begun c).args.list.now c.spell.result.start 0 ≡ line_byte (begun c).args.list.now (begun c).args.starts.now ((turn c).loop.v - 1)
-first c = ap (λ p. get_or (begun c).args.list.now p.start 0) c.spell.ensures.part
+first : (c : Spelled) → get_or (begun c).args.list.now c.spell-name.result.start 0 ≡ line_byte (begun c).args.list.now (begun c).args.starts.now ((turn c).loop-v.v - 1)
+first c = ap (λ p. get_or (begun c).args.list.now p.start 0) c.spell-name.ensures.part
 
-few : (c : Spelled) → (turn c).loop.v ≤ names_limit
-few c = omega (arith, (turn c).loop.invariant.most, (begun c).requires.0.rising.few)
+few : (c : Spelled) → (turn c).loop-v.v ≤ names_limit
+few c = omega (arith, (turn c).loop-v.invariant.most, (begun c).requires.0.rising.few)
 
-loop-holds : tie.Need-loop-init invariant-loop decreases-loop
-loop-holds c = none_linked _ _ _ _ c.before.requires.1
+loop-holds : tie.Need-loop-v-init invariant-loop decreases-loop
+loop-holds c = none_linked _ _ _ _ c.requires.1
 
-sub-v : tie.Need-overflow-sub-v invariant-loop decreases-loop
+sub-v : tie.Need-overflow_sub-v invariant-loop decreases-loop
 sub-v c = omega arith
 
-spell-requires : tie.Need-spell-requires invariant-loop decreases-loop
-spell-requires c κs = (c.before.before.before.requires.0, omega (arith, c.before.loop.invariant.most))
+spell-requires : tie.Need-spell-name-requires invariant-loop decreases-loop
+spell-requires c κs = (c.requires.0, omega (arith, c.loop-v.invariant.most))
 
-shared-slice-read-first : tie.Need-shared-slice-read-first invariant-loop decreases-loop
+shared-slice-read-first : tie.Need-bounds-list-place invariant-loop decreases-loop
 shared-slice-read-first c = inside c.before
 
-cast-first : tie.Need-overflow-cast-first invariant-loop decreases-loop
-cast-first c = omega (arith, c.shared-slice-known2.given c.before.spell.result.start)
+cast-first : tie.Need-overflow_cast-first invariant-loop decreases-loop
+cast-first c = omega (arith, c.shared_slice_known-in-loop-v-1.given c.spell-name.result.start)
 
-mul-chains : tie.Need-overflow-mul-chains invariant-loop decreases-loop
-mul-chains c = omega (arith, c.shared-slice-known2.given c.before.spell.result.start)
+mul-chains : tie.Need-offset_bounds-chains-first invariant-loop decreases-loop
+mul-chains c = omega (arith, c.shared_slice_known-in-loop-v-1.given c.spell-name.result.start)
 
-element-copy-out-chains : tie.Need-element-copy-out-chains invariant-loop decreases-loop
-element-copy-out-chains c = omega (arith, c.shared-slice-known2.given c.before.spell.result.start)
+element-copy-out-chains : tie.Need-bounds-chains-first invariant-loop decreases-loop
+element-copy-out-chains c = omega (arith, c.shared_slice_known-in-loop-v-1.given c.spell-name.result.start)
 
-add-chains : tie.Need-overflow-add-chains invariant-loop decreases-loop
-add-chains c = omega (arith, few c.before.before)
+add-chains : tie.Need-overflow_add-chains invariant-loop decreases-loop
+add-chains c = omega (arith, few c.before.before.before)
 
-mul-chains-2 : tie.Need-overflow-mul-chains-2 invariant-loop decreases-loop
-mul-chains-2 c = omega (arith, few c.before.before)
+mul-chains-2 : tie.Need-offset_bounds-chains-v invariant-loop decreases-loop
+mul-chains-2 c = omega (arith, few c.before.before.before)
 
-element-write-chains : tie.Need-element-write-chains invariant-loop decreases-loop
-element-write-chains c = omega (arith, few c.before.before)
+element-write-chains : tie.Need-bounds-chains-v invariant-loop decreases-loop
+element-write-chains c = omega (arith, few c.before.before.before)
 
-cast-chains : tie.Need-overflow-cast-chains invariant-loop decreases-loop
-cast-chains c = omega (arith, few c.before.before)
+cast-chains : tie.Need-overflow_cast-chains invariant-loop decreases-loop
+cast-chains c = omega (arith, few c.before.before.before)
 
-add-chains-2 : tie.Need-overflow-add-chains-2 invariant-loop decreases-loop
-add-chains-2 c = omega (arith, few c.before.before)
+add-chains-2 : tie.Need-overflow_add-chains-in-loop-v invariant-loop decreases-loop
+add-chains-2 c = omega (arith, few c.before.before.before)
 
-mul-chains-3 : tie.Need-overflow-mul-chains-3 invariant-loop decreases-loop
-mul-chains-3 c = omega (arith, c.before.shared-slice-known2.given c.before.before.spell.result.start)
+mul-chains-3 : tie.Need-offset_bounds-chains-first-in-loop-v invariant-loop decreases-loop
+mul-chains-3 c = omega (arith, c.shared_slice_known-in-loop-v-1.given c.spell-name.result.start)
 
-element-write-chains-2 : tie.Need-element-write-chains-2 invariant-loop decreases-loop
-element-write-chains-2 c = omega (arith, c.before.shared-slice-known2.given c.before.before.spell.result.start)
+element-write-chains-2 : tie.Need-bounds-chains-first-in-loop-v invariant-loop decreases-loop
+element-write-chains-2 c = omega (arith, c.shared_slice_known-in-loop-v-1.given c.spell-name.result.start)
 
-loop-less : tie.Need-loop-smaller invariant-loop decreases-loop
+loop-less : tie.Need-loop-v-smaller invariant-loop decreases-loop
 loop-less c = omega arith
 
-loop-again : tie.Need-loop-preserved invariant-loop decreases-loop
+loop-again : tie.Need-loop-v-preserved invariant-loop decreases-loop
 loop-again c =
-    let d = c.before.before in
-    one_linked _ _ _ _ (turn d).loop.v ((turn d).loop.v - 1) _ _ _ (turn d).loop.invariant (omega arith) (begun d).requires.0.rising.few (first d) (omega (arith, c.before.shared-slice-known2.given d.spell.result.start)) refl (omega arith)
+    let d = c in
+    one_linked _ _ _ _ (turn d.before.before.before).loop-v.v ((turn d.before.before.before).loop-v.v - 1) _ _ _ (turn d.before.before.before).loop-v.invariant (omega arith) (begun d.before.before.before).requires.0.rising.few (first d.before.before.before) (omega (arith, c.shared_slice_known-in-loop-v-1.given d.spell-name.result.start)) refl (omega arith)
 
 returns : tie.Need-returns invariant-loop decreases-loop
-returns c = all_linked _ _ _ _ _ c.before.loop.invariant (omega arith)
+returns c = all_linked _ _ _ _ _ c.loop-v.invariant (omega arith)
 
 pub link_spec : {M : Type 1} → statement M
 link_spec =

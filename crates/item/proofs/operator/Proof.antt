@@ -4,19 +4,19 @@ use Rattle.item.proofs.Unpacking.{operator_kind}
 use Rattle.item.proofs.operator.Statement.{statement}
 use Rattle.item.proofs.operator.Tie as tie
 
-returns : tie.Need-returns
-returns c = rw (operator_kind c.before.args.w c.before.requires, c.match.keys1)
+returns : tie.Need-returns-in-2
+returns c = rw (operator_kind c.args.w c.requires, c.in-2.is)
 
-returns-2 : tie.Need-returns-2
-returns-2 c = rw (operator_kind c.before.args.w c.before.requires, c.match.keys2)
+returns-2 : tie.Need-returns-in-3
+returns-2 c = rw (operator_kind c.args.w c.requires, c.in-3.is)
 
-returns-3 : tie.Need-returns-3
-returns-3 c = rw (operator_kind c.before.args.w c.before.requires, c.match.keys3)
+returns-3 : tie.Need-returns-in-4
+returns-3 c = rw (operator_kind c.args.w c.requires, c.in-4.is)
 
-returns-4 : tie.Need-returns-4
+returns-4 : tie.Need-returns-in_default
 returns-4 c =
-    let w = c.before.args.w in
-    rw (operator_kind w c.before.requires, ne_eqb w 2 c.match.rest.0.0.1, ne_eqb w 3 c.match.rest.0.1, ne_eqb w 4 c.match.rest.1)
+    let w = c.args.w in
+    rw (operator_kind w c.requires, ne_eqb w 2 c.in_default.in_default-own.rest.0.0.1, ne_eqb w 3 c.in_default.in_default-own.rest.0.1, ne_eqb w 4 c.in_default.in_default-own.rest.1)
 
 pub operator_spec : {M : Type 1} → statement M
 operator_spec = tie.close (tie.spec returns returns-2 returns-3 returns-4)

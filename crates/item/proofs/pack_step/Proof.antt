@@ -4,13 +4,13 @@ use borrow.Author.Rules.{rules}
 use Rattle.item.proofs.pack_step.Statement.{statement}
 use Rattle.item.proofs.pack_step.Tie as tie
 
-cast-result : tie.Need-overflow-cast-result
+cast-result : tie.Need-overflow_cast-result
 cast-result c = search rules
 
 returns : tie.Need-returns
 returns c =
-    let p = c.before.before.before.requires in
-    together c.before.before.before.args.step p.0 p.1 p.2
+    let p = c.requires in
+    together c.args.step p.0 p.1 p.2
 
 pub pack_step_spec : {M : Type 1} → statement M
 pack_step_spec = tie.close (tie.spec cast-result returns)

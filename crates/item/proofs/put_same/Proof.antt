@@ -11,51 +11,51 @@ use Rattle.item.proofs.Placing.{copied_all}
 use Rattle.item.proofs.put_same.Statement.{statement}
 use Rattle.item.proofs.put_same.Tie as tie
 
-abbrev invariant-loop : tie.invariant-loop
+abbrev invariant-loop : tie.invariant-loop-i
 invariant-loop out₀ at count w i₀ out i = (i ≤ count) × (length out ≡ length out₀) × (out ≡ paste out₀ at (replicate count w) i)
 
-abbrev decreases-loop : tie.decreases-loop
+abbrev decreases-loop : tie.decreases-loop-i
 decreases-loop out₀ at count w i₀ out i = count - i
 
-loop-holds : tie.Need-loop-init invariant-loop decreases-loop
+loop-holds : tie.Need-loop-i-init invariant-loop decreases-loop
 loop-holds c = (omega arith, refl, paste-zero c.args.out.now c.args.at (replicate c.args.count c.args.w))
 
-add-out : tie.Need-overflow-add-out invariant-loop decreases-loop
+add-out : tie.Need-overflow_add-out invariant-loop decreases-loop
 add-out c = search rules
 
-mul-out : tie.Need-overflow-mul-out invariant-loop decreases-loop
+mul-out : tie.Need-offset_bounds-out-at invariant-loop decreases-loop
 mul-out c = search rules
 
-slice-write-out : tie.Need-slice-write-out invariant-loop decreases-loop
+slice-write-out : tie.Need-bounds-out-at invariant-loop decreases-loop
 slice-write-out c = search rules
 
-add-i : tie.Need-overflow-add-i invariant-loop decreases-loop
+add-i : tie.Need-overflow_add-i invariant-loop decreases-loop
 add-i c = search rules
 
-loop-less : tie.Need-loop-smaller invariant-loop decreases-loop
+loop-less : tie.Need-loop-i-smaller invariant-loop decreases-loop
 loop-less c = search rules
 
-loop-again : tie.Need-loop-preserved invariant-loop decreases-loop
+loop-again : tie.Need-loop-i-preserved invariant-loop decreases-loop
 loop-again c =
-    let a = c.before.before.args in
-    let l = c.before.loop in
+    let a = c.args in
+    let l = c.loop-i in
     let s : List ℕ = replicate a.count a.w in
     let e = length-replicate a.count a.w in (
       omega arith,
       length-set l.out (a.at + l.i) a.w ∙ l.invariant.1,
       ap (λ (x : List ℕ). set x (a.at + l.i) a.w) l.invariant.2 ∙
-          ap (set (paste a.out.now a.at s l.i) (a.at + l.i)) (sym (get_or-replicate a.count l.i a.w 0 c.loop-test.true)) ∙
+          ap (set (paste a.out.now a.at s l.i) (a.at + l.i)) (sym (get_or-replicate a.count l.i a.w 0 c.loop-i-test.true)) ∙
           paste-suc a.out.now a.at s l.i 0 (omega arith) (omega arith) ∙
           ap (paste a.out.now a.at s) (sym (add-one l.i)),
     )
 
-same_length : tie.Need-same-length invariant-loop decreases-loop
-same_length c = c.before.loop.invariant.1
+same_length : tie.Need-shape_of-out invariant-loop decreases-loop
+same_length c = c.loop-i.invariant.1
 
 returns : tie.Need-returns invariant-loop decreases-loop
 returns c =
-    let a = c.before.before.args in
-    let l = c.before.loop in
+    let a = c.args in
+    let l = c.loop-i in
     l.invariant.2 ∙ copied_all a.out.now (replicate a.count a.w) a.at l.i (omega (arith, length-replicate a.count a.w))
 
 pub put_same_spec : {M : Type 1} → statement M

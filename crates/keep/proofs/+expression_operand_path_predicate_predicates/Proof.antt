@@ -133,29 +133,25 @@ expression_claims t = (
   widen-reads.Learnt,
 )
 
-abbrev expression_Inv_loop : expression-lts.invariant-loop
+abbrev expression_Inv_loop : expression-lts.invariant-loop-ands
 expression_Inv_loop items at depth parent kind given sets₀ known₀ n ors₀ ands₀ place₀ base₀ held₀ sets known ors ands place base held =
     (length sets ≡ length sets₀) × Turn (table_of parent kind) given depth items at (length parent) place base held ands ors sets × (length known ≡ length known₀) × Kept (table_of parent kind) given items (length parent) known sets
 
-abbrev expression_μ_loop : expression-lts.decreases-loop
+abbrev expression_μ_loop : expression-lts.decreases-loop-ands
 expression_μ_loop items at depth parent kind given sets₀ known₀ n ors₀ ands₀ place₀ base₀ held₀ sets known ors ands place base held = length items - place
 
 -- A turn, and the start of the function.
-abbrev expression_begun : (t : ℕ) → expression-lts.At-loop (expression_claims t) (expression_at t) expression.Post expression_Inv_loop expression_μ_loop → expression-lts.Start (expression_claims t) (expression_at t) expression.Post expression_Inv_loop expression_μ_loop
+abbrev expression_begun : (t : ℕ) → expression-lts.At-loop-ands (expression_claims t) (expression_at t) expression.Post expression_Inv_loop expression_μ_loop → expression-lts.Start (expression_claims t) (expression_at t) expression.Post expression_Inv_loop expression_μ_loop
 expression_begun t c = c.before.before.before.before.before.before.before.before.before
-
 -- An operand has been read in a turn.
-abbrev expression_turning : (t : ℕ) → expression-lts.After-operand (expression_claims t) (expression_at t) expression.Post expression_Inv_loop expression_μ_loop → expression-lts.At-loop (expression_claims t) (expression_at t) expression.Post expression_Inv_loop expression_μ_loop
+abbrev expression_turning : (t : ℕ) → expression-lts.After-operand-place (expression_claims t) (expression_at t) expression.Post expression_Inv_loop expression_μ_loop → expression-lts.At-loop-ands (expression_claims t) (expression_at t) expression.Post expression_Inv_loop expression_μ_loop
 expression_turning t c = c.before.before.before
-
 -- Its set has been joined to that of its term.
-abbrev expression_reading : (t : ℕ) → expression-lts.After-narrow (expression_claims t) (expression_at t) expression.Post expression_Inv_loop expression_μ_loop → expression-lts.After-operand (expression_claims t) (expression_at t) expression.Post expression_Inv_loop expression_μ_loop
+abbrev expression_reading : (t : ℕ) → expression-lts.After-narrow (expression_claims t) (expression_at t) expression.Post expression_Inv_loop expression_μ_loop → expression-lts.After-operand-place (expression_claims t) (expression_at t) expression.Post expression_Inv_loop expression_μ_loop
 expression_reading t c = c.before.before.before.before.before.before
-
 -- The term has been added to the expression.
 abbrev expression_joining : (t : ℕ) → expression-lts.After-widen (expression_claims t) (expression_at t) expression.Post expression_Inv_loop expression_μ_loop → expression-lts.After-narrow (expression_claims t) (expression_at t) expression.Post expression_Inv_loop expression_μ_loop
 expression_joining t c = c.before.before.before.before.before
-
 -- All nodes.
 abbrev expression_all : (t : ℕ) → expression-lts.Start (expression_claims t) (expression_at t) expression.Post expression_Inv_loop expression_μ_loop → ℕ
 expression_all t c = length c.args.parent.now
@@ -165,51 +161,51 @@ abbrev expression_Kept : (t : ℕ) → expression-lts.Start (expression_claims t
 expression_Kept t c = Kept (table_of c.args.parent.now c.args.kind.now) c.args.given.now c.args.items.now (expression_all t c)
 
 -- The operand's set has room behind what is held, before the sets kept.
-expression_enough : (t : ℕ) (c : expression-lts.At-loop (expression_claims t) (expression_at t) expression.Post expression_Inv_loop expression_μ_loop)
-    → c.loop.base + c.loop.held + expression_all t (expression_begun t c) ≤ spare (length c.loop.known) (expression_all t (expression_begun t c)) c.loop.sets
+expression_enough : (t : ℕ) (c : expression-lts.At-loop-ands (expression_claims t) (expression_at t) expression.Post expression_Inv_loop expression_μ_loop)
+    → c.loop-ands.base + c.loop-ands.held + expression_all t (expression_begun t c) ≤ spare (length c.loop-ands.known) (expression_all t (expression_begun t c)) c.loop-ands.sets
 expression_enough t c =
     let start = expression_begun t c in
     let a = start.args in
-    omega (arith, turn_room c.loop.invariant.1 _ start.pre.1.1.0.tree.rooted start.pre.1.1.1.0, spare_same (length a.parent.now) c.loop.sets a.sets.now c.loop.invariant.2 c.loop.invariant.0)
+    omega (arith, turn_room c.loop-ands.invariant.1 _ start.requires.1.1.0.tree.rooted start.requires.1.1.1.0, spare_same (length a.parent.now) c.loop-ands.sets a.sets.now c.loop-ands.invariant.2 c.loop-ands.invariant.0)
 
 -- The sets as the operand's come back, and the entries.
-abbrev expression_mid : (t : ℕ) → expression-lts.After-operand (expression_claims t) (expression_at t) expression.Post expression_Inv_loop expression_μ_loop → List ℕ
+abbrev expression_mid : (t : ℕ) → expression-lts.After-operand-place (expression_claims t) (expression_at t) expression.Post expression_Inv_loop expression_μ_loop → List ℕ
 expression_mid t c =
     let turn = expression_turning t c in
-    put_mid (turn.loop.base + turn.loop.held) (length turn.loop.sets - (turn.loop.base + turn.loop.held)) turn.loop.sets c.operand.new.1.1.1.1.1.1.0
+    put_mid (turn.loop-ands.base + turn.loop-ands.held) (length turn.loop-ands.sets - (turn.loop-ands.base + turn.loop-ands.held)) turn.loop-ands.sets c.operand-place.new.1.1.1.1.1.1.0
 
-abbrev expression_entries : (t : ℕ) → expression-lts.After-operand (expression_claims t) (expression_at t) expression.Post expression_Inv_loop expression_μ_loop → List ℕ
-expression_entries t c = c.operand.new.1.1.1.1.1.1.1.0
+abbrev expression_entries : (t : ℕ) → expression-lts.After-operand-place (expression_claims t) (expression_at t) expression.Post expression_Inv_loop expression_μ_loop → List ℕ
+expression_entries t c = c.operand-place.new.1.1.1.1.1.1.1.0
 
 -- They are as many.
-expression_back : (t : ℕ) (c : expression-lts.After-operand (expression_claims t) (expression_at t) expression.Post expression_Inv_loop expression_μ_loop) → length (expression_mid t c) ≡ length (expression_turning t c).loop.sets
+expression_back : (t : ℕ) (c : expression-lts.After-operand-place (expression_claims t) (expression_at t) expression.Post expression_Inv_loop expression_μ_loop) → length (expression_mid t c) ≡ length (expression_turning t c).loop-ands.sets
 expression_back t c =
     let turn = expression_turning t c in
-    let l = turn.loop in
-    length_stays (l.base + l.held) l.sets c.operand.new.1.1.1.1.1.1.0 (omega (arith, expression_enough t turn)) c.operand.auto.1.1.1.1.1.1.0
+    let l = turn.loop-ands in
+    length_stays (l.base + l.held) l.sets c.operand-place.new.1.1.1.1.1.1.0 (omega (arith, expression_enough t turn)) c.operand-place.auto.1.1.1.1.1.1.0
 
-expression_entries_all : (t : ℕ) (c : expression-lts.After-operand (expression_claims t) (expression_at t) expression.Post expression_Inv_loop expression_μ_loop) → length (expression_entries t c) ≡ length (expression_turning t c).loop.known
-expression_entries_all t c = c.operand.auto.1.1.1.1.1.1.1.0
+expression_entries_all : (t : ℕ) (c : expression-lts.After-operand-place (expression_claims t) (expression_at t) expression.Post expression_Inv_loop expression_μ_loop) → length (expression_entries t c) ≡ length (expression_turning t c).loop-ands.known
+expression_entries_all t c = c.operand-place.auto.1.1.1.1.1.1.1.0
 
 -- So there is the same room in any list that is as long.
-expression_room : (t : ℕ) (c : expression-lts.After-operand (expression_claims t) (expression_at t) expression.Post expression_Inv_loop expression_μ_loop) (xs : List ℕ) → length xs ≡ length (expression_turning t c).loop.sets
-    → (expression_turning t c).loop.base + (expression_turning t c).loop.held + expression_all t (expression_begun t (expression_turning t c)) ≤ spare (length (expression_entries t c)) (expression_all t (expression_begun t (expression_turning t c))) xs
+expression_room : (t : ℕ) (c : expression-lts.After-operand-place (expression_claims t) (expression_at t) expression.Post expression_Inv_loop expression_μ_loop) (xs : List ℕ) → length xs ≡ length (expression_turning t c).loop-ands.sets
+    → (expression_turning t c).loop-ands.base + (expression_turning t c).loop-ands.held + expression_all t (expression_begun t (expression_turning t c)) ≤ spare (length (expression_entries t c)) (expression_all t (expression_begun t (expression_turning t c))) xs
 expression_room t c xs e =
     let turn = expression_turning t c in
     let start = expression_begun t turn in
-    omega (arith, expression_enough t turn, spare_same (expression_all t start) xs turn.loop.sets (expression_entries_all t c) e)
+    omega (arith, expression_enough t turn, spare_same (expression_all t start) xs turn.loop-ands.sets (expression_entries_all t c) e)
 
 -- What is kept stays, with the operand's sets back, joined to the term's, and added to the expression's.
-expression_kept_back : (t : ℕ) (c : expression-lts.After-operand (expression_claims t) (expression_at t) expression.Post expression_Inv_loop expression_μ_loop)
+expression_kept_back : (t : ℕ) (c : expression-lts.After-operand-place (expression_claims t) (expression_at t) expression.Post expression_Inv_loop expression_μ_loop)
     → expression_Kept t (expression_begun t (expression_turning t c)) (expression_entries t c) (expression_mid t c)
 expression_kept_back t c =
     let turn = expression_turning t c in
     let start = expression_begun t turn in
-    let l = turn.loop in
-    let part = c.operand.new.1.1.1.1.1.1.0 in
+    let l = turn.loop-ands in
+    let part = c.operand-place.new.1.1.1.1.1.1.0 in
     let n = expression_all t start in
     kept_same (expression_entries t c) part (expression_mid t c)
-    (sym (kept_back (length (expression_entries t c)) n (l.base + l.held) l.sets part (omega (arith, expression_room t c l.sets refl)) c.operand.auto.1.1.1.1.1.1.0)) c.operand.ensures.1
+    (sym (kept_back (length (expression_entries t c)) n (l.base + l.held) l.sets part (omega (arith, expression_room t c l.sets refl)) c.operand-place.auto.1.1.1.1.1.1.0)) c.operand-place.ensures.1
 
 expression_kept_narrow : (t : ℕ) (c : expression-lts.After-narrow (expression_claims t) (expression_at t) expression.Post expression_Inv_loop expression_μ_loop)
     → expression_Kept t (expression_begun t (expression_turning t (expression_reading t c))) (expression_entries t (expression_reading t c)) c.narrow.new.0
@@ -221,7 +217,7 @@ expression_kept_narrow t c =
     let entries = expression_entries t read in
     let mid = expression_mid t read in
     kept_same entries mid c.narrow.new.0
-    (kept_end (length entries) n (turn.loop.base + n) mid c.narrow.new.0 (omega (arith, expression_room t read mid (expression_back t read))) c.narrow.auto.0 c.narrow.ensures.behind)
+    (kept_end (length entries) n (turn.loop-ands.base + n) mid c.narrow.new.0 (omega (arith, expression_room t read mid (expression_back t read))) c.narrow.auto.0 c.narrow.ensures.behind)
     (expression_kept_back t read)
 
 expression_kept_widen : (t : ℕ) (c : expression-lts.After-widen (expression_claims t) (expression_at t) expression.Post expression_Inv_loop expression_μ_loop)
@@ -238,56 +234,56 @@ expression_kept_widen t c =
     (kept_end (length entries) n (0 + n) after c.widen.new.0 (omega (arith, expression_room t read after (joined.narrow.kept.0 ∙ expression_back t read))) c.widen.auto.0 c.widen.ensures.behind)
     (expression_kept_narrow t joined)
 
-expression_add_run_of : (t : ℕ) → expression-lts.Need-overflow-add-run-of (expression_claims t) (expression_at t) expression.Post expression_Inv_loop expression_μ_loop
+expression_add_run_of : (t : ℕ) → expression-lts.Need-overflow_add-at (expression_claims t) (expression_at t) expression.Post expression_Inv_loop expression_μ_loop
 expression_add_run_of t c =
-    let start = c.before.before.before.before.before.before.before in
-    omega (arith, c.run_of.ensures.1, start.well_formed.0.1)
+    let start = c in
+    omega (arith, c.run_of-ors.ensures.1, start.well_formed.0.1)
 
-expression_add_place : (t : ℕ) → expression-lts.Need-overflow-add-place (expression_claims t) (expression_at t) expression.Post expression_Inv_loop expression_μ_loop
+expression_add_place : (t : ℕ) → expression-lts.Need-overflow_add-place (expression_claims t) (expression_at t) expression.Post expression_Inv_loop expression_μ_loop
 expression_add_place t c =
-    let start = c.before.before.before.before.before.before.before.before in
-    omega (arith, c.run-of2.ensures.1, start.well_formed.0.1)
+    let start = c in
+    omega (arith, c.run_of-ands.ensures.1, start.well_formed.0.1)
 
-expression_add_place_2 : (t : ℕ) → expression-lts.Need-overflow-add-place-2 (expression_claims t) (expression_at t) expression.Post expression_Inv_loop expression_μ_loop
+expression_add_place_2 : (t : ℕ) → expression-lts.Need-overflow_add-place-2 (expression_claims t) (expression_at t) expression.Post expression_Inv_loop expression_μ_loop
 expression_add_place_2 t c =
-    let start = c.before.before.before.before.before.before.before.before in
-    omega (arith, c.run-of2.ensures.1, start.well_formed.0.1)
+    let start = c in
+    omega (arith, c.run_of-ands.ensures.1, start.well_formed.0.1)
 
-expression_loop_holds : (t : ℕ) → expression-lts.Need-loop-init (expression_claims t) (expression_at t) expression.Post expression_Inv_loop expression_μ_loop
+expression_loop_holds : (t : ℕ) → expression-lts.Need-loop-ands-init (expression_claims t) (expression_at t) expression.Post expression_Inv_loop expression_μ_loop
 expression_loop_holds t c =
-    let start = c.before.before.before.before.before.before.before.before in
+    let start = c in
     let a = start.args in
-    let o = c.before.run_of in
-    let r = c.run-of2 in
+    let o = c.run_of-ors in
+    let r = c.run_of-ands in
     (refl, turn_start (table_of a.parent.now a.kind.now) a.given.now a.depth a.items.now a.at (length a.parent.now) o.result r.result a.sets.now o.ensures.0 r.ensures.0 o.ensures.1 r.ensures.1, refl, start.requires.1.1.1.1)
 
-expression_add_operand : (t : ℕ) → expression-lts.Need-overflow-add-operand (expression_claims t) (expression_at t) expression.Post expression_Inv_loop expression_μ_loop
+expression_add_operand : (t : ℕ) → expression-lts.Need-overflow_add-base (expression_claims t) (expression_at t) expression.Post expression_Inv_loop expression_μ_loop
 expression_add_operand t c =
     let start = expression_begun t c in
-    omega (arith, expression_enough t c, c.loop.invariant.0, start.good.1.1.1.1.1.1.0.1)
+    omega (arith, expression_enough t c, c.loop-ands.invariant.0, start.well_formed.1.1.1.1.1.1.0.1)
 
-expression_sub_operand : (t : ℕ) → expression-lts.Need-overflow-sub-operand (expression_claims t) (expression_at t) expression.Post expression_Inv_loop expression_μ_loop
+expression_sub_operand : (t : ℕ) → expression-lts.Need-slice_bounds-operand-count (expression_claims t) (expression_at t) expression.Post expression_Inv_loop expression_μ_loop
 expression_sub_operand t c = omega (arith, expression_enough t c)
 
-expression_part_operand_start : (t : ℕ) → expression-lts.Need-slice-bounds-operand-start (expression_claims t) (expression_at t) expression.Post expression_Inv_loop expression_μ_loop
+expression_part_operand_start : (t : ℕ) → expression-lts.Need-slice_bounds-operand-start (expression_claims t) (expression_at t) expression.Post expression_Inv_loop expression_μ_loop
 expression_part_operand_start t c = omega (arith, expression_enough t c)
 
-expression_operand_requires : (t : ℕ) → expression-lts.Need-operand-requires (expression_claims t) (expression_at t) expression.Post expression_Inv_loop expression_μ_loop
+expression_operand_requires : (t : ℕ) → expression-lts.Need-operand-place-requires (expression_claims t) (expression_at t) expression.Post expression_Inv_loop expression_μ_loop
 expression_operand_requires t c κs =
-    let turn = c.before.before in
-    let start = expression_begun t turn in
+    let turn = c in
+    let start = expression_begun t turn.before.before in
     let a = start.args in
     let n = length a.parent.now in
-    let l = turn.loop in
+    let l = turn.loop-ands in
     let k = l.base + l.held in (
-      omega (arith, start.pre.0, l.invariant.1.past),
+      omega (arith, start.requires.0, l.invariant.1.past),
       (
-        start.pre.1.0,
+        start.requires.1.0,
         (
-          start.pre.1.1.0,
+          start.requires.1.1.0,
           (
             subst (λ (r : ℕ). Fits a.items.now l.place n r (take_operand (take_within a.depth) (drop l.place a.items.now)) height_expr)
-                (spare_part n k l.sets a.sets.now l.invariant.2 l.invariant.0 (omega (arith, expression_enough t turn))) (turn_fits l.invariant.1 _ start.pre.1.1.1.0),
+                (spare_part n k l.sets a.sets.now l.invariant.2 l.invariant.0 (omega (arith, expression_enough t turn))) (turn_fits l.invariant.1 _ start.requires.1.1.1.0),
             kept_same l.known l.sets (take (length l.sets - k) (drop k l.sets)) (kept_part (length l.known) n k l.sets (omega (arith, expression_enough t turn))) l.invariant.3,
           ),
         ),
@@ -296,123 +292,123 @@ expression_operand_requires t c κs =
 
 expression_narrow_requires : (t : ℕ) → expression-lts.Need-narrow-requires (expression_claims t) (expression_at t) expression.Post expression_Inv_loop expression_μ_loop
 expression_narrow_requires t c κs =
-    let read = c.before.before.before.before.before in
-    let turn = expression_turning t read in
-    let l = turn.loop in
-    λ z. omega (arith, expression_enough t turn, turn_held l.inv.1 z, expression_back t read)
+    let read = c in
+    let turn = expression_turning t read.before.before.before.before.before in
+    let l = turn.loop-ands in
+    λ z. omega (arith, expression_enough t turn, turn_held l.invariant.1 z, expression_back t read)
 
-expression_sub_ands : (t : ℕ) → expression-lts.Need-overflow-sub-ands (expression_claims t) (expression_at t) expression.Post expression_Inv_loop expression_μ_loop
-expression_sub_ands t c = omega (arith, c.if1.true)
+expression_sub_ands : (t : ℕ) → expression-lts.Need-overflow_sub-ands (expression_claims t) (expression_at t) expression.Post expression_Inv_loop expression_μ_loop
+expression_sub_ands t c = omega (arith, c.if-ands-gt0.true)
 
-expression_loop_less : (t : ℕ) → expression-lts.Need-loop-smaller (expression_claims t) (expression_at t) expression.Post expression_Inv_loop expression_μ_loop
+expression_loop_less : (t : ℕ) → expression-lts.Need-loop-ands-smaller-then-ands-gt0 (expression_claims t) (expression_at t) expression.Post expression_Inv_loop expression_μ_loop
 expression_loop_less t c =
-    let joined = c.before.before.before in
-    let read = expression_reading t joined in
+    let joined = c in
+    let read = expression_reading t joined.before.before.before in
     let turn = expression_turning t read in
     let start = expression_begun t turn in
-    let l = turn.loop in
-    omega (arith, turn_onward l.inv.1 start.pre.1.1.0.tree.rooted (omega (arith, expression_enough t turn)) read.operand.ensures.0 refl joined.narrow.ensures, read.operand.ensures.0.inside)
+    let l = turn.loop-ands in
+    omega (arith, turn_onward l.invariant.1 start.requires.1.1.0.tree.rooted (omega (arith, expression_enough t turn)) read.operand-place.ensures.0 refl joined.narrow.ensures, read.operand-place.ensures.0.inside)
 
-expression_loop_again : (t : ℕ) → expression-lts.Need-loop-preserved (expression_claims t) (expression_at t) expression.Post expression_Inv_loop expression_μ_loop
+expression_loop_again : (t : ℕ) → expression-lts.Need-loop-ands-preserved-then-ands-gt0 (expression_claims t) (expression_at t) expression.Post expression_Inv_loop expression_μ_loop
 expression_loop_again t c =
-    let joined = c.before.before.before in
-    let read = expression_reading t joined in
+    let joined = c in
+    let read = expression_reading t joined.before.before.before in
     let turn = expression_turning t read in
     let start = expression_begun t turn in
-    let l = turn.loop in (
-      joined.narrow.auto.0 ∙ expression_back t read ∙ l.inv.0,
-      turn_and l.inv.1 start.pre.1.1.0.tree.rooted (omega (arith, expression_enough t turn)) read.operand.ensures.0 refl joined.narrow.ensures c.if1.true,
-      expression_entries_all t read ∙ l.inv.2,
+    let l = turn.loop-ands in (
+      joined.narrow.auto.0 ∙ expression_back t read ∙ l.invariant.0,
+      turn_and l.invariant.1 start.requires.1.1.0.tree.rooted (omega (arith, expression_enough t turn)) read.operand-place.ensures.0 refl joined.narrow.ensures c.if-ands-gt0.true,
+      expression_entries_all t read ∙ l.invariant.2,
       expression_kept_narrow t joined,
     )
 
 expression_widen_requires : (t : ℕ) → expression-lts.Need-widen-requires (expression_claims t) (expression_at t) expression.Post expression_Inv_loop expression_μ_loop
 expression_widen_requires t c κs =
-    let joined = c.before.before.before.before in
-    let read = expression_reading t joined in
+    let joined = c in
+    let read = expression_reading t joined.before.before.before.before in
     let turn = expression_turning t read in
-    let l = turn.loop in
-    λ z. omega (arith, expression_enough t turn, turn_base l.inv.1 z, joined.narrow.auto.0, expression_back t read)
+    let l = turn.loop-ands in
+    λ z. omega (arith, expression_enough t turn, turn_base l.invariant.1 z, joined.narrow.auto.0, expression_back t read)
 
-expression_same_length : (t : ℕ) → expression-lts.Need-same-length (expression_claims t) (expression_at t) expression.Post expression_Inv_loop expression_μ_loop
+expression_same_length : (t : ℕ) → expression-lts.Need-shape_of-sets-then-ors-eq0 (expression_claims t) (expression_at t) expression.Post expression_Inv_loop expression_μ_loop
 expression_same_length t c =
-    let added = c.before.before.before in
-    let joined = expression_joining t added in
+    let added = c in
+    let joined = expression_joining t added.before.before.before in
     let read = expression_reading t joined in
     let turn = expression_turning t read in
-    added.widen.auto.0 ∙ joined.narrow.kept.0 ∙ expression_back t read ∙ turn.loop.inv.0
+    added.widen.auto.0 ∙ joined.narrow.kept.0 ∙ expression_back t read ∙ turn.loop-ands.invariant.0
 
-expression_same_length_2 : (t : ℕ) → expression-lts.Need-same-length-2 (expression_claims t) (expression_at t) expression.Post expression_Inv_loop expression_μ_loop
+expression_same_length_2 : (t : ℕ) → expression-lts.Need-shape_of-known-then-ors-eq0 (expression_claims t) (expression_at t) expression.Post expression_Inv_loop expression_μ_loop
 expression_same_length_2 t c =
-    let added = c.before.before.before in
-    let joined = expression_joining t added in
+    let added = c in
+    let joined = expression_joining t added.before.before.before in
     let read = expression_reading t joined in
     let turn = expression_turning t read in
-    expression_entries_all t read ∙ turn.loop.inv.2
+    expression_entries_all t read ∙ turn.loop-ands.invariant.2
 
-expression_returns : (t : ℕ) → expression-lts.Need-returns (expression_claims t) (expression_at t) expression.Post expression_Inv_loop expression_μ_loop
+expression_returns : (t : ℕ) → expression-lts.Need-returns-then-ors-eq0 (expression_claims t) (expression_at t) expression.Post expression_Inv_loop expression_μ_loop
 expression_returns t c =
-    let added = c.before.before.before in
-    let joined = expression_joining t added in
+    let added = c in
+    let joined = expression_joining t added.before.before.before in
     let read = expression_reading t joined in
     let turn = expression_turning t read in
     let start = expression_begun t turn in
-    let l = turn.loop in (
-      turn_done l.inv.1 start.pre.1.1.0.tree.rooted (omega (arith, expression_enough t turn)) read.operand.ensures.0 refl joined.narrow.ensures added.before.before.if1.false added.widen.ensures (omega (arith, c.if2.true)),
+    let l = turn.loop-ands in (
+      turn_done l.invariant.1 start.requires.1.1.0.tree.rooted (omega (arith, expression_enough t turn)) read.operand-place.ensures.0 refl joined.narrow.ensures added.if-ands-gt0.false added.widen.ensures (omega (arith, c.if-ors-eq0.true)),
       expression_kept_widen t added,
     )
 
-expression_sub_ors : (t : ℕ) → expression-lts.Need-overflow-sub-ors (expression_claims t) (expression_at t) expression.Post expression_Inv_loop expression_μ_loop
-expression_sub_ors t c = omega (arith, c.if2.false)
+expression_sub_ors : (t : ℕ) → expression-lts.Need-overflow_sub-ors (expression_claims t) (expression_at t) expression.Post expression_Inv_loop expression_μ_loop
+expression_sub_ors t c = omega (arith, c.if-ors-eq0.false)
 
-expression_run_of_requires_3 : (t : ℕ) → expression-lts.Need-run-of-requires-3 (expression_claims t) (expression_at t) expression.Post expression_Inv_loop expression_μ_loop
+expression_run_of_requires_3 : (t : ℕ) → expression-lts.Need-run_of-ands-requires-else-ands-gt0 (expression_claims t) (expression_at t) expression.Post expression_Inv_loop expression_μ_loop
 expression_run_of_requires_3 t c κs =
-    let added = c.before.before.before in
-    let joined = expression_joining t added in
+    let added = c in
+    let joined = expression_joining t added.before.before.before in
     let read = expression_reading t joined in
-    read.operand.ensures.0.inside
+    read.operand-place.ensures.0.inside
 
-expression_add_place_3 : (t : ℕ) → expression-lts.Need-overflow-add-place-3 (expression_claims t) (expression_at t) expression.Post expression_Inv_loop expression_μ_loop
+expression_add_place_3 : (t : ℕ) → expression-lts.Need-overflow_add-place-else-ands-gt0 (expression_claims t) (expression_at t) expression.Post expression_Inv_loop expression_μ_loop
 expression_add_place_3 t c =
-    let added = c.before.before.before.before in
-    let joined = expression_joining t added in
+    let added = c in
+    let joined = expression_joining t added.before.before.before.before in
     let read = expression_reading t joined in
     let turn = expression_turning t read in
     let start = expression_begun t turn in
-    omega (arith, c.run-of3.ensures.1, start.good.0.1)
+    omega (arith, c.run_of-ands-else-ands-gt0.ensures.1, start.well_formed.0.1)
 
-expression_loop_less_2 : (t : ℕ) → expression-lts.Need-loop-smaller-2 (expression_claims t) (expression_at t) expression.Post expression_Inv_loop expression_μ_loop
+expression_loop_less_2 : (t : ℕ) → expression-lts.Need-loop-ands-smaller (expression_claims t) (expression_at t) expression.Post expression_Inv_loop expression_μ_loop
 expression_loop_less_2 t c =
-    let added = c.before.before.before.before in
-    let joined = expression_joining t added in
+    let added = c in
+    let joined = expression_joining t added.before.before.before.before in
     let read = expression_reading t joined in
     let turn = expression_turning t read in
     let start = expression_begun t turn in
-    let l = turn.loop in
-    omega (arith, turn_onward l.inv.1 start.pre.1.1.0.tree.rooted (omega (arith, expression_enough t turn)) read.operand.ensures.0 refl joined.narrow.ensures, c.run-of3.ensures.1)
+    let l = turn.loop-ands in
+    omega (arith, turn_onward l.invariant.1 start.requires.1.1.0.tree.rooted (omega (arith, expression_enough t turn)) read.operand-place.ensures.0 refl joined.narrow.ensures, c.run_of-ands-else-ands-gt0.ensures.1)
 
-expression_loop_again_2 : (t : ℕ) → expression-lts.Need-loop-preserved-2 (expression_claims t) (expression_at t) expression.Post expression_Inv_loop expression_μ_loop
+expression_loop_again_2 : (t : ℕ) → expression-lts.Need-loop-ands-preserved (expression_claims t) (expression_at t) expression.Post expression_Inv_loop expression_μ_loop
 expression_loop_again_2 t c =
-    let added = c.before.before.before.before in
-    let joined = expression_joining t added in
+    let added = c in
+    let joined = expression_joining t added.before.before.before.before in
     let read = expression_reading t joined in
     let turn = expression_turning t read in
     let start = expression_begun t turn in
-    let l = turn.loop in (
-      added.widen.auto.0 ∙ joined.narrow.kept.0 ∙ expression_back t read ∙ l.inv.0,
-      turn_or l.inv.1 start.pre.1.1.0.tree.rooted (omega (arith, expression_enough t turn)) read.operand.ensures.0 refl joined.narrow.ensures added.before.before.if1.false added.widen.ensures (omega (arith, c.before.if2.false)) c.run-of3.ensures.0 c.run-of3.ensures.1,
-      expression_entries_all t read ∙ l.inv.2,
+    let l = turn.loop-ands in (
+      added.widen.auto.0 ∙ joined.narrow.kept.0 ∙ expression_back t read ∙ l.invariant.0,
+      turn_or l.invariant.1 start.requires.1.1.0.tree.rooted (omega (arith, expression_enough t turn)) read.operand-place.ensures.0 refl joined.narrow.ensures added.if-ands-gt0.false added.widen.ensures (omega (arith, c.if-ors-eq0.false)) c.run_of-ands-else-ands-gt0.ensures.0 c.run_of-ands-else-ands-gt0.ensures.1,
+      expression_entries_all t read ∙ l.invariant.2,
       expression_kept_widen t added,
     )
 
 -- The other needs of `expression` are found.
-expression_run_of_requires : (t : ℕ) → expression-lts.Need-run-of-requires (expression_claims t) (expression_at t) expression.Post expression_Inv_loop expression_μ_loop
+expression_run_of_requires : (t : ℕ) → expression-lts.Need-run_of-ors-requires (expression_claims t) (expression_at t) expression.Post expression_Inv_loop expression_μ_loop
 expression_run_of_requires t c κs = search rules
 
-expression_run_of_requires_2 : (t : ℕ) → expression-lts.Need-run-of-requires-2 (expression_claims t) (expression_at t) expression.Post expression_Inv_loop expression_μ_loop
+expression_run_of_requires_2 : (t : ℕ) → expression-lts.Need-run_of-ands-requires (expression_claims t) (expression_at t) expression.Post expression_Inv_loop expression_μ_loop
 expression_run_of_requires_2 t c κs = search rules
 
-expression_part_operand_end : (t : ℕ) → expression-lts.Need-slice-bounds-operand-end (expression_claims t) (expression_at t) expression.Post expression_Inv_loop expression_μ_loop
+expression_part_operand_end : (t : ℕ) → expression-lts.Need-slice_bounds-operand-end (expression_claims t) (expression_at t) expression.Post expression_Inv_loop expression_μ_loop
 expression_part_operand_end t c = search rules
 
 -- What `operand` knows of the functions it calls.
@@ -429,171 +425,170 @@ operand_claims t = (
 )
 
 -- What is denied has been worked out.
-abbrev operand_begun : (t : ℕ) → operand-lts.After-expression (operand_claims t) (operand_at t) operand.Post → operand-lts.Start (operand_claims t) (operand_at t) operand.Post
-operand_begun t c = c.before.before.before.before.before.before.before.before.before.before.before.before.before.before
-
-operand_shared_slice_read_unpack : (t : ℕ) → operand-lts.Need-shared-slice-read-unpack (operand_claims t) (operand_at t) operand.Post
+abbrev operand_begun : (t : ℕ) → operand-lts.After-expression-next (operand_claims t) (operand_at t) operand.Post → operand-lts.Start (operand_claims t) (operand_at t) operand.Post
+operand_begun t c = c.before.before.before.before.before.before.before.before.before.before.before.before.before
+operand_shared_slice_read_unpack : (t : ℕ) → operand-lts.Need-bounds-items-at (operand_claims t) (operand_at t) operand.Post
 operand_shared_slice_read_unpack t c =
-    let start = c.before.before.before.before.before.before.before in
+    let start = c in
     let a = start.args in
     operand_there a.items.now a.at _ _ a.depth start.requires.1.1.1.0
 
 operand_path_requires : (t : ℕ) → operand-lts.Need-path-requires (operand_claims t) (operand_at t) operand.Post
 operand_path_requires t c κs =
-    let start = c.before.before.before.before.before.before.before.before.before.before.before.before.before in
+    let start = c in
     let a = start.args in
     let f = start.requires.1.1.1.0 in
     let w = get_or a.items.now a.at 0 in
-    let u = c.before.before.before.before.before.unpack in
+    let u = c.unpack-item in
     let s = said w u.result u.ensures in
-    (omega (arith, operand_there a.items.now a.at _ _ a.depth f, start.requires.0), (omega (arith, start.requires.1.0), (start.requires.1.1.0, (path_fits (table_of a.parent.now a.kind.now) a.given.now a.items.now a.at (length a.parent.now) _ a.depth f _ (rw c.before.before.before.item.given.1 at s), start.requires.1.1.1.1))))
+    (omega (arith, operand_there a.items.now a.at _ _ a.depth f, start.requires.0), (omega (arith, start.requires.1.0), (start.requires.1.1.0, (path_fits (table_of a.parent.now a.kind.now) a.given.now a.items.now a.at (length a.parent.now) _ a.depth f _ (rw c.in-Path.is at s), start.requires.1.1.1.1))))
 
-operand_returns : (t : ℕ) → operand-lts.Need-returns (operand_claims t) (operand_at t) operand.Post
+operand_returns : (t : ℕ) → operand-lts.Need-returns-in-Path (operand_claims t) (operand_at t) operand.Post
 operand_returns t c =
-    let start = c.before.before.before.before.before.before.before.before.before.before.before.before.before.before.before.before.before.before in
+    let start = c in
     let a = start.args in
     let f = start.requires.1.1.1.0 in
     let w = get_or a.items.now a.at 0 in
-    let u = c.before.before.before.before.before.before.before.before.before.before.unpack in
+    let u = c.unpack-item in
     let s = said w u.result u.ensures in
-    (path_set (table_of a.parent.now a.kind.now) a.given.now a.items.now a.at (length a.parent.now) _ a.depth f _ _ _ (rw c.before.before.before.before.before.before.before.before.item.given.1 at s) c.before.before.before.before.path.ensures.0, c.before.before.before.before.path.ensures.1)
+    (path_set (table_of a.parent.now a.kind.now) a.given.now a.items.now a.at (length a.parent.now) _ a.depth f _ _ _ (rw c.in-Path.is at s) c.path.ensures.0, c.path.ensures.1)
 
-operand_sub_expression : (t : ℕ) → operand-lts.Need-overflow-sub-expression (operand_claims t) (operand_at t) operand.Post
+operand_sub_expression : (t : ℕ) → operand-lts.Need-overflow_sub-depth (operand_claims t) (operand_at t) operand.Post
 operand_sub_expression t c =
-    let start = c.before.before.before.before.before.before.before.before.before.before.before in
+    let start = c in
     let a = start.args in
     let f = start.requires.1.1.1.0 in
-    let u = c.before.before.before.unpack in
+    let u = c.unpack-item in
     let s = said (get_or a.items.now a.at 0) u.result u.ensures in
-    let deep = not_deep (table_of a.parent.now a.kind.now) a.given.now a.items.now a.at (length a.parent.now) _ a.depth f u.result s c.before.before.match.keys2 in
+    let deep = not_deep (table_of a.parent.now a.kind.now) a.given.now a.items.now a.at (length a.parent.now) _ a.depth f u.result s c.in-Path.in-Path-own.keys2 in
     omega (arith, deep)
 
-operand_expression_requires : (t : ℕ) → operand-lts.Need-expression-requires (operand_claims t) (operand_at t) operand.Post
+operand_expression_requires : (t : ℕ) → operand-lts.Need-expression-next-requires (operand_claims t) (operand_at t) operand.Post
 operand_expression_requires t c κs =
-    let start = c.before.before.before.before.before.before.before.before.before.before.before.before.before in
+    let start = c in
     let a = start.args in
     let f = start.requires.1.1.1.0 in
-    let u = c.before.before.before.before.before.unpack in
+    let u = c.unpack-item in
     let s = said (get_or a.items.now a.at 0) u.result u.ensures in
-    let deep = not_deep (table_of a.parent.now a.kind.now) a.given.now a.items.now a.at (length a.parent.now) _ a.depth f u.result s c.before.before.before.before.match.keys2 in
-    (omega (arith, operand_there a.items.now a.at _ _ a.depth f, start.requires.0), (omega (arith, start.requires.1.0), (start.requires.1.1.0, (opens_not (table_of a.parent.now a.kind.now) a.given.now a.items.now a.at (length a.parent.now) _ a.depth deep f (rw c.before.before.enum_told.given.1 at s), start.requires.1.1.1.1))))
+    let deep = not_deep (table_of a.parent.now a.kind.now) a.given.now a.items.now a.at (length a.parent.now) _ a.depth f u.result s c.in-Path.in-Path-own.keys2 in
+    (omega (arith, operand_there a.items.now a.at _ _ a.depth f, start.requires.0), (omega (arith, start.requires.1.0), (start.requires.1.1.0, (opens_not (table_of a.parent.now a.kind.now) a.given.now a.items.now a.at (length a.parent.now) _ a.depth deep f (rw c.in-Not.is at s), start.requires.1.1.1.1))))
 
 -- All nodes.
 abbrev operand_all : (t : ℕ) → operand-lts.Start (operand_claims t) (operand_at t) operand.Post → ℕ
 operand_all t c = length c.args.parent.now
 
 -- There is room for a set before the sets kept, as many as they were, when the expression's have come back.
-operand_enough : (t : ℕ) (c : operand-lts.After-expression (operand_claims t) (operand_at t) operand.Post)
-    → operand_all t (operand_begun t c) ≤ spare (length c.expression.new.1.1.1.1.1.1.1.0) (operand_all t (operand_begun t c)) c.expression.new.1.1.1.1.1.1.0
+operand_enough : (t : ℕ) (c : operand-lts.After-expression-next (operand_claims t) (operand_at t) operand.Post)
+    → operand_all t (operand_begun t c) ≤ spare (length c.expression-next.new.1.1.1.1.1.1.1.0) (operand_all t (operand_begun t c)) c.expression-next.new.1.1.1.1.1.1.0
 operand_enough t c =
     let start = c.before.before.before.before.before.before.before.before.before.before.before.before.before.before in
     let a = start.args in
-    omega (arith, operand_room a.items.now a.at _ _ a.depth start.requires.1.1.1.0, spare_same (length a.parent.now) c.expression.new.1.1.1.1.1.1.0 a.sets.now c.expression.auto.1.1.1.1.1.1.1.0 c.expression.auto.1.1.1.1.1.1.0)
+    omega (arith, operand_room a.items.now a.at _ _ a.depth start.requires.1.1.1.0, spare_same (length a.parent.now) c.expression-next.new.1.1.1.1.1.1.0 a.sets.now c.expression-next.auto.1.1.1.1.1.1.1.0 c.expression-next.auto.1.1.1.1.1.1.0)
 
-operand_slice_relend_prefix_flip : (t : ℕ) → operand-lts.Need-slice-relend-prefix-flip (operand_claims t) (operand_at t) operand.Post
+operand_slice_relend_prefix_flip : (t : ℕ) → operand-lts.Need-slice_bounds-flip-end (operand_claims t) (operand_at t) operand.Post
 operand_slice_relend_prefix_flip t c =
-    let answered = c.before.before.before.before in
+    let answered = c in
     omega (arith, operand_enough t answered)
 
-operand_slice_aggregate_flip : (t : ℕ) → operand-lts.Need-slice-aggregate-flip (operand_claims t) (operand_at t) operand.Post
+operand_slice_aggregate_flip : (t : ℕ) → operand-lts.Need-slice_bounds-flip-end-in-Not (operand_claims t) (operand_at t) operand.Post
 operand_slice_aggregate_flip t c =
-    let answered = c.before.before.before.before.before in
-    let start = c.before.before.before.before.before.before.before.before.before.before.before.before.before.before.before.before.before.before.before in
+    let answered = c in
+    let start = c in
     sym (length-take-le (length start.args.parent.now) _ (omega (arith, operand_enough t answered)))
 
-operand_returns_2 : (t : ℕ) → operand-lts.Need-returns-2 (operand_claims t) (operand_at t) operand.Post
+operand_returns_2 : (t : ℕ) → operand-lts.Need-returns-in-Not (operand_claims t) (operand_at t) operand.Post
 operand_returns_2 t c =
-    let answered = c.before.before.before.before.before.before.before.before in
-    let start = c.before.before.before.before.before.before.before.before.before.before.before.before.before.before.before.before.before.before.before.before.before.before in
+    let answered = c in
+    let start = c in
     let a = start.args in
     let f = start.requires.1.1.1.0 in
-    let u = answered.before.before.before.before.before.before.unpack in
+    let u = answered.unpack-item in
     let s = said (get_or a.items.now a.at 0) u.result u.ensures in
-    let deep = not_deep (table_of a.parent.now a.kind.now) a.given.now a.items.now a.at (length a.parent.now) _ a.depth f u.result s answered.before.before.before.before.before.match.keys2 in
+    let deep = not_deep (table_of a.parent.now a.kind.now) a.given.now a.items.now a.at (length a.parent.now) _ a.depth f u.result s answered.in-Path.in-Path-own.keys2 in
     let n = length a.parent.now in
-    let worked = answered.expression in
+    let worked = answered.expression-next in
     let sets = worked.new.1.1.1.1.1.1.0 in
     let entries = worked.new.1.1.1.1.1.1.1.0 in
-    let flipped = c.before.before.flip in
+    let flipped = c.flip in
     let len : length (take n sets) ≡ n = length-take-le n sets (omega (arith, operand_enough t answered)) in (
-      closes_not (table_of a.parent.now a.kind.now) a.given.now a.items.now a.at (length a.parent.now) _ a.depth deep f _ sets _ (rw answered.before.before.before.enum_told.given.1 at s) worked.ensures.0
+      closes_not (table_of a.parent.now a.kind.now) a.given.now a.items.now a.at (length a.parent.now) _ a.depth deep f _ sets _ (rw answered.in-Not.is at s) worked.ensures.0
           (λ g p.
           front_back n (λ i. not (g i)) flipped.new.0 _
           (flipped.ensures g (p ∙ ap (λ (k : ℕ). bits k g) (sym len)) ∙ ap (λ (k : ℕ). bits k (λ i. not (g i))) len)),
       kept_same entries sets (flipped.new.0 ++ drop n sets) (kept_front (length entries) n n sets flipped.new.0 (operand_enough t answered) (flipped.auto.0 ∙ len)) worked.ensures.1,
     )
 
-operand_sub_expression_2 : (t : ℕ) → operand-lts.Need-overflow-sub-expression-2 (operand_claims t) (operand_at t) operand.Post
+operand_sub_expression_2 : (t : ℕ) → operand-lts.Need-overflow_sub-depth-2 (operand_claims t) (operand_at t) operand.Post
 operand_sub_expression_2 t c =
-    let start = c.before.before.before.before.before.before.before.before.before.before in
+    let start = c in
     let a = start.args in
     let f = start.requires.1.1.1.0 in
-    let u = c.before.before.unpack in
+    let u = c.unpack-item in
     let s = said (get_or a.items.now a.at 0) u.result u.ensures in
-    let deep = not_deep (table_of a.parent.now a.kind.now) a.given.now a.items.now a.at (length a.parent.now) _ a.depth f u.result s c.before.match.keys2 in
+    let deep = not_deep (table_of a.parent.now a.kind.now) a.given.now a.items.now a.at (length a.parent.now) _ a.depth f u.result s c.in-Path.in-Path-own.keys2 in
     omega (arith, deep)
 
-operand_expression_requires_2 : (t : ℕ) → operand-lts.Need-expression-requires-2 (operand_claims t) (operand_at t) operand.Post
+operand_expression_requires_2 : (t : ℕ) → operand-lts.Need-expression-requires (operand_claims t) (operand_at t) operand.Post
 operand_expression_requires_2 t c κs =
-    let start = c.before.before.before.before.before.before.before.before.before.before.before.before in
+    let start = c in
     let a = start.args in
     let f = start.requires.1.1.1.0 in
-    let u = c.before.before.before.before.unpack in
+    let u = c.unpack-item in
     let s = said (get_or a.items.now a.at 0) u.result u.ensures in
-    let deep = not_deep (table_of a.parent.now a.kind.now) a.given.now a.items.now a.at (length a.parent.now) _ a.depth f u.result s c.before.before.before.match.keys2 in
-    let joins = must_join a.items.now a.at _ _ a.depth f u.result s c.before.before.before.match.keys2 c.before.before.match2.keys2 in
+    let deep = not_deep (table_of a.parent.now a.kind.now) a.given.now a.items.now a.at (length a.parent.now) _ a.depth f u.result s c.in-Path.in-Path-own.keys2 in
+    let joins = must_join a.items.now a.at _ _ a.depth f u.result s c.in-Path.in-Path-own.keys2 c.in-Not.in-Not-own.keys2 in
     let on = operand_there a.items.now a.at _ _ a.depth f in
     (omega (arith, on, operators_there a.items.now a.at a.depth on joins, start.requires.0), (omega (arith, start.requires.1.0), (start.requires.1.1.0, (opens_joined (table_of a.parent.now a.kind.now) a.given.now a.items.now a.at (length a.parent.now) _ a.depth deep f joins, start.requires.1.1.1.1))))
 
-operand_returns_3 : (t : ℕ) → operand-lts.Need-returns-3 (operand_claims t) (operand_at t) operand.Post
+operand_returns_3 : (t : ℕ) → operand-lts.Need-returns (operand_claims t) (operand_at t) operand.Post
 operand_returns_3 t c =
-    let start = c.before.before.before.before.before.before.before.before.before.before.before.before.before.before.before.before.before in
+    let start = c in
     let a = start.args in
     let f = start.requires.1.1.1.0 in
-    let u = c.before.before.before.before.before.before.before.before.before.unpack in
+    let u = c.unpack-item in
     let s = said (get_or a.items.now a.at 0) u.result u.ensures in
-    let deep = not_deep (table_of a.parent.now a.kind.now) a.given.now a.items.now a.at (length a.parent.now) _ a.depth f u.result s c.before.before.before.before.before.before.before.before.match.keys2 in
-    let joins = must_join a.items.now a.at _ _ a.depth f u.result s c.before.before.before.before.before.before.before.before.match.keys2 c.before.before.before.before.before.before.before.match2.keys2 in
-    (closes_joined (table_of a.parent.now a.kind.now) a.given.now a.items.now a.at (length a.parent.now) _ a.depth deep f _ _ joins c.before.before.before.before.expression2.ensures.0, c.before.before.before.before.expression2.ensures.1)
+    let deep = not_deep (table_of a.parent.now a.kind.now) a.given.now a.items.now a.at (length a.parent.now) _ a.depth f u.result s c.in-Path.in-Path-own.keys2 in
+    let joins = must_join a.items.now a.at _ _ a.depth f u.result s c.in-Path.in-Path-own.keys2 c.in-Not.in-Not-own.keys2 in
+    (closes_joined (table_of a.parent.now a.kind.now) a.given.now a.items.now a.at (length a.parent.now) _ a.depth deep f _ _ joins c.expression.ensures.0, c.expression.ensures.1)
 
 -- The other needs of `operand` are found.
-operand_mul_unpack : (t : ℕ) → operand-lts.Need-overflow-mul-unpack (operand_claims t) (operand_at t) operand.Post
+operand_mul_unpack : (t : ℕ) → operand-lts.Need-offset_bounds-items-at (operand_claims t) (operand_at t) operand.Post
 operand_mul_unpack t c = search rules
 
-operand_unpack_requires : (t : ℕ) → operand-lts.Need-unpack-requires (operand_claims t) (operand_at t) operand.Post
+operand_unpack_requires : (t : ℕ) → operand-lts.Need-unpack-item-requires (operand_claims t) (operand_at t) operand.Post
 operand_unpack_requires t c κs = search rules
 
-operand_enum_known_item : (t : ℕ) → operand-lts.Need-enum-known-item (operand_claims t) (operand_at t) operand.Post
+operand_enum_known_item : (t : ℕ) → operand-lts.Need-enum_known-item (operand_claims t) (operand_at t) operand.Post
 operand_enum_known_item t c = search rules
 
-operand_add_path : (t : ℕ) → operand-lts.Need-overflow-add-path (operand_claims t) (operand_at t) operand.Post
+operand_add_path : (t : ℕ) → operand-lts.Need-overflow_add-at (operand_claims t) (operand_at t) operand.Post
 operand_add_path t c = search rules
 
-operand_same_length : (t : ℕ) → operand-lts.Need-same-length (operand_claims t) (operand_at t) operand.Post
+operand_same_length : (t : ℕ) → operand-lts.Need-shape_of-sets-in-Path (operand_claims t) (operand_at t) operand.Post
 operand_same_length t c = search rules
 
-operand_same_length_2 : (t : ℕ) → operand-lts.Need-same-length-2 (operand_claims t) (operand_at t) operand.Post
+operand_same_length_2 : (t : ℕ) → operand-lts.Need-shape_of-known-in-Path (operand_claims t) (operand_at t) operand.Post
 operand_same_length_2 t c = search rules
 
-operand_enum_told : (t : ℕ) → operand-lts.Need-enum-told (operand_claims t) (operand_at t) operand.Post
+operand_enum_told : (t : ℕ) → operand-lts.Need-enum_told-1 (operand_claims t) (operand_at t) operand.Post
 operand_enum_told t c = search rules
 
-operand_add_expression : (t : ℕ) → operand-lts.Need-overflow-add-expression (operand_claims t) (operand_at t) operand.Post
+operand_add_expression : (t : ℕ) → operand-lts.Need-overflow_add-at-in-Not (operand_claims t) (operand_at t) operand.Post
 operand_add_expression t c = search rules
 
 operand_flip_requires : (t : ℕ) → operand-lts.Need-flip-requires (operand_claims t) (operand_at t) operand.Post
 operand_flip_requires t c κs = search rules
 
-operand_same_length_3 : (t : ℕ) → operand-lts.Need-same-length-3 (operand_claims t) (operand_at t) operand.Post
+operand_same_length_3 : (t : ℕ) → operand-lts.Need-shape_of-sets-in-Not (operand_claims t) (operand_at t) operand.Post
 operand_same_length_3 t c = search rules
 
-operand_same_length_4 : (t : ℕ) → operand-lts.Need-same-length-4 (operand_claims t) (operand_at t) operand.Post
+operand_same_length_4 : (t : ℕ) → operand-lts.Need-shape_of-known-in-Not (operand_claims t) (operand_at t) operand.Post
 operand_same_length_4 t c = search rules
 
-operand_same_length_5 : (t : ℕ) → operand-lts.Need-same-length-5 (operand_claims t) (operand_at t) operand.Post
+operand_same_length_5 : (t : ℕ) → operand-lts.Need-shape_of-sets (operand_claims t) (operand_at t) operand.Post
 operand_same_length_5 t c = search rules
 
-operand_same_length_6 : (t : ℕ) → operand-lts.Need-same-length-6 (operand_claims t) (operand_at t) operand.Post
+operand_same_length_6 : (t : ℕ) → operand-lts.Need-shape_of-known (operand_claims t) (operand_at t) operand.Post
 operand_same_length_6 t c = search rules
 
 -- What `path` knows of the functions it calls.
@@ -617,41 +612,34 @@ path_claims t = (
   along-reads.Learnt,
 )
 
-abbrev path_Inv_loop : path-lts.invariant-loop
+abbrev path_Inv_loop : path-lts.invariant-loop-left
 path_Inv_loop items at count depth parent kind given sets₀ known₀ n places₀ end left₀ sets known places left =
     (length sets ≡ length sets₀) × PathSet (table_of parent kind) given items at (length parent) depth count left sets × Known items at depth left places × (length known ≡ length known₀) × Kept (table_of parent kind) given items (length parent) known sets
 
-abbrev path_μ_loop : path-lts.decreases-loop
+abbrev path_μ_loop : path-lts.decreases-loop-left
 path_μ_loop items at count depth parent kind given sets₀ known₀ n places₀ end left₀ sets known places left = left
 
 -- All nodes are in the first set.
 abbrev path_begun : (t : ℕ) → path-lts.After-fill (path_claims t) (path-at t) path.Post path_Inv_loop path_μ_loop → path-lts.Start (path_claims t) (path-at t) path.Post path_Inv_loop path_μ_loop
 path_begun t c = c.before.before.before.before.before.before.before.before
-
 -- A turn, from the last step back.
-abbrev path_filling : (t : ℕ) → path-lts.At-loop (path_claims t) (path-at t) path.Post path_Inv_loop path_μ_loop → path-lts.After-fill (path_claims t) (path-at t) path.Post path_Inv_loop path_μ_loop
+abbrev path_filling : (t : ℕ) → path-lts.At-loop-left (path_claims t) (path-at t) path.Post path_Inv_loop path_μ_loop → path-lts.After-fill (path_claims t) (path-at t) path.Post path_Inv_loop path_μ_loop
 path_filling t c = c.before.before.before.before
-
 -- A step is left.
-abbrev path_turning : (t : ℕ) → path-lts.In-loop (path_claims t) (path-at t) path.Post path_Inv_loop path_μ_loop → path-lts.At-loop (path_claims t) (path-at t) path.Post path_Inv_loop path_μ_loop
+abbrev path_turning : (t : ℕ) → path-lts.In-loop-left (path_claims t) (path-at t) path.Post path_Inv_loop path_μ_loop → path-lts.At-loop-left (path_claims t) (path-at t) path.Post path_Inv_loop path_μ_loop
 path_turning t c = c.before
-
 -- Its place has been found.
-abbrev path_owing : (t : ℕ) → path-lts.After-look (path_claims t) (path-at t) path.Post path_Inv_loop path_μ_loop → path-lts.In-loop (path_claims t) (path-at t) path.Post path_Inv_loop path_μ_loop
+abbrev path_owing : (t : ℕ) → path-lts.After-look-places (path_claims t) (path-at t) path.Post path_Inv_loop path_μ_loop → path-lts.In-loop-left (path_claims t) (path-at t) path.Post path_Inv_loop path_μ_loop
 path_owing t c = c.before
-
 -- It has been read.
-abbrev path_finding : (t : ℕ) → path-lts.After-step-at (path_claims t) (path-at t) path.Post path_Inv_loop path_μ_loop → path-lts.After-look (path_claims t) (path-at t) path.Post path_Inv_loop path_μ_loop
+abbrev path_finding : (t : ℕ) → path-lts.After-step_at-step (path_claims t) (path-at t) path.Post path_Inv_loop path_μ_loop → path-lts.After-look-places (path_claims t) (path-at t) path.Post path_Inv_loop path_μ_loop
 path_finding t c = c.before
-
 -- Marks and test have been applied.
-abbrev path_stepping : (t : ℕ) → path-lts.After-restrict (path_claims t) (path-at t) path.Post path_Inv_loop path_μ_loop → path-lts.After-step-at (path_claims t) (path-at t) path.Post path_Inv_loop path_μ_loop
+abbrev path_stepping : (t : ℕ) → path-lts.After-restrict (path_claims t) (path-at t) path.Post path_Inv_loop path_μ_loop → path-lts.After-step_at-step (path_claims t) (path-at t) path.Post path_Inv_loop path_μ_loop
 path_stepping t c = c.before.before
-
 -- The predicates have narrowed the set.
 abbrev path_testing : (t : ℕ) → path-lts.After-predicates (path_claims t) (path-at t) path.Post path_Inv_loop path_μ_loop → path-lts.After-restrict (path_claims t) (path-at t) path.Post path_Inv_loop path_μ_loop
 path_testing t c = c.before.before.before.before.before
-
 -- All nodes.
 abbrev path_all : (t : ℕ) → path-lts.Start (path_claims t) (path-at t) path.Post path_Inv_loop path_μ_loop → ℕ
 path_all t c = length c.args.parent.now
@@ -679,19 +667,19 @@ path_filled_length t c =
     front_length (path_all t start) start.args.sets.now c.fill.new.0 (omega (arith, path_room t start)) c.fill.auto.0
 
 -- A turn has as many sets, and the same room.
-path_length : (t : ℕ) (c : path-lts.At-loop (path_claims t) (path-at t) path.Post path_Inv_loop path_μ_loop) → length c.loop.sets ≡ length (path_begun t (path_filling t c)).args.sets.now
+path_length : (t : ℕ) (c : path-lts.At-loop-left (path_claims t) (path-at t) path.Post path_Inv_loop path_μ_loop) → length c.loop-left.sets ≡ length (path_begun t (path_filling t c)).args.sets.now
 path_length t c =
     let full = path_filling t c in
-    c.loop.invariant.0 ∙ path_filled_length t full
+    c.loop-left.invariant.0 ∙ path_filled_length t full
 
-path_enough : (t : ℕ) (c : path-lts.At-loop (path_claims t) (path-at t) path.Post path_Inv_loop path_μ_loop) → path_all t (path_begun t (path_filling t c)) ≤ spare (length c.loop.known) (path_all t (path_begun t (path_filling t c))) c.loop.sets
+path_enough : (t : ℕ) (c : path-lts.At-loop-left (path_claims t) (path-at t) path.Post path_Inv_loop path_μ_loop) → path_all t (path_begun t (path_filling t c)) ≤ spare (length c.loop-left.known) (path_all t (path_begun t (path_filling t c))) c.loop-left.sets
 path_enough t c =
     let full = path_filling t c in
     let start = path_begun t full in
-    omega (arith, path_room t start, spare_same (path_all t start) c.loop.sets start.args.sets.now c.loop.invariant.3 (path_length t c))
+    omega (arith, path_room t start, spare_same (path_all t start) c.loop-left.sets start.args.sets.now c.loop-left.invariant.3 (path_length t c))
 
-path_turn_front : (t : ℕ) (c : path-lts.At-loop (path_claims t) (path-at t) path.Post path_Inv_loop path_μ_loop) → length (take (path_all t (path_begun t (path_filling t c))) c.loop.sets) ≡ path_all t (path_begun t (path_filling t c))
-path_turn_front t c = length-take-le _ c.loop.sets (omega (arith, path_enough t c))
+path_turn_front : (t : ℕ) (c : path-lts.At-loop-left (path_claims t) (path-at t) path.Post path_Inv_loop path_μ_loop) → length (take (path_all t (path_begun t (path_filling t c))) c.loop-left.sets) ≡ path_all t (path_begun t (path_filling t c))
+path_turn_front t c = length-take-le _ c.loop-left.sets (omega (arith, path_enough t c))
 
 -- Marks and test are applied to the first set.
 abbrev path_restricted : (t : ℕ) → path-lts.After-restrict (path_claims t) (path-at t) path.Post path_Inv_loop path_μ_loop → List ℕ
@@ -702,9 +690,9 @@ path_restricted t c =
     let turn = path_turning t owed in
     let full = path_filling t turn in
     let start = path_begun t full in
-    c.restrict.new.1.1.1.0 ++ drop (path_all t start) turn.loop.sets
+    c.restrict.new.1.1.1.0 ++ drop (path_all t start) turn.loop-left.sets
 
-path_restricted_length : (t : ℕ) (c : path-lts.After-restrict (path_claims t) (path-at t) path.Post path_Inv_loop path_μ_loop) → length (path_restricted t c) ≡ length (path_turning t (path_owing t (path_finding t (path_stepping t c)))).loop.sets
+path_restricted_length : (t : ℕ) (c : path-lts.After-restrict (path_claims t) (path-at t) path.Post path_Inv_loop path_μ_loop) → length (path_restricted t c) ≡ length (path_turning t (path_owing t (path_finding t (path_stepping t c)))).loop-left.sets
 path_restricted_length t c =
     let stepped = path_stepping t c in
     let found = path_finding t stepped in
@@ -712,10 +700,10 @@ path_restricted_length t c =
     let turn = path_turning t owed in
     let full = path_filling t turn in
     let start = path_begun t full in
-    front_length (path_all t start) turn.loop.sets c.restrict.new.1.1.1.0 (omega (arith, path_enough t turn)) c.restrict.auto.1.1.1.0
+    front_length (path_all t start) turn.loop-left.sets c.restrict.new.1.1.1.0 (omega (arith, path_enough t turn)) c.restrict.auto.1.1.1.0
 
 path_restricted_kept : (t : ℕ) (c : path-lts.After-restrict (path_claims t) (path-at t) path.Post path_Inv_loop path_μ_loop)
-    → path_Kept t (path_begun t (path_filling t (path_turning t (path_owing t (path_finding t (path_stepping t c)))))) (path_turning t (path_owing t (path_finding t (path_stepping t c)))).loop.known (path_restricted t c)
+    → path_Kept t (path_begun t (path_filling t (path_turning t (path_owing t (path_finding t (path_stepping t c)))))) (path_turning t (path_owing t (path_finding t (path_stepping t c)))).loop-left.known (path_restricted t c)
 path_restricted_kept t c =
     let stepped = path_stepping t c in
     let found = path_finding t stepped in
@@ -724,9 +712,9 @@ path_restricted_kept t c =
     let full = path_filling t turn in
     let start = path_begun t full in
     let n = path_all t start in
-    let l = turn.loop in
+    let l = turn.loop-left in
     kept_same l.known l.sets (path_restricted t c)
-    (kept_front (length l.known) n n l.sets c.restrict.new.1.1.1.0 (path_enough t turn) (c.restrict.auto.1.1.1.0 ∙ path_turn_front t turn)) l.inv.4
+    (kept_front (length l.known) n n l.sets c.restrict.new.1.1.1.0 (path_enough t turn) (c.restrict.auto.1.1.1.0 ∙ path_turn_front t turn)) l.invariant.4
 
 -- The predicates have narrowed it.
 abbrev path_narrowed : (t : ℕ) → path-lts.After-predicates (path_claims t) (path-at t) path.Post path_Inv_loop path_μ_loop → List ℕ
@@ -735,7 +723,7 @@ path_narrowed t c = c.predicates.new.1.1.1.1.1.1.1.0
 abbrev path_entries : (t : ℕ) → path-lts.After-predicates (path_claims t) (path-at t) path.Post path_Inv_loop path_μ_loop → List ℕ
 path_entries t c = c.predicates.new.1.1.1.1.1.1.1.1.0
 
-path_narrowed_length : (t : ℕ) (c : path-lts.After-predicates (path_claims t) (path-at t) path.Post path_Inv_loop path_μ_loop) → length (path_narrowed t c) ≡ length (path_turning t (path_owing t (path_finding t (path_stepping t (path_testing t c))))).loop.sets
+path_narrowed_length : (t : ℕ) (c : path-lts.After-predicates (path_claims t) (path-at t) path.Post path_Inv_loop path_μ_loop) → length (path_narrowed t c) ≡ length (path_turning t (path_owing t (path_finding t (path_stepping t (path_testing t c))))).loop-left.sets
 path_narrowed_length t c =
     let tested = path_testing t c in
     c.predicates.auto.1.1.1.1.1.1.1.0 ∙ path_restricted_length t tested
@@ -749,105 +737,105 @@ path_narrowed_enough t c =
     let turn = path_turning t owed in
     let full = path_filling t turn in
     let start = path_begun t full in
-    omega (arith, path_enough t turn, spare_same (path_all t start) (path_narrowed t c) turn.loop.sets c.predicates.auto.1.1.1.1.1.1.1.1.0 (path_narrowed_length t c))
+    omega (arith, path_enough t turn, spare_same (path_all t start) (path_narrowed t c) turn.loop-left.sets c.predicates.auto.1.1.1.1.1.1.1.1.0 (path_narrowed_length t c))
 
 path_narrowed_front : (t : ℕ) (c : path-lts.After-predicates (path_claims t) (path-at t) path.Post path_Inv_loop path_μ_loop) → length (take (path_all t (path_begun t (path_filling t (path_turning t (path_owing t (path_finding t (path_stepping t (path_testing t c)))))))) (path_narrowed t c)) ≡ path_all t (path_begun t (path_filling t (path_turning t (path_owing t (path_finding t (path_stepping t (path_testing t c)))))))
 path_narrowed_front t c = length-take-le _ (path_narrowed t c) (omega (arith, path_narrowed_enough t c))
 
-path_slice_relend_prefix_fill : (t : ℕ) → path-lts.Need-slice-relend-prefix-fill (path_claims t) (path-at t) path.Post path_Inv_loop path_μ_loop
+path_slice_relend_prefix_fill : (t : ℕ) → path-lts.Need-slice_bounds-fill-end (path_claims t) (path-at t) path.Post path_Inv_loop path_μ_loop
 path_slice_relend_prefix_fill t c =
-    let start = c.before.before.before.before.before.before in
+    let start = c in
     omega (arith, path_room t start)
 
-path_slice_aggregate_fill : (t : ℕ) → path-lts.Need-slice-aggregate-fill (path_claims t) (path-at t) path.Post path_Inv_loop path_μ_loop
+path_slice_aggregate_fill : (t : ℕ) → path-lts.Need-slice_bounds-fill-end-2 (path_claims t) (path-at t) path.Post path_Inv_loop path_μ_loop
 path_slice_aggregate_fill t c =
-    let start = c.before.before.before.before.before.before.before in
+    let start = c in
     sym (path_front t start)
 
-path_look_first_requires : (t : ℕ) → path-lts.Need-look-first-requires (path_claims t) (path-at t) path.Post path_Inv_loop path_μ_loop
+path_look_first_requires : (t : ℕ) → path-lts.Need-look_first-places-requires (path_claims t) (path-at t) path.Post path_Inv_loop path_μ_loop
 path_look_first_requires t c κs =
-    let full = c.before.before in
-    let start = path_begun t full in
-    let f = start.pre.1.1.1.0 in
-    ((f.inside, start.pre.1.0), ((f.what, f.rest), f.reads))
+    let full = c in
+    let start = path_begun t full.before.before in
+    let f = start.requires.1.1.1.0 in
+    ((f.inside, start.requires.1.0), ((f.what, f.rest), f.reads))
 
-path_loop_holds : (t : ℕ) → path-lts.Need-loop-init (path_claims t) (path-at t) path.Post path_Inv_loop path_μ_loop
+path_loop_holds : (t : ℕ) → path-lts.Need-loop-left-init (path_claims t) (path-at t) path.Post path_Inv_loop path_μ_loop
 path_loop_holds t c =
-    let full = c.before.before.before in
-    let start = path_begun t full in
+    let full = c in
+    let start = path_begun t full.before.before.before in
     let a = start.args in
     let n = length a.parent.now in
     let filled = full.fill in (
       refl,
-      path_begin (table_of a.parent.now a.kind.now) a.given.now a.items.now a.at n _ a.depth a.count start.pre.1.1.1.0 filled.new.0 _ (filled.ensures ∙ ap (λ (k : ℕ). replicate k 1) (path_front t start)),
-      c.look-first.ensures.0,
+      path_begin (table_of a.parent.now a.kind.now) a.given.now a.items.now a.at n _ a.depth a.count start.requires.1.1.1.0 filled.new.0 _ (filled.ensures ∙ ap (λ (k : ℕ). replicate k 1) (path_front t start)),
+      c.look_first-places.ensures.0,
       refl,
-      kept_same a.known.now a.sets.now (path_filled t full)
-          (kept_front (length a.known.now) n n a.sets.now filled.new.0 (path_room t start) (filled.auto.0 ∙ path_front t start)) start.pre.1.1.1.1,
+      kept_same a.known.now a.sets.now (path_filled t full.before.before.before)
+          (kept_front (length a.known.now) n n a.sets.now filled.new.0 (path_room t start) (filled.auto.0 ∙ path_front t start)) start.requires.1.1.1.1,
     )
 
-path_look_requires : (t : ℕ) → path-lts.Need-look-requires (path_claims t) (path-at t) path.Post path_Inv_loop path_μ_loop
+path_look_requires : (t : ℕ) → path-lts.Need-look-places-requires (path_claims t) (path-at t) path.Post path_Inv_loop path_μ_loop
 path_look_requires t c κs =
     let turn = path_turning t c in
     let full = path_filling t turn in
     let start = path_begun t full in
     let a = start.args in
-    let l = turn.loop in
-    ((start.pre.1.1.1.0.inside, start.pre.1.0, λ old. subst (λ (k : ℕ). Known a.items.now a.at a.depth k l.places) (let e : l.left ≡ suc (l.left - 1) = omega (arith, c.loop-test.true) in e) l.inv.2), first_readable a.items.now a.at (length a.parent.now) _ a.depth a.count start.pre.1.1.1.0 (l.left - 1) (omega (arith, l.inv.1.fewer)))
+    let l = turn.loop-left in
+    ((start.requires.1.1.1.0.inside, start.requires.1.0, λ old. subst (λ (k : ℕ). Known a.items.now a.at a.depth k l.places) (let e : l.left ≡ suc (l.left - 1) = omega (arith, c.loop-left-test.true) in e) l.invariant.2), first_readable a.items.now a.at (length a.parent.now) _ a.depth a.count start.requires.1.1.1.0 (l.left - 1) (omega (arith, l.invariant.1.fewer)))
 
-path_step_at_requires : (t : ℕ) → path-lts.Need-step-at-requires (path_claims t) (path-at t) path.Post path_Inv_loop path_μ_loop
+path_step_at_requires : (t : ℕ) → path-lts.Need-step_at-step-requires (path_claims t) (path-at t) path.Post path_Inv_loop path_μ_loop
 path_step_at_requires t c κs =
     let owed = path_owing t c in
     let turn = path_turning t owed in
     let full = path_filling t turn in
     let start = path_begun t full in
     let a = start.args in
-    let l = turn.loop in
-    step-here a.items.now a.at (length a.parent.now) _ a.depth a.count start.pre.1.1.1.0 (l.left - 1) c.look.result.place (omega (arith, l.inv.1.fewer, owed.loop-test.taken)) c.look.ensures.1 (λ on h p here. (on, (h, p)))
+    let l = turn.loop-left in
+    step-here a.items.now a.at (length a.parent.now) _ a.depth a.count start.requires.1.1.1.0 (l.left - 1) c.look-places.result.place (omega (arith, l.invariant.1.fewer, owed.loop-left-test.true)) c.look-places.ensures.1 (λ on h p here. (on, (h, p)))
 
-path_slice_relend_prefix_restrict : (t : ℕ) → path-lts.Need-slice-relend-prefix-restrict (path_claims t) (path-at t) path.Post path_Inv_loop path_μ_loop
+path_slice_relend_prefix_restrict : (t : ℕ) → path-lts.Need-slice_bounds-restrict-end (path_claims t) (path-at t) path.Post path_Inv_loop path_μ_loop
 path_slice_relend_prefix_restrict t c =
     let found = path_finding t c in
     let owed = path_owing t found in
     let turn = path_turning t owed in
     omega (arith, path_enough t turn)
 
-path_slice_aggregate_restrict : (t : ℕ) → path-lts.Need-slice-aggregate-restrict (path_claims t) (path-at t) path.Post path_Inv_loop path_μ_loop
+path_slice_aggregate_restrict : (t : ℕ) → path-lts.Need-slice_bounds-restrict-end-in-loop-left (path_claims t) (path-at t) path.Post path_Inv_loop path_μ_loop
 path_slice_aggregate_restrict t c =
-    let stepped = c.before in
-    let found = path_finding t stepped in
+    let stepped = c in
+    let found = path_finding t stepped.before in
     let owed = path_owing t found in
     let turn = path_turning t owed in
     sym (path_turn_front t turn)
 
 path_restrict_requires : (t : ℕ) → path-lts.Need-restrict-requires (path_claims t) (path-at t) path.Post path_Inv_loop path_μ_loop
 path_restrict_requires t c κs =
-    let stepped = c.before in
-    let found = path_finding t stepped in
+    let stepped = c in
+    let found = path_finding t stepped.before in
     let owed = path_owing t found in
     let turn = path_turning t owed in
     let full = path_filling t turn in
     let start = path_begun t full in
     let a = start.args in
     let front = path_turn_front t turn in
-    let ready = start.pre.1.1.0 in
+    let ready = start.requires.1.1.0 in
     (ready.kinds_all ∙ sym front, ready.marks_all ∙ sym front, ready.marks_bits ∙ ap (λ (k : ℕ). bits k (marked a.given.now)) (sym front))
 
-path_add_predicates : (t : ℕ) → path-lts.Need-overflow-add-predicates (path_claims t) (path-at t) path.Post path_Inv_loop path_μ_loop
+path_add_predicates : (t : ℕ) → path-lts.Need-overflow_add-place (path_claims t) (path-at t) path.Post path_Inv_loop path_μ_loop
 path_add_predicates t c =
-    let tested = c.before.before in
-    let stepped = path_stepping t tested in
+    let tested = c in
+    let stepped = path_stepping t tested.before.before in
     let found = path_finding t stepped in
     let owed = path_owing t found in
     let turn = path_turning t owed in
     let full = path_filling t turn in
     let start = path_begun t full in
-    omega (arith, found.look.ensures.1.inside, start.good.0.1)
+    omega (arith, found.look-places.ensures.1.inside, start.well_formed.0.1)
 
 path_predicates_requires : (t : ℕ) → path-lts.Need-predicates-requires (path_claims t) (path-at t) path.Post path_Inv_loop path_μ_loop
 path_predicates_requires t c κs =
-    let tested = c.before.before.before.before in
-    let stepped = path_stepping t tested in
+    let tested = c in
+    let stepped = path_stepping t tested.before.before.before.before in
     let found = path_finding t stepped in
     let owed = path_owing t found in
     let turn = path_turning t owed in
@@ -855,54 +843,54 @@ path_predicates_requires t c κs =
     let start = path_begun t full in
     let a = start.args in
     let n = length a.parent.now in
-    let l = turn.loop in
-    let looked = found.look in
-    let said_step = stepped.step-at.ensures in
-    step-here a.items.now a.at n _ a.depth a.count start.pre.1.1.1.0 (l.left - 1) looked.result.place (omega (arith, l.inv.1.fewer, owed.loop-test.taken)) looked.ensures.1
+    let l = turn.loop-left in
+    let looked = found.look-places in
+    let said_step = stepped.step_at-step.ensures in
+    step-here a.items.now a.at n _ a.depth a.count start.requires.1.1.1.0 (l.left - 1) looked.result.place (omega (arith, l.invariant.1.fewer, owed.loop-left-test.true)) looked.ensures.1
     (λ on h p here.
     let same : said_step.0 ≡ h = some_inj (sym said_step.1 ∙ p) in
-    let count : stepped.step-at.result.count ≡ h.count = ap (λ (x : Step). x.count) said_step.2 ∙ ap (λ (x : Head). x.count) same in (
-      omega (arith, looked.ensures.1.onward, start.pre.0),
+    let count : stepped.step_at-step.result.count ≡ h.count = ap (λ (x : Step). x.count) said_step.2 ∙ ap (λ (x : Head). x.count) same in (
+      omega (arith, looked.ensures.1.onward, start.requires.0),
       (
-        start.pre.1.0,
+        start.requires.1.0,
         (
-          start.pre.1.1.0,
+          start.requires.1.1.0,
           (
             subst₂ (λ (k r : ℕ). Fits a.items.now (looked.result.place + 1) n r (take_preds (take_within a.depth) k (drop (looked.result.place + 1) a.items.now)) (λ ps. 1 + height_preds ps)) (sym count)
-                (sym (spare_same n (path_restricted t tested) a.sets.now l.inv.3 (path_restricted_length t tested ∙ path_length t turn))) here.preds,
+                (sym (spare_same n (path_restricted t tested.before.before.before.before) a.sets.now l.invariant.3 (path_restricted_length t tested ∙ path_length t turn))) here.preds,
             path_restricted_kept t tested,
           ),
         ),
       ),
     ))
 
-path_slice_relend_prefix_along : (t : ℕ) → path-lts.Need-slice-relend-prefix-along (path_claims t) (path-at t) path.Post path_Inv_loop path_μ_loop
+path_slice_relend_prefix_along : (t : ℕ) → path-lts.Need-slice_bounds-along-end (path_claims t) (path-at t) path.Post path_Inv_loop path_μ_loop
 path_slice_relend_prefix_along t c =
-    let met = c.before.before.before.before.before in
+    let met = c in
     omega (arith, path_narrowed_enough t met)
 
-path_slice_aggregate_along : (t : ℕ) → path-lts.Need-slice-aggregate-along (path_claims t) (path-at t) path.Post path_Inv_loop path_μ_loop
+path_slice_aggregate_along : (t : ℕ) → path-lts.Need-slice_bounds-along-end-in-loop-left (path_claims t) (path-at t) path.Post path_Inv_loop path_μ_loop
 path_slice_aggregate_along t c =
-    let met = c.before.before.before.before.before.before in
+    let met = c in
     sym (path_narrowed_front t met)
 
 path_along_requires : (t : ℕ) → path-lts.Need-along-requires (path_claims t) (path-at t) path.Post path_Inv_loop path_μ_loop
 path_along_requires t c κs =
-    let met = c.before.before.before.before.before.before in
-    let tested = path_testing t met in
+    let met = c in
+    let tested = path_testing t met.before.before.before.before.before.before in
     let stepped = path_stepping t tested in
     let found = path_finding t stepped in
     let owed = path_owing t found in
     let turn = path_turning t owed in
     let full = path_filling t turn in
     let start = path_begun t full in
-    let w = start.pre.1.1.0.tree in
+    let w = start.requires.1.1.0.tree in
     (sym (path_narrowed_front t met), λ kinds. record { rooted = w.rooted; root = w.root; falls = w.falls })
 
-path_loop_again : (t : ℕ) → path-lts.Need-loop-preserved (path_claims t) (path-at t) path.Post path_Inv_loop path_μ_loop
+path_loop_again : (t : ℕ) → path-lts.Need-loop-left-preserved (path_claims t) (path-at t) path.Post path_Inv_loop path_μ_loop
 path_loop_again t c =
-    let met = c.before.before.before.before.before.before.before.before.before in
-    let tested = path_testing t met in
+    let met = c in
+    let tested = path_testing t met.before.before.before.before.before.before.before.before.before in
     let stepped = path_stepping t tested in
     let found = path_finding t stepped in
     let owed = path_owing t found in
@@ -912,25 +900,25 @@ path_loop_again t c =
     let a = start.args in
     let n = length a.parent.now in
     let kinds = a.kind.now in
-    let l = turn.loop in
-    let looked = found.look in
+    let l = turn.loop-left in
+    let looked = found.look-places in
     let restricted = tested.restrict in
     let narrowed = met.predicates in
-    let sets = path_narrowed t met in
-    let entries = path_entries t met in
-    let moved = c.before.before.along in
-    let said_step = stepped.step-at.ensures in
+    let sets = path_narrowed t met.before.before.before.before.before.before.before.before.before in
+    let entries = path_entries t met.before.before.before.before.before.before.before.before.before in
+    let moved = c.along in
+    let said_step = stepped.step_at-step.ensures in
     let front = path_turn_front t turn in
     let front2 = path_narrowed_front t met in
-    step-here a.items.now a.at n _ a.depth a.count start.pre.1.1.1.0 (l.left - 1) looked.result.place (omega (arith, l.inv.1.fewer, owed.loop-test.taken)) looked.ensures.1
+    step-here a.items.now a.at n _ a.depth a.count start.requires.1.1.1.0 (l.left - 1) looked.result.place (omega (arith, l.invariant.1.fewer, owed.loop-left-test.true)) looked.ensures.1
     (λ on h p here.
     let same : said_step.0 ≡ h = some_inj (sym said_step.1 ∙ p) in
     let step_is = said_step.2 ∙ ap numbered same in
-    let count : stepped.step-at.result.count ≡ h.count = ap (λ (x : Step). x.count) step_is in (
-      front_length n sets moved.new.1.1.0 (omega (arith, path_narrowed_enough t met)) moved.auto.1.1.0 ∙ path_narrowed_length t met ∙ l.inv.0,
-      path_back (table_of a.parent.now kinds) a.given.now a.items.now a.at n _ a.depth a.count start.pre.1.1.1.0 (l.left - 1) looked.result.place h l.sets restricted.last.1.1.1.0 (drop n l.sets) sets moved.new.1.1.0 _
-          (omega (arith, l.inv.1.fewer, owed.loop-test.taken)) here
-          (subst (λ (k : ℕ). PathSet (table_of a.parent.now kinds) a.given.now a.items.now a.at n a.depth a.count k l.sets) (let e : l.left ≡ suc (l.left - 1) = omega (arith, owed.loop-test.taken) in e) l.inv.1)
+    let count : stepped.step_at-step.result.count ≡ h.count = ap (λ (x : Step). x.count) step_is in (
+      front_length n sets moved.new.1.1.0 (omega (arith, path_narrowed_enough t met)) moved.auto.1.1.0 ∙ path_narrowed_length t met ∙ l.invariant.0,
+      path_back (table_of a.parent.now kinds) a.given.now a.items.now a.at n _ a.depth a.count start.requires.1.1.1.0 (l.left - 1) looked.result.place h l.sets restricted.last.1.1.1.0 (drop n l.sets) sets moved.new.1.1.0 _
+          (omega (arith, l.invariant.1.fewer, owed.loop-left-test.true)) here
+          (subst (λ (k : ℕ). PathSet (table_of a.parent.now kinds) a.given.now a.items.now a.at n a.depth a.count k l.sets) (let e : l.left ≡ suc (l.left - 1) = omega (arith, owed.loop-left-test.true) in e) l.invariant.1)
           (λ g q.
           restricted.ensures h.test g (step_found _ h p).1 (ap (λ (x : Step). x.test) step_is) (q ∙ ap (λ (k : ℕ). bits k g) (sym front)) ∙
           ap (λ (k : ℕ). bits k (λ i. (g i && marked a.given.now i) && meets h.test (get_or kinds i 0))) front)
@@ -938,34 +926,34 @@ path_loop_again t c =
           (subst (λ (k : ℕ). Narrows a.items.now (looked.result.place + 1) n (take_preds (take_within a.depth) k (drop (looked.result.place + 1) a.items.now)) (all_hold (table_of a.parent.now kinds) a.given.now) narrowed.result (path_restricted t tested) sets)
           count narrowed.ensures.0)
           (λ g q.
-          moved.ensures kinds (turned h.axis) g (c.before.before.before.before.turn.ensures h.axis (ap (λ (x : Step). x.axis) step_is)) (q ∙ ap (λ (k : ℕ). bits k g) (sym front2)) ∙
+          moved.ensures kinds (turned h.axis) g (c.turn.ensures h.axis (ap (λ (x : Step). x.axis) step_is)) (q ∙ ap (λ (k : ℕ). bits k g) (sym front2)) ∙
           ap (λ (k : ℕ). bits k (image (table_of a.parent.now kinds) (turned h.axis) g)) front2),
       looked.ensures.0,
-      narrowed.auto.1.1.1.1.1.1.1.1.0 ∙ l.inv.3,
+      narrowed.auto.1.1.1.1.1.1.1.1.0 ∙ l.invariant.3,
       kept_same entries sets (moved.new.1.1.0 ++ drop n sets) (kept_front (length entries) n n sets moved.new.1.1.0 (path_narrowed_enough t met) (moved.auto.1.1.0 ∙ front2)) narrowed.ensures.1,
     ))
 
-path_same_length : (t : ℕ) → path-lts.Need-same-length (path_claims t) (path-at t) path.Post path_Inv_loop path_μ_loop
+path_same_length : (t : ℕ) → path-lts.Need-shape_of-sets (path_claims t) (path-at t) path.Post path_Inv_loop path_μ_loop
 path_same_length t c =
-    let turn = c.before in
+    let turn = c in
     path_length t turn
 
-path_same_length_2 : (t : ℕ) → path-lts.Need-same-length-2 (path_claims t) (path-at t) path.Post path_Inv_loop path_μ_loop
+path_same_length_2 : (t : ℕ) → path-lts.Need-shape_of-known (path_claims t) (path-at t) path.Post path_Inv_loop path_μ_loop
 path_same_length_2 t c =
-    let turn = c.before in
-    turn.loop.invariant.3
+    let turn = c in
+    turn.loop-left.invariant.3
 
 path_returns : (t : ℕ) → path-lts.Need-returns (path_claims t) (path-at t) path.Post path_Inv_loop path_μ_loop
 path_returns t c =
-    let turn = c.before in
-    let full = path_filling t turn in
+    let turn = c in
+    let full = path_filling t turn.before in
     let start = path_begun t full in
     let a = start.args in
     let n = length a.parent.now in
-    let l = turn.loop in (
-      path_done (table_of a.parent.now a.kind.now) a.given.now a.items.now a.at n _ a.depth a.count start.pre.1.1.1.0 _ l.sets
-          (subst (λ (k : ℕ). PathSet (table_of a.parent.now a.kind.now) a.given.now a.items.now a.at n a.depth a.count k l.sets) (let e : l.left ≡ 0 = omega (arith, c.loop-test.false) in e) l.invariant.1)
-          turn.before.look-first.ensures.1,
+    let l = turn.loop-left in (
+      path_done (table_of a.parent.now a.kind.now) a.given.now a.items.now a.at n _ a.depth a.count start.requires.1.1.1.0 _ l.sets-1
+          (subst (λ (k : ℕ). PathSet (table_of a.parent.now a.kind.now) a.given.now a.items.now a.at n a.depth a.count k l.sets-1) (let e : l.left ≡ 0 = omega (arith, c.loop-left-test.false) in e) l.invariant.1)
+          turn.look_first-places.ensures.1,
       l.invariant.4,
     )
 
@@ -973,13 +961,13 @@ path_returns t c =
 path_fill_requires : (t : ℕ) → path-lts.Need-fill-requires (path_claims t) (path-at t) path.Post path_Inv_loop path_μ_loop
 path_fill_requires t c κs = search rules
 
-path_sub_left : (t : ℕ) → path-lts.Need-overflow-sub-left (path_claims t) (path-at t) path.Post path_Inv_loop path_μ_loop
+path_sub_left : (t : ℕ) → path-lts.Need-overflow_sub-left (path_claims t) (path-at t) path.Post path_Inv_loop path_μ_loop
 path_sub_left t c = search rules
 
 path_turn_requires : (t : ℕ) → path-lts.Need-turn-requires (path_claims t) (path-at t) path.Post path_Inv_loop path_μ_loop
 path_turn_requires t c κs = search rules
 
-path_loop_less : (t : ℕ) → path-lts.Need-loop-smaller (path_claims t) (path-at t) path.Post path_Inv_loop path_μ_loop
+path_loop_less : (t : ℕ) → path-lts.Need-loop-left-smaller (path_claims t) (path-at t) path.Post path_Inv_loop path_μ_loop
 path_loop_less t c = search rules
 
 -- What `predicate` knows of the functions it calls.
@@ -996,17 +984,14 @@ predicate_claims t = (
 )
 
 -- Equal items have been looked for.
-abbrev predicate_begun : (t : ℕ) → predicate-lts.After-find (predicate_claims t) (predicate_at t) predicate.Post → predicate-lts.Start (predicate_claims t) (predicate_at t) predicate.Post
-predicate_begun t c = c.before.before.before.before.before.before.before.before
-
+abbrev predicate_begun : (t : ℕ) → predicate-lts.After-find-slot (predicate_claims t) (predicate_at t) predicate.Post → predicate-lts.Start (predicate_claims t) (predicate_at t) predicate.Post
+predicate_begun t c = c.before.before.before.before.before.before.before
 -- They have been found.
-abbrev predicate_looking : (t : ℕ) → predicate-lts.Then1 (predicate_claims t) (predicate_at t) predicate.Post → predicate-lts.After-find (predicate_claims t) (predicate_at t) predicate.Post
+abbrev predicate_looking : (t : ℕ) → predicate-lts.Then-slot-known (predicate_claims t) (predicate_at t) predicate.Post → predicate-lts.After-find-slot (predicate_claims t) (predicate_at t) predicate.Post
 predicate_looking t c = c.before
-
 -- The predicate has been worked out.
-abbrev predicate_looking_past : (t : ℕ) → predicate-lts.After-expression (predicate_claims t) (predicate_at t) predicate.Post → predicate-lts.After-find (predicate_claims t) (predicate_at t) predicate.Post
+abbrev predicate_looking_past : (t : ℕ) → predicate-lts.After-expression-next (predicate_claims t) (predicate_at t) predicate.Post → predicate-lts.After-find-slot (predicate_claims t) (predicate_at t) predicate.Post
 predicate_looking_past t c = c.before.before.before.before
-
 -- All nodes.
 abbrev predicate_all : (t : ℕ) → predicate-lts.Start (predicate_claims t) (predicate_at t) predicate.Post → ℕ
 predicate_all t c = length c.args.parent.now
@@ -1016,117 +1001,117 @@ predicate_room : (t : ℕ) (c : predicate-lts.Start (predicate_claims t) (predic
 predicate_room t c = omega (arith, one_fits (predicate_all t c) _ _ c.requires.1.1.1.0.room_for (some_height c.requires.1.1.1.0.what), c.requires.1.1.0.tree.rooted)
 
 -- Equal items have been found: their set stands among those kept.
-predicate_apart : (t : ℕ) (c : predicate-lts.Then1 (predicate_claims t) (predicate_at t) predicate.Post)
-    → (predicate_all t (predicate_begun t (predicate_looking t c)) * (length (predicate_begun t (predicate_looking t c)).args.known.now - (predicate_looking t c).find.result) + predicate_all t (predicate_begun t (predicate_looking t c)) * (predicate_looking t c).find.result ≡ predicate_all t (predicate_begun t (predicate_looking t c)) * length (predicate_begun t (predicate_looking t c)).args.known.now) ×
-    (predicate_all t (predicate_begun t (predicate_looking t c)) ≤ predicate_all t (predicate_begun t (predicate_looking t c)) * (length (predicate_begun t (predicate_looking t c)).args.known.now - (predicate_looking t c).find.result)) ×
+predicate_apart : (t : ℕ) (c : predicate-lts.Then-slot-known (predicate_claims t) (predicate_at t) predicate.Post)
+    → (predicate_all t (predicate_begun t (predicate_looking t c)) * (length (predicate_begun t (predicate_looking t c)).args.known.now - (predicate_looking t c).find-slot.result) + predicate_all t (predicate_begun t (predicate_looking t c)) * (predicate_looking t c).find-slot.result ≡ predicate_all t (predicate_begun t (predicate_looking t c)) * length (predicate_begun t (predicate_looking t c)).args.known.now) ×
+    (predicate_all t (predicate_begun t (predicate_looking t c)) ≤ predicate_all t (predicate_begun t (predicate_looking t c)) * (length (predicate_begun t (predicate_looking t c)).args.known.now - (predicate_looking t c).find-slot.result)) ×
     (predicate_all t (predicate_begun t (predicate_looking t c)) + predicate_all t (predicate_begun t (predicate_looking t c)) * length (predicate_begun t (predicate_looking t c)).args.known.now ≤ length (predicate_begun t (predicate_looking t c)).args.sets.now)
 predicate_apart t c =
     let looked = predicate_looking t c in
     let start = predicate_begun t looked in
-    apart (predicate_all t start) _ _ _ c.if1.true (predicate_room t start)
+    apart (predicate_all t start) _ _ _ c.if-slot-known.true (predicate_room t start)
 
-predicate_find_requires : (t : ℕ) → predicate-lts.Need-find-requires (predicate_claims t) (predicate_at t) predicate.Post
+predicate_find_requires : (t : ℕ) → predicate-lts.Need-find-slot-requires (predicate_claims t) (predicate_at t) predicate.Post
 predicate_find_requires t c κs =
-    let start = c.before.before.before.before.before.before.before in
+    let start = c in
     (start.requires.1.1.1.0.inside, λ i l z. (start.requires.1.1.1.1.each i l z).inside)
 
-predicate_mul_from : (t : ℕ) → predicate-lts.Need-overflow-mul-from (predicate_claims t) (predicate_at t) predicate.Post
+predicate_mul_from : (t : ℕ) → predicate-lts.Need-overflow_mul-from (predicate_claims t) (predicate_at t) predicate.Post
 predicate_mul_from t c = omega (arith, predicate_apart t c)
 
-predicate_sub_from_2 : (t : ℕ) → predicate-lts.Need-overflow-sub-from-2 (predicate_claims t) (predicate_at t) predicate.Post
+predicate_sub_from_2 : (t : ℕ) → predicate-lts.Need-overflow_sub-from-then-slot-known (predicate_claims t) (predicate_at t) predicate.Post
 predicate_sub_from_2 t c = omega (arith, predicate_apart t c)
 
-predicate_copy_set_requires : (t : ℕ) → predicate-lts.Need-copy-set-requires (predicate_claims t) (predicate_at t) predicate.Post
+predicate_copy_set_requires : (t : ℕ) → predicate-lts.Need-copy_set-requires (predicate_claims t) (predicate_at t) predicate.Post
 predicate_copy_set_requires t c κs =
-    let there = c.before in
+    let there = c in
     let h = predicate_apart t there in
     (omega (arith, h), omega (arith, h), inr (omega (arith, h)))
 
-predicate_add_result : (t : ℕ) → predicate-lts.Need-overflow-add-result (predicate_claims t) (predicate_at t) predicate.Post
+predicate_add_result : (t : ℕ) → predicate-lts.Need-overflow_add-result (predicate_claims t) (predicate_at t) predicate.Post
 predicate_add_result t c =
-    let there = c.before.before.before.before.before in
-    let looked = predicate_looking t there in
+    let there = c in
+    let looked = predicate_looking t there.before.before.before.before.before in
     let start = predicate_begun t looked in
     let found = there in
-    omega (arith, (looked.find.ensures found.if1.true).inside, start.good.0.1)
+    omega (arith, (looked.find-slot.ensures found.if-slot-known.true).inside, start.well_formed.0.1)
 
-predicate_returns : (t : ℕ) → predicate-lts.Need-returns (predicate_claims t) (predicate_at t) predicate.Post
+predicate_returns : (t : ℕ) → predicate-lts.Need-returns-then-slot-known (predicate_claims t) (predicate_at t) predicate.Post
 predicate_returns t c =
-    let there = c.before.before.before.before.before in
-    let looked = predicate_looking t there in
+    let there = c in
+    let looked = predicate_looking t there.before.before.before.before.before in
     let start = predicate_begun t looked in
     let a = start.args in
     let n = length a.parent.now in
     let known = a.known.now in
-    let slot = looked.find.result in
-    let copied = c.before.before.before.copy-set in
-    let kept = start.pre.1.1.1.1 in
-    let stands = looked.find.ensures there.if1.true in
+    let slot = looked.find-slot.result in
+    let copied = c.copy_set in
+    let kept = start.requires.1.1.1.1 in
+    let stands = looked.find-slot.ensures there.if-slot-known.true in
     let h = predicate_apart t there in
     let from = length a.sets.now - n * (length known - slot) in
     let room : from + n ≤ length a.sets.now = omega (arith, h) in
     let place : from ≡ spare (length known) n a.sets.now + n * slot = omega (arith, h) in (
-      recalled a.depth (kept.each slot there.if1.true stands.used) stands start.pre.1.1.1.0
+      recalled a.depth (kept.each slot there.if-slot-known.true stands.used) stands start.requires.1.1.1.0
           (copied_first room copied.auto.0 copied.ensures ∙ ap (λ (k : ℕ). take n (drop k a.sets.now)) place),
       kept_same known a.sets.now copied.new.0 (kept_end (length known) n n a.sets.now copied.new.0 (omega (arith, h)) copied.auto.0 (copied_behind room copied.auto.0 copied.ensures)) kept,
     )
 
-predicate_expression_requires : (t : ℕ) → predicate-lts.Need-expression-requires (predicate_claims t) (predicate_at t) predicate.Post
+predicate_expression_requires : (t : ℕ) → predicate-lts.Need-expression-next-requires (predicate_claims t) (predicate_at t) predicate.Post
 predicate_expression_requires t c κs =
-    let looked = c.before.before.before in
-    let start = predicate_begun t looked in
-    (omega (arith, start.pre.0), (start.pre.1.0, (start.pre.1.1.0, (start.pre.1.1.1.0, start.pre.1.1.1.1))))
+    let looked = c in
+    let start = predicate_begun t looked.before.before.before in
+    (omega (arith, start.requires.0), (start.requires.1.0, (start.requires.1.1.0, (start.requires.1.1.1.0, start.requires.1.1.1.1))))
 
 -- Worked out, as many sets come back, and as many entries.
-predicate_room_after : (t : ℕ) (c : predicate-lts.After-expression (predicate_claims t) (predicate_at t) predicate.Post)
-    → predicate_all t (predicate_begun t (predicate_looking_past t c)) + predicate_all t (predicate_begun t (predicate_looking_past t c)) * length c.expression.new.1.1.1.1.1.1.1.0 ≤ length c.expression.new.1.1.1.1.1.1.0
+predicate_room_after : (t : ℕ) (c : predicate-lts.After-expression-next (predicate_claims t) (predicate_at t) predicate.Post)
+    → predicate_all t (predicate_begun t (predicate_looking_past t c)) + predicate_all t (predicate_begun t (predicate_looking_past t c)) * length c.expression-next.new.1.1.1.1.1.1.1.0 ≤ length c.expression-next.new.1.1.1.1.1.1.0
 predicate_room_after t c =
     let looked = predicate_looking_past t c in
     let start = predicate_begun t looked in
     let n = predicate_all t start in
-    omega (arith, predicate_room t start, ap (λ (k : ℕ). n * k) c.expression.auto.1.1.1.1.1.1.1.0, c.expression.auto.1.1.1.1.1.1.0)
+    omega (arith, predicate_room t start, ap (λ (k : ℕ). n * k) c.expression-next.auto.1.1.1.1.1.1.1.0, c.expression-next.auto.1.1.1.1.1.1.0)
 
-predicate_few : (t : ℕ) (c : predicate-lts.After-expression (predicate_claims t) (predicate_at t) predicate.Post) → c.expression.result < 65536
-predicate_few t c = omega (arith, c.expression.ensures.0.inside, c.expression.ensures.1.few)
+predicate_few : (t : ℕ) (c : predicate-lts.After-expression-next (predicate_claims t) (predicate_at t) predicate.Post) → c.expression-next.result < 65536
+predicate_few t c = omega (arith, c.expression-next.ensures.0.inside, c.expression-next.ensures.1.few)
 
 predicate_remember_requires : (t : ℕ) → predicate-lts.Need-remember-requires (predicate_claims t) (predicate_at t) predicate.Post
 predicate_remember_requires t c κs =
-    let answered = c.before.before.before.before.before.before in
-    (predicate_room_after t answered, answered.expression.ensures.0.onward, predicate_few t answered)
+    let answered = c in
+    (predicate_room_after t answered, answered.expression-next.ensures.0.onward, predicate_few t answered)
 
-predicate_returns_2 : (t : ℕ) → predicate-lts.Need-returns-2 (predicate_claims t) (predicate_at t) predicate.Post
+predicate_returns_2 : (t : ℕ) → predicate-lts.Need-returns (predicate_claims t) (predicate_at t) predicate.Post
 predicate_returns_2 t c =
-    let answered = c.before.before.before.before.before.before.before.before.before.before.before in
-    let looked = predicate_looking_past t answered in
+    let answered = c in
+    let looked = predicate_looking_past t answered.before.before.before.before.before.before.before.before.before.before.before in
     let start = predicate_begun t looked in
-    let worked = answered.expression in
+    let worked = answered.expression-next in
     let v = worked.ensures.0 in
-    let kept = c.before.before.before.before.remember in
+    let kept = c.remember in
     let room = predicate_room_after t answered in (
       record { what = v.what; reads = v.reads; onward = v.onward; inside = v.inside; set = front_remembered room kept.auto.0 kept.ensures ∙ v.set },
       kept_remembered room kept.auto.0 (worked_out start.args.depth (predicate_few t answered) v) worked.ensures.1 kept.ensures,
     )
 
 -- The other needs of `predicate` are found.
-predicate_sub_from : (t : ℕ) → predicate-lts.Need-overflow-sub-from (predicate_claims t) (predicate_at t) predicate.Post
+predicate_sub_from : (t : ℕ) → predicate-lts.Need-overflow_sub-from (predicate_claims t) (predicate_at t) predicate.Post
 predicate_sub_from t c = search rules
 
-predicate_mul_result : (t : ℕ) → predicate-lts.Need-overflow-mul-result (predicate_claims t) (predicate_at t) predicate.Post
+predicate_mul_result : (t : ℕ) → predicate-lts.Need-offset_bounds-known-slot (predicate_claims t) (predicate_at t) predicate.Post
 predicate_mul_result t c = search rules
 
-predicate_slice_read_result : (t : ℕ) → predicate-lts.Need-slice-read-result (predicate_claims t) (predicate_at t) predicate.Post
+predicate_slice_read_result : (t : ℕ) → predicate-lts.Need-bounds-known-slot (predicate_claims t) (predicate_at t) predicate.Post
 predicate_slice_read_result t c = search rules
 
-predicate_same_length : (t : ℕ) → predicate-lts.Need-same-length (predicate_claims t) (predicate_at t) predicate.Post
+predicate_same_length : (t : ℕ) → predicate-lts.Need-shape_of-sets-then-slot-known (predicate_claims t) (predicate_at t) predicate.Post
 predicate_same_length t c = search rules
 
-predicate_same_length_2 : (t : ℕ) → predicate-lts.Need-same-length-2 (predicate_claims t) (predicate_at t) predicate.Post
+predicate_same_length_2 : (t : ℕ) → predicate-lts.Need-shape_of-known-then-slot-known (predicate_claims t) (predicate_at t) predicate.Post
 predicate_same_length_2 t c = search rules
 
-predicate_same_length_3 : (t : ℕ) → predicate-lts.Need-same-length-3 (predicate_claims t) (predicate_at t) predicate.Post
+predicate_same_length_3 : (t : ℕ) → predicate-lts.Need-shape_of-sets (predicate_claims t) (predicate_at t) predicate.Post
 predicate_same_length_3 t c = search rules
 
-predicate_same_length_4 : (t : ℕ) → predicate-lts.Need-same-length-4 (predicate_claims t) (predicate_at t) predicate.Post
+predicate_same_length_4 : (t : ℕ) → predicate-lts.Need-shape_of-known (predicate_claims t) (predicate_at t) predicate.Post
 predicate_same_length_4 t c = search rules
 
 -- What `predicates` knows of the functions it calls.
@@ -1138,159 +1123,156 @@ predicates_claims t = (
   keep-second-reads.Learnt,
 )
 
-abbrev predicates_Inv_loop : predicates-lts.invariant-loop
+abbrev predicates_Inv_loop : predicates-lts.invariant-loop-owed
 predicates_Inv_loop items at count depth parent kind given sets₀ known₀ n place₀ owed₀ sets known place owed =
     (length sets ≡ length sets₀) × PredSet (table_of parent kind) given items at (length parent) depth (take_preds (take_within depth) count (drop at items)) place owed sets₀ sets × (length known ≡ length known₀) × Kept (table_of parent kind) given items (length parent) known sets
 
-abbrev predicates_μ_loop : predicates-lts.decreases-loop
+abbrev predicates_μ_loop : predicates-lts.decreases-loop-owed
 predicates_μ_loop items at count depth parent kind given sets₀ known₀ n place₀ owed₀ sets known place owed = owed
 
 -- A turn.
-abbrev predicates_begun : (t : ℕ) → predicates-lts.At-loop (predicates_claims t) (predicates_at t) predicates.Post predicates_Inv_loop predicates_μ_loop → predicates-lts.Start (predicates_claims t) (predicates_at t) predicates.Post predicates_Inv_loop predicates_μ_loop
+abbrev predicates_begun : (t : ℕ) → predicates-lts.At-loop-owed (predicates_claims t) (predicates_at t) predicates.Post predicates_Inv_loop predicates_μ_loop → predicates-lts.Start (predicates_claims t) (predicates_at t) predicates.Post predicates_Inv_loop predicates_μ_loop
 predicates_begun t c = c.before.before.before.before.before.before.before
-
 -- A predicate is owed.
-abbrev predicates_turning : (t : ℕ) → predicates-lts.In-loop (predicates_claims t) (predicates_at t) predicates.Post predicates_Inv_loop predicates_μ_loop → predicates-lts.At-loop (predicates_claims t) (predicates_at t) predicates.Post predicates_Inv_loop predicates_μ_loop
+abbrev predicates_turning : (t : ℕ) → predicates-lts.In-loop-owed (predicates_claims t) (predicates_at t) predicates.Post predicates_Inv_loop predicates_μ_loop → predicates-lts.At-loop-owed (predicates_claims t) (predicates_at t) predicates.Post predicates_Inv_loop predicates_μ_loop
 predicates_turning t c = c.before
-
 -- It has its set.
-abbrev predicates_owing : (t : ℕ) → predicates-lts.After-predicate (predicates_claims t) (predicates_at t) predicates.Post predicates_Inv_loop predicates_μ_loop → predicates-lts.In-loop (predicates_claims t) (predicates_at t) predicates.Post predicates_Inv_loop predicates_μ_loop
+abbrev predicates_owing : (t : ℕ) → predicates-lts.After-predicate-place (predicates_claims t) (predicates_at t) predicates.Post predicates_Inv_loop predicates_μ_loop → predicates-lts.In-loop-owed (predicates_claims t) (predicates_at t) predicates.Post predicates_Inv_loop predicates_μ_loop
 predicates_owing t c = c.before.before.before
-
 -- All nodes.
 abbrev predicates_all : (t : ℕ) → predicates-lts.Start (predicates_claims t) (predicates_at t) predicates.Post predicates_Inv_loop predicates_μ_loop → ℕ
 predicates_all t c = length c.args.parent.now
 
 -- As many bytes are spare at each turn.
-predicates_spare : (t : ℕ) (c : predicates-lts.At-loop (predicates_claims t) (predicates_at t) predicates.Post predicates_Inv_loop predicates_μ_loop)
-    → spare (length c.loop.known) (predicates_all t (predicates_begun t c)) c.loop.sets ≡ spare (length (predicates_begun t c).args.known.now) (predicates_all t (predicates_begun t c)) (predicates_begun t c).args.sets.now
+predicates_spare : (t : ℕ) (c : predicates-lts.At-loop-owed (predicates_claims t) (predicates_at t) predicates.Post predicates_Inv_loop predicates_μ_loop)
+    → spare (length c.loop-owed.known) (predicates_all t (predicates_begun t c)) c.loop-owed.sets ≡ spare (length (predicates_begun t c).args.known.now) (predicates_all t (predicates_begun t c)) (predicates_begun t c).args.sets.now
 predicates_spare t c =
     let start = predicates_begun t c in
-    spare_same (predicates_all t start) c.loop.sets start.args.sets.now c.loop.invariant.2 c.loop.invariant.0
+    spare_same (predicates_all t start) c.loop-owed.sets start.args.sets.now c.loop-owed.invariant.2 c.loop-owed.invariant.0
 
-predicates_loop_holds : (t : ℕ) → predicates-lts.Need-loop-init (predicates_claims t) (predicates_at t) predicates.Post predicates_Inv_loop predicates_μ_loop
+predicates_loop_holds : (t : ℕ) → predicates-lts.Need-loop-owed-init (predicates_claims t) (predicates_at t) predicates.Post predicates_Inv_loop predicates_μ_loop
 predicates_loop_holds t c =
-    let start = c.before.before.before.before.before.before in
+    let start = c in
     let a = start.args in
     let pre = start.requires.1.1.1 in
     (refl, preds_begin (table_of a.parent.now a.kind.now) a.given.now a.items.now a.at (length a.parent.now) a.depth a.count a.sets.now pre.0.inside, refl, pre.1)
 
 -- A predicate is owed: it is in a bracket, and two sets fit before those kept.
-predicates_two : (t : ℕ) (c : predicates-lts.In-loop (predicates_claims t) (predicates_at t) predicates.Post predicates_Inv_loop predicates_μ_loop)
-    → predicates_all t (predicates_begun t (predicates_turning t c)) + predicates_all t (predicates_begun t (predicates_turning t c)) ≤ spare (length (predicates_turning t c).loop.known) (predicates_all t (predicates_begun t (predicates_turning t c))) (predicates_turning t c).loop.sets
+predicates_two : (t : ℕ) (c : predicates-lts.In-loop-owed (predicates_claims t) (predicates_at t) predicates.Post predicates_Inv_loop predicates_μ_loop)
+    → predicates_all t (predicates_begun t (predicates_turning t c)) + predicates_all t (predicates_begun t (predicates_turning t c)) ≤ spare (length (predicates_turning t c).loop-owed.known) (predicates_all t (predicates_begun t (predicates_turning t c))) (predicates_turning t c).loop-owed.sets
 predicates_two t c =
     let turn = predicates_turning t c in
     let start = predicates_begun t turn in
     let a = start.args in
-    let l = turn.loop in
-    pred_fits (table_of a.parent.now a.kind.now) a.given.now a.items.now a.at (length a.parent.now) a.depth _ _ l.place l.owed _ l.sets c.loop-test.true start.pre.1.1.1.0 l.inv.1 (λ deep f two. omega (arith, two, predicates_spare t turn))
+    let l = turn.loop-owed in
+    pred_fits (table_of a.parent.now a.kind.now) a.given.now a.items.now a.at (length a.parent.now) a.depth _ _ l.place l.owed _ l.sets c.loop-owed-test.true start.requires.1.1.1.0 l.invariant.1 (λ deep f two. omega (arith, two, predicates_spare t turn))
 
-predicates_sub_predicate : (t : ℕ) → predicates-lts.Need-overflow-sub-predicate (predicates_claims t) (predicates_at t) predicates.Post predicates_Inv_loop predicates_μ_loop
+predicates_sub_predicate : (t : ℕ) → predicates-lts.Need-overflow_sub-depth (predicates_claims t) (predicates_at t) predicates.Post predicates_Inv_loop predicates_μ_loop
 predicates_sub_predicate t c =
     let turn = predicates_turning t c in
     let start = predicates_begun t turn in
     let a = start.args in
-    let l = turn.loop in
-    pred_fits (table_of a.parent.now a.kind.now) a.given.now a.items.now a.at (length a.parent.now) a.depth _ _ l.place l.owed _ l.sets c.loop-test.true start.pre.1.1.1.0 l.inv.1 (λ deep f two. omega (arith, deep))
+    let l = turn.loop-owed in
+    pred_fits (table_of a.parent.now a.kind.now) a.given.now a.items.now a.at (length a.parent.now) a.depth _ _ l.place l.owed _ l.sets c.loop-owed-test.true start.requires.1.1.1.0 l.invariant.1 (λ deep f two. omega (arith, deep))
 
-predicates_sub_predicate_2 : (t : ℕ) → predicates-lts.Need-overflow-sub-predicate-2 (predicates_claims t) (predicates_at t) predicates.Post predicates_Inv_loop predicates_μ_loop
+predicates_sub_predicate_2 : (t : ℕ) → predicates-lts.Need-slice_bounds-predicate-count (predicates_claims t) (predicates_at t) predicates.Post predicates_Inv_loop predicates_μ_loop
 predicates_sub_predicate_2 t c = omega (arith, predicates_two t c)
 
-predicates_part_predicate_start : (t : ℕ) → predicates-lts.Need-slice-bounds-predicate-start (predicates_claims t) (predicates_at t) predicates.Post predicates_Inv_loop predicates_μ_loop
+predicates_part_predicate_start : (t : ℕ) → predicates-lts.Need-slice_bounds-predicate-start (predicates_claims t) (predicates_at t) predicates.Post predicates_Inv_loop predicates_μ_loop
 predicates_part_predicate_start t c = omega (arith, predicates_two t c)
 
-predicates_predicate_requires : (t : ℕ) → predicates-lts.Need-predicate-requires (predicates_claims t) (predicates_at t) predicates.Post predicates_Inv_loop predicates_μ_loop
+predicates_predicate_requires : (t : ℕ) → predicates-lts.Need-predicate-place-requires (predicates_claims t) (predicates_at t) predicates.Post predicates_Inv_loop predicates_μ_loop
 predicates_predicate_requires t c κs =
-    let owed = c.before.before in
-    let turn = predicates_turning t owed in
+    let owed = c in
+    let turn = predicates_turning t owed.before.before in
     let start = predicates_begun t turn in
     let a = start.args in
-    let l = turn.loop in
+    let l = turn.loop-owed in
     let n = length a.parent.now in
     let two = predicates_two t owed in
-    pred_fits (table_of a.parent.now a.kind.now) a.given.now a.items.now a.at n a.depth _ _ l.place l.owed _ l.sets owed.loop-test.true start.pre.1.1.1.0 l.inv.1
+    pred_fits (table_of a.parent.now a.kind.now) a.given.now a.items.now a.at n a.depth _ _ l.place l.owed _ l.sets owed.loop-owed-test.true start.requires.1.1.1.0 l.invariant.1
     (λ deep f fit. (
-      omega (arith, l.inv.1.onward, l.inv.1.inside, start.pre.0),
+      omega (arith, l.invariant.1.onward, l.invariant.1.inside, start.requires.0),
       (
-        omega (arith, start.pre.1.0),
+        omega (arith, start.requires.1.0),
         (
-          start.pre.1.1.0,
+          start.requires.1.1.0,
           (
             subst (λ (k : ℕ). Fits a.items.now l.place n k (take_expr (take_within (a.depth - 1)) (drop l.place a.items.now)) height_expr)
-                (spare_part n n l.sets a.sets.now l.inv.2 l.inv.0 (omega (arith, two))) f,
-            kept_same l.known l.sets (take (length l.sets - n) (drop n l.sets)) (kept_part (length l.known) n n l.sets (omega (arith, two))) l.inv.3,
+                (spare_part n n l.sets a.sets.now l.invariant.2 l.invariant.0 (omega (arith, two))) f,
+            kept_same l.known l.sets (take (length l.sets - n) (drop n l.sets)) (kept_part (length l.known) n n l.sets (omega (arith, two))) l.invariant.3,
           ),
         ),
       ),
     ))
 
-predicates_keep_second_requires : (t : ℕ) → predicates-lts.Need-keep-second-requires (predicates_claims t) (predicates_at t) predicates.Post predicates_Inv_loop predicates_μ_loop
+predicates_keep_second_requires : (t : ℕ) → predicates-lts.Need-keep_second-requires (predicates_claims t) (predicates_at t) predicates.Post predicates_Inv_loop predicates_μ_loop
 predicates_keep_second_requires t c κs =
-    let told = c.before.before.before.before.before in
-    let owed = predicates_owing t told in
+    let told = c in
+    let owed = predicates_owing t told.before.before.before.before.before in
     let turn = predicates_turning t owed in
     let start = predicates_begun t turn in
-    let l = turn.loop in
+    let l = turn.loop-owed in
     let n = length start.args.parent.now in
     let two = predicates_two t owed in
-    omega (arith, two, length_stays n l.sets told.predicate.new.1.1.1.1.1.1.0 (omega (arith, two)) told.predicate.auto.1.1.1.1.1.1.0)
+    omega (arith, two, length_stays n l.sets told.predicate-place.new.1.1.1.1.1.1.0 (omega (arith, two)) told.predicate-place.auto.1.1.1.1.1.1.0)
 
-predicates_loop_again : (t : ℕ) → predicates-lts.Need-loop-preserved (predicates_claims t) (predicates_at t) predicates.Post predicates_Inv_loop predicates_μ_loop
+predicates_loop_again : (t : ℕ) → predicates-lts.Need-loop-owed-preserved (predicates_claims t) (predicates_at t) predicates.Post predicates_Inv_loop predicates_μ_loop
 predicates_loop_again t c =
-    let told = c.before.before.before.before.before.before.before.before in
-    let owed = predicates_owing t told in
+    let told = c in
+    let owed = predicates_owing t told.before.before.before.before.before.before.before.before in
     let turn = predicates_turning t owed in
     let start = predicates_begun t turn in
     let a = start.args in
-    let l = turn.loop in
+    let l = turn.loop-owed in
     let n = length a.parent.now in
-    let one = told.predicate in
+    let one = told.predicate-place in
     let part = one.new.1.1.1.1.1.1.0 in
     let entries = one.new.1.1.1.1.1.1.1.0 in
-    let joined = c.before.before.keep-second in
+    let joined = c.keep_second in
     let v = one.ensures.0 in
     let two = predicates_two t owed in
     let on : n ≤ length l.sets = omega (arith, two) in
     let mid = put_mid n (length l.sets - n) l.sets part in
     let size : length mid ≡ length l.sets = length_stays n l.sets part on one.auto.1.1.1.1.1.1.0 in
     let all : length entries ≡ length l.known = one.auto.1.1.1.1.1.1.1.0 in
-    pred_fits (table_of a.parent.now a.kind.now) a.given.now a.items.now a.at n a.depth _ _ l.place l.owed _ l.sets owed.loop-test.taken start.pre.1.1.1.0 l.inv.1
+    pred_fits (table_of a.parent.now a.kind.now) a.given.now a.items.now a.at n a.depth _ _ l.place l.owed _ l.sets owed.loop-owed-test.true start.requires.1.1.1.0 l.invariant.1
     (λ deep fit room. (
-      joined.auto.0 ∙ size ∙ l.inv.0,
-      preds_more (table_of a.parent.now a.kind.now) a.given.now a.items.now a.at n a.depth _ l.place l.owed _ v.what _ l.sets part joined.new.0 owed.loop-test.taken deep l.inv.1 v.reads v.onward v.inside v.set
+      joined.auto.0 ∙ size ∙ l.invariant.0,
+      preds_more (table_of a.parent.now a.kind.now) a.given.now a.items.now a.at n a.depth _ l.place l.owed _ v.what _ l.sets part joined.new.0 owed.loop-owed-test.true deep l.invariant.1 v.reads v.onward v.inside v.set
           (λ f g p q. front_is n (λ i. f i && g i) _ _ (joined.ensures.0 f g (first_stays n l.sets part on ∙ p) (second_comes n l.sets part on ∙ q))),
-      all ∙ l.inv.2,
+      all ∙ l.invariant.2,
       kept_same entries mid joined.new.0
           (kept_end (length entries) n n mid joined.new.0 (omega (arith, two, spare_same n mid l.sets all size)) joined.auto.0 joined.ensures.1)
           (kept_same entries part mid (sym (kept_back (length entries) n n l.sets part (omega (arith, two, spare_same n l.sets l.sets all refl)) one.auto.1.1.1.1.1.1.0)) one.ensures.1),
     ))
 
-predicates_same_length : (t : ℕ) → predicates-lts.Need-same-length (predicates_claims t) (predicates_at t) predicates.Post predicates_Inv_loop predicates_μ_loop
+predicates_same_length : (t : ℕ) → predicates-lts.Need-shape_of-sets (predicates_claims t) (predicates_at t) predicates.Post predicates_Inv_loop predicates_μ_loop
 predicates_same_length t c =
-    let turn = c.before in
-    turn.loop.invariant.0
+    let turn = c in
+    turn.loop-owed.invariant.0
 
-predicates_same_length_2 : (t : ℕ) → predicates-lts.Need-same-length-2 (predicates_claims t) (predicates_at t) predicates.Post predicates_Inv_loop predicates_μ_loop
+predicates_same_length_2 : (t : ℕ) → predicates-lts.Need-shape_of-known (predicates_claims t) (predicates_at t) predicates.Post predicates_Inv_loop predicates_μ_loop
 predicates_same_length_2 t c =
-    let turn = c.before in
-    turn.loop.invariant.2
+    let turn = c in
+    turn.loop-owed.invariant.2
 
 predicates_returns : (t : ℕ) → predicates-lts.Need-returns (predicates_claims t) (predicates_at t) predicates.Post predicates_Inv_loop predicates_μ_loop
 predicates_returns t c =
-    let turn = c.before in
-    let start = predicates_begun t turn in
+    let turn = c in
+    let start = predicates_begun t turn.before in
     let a = start.args in
-    let l = turn.loop in
-    (preds_end (table_of a.parent.now a.kind.now) a.given.now a.items.now a.at (length a.parent.now) a.depth _ l.place l.owed _ l.sets c.loop-test.false l.invariant.1, l.invariant.3)
+    let l = turn.loop-owed in
+    (preds_end (table_of a.parent.now a.kind.now) a.given.now a.items.now a.at (length a.parent.now) a.depth _ l.place l.owed _ l.sets c.loop-owed-test.false l.invariant.1, l.invariant.3)
 
 -- The other needs of `predicates` are found.
-predicates_part_predicate_end : (t : ℕ) → predicates-lts.Need-slice-bounds-predicate-end (predicates_claims t) (predicates_at t) predicates.Post predicates_Inv_loop predicates_μ_loop
+predicates_part_predicate_end : (t : ℕ) → predicates-lts.Need-slice_bounds-predicate-end (predicates_claims t) (predicates_at t) predicates.Post predicates_Inv_loop predicates_μ_loop
 predicates_part_predicate_end t c = search rules
 
-predicates_sub_owed : (t : ℕ) → predicates-lts.Need-overflow-sub-owed (predicates_claims t) (predicates_at t) predicates.Post predicates_Inv_loop predicates_μ_loop
+predicates_sub_owed : (t : ℕ) → predicates-lts.Need-overflow_sub-owed (predicates_claims t) (predicates_at t) predicates.Post predicates_Inv_loop predicates_μ_loop
 predicates_sub_owed t c = search rules
 
-predicates_loop_less : (t : ℕ) → predicates-lts.Need-loop-smaller (predicates_claims t) (predicates_at t) predicates.Post predicates_Inv_loop predicates_μ_loop
+predicates_loop_less : (t : ℕ) → predicates-lts.Need-loop-owed-smaller (predicates_claims t) (predicates_at t) predicates.Post predicates_Inv_loop predicates_μ_loop
 predicates_loop_less t c = search rules
 
 pub +expression-operand-path-predicate-predicates-spec : {M : Type 1} → statement M

@@ -42,40 +42,40 @@ one_more {from} {to} {n} {i} {before} {after} s l room apart =
         ⊎_elim (λ (a : from + n ≤ to). s.bytes.front (from + i) (omega arith))
         (λ (b : to + n ≤ from). s.bytes.back (from + i) (omega arith)) apart
 
-abbrev invariant-loop : tie.invariant-loop
+abbrev invariant-loop : tie.invariant-loop-i
 invariant-loop sets₀ from to n i₀ sets i = SoFar from to n i sets₀ sets
 
-abbrev decreases-loop : tie.decreases-loop
+abbrev decreases-loop : tie.decreases-loop-i
 decreases-loop sets₀ from to n i₀ sets i = n - i
 
-loop-holds : tie.Need-loop-init invariant-loop decreases-loop
+loop-holds : tie.Need-loop-i-init invariant-loop decreases-loop
 loop-holds c = record { few = omega arith; size = refl; bytes = record { copied = λ k b. absurd (omega arith); front = λ k b. refl; back = λ k b. refl } }
 
-add-sets : tie.Need-overflow-add-sets invariant-loop decreases-loop
-add-sets c = omega (arith, c.before.loop.invariant.size)
+add-sets : tie.Need-overflow_add-sets invariant-loop decreases-loop
+add-sets c = omega (arith, c.loop-i.invariant.size)
 
-slice-read-sets : tie.Need-slice-read-sets invariant-loop decreases-loop
-slice-read-sets c = omega (arith, c.before.before.loop.invariant.size)
+slice-read-sets : tie.Need-bounds-sets-from invariant-loop decreases-loop
+slice-read-sets c = omega (arith, c.loop-i.invariant.size)
 
-add-sets-2 : tie.Need-overflow-add-sets-2 invariant-loop decreases-loop
-add-sets-2 c = omega (arith, c.before.before.loop.invariant.size)
+add-sets-2 : tie.Need-overflow_add-sets-in-loop-i invariant-loop decreases-loop
+add-sets-2 c = omega (arith, c.loop-i.invariant.size)
 
-slice-write-sets : tie.Need-slice-write-sets invariant-loop decreases-loop
-slice-write-sets c = omega (arith, c.before.before.loop.invariant.size)
+slice-write-sets : tie.Need-bounds-sets-to invariant-loop decreases-loop
+slice-write-sets c = omega (arith, c.loop-i.invariant.size)
 
-add-i : tie.Need-overflow-add-i invariant-loop decreases-loop
+add-i : tie.Need-overflow_add-i invariant-loop decreases-loop
 add-i c = omega arith
 
-loop-less : tie.Need-loop-smaller invariant-loop decreases-loop
+loop-less : tie.Need-loop-i-smaller invariant-loop decreases-loop
 loop-less c = omega arith
 
-loop-again : tie.Need-loop-preserved invariant-loop decreases-loop
+loop-again : tie.Need-loop-i-preserved invariant-loop decreases-loop
 loop-again c =
-    let turn = c.before.before in
-    one_more turn.loop.invariant (omega (arith, c.before.loop-test.true)) turn.before.requires.1 turn.before.requires.2
+    let turn = c in
+    one_more turn.loop-i.invariant (omega (arith, c.loop-i-test.true)) turn.requires.1 turn.requires.2
 
-same_length : tie.Need-same-length invariant-loop decreases-loop
-same_length c = c.before.loop.invariant.size
+same_length : tie.Need-shape_of-sets invariant-loop decreases-loop
+same_length c = c.loop-i.invariant.size
 
 -- All n are copied.
 whole : {from to n i : ℕ} {before after : List ℕ} → SoFar from to n i before after → n ≤ i → Copied from to n before after
@@ -83,7 +83,7 @@ whole s l =
     record { copied = λ k b. s.bytes.copied k (omega arith); front = s.bytes.front; back = λ k b. s.bytes.back k (omega (arith, s.few)) }
 
 returns : tie.Need-returns invariant-loop decreases-loop
-returns c = whole c.before.loop.invariant (omega (arith, c.loop-test.false))
+returns c = whole c.loop-i.invariant (omega (arith, c.loop-i-test.false))
 
 pub copy_set_spec : {M : Type 1} → statement M
 copy_set_spec =

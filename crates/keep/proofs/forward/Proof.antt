@@ -27,11 +27,11 @@ use Rattle.keep.proofs.Recalling.{spare_same, kept_same, kept_front}
 use Rattle.keep.proofs.forward.Statement.{statement}
 use Rattle.keep.proofs.forward.Tie as tie
 
-abbrev invariant-loop : tie.invariant-loop
+abbrev invariant-loop : tie.invariant-loop-left
 invariant-loop items at count parent kind given sets₀ known₀ n place₀ left₀ sets known place left =
     (length sets ≡ length sets₀) × Going (table_of parent kind) given items at count place left sets₀ sets × (length known ≡ length known₀) × Kept (table_of parent kind) given items (length parent) known sets
 
-abbrev decreases-loop : tie.decreases-loop
+abbrev decreases-loop : tie.decreases-loop-left
 decreases-loop items at count parent kind given sets₀ known₀ n place₀ left₀ sets known place left = left
 
 -- What is lent.
@@ -50,47 +50,44 @@ lent start = spare (length start.args.known.now) (all start) start.args.sets.now
 
 -- At the head of a turn there is room for a set before those kept.
 abbrev Turn : Type 0
-Turn = tie.At-loop invariant-loop decreases-loop
+Turn = tie.At-loop-left invariant-loop decreases-loop
 
 abbrev begun : Turn → Start
 begun c = c.before.before.before.before.before.before.before
+as_spare : (c : Turn) → spare (length c.loop-left.known) (all (begun c)) c.loop-left.sets ≡ lent (begun c)
+as_spare c = spare_same (all (begun c)) c.loop-left.sets (begun c).args.sets.now c.loop-left.invariant.2 c.loop-left.invariant.0
 
-as_spare : (c : Turn) → spare (length c.loop.known) (all (begun c)) c.loop.sets ≡ lent (begun c)
-as_spare c = spare_same (all (begun c)) c.loop.sets (begun c).args.sets.now c.loop.invariant.2 c.loop.invariant.0
-
-room : (c : Turn) → all (begun c) ≤ spare (length c.loop.known) (all (begun c)) c.loop.sets
+room : (c : Turn) → all (begun c) ≤ spare (length c.loop-left.known) (all (begun c)) c.loop-left.sets
 room c = omega (arith, as_spare c, one_fits (all (begun c)) _ (lent (begun c)) (begun c).requires.1.0.room_for (omega arith))
 
-front : (c : Turn) → length (take (all (begun c)) c.loop.sets) ≡ all (begun c)
-front c = length-take-le (all (begun c)) c.loop.sets (omega (arith, room c))
+front : (c : Turn) → length (take (all (begun c)) c.loop-left.sets) ≡ all (begun c)
+front c = length-take-le (all (begun c)) c.loop-left.sets (omega (arith, room c))
 
 -- The first set is moved along the axis.
 abbrev moving : tie.After-along invariant-loop decreases-loop → Turn
 moving c = c.before.before.before.before
-
 abbrev moved : tie.After-along invariant-loop decreases-loop → List ℕ
-moved c = c.along.new.1.1.0 ++ drop (all (begun (moving c))) (moving c).loop.sets
+moved c = c.along.new.1.1.0 ++ drop (all (begun (moving c))) (moving c).loop-left.sets
 
-moved_length : (c : tie.After-along invariant-loop decreases-loop) → length (moved c) ≡ length (moving c).loop.sets
-moved_length c = front_length (all (begun (moving c))) (moving c).loop.sets c.along.new.1.1.0 (omega (arith, room (moving c))) c.along.auto.1.1.0
+moved_length : (c : tie.After-along invariant-loop decreases-loop) → length (moved c) ≡ length (moving c).loop-left.sets
+moved_length c = front_length (all (begun (moving c))) (moving c).loop-left.sets c.along.new.1.1.0 (omega (arith, room (moving c))) c.along.auto.1.1.0
 
-moved_room : (c : tie.After-along invariant-loop decreases-loop) → all (begun (moving c)) ≤ spare (length (moving c).loop.known) (all (begun (moving c))) (moved c)
-moved_room c = omega (arith, room (moving c), spare_same {slots = length (moving c).loop.known} (all (begun (moving c))) (moved c) (moving c).loop.sets refl (moved_length c))
+moved_room : (c : tie.After-along invariant-loop decreases-loop) → all (begun (moving c)) ≤ spare (length (moving c).loop-left.known) (all (begun (moving c))) (moved c)
+moved_room c = omega (arith, room (moving c), spare_same {slots = length (moving c).loop-left.known} (all (begun (moving c))) (moved c) (moving c).loop-left.sets refl (moved_length c))
 
 moved_front : (c : tie.After-along invariant-loop decreases-loop) → length (take (all (begun (moving c))) (moved c)) ≡ all (begun (moving c))
 moved_front c = length-take-le (all (begun (moving c))) (moved c) (omega (arith, moved_room c))
 
 moved_kept : (c : tie.After-along invariant-loop decreases-loop)
-    → Kept (table (begun (moving c))) (begun (moving c)).args.given.now (begun (moving c)).args.items.now (all (begun (moving c))) (moving c).loop.known (moved c)
+    → Kept (table (begun (moving c))) (begun (moving c)).args.given.now (begun (moving c)).args.items.now (all (begun (moving c))) (moving c).loop-left.known (moved c)
 moved_kept c =
     let turn = moving c in
-    kept_same turn.loop.known turn.loop.sets (moved c)
-    (kept_front (length turn.loop.known) (all (begun turn)) (all (begun turn)) turn.loop.sets c.along.new.1.1.0 (room turn) (c.along.auto.1.1.0 ∙ front turn)) turn.loop.inv.3
+    kept_same turn.loop-left.known turn.loop-left.sets (moved c)
+    (kept_front (length turn.loop-left.known) (all (begun turn)) (all (begun turn)) turn.loop-left.sets c.along.new.1.1.0 (room turn) (c.along.auto.1.1.0 ∙ front turn)) turn.loop-left.invariant.3
 
 -- Marks and test are applied to it.
 abbrev testing : tie.After-restrict invariant-loop decreases-loop → tie.After-along invariant-loop decreases-loop
 testing c = c.before.before.before.before
-
 abbrev tested-turn : tie.After-restrict invariant-loop decreases-loop → Turn
 tested-turn c = moving (testing c)
 
@@ -99,133 +96,133 @@ tested c = c.restrict.new.1.1.1.0 ++ drop (all (begun (tested-turn c))) (moved (
 
 tested_length : (c : tie.After-restrict invariant-loop decreases-loop) → length (tested c) ≡ length (begun (tested-turn c)).args.sets.now
 tested_length c =
-    front_length (all (begun (tested-turn c))) (moved (testing c)) c.restrict.new.1.1.1.0 (omega (arith, moved_room (testing c))) c.restrict.auto.1.1.1.0 ∙ moved_length (testing c) ∙ (tested-turn c).loop.invariant.0
+    front_length (all (begun (tested-turn c))) (moved (testing c)) c.restrict.new.1.1.1.0 (omega (arith, moved_room (testing c))) c.restrict.auto.1.1.1.0 ∙ moved_length (testing c) ∙ (tested-turn c).loop-left.invariant.0
 
 tested_kept : (c : tie.After-restrict invariant-loop decreases-loop)
-    → Kept (table (begun (tested-turn c))) (begun (tested-turn c)).args.given.now (begun (tested-turn c)).args.items.now (all (begun (tested-turn c))) (tested-turn c).loop.known (tested c)
+    → Kept (table (begun (tested-turn c))) (begun (tested-turn c)).args.given.now (begun (tested-turn c)).args.items.now (all (begun (tested-turn c))) (tested-turn c).loop-left.known (tested c)
 tested_kept c =
     let turn = tested-turn c in
-    kept_same turn.loop.known (moved (testing c)) (tested c)
-    (kept_front (length turn.loop.known) (all (begun turn)) (all (begun turn)) (moved (testing c)) c.restrict.new.1.1.1.0 (moved_room (testing c)) (c.restrict.auto.1.1.1.0 ∙ moved_front (testing c))) (moved_kept (testing c))
+    kept_same turn.loop-left.known (moved (testing c)) (tested c)
+    (kept_front (length turn.loop-left.known) (all (begun turn)) (all (begun turn)) (moved (testing c)) c.restrict.new.1.1.1.0 (moved_room (testing c)) (c.restrict.auto.1.1.1.0 ∙ moved_front (testing c))) (moved_kept (testing c))
 
-loop-holds : tie.Need-loop-init invariant-loop decreases-loop
+loop-holds : tie.Need-loop-left-init invariant-loop decreases-loop
 loop-holds c =
-    let start = c.before.before.before.before.before.before in
+    let start = c in
     let a = start.args in
     (refl, search rules, refl, start.requires.1.1)
 
-step-at-requires : tie.Need-step-at-requires invariant-loop decreases-loop
+step-at-requires : tie.Need-step_at-step-requires invariant-loop decreases-loop
 step-at-requires c κs =
     let start = begun c.before in
     let a = start.args in
-    let l = c.before.loop in
-    next-step (table start) a.given.now a.items.now a.at a.count (lent start) start.pre.1.0 l.place l.left _ l.sets c.loop-test.true l.invariant.1 (λ on h p next. (on, (h, p)))
+    let l = c.loop-left in
+    next-step (table start) a.given.now a.items.now a.at a.count (lent start) start.requires.1.0 l.place l.left _ l.sets c.loop-left-test.true l.invariant.1 (λ on h p next. (on, (h, p)))
 
-slice-relend-prefix-along : tie.Need-slice-relend-prefix-along invariant-loop decreases-loop
+slice-relend-prefix-along : tie.Need-slice_bounds-along-end invariant-loop decreases-loop
 slice-relend-prefix-along c = omega (arith, room c.before.before)
 
-slice-aggregate-along : tie.Need-slice-aggregate-along invariant-loop decreases-loop
+slice-aggregate-along : tie.Need-slice_bounds-along-end-in-loop-left invariant-loop decreases-loop
 slice-aggregate-along c = sym (front c.before.before.before)
 
 along-requires : tie.Need-along-requires invariant-loop decreases-loop
 along-requires c κs =
-    let turn = c.before.before.before in
-    let w = (begun turn).requires.0.tree in
-    (sym (front turn), λ kinds. record { rooted = w.rooted; root = w.root; falls = w.falls })
+    let turn = c in
+    let w = (begun turn.before.before.before).requires.0.tree in
+    (sym (front turn.before.before.before), λ kinds. record { rooted = w.rooted; root = w.root; falls = w.falls })
 
-slice-relend-prefix-restrict : tie.Need-slice-relend-prefix-restrict invariant-loop decreases-loop
+slice-relend-prefix-restrict : tie.Need-slice_bounds-restrict-end invariant-loop decreases-loop
 slice-relend-prefix-restrict c = omega (arith, moved_room c.before.before)
 
-slice-aggregate-restrict : tie.Need-slice-aggregate-restrict invariant-loop decreases-loop
+slice-aggregate-restrict : tie.Need-slice_bounds-restrict-end-in-loop-left invariant-loop decreases-loop
 slice-aggregate-restrict c = sym (moved_front c.before.before.before)
 
 restrict-requires : tie.Need-restrict-requires invariant-loop decreases-loop
 restrict-requires c κs =
-    let along = c.before.before.before in
-    let start = begun (moving along) in
-    let as_long = sym (moved_front along) in
-    let ready = start.pre.0 in
+    let along = c in
+    let start = begun (moving along.before.before.before) in
+    let as_long = sym (moved_front along.before.before.before) in
+    let ready = start.requires.0 in
     (ready.kinds_all ∙ as_long, ready.marks_all ∙ as_long, ready.marks_bits ∙ ap (λ (k : ℕ). bits k (marked start.args.given.now)) as_long)
 
-add-predicates : tie.Need-overflow-add-predicates invariant-loop decreases-loop
+add-predicates : tie.Need-overflow_add-place invariant-loop decreases-loop
 add-predicates c = search rules
 
-predicates-requires : tie.Need-predicates-requires invariant-loop decreases-loop
+predicates-requires : tie.Need-predicates-place-requires invariant-loop decreases-loop
 predicates-requires c κs =
-    let met = c.before.before.before.before in
-    let turn = tested-turn met in
+    let met = c in
+    let turn = tested-turn met.before.before.before.before in
     let start = begun turn in
     let a = start.args in
-    let l = turn.loop in
-    let stepped = (testing met).before.before.step-at in
+    let l = turn.loop-left in
+    let stepped = (testing met.before.before.before.before).step_at-step in
     let said_step = stepped.ensures in
-    next-step (table start) a.given.now a.items.now a.at a.count (lent start) start.pre.1.0 l.place l.left _ l.sets (testing met).before.before.before.loop-test.true l.inv.1
+    next-step (table start) a.given.now a.items.now a.at a.count (lent start) start.requires.1.0 l.place l.left _ l.sets (testing met.before.before.before.before).loop-left-test.true l.invariant.1
     (λ on h p next.
     let same : said_step.0 ≡ h = some_inj (sym said_step.1 ∙ p) in
     let count : stepped.result.count ≡ h.count = ap (λ (x : Step). x.count) said_step.2 ∙ ap (λ (x : Head). x.count) same in (
       omega arith,
       (
-        start.pre.0,
+        start.requires.0,
         (
           subst₂ (λ (k r : ℕ). Fits a.items.now (l.place + 1) (all start) r (take_preds (take_within bracket_limit) k (drop (l.place + 1) a.items.now)) (λ ps. 1 + height_preds ps)) (sym count)
-              (sym (spare_same (all start) (tested met) a.sets.now l.inv.2 (tested_length met))) next.preds,
-          tested_kept met,
+              (sym (spare_same (all start) (tested met.before.before.before.before) a.sets.now l.invariant.2 (tested_length met.before.before.before.before))) next.preds,
+          tested_kept met.before.before.before.before,
         ),
       ),
     ))
 
-sub-left : tie.Need-overflow-sub-left invariant-loop decreases-loop
+sub-left : tie.Need-overflow_sub-left invariant-loop decreases-loop
 sub-left c = search rules
 
-loop-less : tie.Need-loop-smaller invariant-loop decreases-loop
+loop-less : tie.Need-loop-left-smaller invariant-loop decreases-loop
 loop-less c = search rules
 
-loop-again : tie.Need-loop-preserved invariant-loop decreases-loop
+loop-again : tie.Need-loop-left-preserved invariant-loop decreases-loop
 loop-again c =
-    let met = c.before.before.before.before.before.before.before.before.before in
-    let turn = tested-turn met in
+    let met = c in
+    let turn = tested-turn met.before.before.before.before.before.before.before.before.before in
     let start = begun turn in
     let a = start.args in
     let n = all start in
     let kinds = a.kind.now in
-    let l = turn.loop in
-    let along = (testing met).along in
+    let l = turn.loop-left in
+    let along = (testing met.before.before.before.before.before.before.before.before.before).along in
     let restricted = met.restrict in
-    let narrowed = c.before.before.before.before.predicates in
-    let stepped = (testing met).before.before.step-at in
+    let narrowed = c.predicates-place in
+    let stepped = (testing met.before.before.before.before.before.before.before.before.before).step_at-step in
     let said_step = stepped.ensures in
-    let wanted = (testing met).before.before.before.loop-test.true in
-    next-step (table start) a.given.now a.items.now a.at a.count (lent start) start.pre.1.0 l.place l.left _ l.sets wanted l.inv.1
+    let wanted = (testing met.before.before.before.before.before.before.before.before.before).loop-left-test.true in
+    next-step (table start) a.given.now a.items.now a.at a.count (lent start) start.requires.1.0 l.place l.left _ l.sets wanted l.invariant.1
     (λ on h p next.
     let same : said_step.0 ≡ h = some_inj (sym said_step.1 ∙ p) in
     let step_is = said_step.2 ∙ ap numbered same in
     let count : stepped.result.count ≡ h.count = ap (λ (x : Step). x.count) step_is in (
-      narrowed.auto.1.1.1.1.1.1.1.0 ∙ tested_length met,
-      going_on (table start) a.given.now a.items.now a.at a.count (lent start) start.pre.1.0 l.place l.left narrowed.result h _ l.sets along.last.1.1.0 (drop n (moved (testing met))) restricted.new.1.1.1.0 narrowed.new.1.1.1.1.1.1.1.0 wanted l.inv.1 next
+      narrowed.auto.1.1.1.1.1.1.1.0 ∙ tested_length met.before.before.before.before.before.before.before.before.before,
+      going_on (table start) a.given.now a.items.now a.at a.count (lent start) start.requires.1.0 l.place l.left narrowed.result h _ l.sets along.last.1.1.0 (drop n (moved (testing met.before.before.before.before.before.before.before.before.before))) restricted.new.1.1.1.0 narrowed.new.1.1.1.1.1.1.1.0 wanted l.invariant.1 next
           (λ x q.
           along.ensures kinds h.axis x (ap (λ (y : Step). y.axis) step_is) (q ∙ ap (λ (k : ℕ). bits k x) (sym (front turn))) ∙
           ap (λ (k : ℕ). bits k (image (table start) h.axis x)) (front turn))
           (λ x q.
-          restricted.ensures h.test x (step_found _ h p).1 (ap (λ (y : Step). y.test) step_is) (front_back n x along.last.1.1.0 (drop n l.sets) q ∙ ap (λ (k : ℕ). bits k x) (sym (moved_front (testing met)))) ∙
-          ap (λ (k : ℕ). bits k (λ i. (x i && marked a.given.now i) && meets h.test (get_or kinds i 0))) (moved_front (testing met)))
-          (subst (λ (k : ℕ). Narrows a.items.now (l.place + 1) n (take_preds (take_within bracket_limit) k (drop (l.place + 1) a.items.now)) (all_hold (table start) a.given.now) narrowed.result (tested met) narrowed.new.1.1.1.1.1.1.1.0)
+          restricted.ensures h.test x (step_found _ h p).1 (ap (λ (y : Step). y.test) step_is) (front_back n x along.last.1.1.0 (drop n l.sets) q ∙ ap (λ (k : ℕ). bits k x) (sym (moved_front (testing met.before.before.before.before.before.before.before.before.before)))) ∙
+          ap (λ (k : ℕ). bits k (λ i. (x i && marked a.given.now i) && meets h.test (get_or kinds i 0))) (moved_front (testing met.before.before.before.before.before.before.before.before.before)))
+          (subst (λ (k : ℕ). Narrows a.items.now (l.place + 1) n (take_preds (take_within bracket_limit) k (drop (l.place + 1) a.items.now)) (all_hold (table start) a.given.now) narrowed.result (tested met.before.before.before.before.before.before.before.before.before) narrowed.new.1.1.1.1.1.1.1.0)
           count narrowed.ensures.0),
-      narrowed.auto.1.1.1.1.1.1.1.1.0 ∙ l.inv.2,
+      narrowed.auto.1.1.1.1.1.1.1.1.0 ∙ l.invariant.2,
       narrowed.ensures.1,
     ))
 
-same_length : tie.Need-same-length invariant-loop decreases-loop
-same_length c = c.before.loop.invariant.0
+same_length : tie.Need-shape_of-sets invariant-loop decreases-loop
+same_length c = c.loop-left.invariant.0
 
-same-length-2 : tie.Need-same-length-2 invariant-loop decreases-loop
-same-length-2 c = c.before.loop.invariant.2
+same-length-2 : tie.Need-shape_of-known invariant-loop decreases-loop
+same-length-2 c = c.loop-left.invariant.2
 
 returns : tie.Need-returns invariant-loop decreases-loop
 returns c =
     let start = begun c.before in
     let a = start.args in
-    let l = c.before.loop in
-    (going_done (table start) a.given.now a.items.now a.at a.count (lent start) start.pre.1.0 l.place l.left _ l.sets c.loop-test.false l.invariant.1, l.invariant.3)
+    let l = c.loop-left in
+    (going_done (table start) a.given.now a.items.now a.at a.count (lent start) start.requires.1.0 l.place l.left _ l.sets c.loop-left-test.false l.invariant.1, l.invariant.3)
 
 pub forward_spec : {M : Type 1} → statement M
 forward_spec =

@@ -24,23 +24,23 @@ all start = length start.args.parent.now
 room : (start : tie.Start) → all start ≤ length start.args.sets.now / 2
 room start = one_fits (all start) (height start.requires.1.1.query) _ start.requires.1.1.room_for (some_tall start.requires.1.1.query)
 
-slots-in-requires : tie.Need-slots-in-requires
-slots-in-requires c κs = c.before.before.before.before.before.before.requires.0.tree.rooted
+slots-in-requires : tie.Need-slots_in-slots-requires
+slots-in-requires c κs = c.requires.0.tree.rooted
 
-array-borrow-prefix-known : tie.Need-array-borrow-prefix-known
-array-borrow-prefix-known c = c.before.before.slots-in.ensures.0
+array-borrow-prefix-known : tie.Need-slice_bounds-known-end
+array-borrow-prefix-known c = c.slots_in-slots.ensures.0
 
 -- As many entries are lent as sets are kept.
-as_many : (c : tie.After-slots-in) (entries : List ℕ) → length entries ≡ 32 → length (take c.slots-in.result entries) ≡ c.slots-in.result
-as_many c entries e = length-take-le c.slots-in.result entries (omega (arith, c.slots-in.ensures.0))
+as_many : (c : tie.After-slots_in-slots) (entries : List ℕ) → length entries ≡ 32 → length (take c.slots_in-slots.result entries) ≡ c.slots_in-slots.result
+as_many c entries e = length-take-le c.slots_in-slots.result entries (omega (arith, c.slots_in-slots.ensures.0))
 
-slice-aggregate-select : tie.Need-slice-aggregate-select
+slice-aggregate-select : tie.Need-slice_bounds-select-end
 slice-aggregate-select c = sym (as_many c.before.before.before _ refl)
 
 select-requires : tie.Need-select-requires
 select-requires c κs =
-    let slots = c.before.before.before in
-    let start = slots.before.before.before.before.before.before.before in
+    let slots = c in
+    let start = slots in
     let runs = start.requires.1.1 in (
       start.requires.0,
       (
@@ -50,9 +50,9 @@ select-requires c κs =
             few = runs.few;
             query = runs.query;
             decodes = runs.decodes;
-            room_for = omega (arith, runs.room_for, slots.slots-in.ensures.1, ap (λ (k : ℕ). all start * k) (as_many slots (replicate {A = ℕ} 32 0) refl));
+            room_for = omega (arith, runs.room_for, slots.slots_in-slots.ensures.1, ap (λ (k : ℕ). all start.before.before.before.before.before.before.before.before.before.before * k) (as_many slots (replicate {A = ℕ} 32 0) refl));
           },
-          none_kept 32 slots.slots-in.result runs.few,
+          none_kept 32 slots.slots_in-slots.result runs.few,
         ),
       ),
     )
@@ -60,46 +60,45 @@ select-requires c κs =
 -- The nodes are selected.
 abbrev chosen-in : tie.After-select → tie.Start
 chosen-in c = c.before.before.before.before.before.before.before.before.before.before.before
-
 chosen_room : (c : tie.After-select) → all (chosen-in c) ≤ length c.select.new.1.1.1.1.1.0
 chosen_room c = omega (arith, room (chosen-in c), c.select.auto.1.1.1.1.1.0)
 
 chosen_front : (c : tie.After-select) → length (take (all (chosen-in c)) c.select.new.1.1.1.1.1.0) ≡ all (chosen-in c)
 chosen_front c = length-take-le (all (chosen-in c)) c.select.new.1.1.1.1.1.0 (chosen_room c)
 
-slice-relend-prefix-spread : tie.Need-slice-relend-prefix-spread
+slice-relend-prefix-spread : tie.Need-slice_bounds-spread-end
 slice-relend-prefix-spread c = chosen_room c.before.before.before.before.before.before
 
-slice-aggregate-spread : tie.Need-slice-aggregate-spread
+slice-aggregate-spread : tie.Need-slice_bounds-spread-end-2
 slice-aggregate-spread c = sym (chosen_front c.before.before.before.before.before.before.before)
 
 spread-requires : tie.Need-spread-requires
 spread-requires c κs =
-    let chosen = c.before.before.before.before.before.before.before in
-    let start = chosen-in chosen in
-    (start.pre.0, (chosen.select.auto.1.1.1.1.0 ∙ start.pre.1.0, chosen_front chosen))
+    let chosen = c in
+    let start = chosen-in chosen.before.before.before.before.before.before.before in
+    (start.requires.0, (chosen.select.auto.1.1.1.1.0 ∙ start.requires.1.0, chosen_front chosen.before.before.before.before.before.before.before))
 
 fill-requires : tie.Need-fill-requires
 fill-requires c κs = search rules
 
-same_length : tie.Need-same-length
+same_length : tie.Need-shape_of-marks
 same_length c = search rules
 
-same-length-2 : tie.Need-same-length-2
+same-length-2 : tie.Need-shape_of-sets
 same-length-2 c = search rules
 
 returns : tie.Need-returns
 unfolding kept keeps keeps_by
 returns c =
-    let over = c.before.before.before.before.before.before.before.before in
-    let chosen = over.before.before.before.before.before.before.before.before in
-    let start = chosen-in chosen in
+    let over = c in
+    let chosen = over in
+    let start = chosen-in chosen.before.before.before.before.before.before.before.before.before.before.before.before.before.before.before.before in
     let a = start.args in
     let n = all start in
     let sets = chosen.select.new.1.1.1.1.1.0 in
     let spreads = over.spread in
-    let cleared = c.before.before.fill in
-    let as_long : length (spreads.new.1.1.1.1.0 ++ drop n sets) ≡ length a.sets.now = front_length n sets spreads.new.1.1.1.1.0 (chosen_room chosen) spreads.auto.1.1.1.1.0 ∙ chosen.select.auto.1.1.1.1.1.0 in (
+    let cleared = c.fill in
+    let as_long : length (spreads.new.1.1.1.1.0 ++ drop n sets) ≡ length a.sets.now = front_length n sets spreads.new.1.1.1.1.0 (chosen_room chosen.before.before.before.before.before.before.before.before.before.before.before.before.before.before.before.before) spreads.auto.1.1.1.1.0 ∙ chosen.select.auto.1.1.1.1.1.0 in (
       λ q e. spreads.ensures.0 (selects (table_of a.parent.now a.kind.now) a.given.now q) (chosen.select.ensures q e),
       cleared.ensures ∙ ap (λ (k : ℕ). replicate k 0) as_long,
     )

@@ -8,34 +8,34 @@ use Rattle.keep.proofs.Slices.{part_length, part_joined}
 use Rattle.keep.proofs.narrow.Statement.{statement}
 use Rattle.keep.proofs.narrow.Tie as tie
 
-sub-keep-second : tie.Need-overflow-sub-keep-second
-sub-keep-second c = omega (arith, c.before.before.requires c.if1.true)
+sub-keep-second : tie.Need-slice_bounds-keep_second-count
+sub-keep-second c = omega (arith, c.requires c.if-held-gt0.true)
 
-part-keep-second-start : tie.Need-slice-bounds-keep-second-start
-part-keep-second-start c = omega (arith, c.before.before.requires c.if1.true)
+part-keep-second-start : tie.Need-slice_bounds-keep_second-start
+part-keep-second-start c = omega (arith, c.requires c.if-held-gt0.true)
 
-part-keep-second-end : tie.Need-slice-bounds-keep-second-end
+part-keep-second-end : tie.Need-slice_bounds-keep_second-end
 part-keep-second-end c = search rules
 
-keep-second-requires : tie.Need-keep-second-requires
+keep-second-requires : tie.Need-keep_second-requires
 keep-second-requires c κs =
-    let start = c.before.before.before in
+    let start = c in
     let a = start.args in
-    let two = start.requires c.before.if1.true in
+    let two = start.requires c.if-held-gt0.true in
     omega (arith, two, part_length a.base a.sets.now [] (omega (arith, two)))
 
-same_length : tie.Need-same-length
+same_length : tie.Need-shape_of-sets
 same_length c = search rules
 
-returns : tie.Need-returns
+returns : tie.Need-returns-then-held-gt0
 returns c =
-    let start = c.before.before.before.before.before.before in
+    let start = c in
     let a = start.args in
-    let two = c.before.before.before.before.if1.true in
-    part_joined a.n a.base a.held ◌&&◌ a.sets.now c.before.before.keep-second.new.0 two (start.requires two) c.before.before.keep-second.ensures.0 c.before.before.keep-second.ensures.1
+    let two = c.if-held-gt0.true in
+    part_joined a.n a.base a.held ◌&&◌ a.sets.now c.keep_second.new.0 two (start.requires two) c.keep_second.ensures.0 c.keep_second.ensures.1
 
-returns-2 : tie.Need-returns-2
-returns-2 c = record { front = refl; behind = refl; first = λ z. refl; later = λ z. absurd (omega (arith, z, c.if1.false)) }
+returns-2 : tie.Need-returns-else-held-gt0
+returns-2 c = record { front = refl; behind = refl; first = λ z. refl; later = λ z. absurd (omega (arith, z, c.if-held-gt0.false)) }
 
 pub narrow_spec : {M : Type 1} → statement M
 narrow_spec =

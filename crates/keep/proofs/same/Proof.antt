@@ -18,50 +18,50 @@ one_more items a b i la lb e h =
     ap₂ (λ (xs : List ℕ) (x : ℕ). xs ++ (x ∷ [])) e (get_or-drop a items i 0 ∙ h ∙ sym (get_or-drop b items i 0)) ∙
     sym (ap (λ (k : ℕ). take k (drop b items)) (add-one i) ∙ take-suc (drop b items) i 0 (simp length-drop (omega arith)))
 
-abbrev invariant-loop : tie.invariant-loop
+abbrev invariant-loop : tie.invariant-loop-i
 invariant-loop items a b count i₀ i = (i ≤ count) × (take i (drop a items) ≡ take i (drop b items))
 
-abbrev decreases-loop : tie.decreases-loop
+abbrev decreases-loop : tie.decreases-loop-i
 decreases-loop items a b count i₀ i = count - i
 
-loop-holds : tie.Need-loop-init invariant-loop decreases-loop
+loop-holds : tie.Need-loop-i-init invariant-loop decreases-loop
 loop-holds c = (omega arith, refl)
 
-add-if1 : tie.Need-overflow-add-if1 invariant-loop decreases-loop
+add-if1 : tie.Need-overflow_add-a invariant-loop decreases-loop
 add-if1 c = search rules
 
-mul-if1 : tie.Need-overflow-mul-if1 invariant-loop decreases-loop
+mul-if1 : tie.Need-offset_bounds-items-a invariant-loop decreases-loop
 mul-if1 c = search rules
 
-shared-slice-read-if1 : tie.Need-shared-slice-read-if1 invariant-loop decreases-loop
+shared-slice-read-if1 : tie.Need-bounds-items-a invariant-loop decreases-loop
 shared-slice-read-if1 c = search rules
 
-add-if1-2 : tie.Need-overflow-add-if1-2 invariant-loop decreases-loop
+add-if1-2 : tie.Need-overflow_add-b invariant-loop decreases-loop
 add-if1-2 c = search rules
 
-mul-if1-2 : tie.Need-overflow-mul-if1-2 invariant-loop decreases-loop
+mul-if1-2 : tie.Need-offset_bounds-items-b invariant-loop decreases-loop
 mul-if1-2 c = search rules
 
-shared-slice-read-if1-2 : tie.Need-shared-slice-read-if1-2 invariant-loop decreases-loop
+shared-slice-read-if1-2 : tie.Need-bounds-items-b invariant-loop decreases-loop
 shared-slice-read-if1-2 c = search rules
 
-returns : tie.Need-returns invariant-loop decreases-loop
+returns : tie.Need-returns-then-items-a invariant-loop decreases-loop
 returns c = λ e. absurd (false≢true e)
 
-add-i : tie.Need-overflow-add-i invariant-loop decreases-loop
+add-i : tie.Need-overflow_add-i invariant-loop decreases-loop
 add-i c = search rules
 
-loop-less : tie.Need-loop-smaller invariant-loop decreases-loop
+loop-less : tie.Need-loop-i-smaller invariant-loop decreases-loop
 loop-less c = search rules
 
-loop-again : tie.Need-loop-preserved invariant-loop decreases-loop
+loop-again : tie.Need-loop-i-preserved invariant-loop decreases-loop
 loop-again c =
-    let turn = c.before.before.before.before in
-    let a = turn.before.args in
-    (omega arith, one_more a.items.now a.a a.b turn.loop.i (omega arith) (omega arith) turn.loop.invariant.1 (omega (arith, c.if1.false)))
+    let turn = c in
+    let a = turn.args in
+    (omega arith, one_more a.items.now a.a a.b turn.loop-i.i (omega arith) (omega arith) turn.loop-i.invariant.1 (omega (arith, c.if-items-a.false)))
 
-returns-2 : tie.Need-returns-2 invariant-loop decreases-loop
-returns-2 c = λ e. ap (λ (k : ℕ). take k (drop c.before.before.args.a c.before.before.args.items.now)) (let q : c.before.before.args.count ≡ c.before.loop.i = omega (arith, c.before.loop.invariant.0, c.loop-test.false) in q) ∙ c.before.loop.invariant.1 ∙ ap (λ (k : ℕ). take k (drop c.before.before.args.b c.before.before.args.items.now)) (let q : c.before.loop.i ≡ c.before.before.args.count = omega (arith, c.before.loop.invariant.0, c.loop-test.false) in q)
+returns-2 : tie.Need-returns invariant-loop decreases-loop
+returns-2 c = λ e. ap (λ (k : ℕ). take k (drop c.args.a c.args.items.now)) (let q : c.args.count ≡ c.loop-i.i = omega (arith, c.loop-i.invariant.0, c.loop-i-test.false) in q) ∙ c.loop-i.invariant.1 ∙ ap (λ (k : ℕ). take k (drop c.args.b c.args.items.now)) (let q : c.loop-i.i ≡ c.args.count = omega (arith, c.loop-i.invariant.0, c.loop-i-test.false) in q)
 
 pub same_spec : {M : Type 1} → statement M
 same_spec =

@@ -24,11 +24,11 @@ use Rattle.keep.proofs.Recalling.{spare_same, kept_same, kept_front}
 use Rattle.keep.proofs.select.Statement.{statement}
 use Rattle.keep.proofs.select.Tie as tie
 
-abbrev invariant-loop : tie.invariant-loop
+abbrev invariant-loop : tie.invariant-loop-place
 invariant-loop items parent kind given marks₀ sets₀ known₀ n place₀ marks sets known place =
     (length sets ≡ length sets₀) × (length marks ≡ length parent) × PathsDone (table_of parent kind) given items place marks × (length known ≡ length known₀) × Kept (table_of parent kind) given items (length parent) known sets
 
-abbrev decreases-loop : tie.decreases-loop
+abbrev decreases-loop : tie.decreases-loop-place
 decreases-loop items parent kind given marks₀ sets₀ known₀ n place₀ marks sets known place = length items - place
 
 -- What is lent.
@@ -53,172 +53,168 @@ runs start = start.requires.1.1.0
 
 -- At the head of a turn: there is room for one set of all nodes, before those kept.
 abbrev Turn : Type 0
-Turn = tie.At-loop invariant-loop decreases-loop
+Turn = tie.At-loop-place invariant-loop decreases-loop
 
 abbrev begun : Turn → Start
 begun c = c.before.before.before.before.before.before.before.before.before.before.before.before
-
 abbrev all : Turn → ℕ
 all c = nodes (table (begun c))
 
-room : (c : Turn) → all c ≤ spare (length c.loop.known) (all c) c.loop.sets
+room : (c : Turn) → all c ≤ spare (length c.loop-place.known) (all c) c.loop-place.sets
 room c =
     let start = begun c in
-    omega (arith, spare_same (all c) c.loop.sets start.args.sets.now c.loop.invariant.3 c.loop.invariant.0, one_fits (all c) (height (runs start).query) (lent start) (runs start).room_for (some_tall (runs start).query))
+    omega (arith, spare_same (all c) c.loop-place.sets start.args.sets.now c.loop-place.invariant.3 c.loop-place.invariant.0, one_fits (all c) (height (runs start).query) (lent start) (runs start).room_for (some_tall (runs start).query))
 
-front : (c : Turn) → length (take (all c) c.loop.sets) ≡ all c
-front c = length-take-le (all c) c.loop.sets (omega (arith, room c))
+front : (c : Turn) → length (take (all c) c.loop-place.sets) ≡ all c
+front c = length-take-le (all c) c.loop-place.sets (omega (arith, room c))
 
 -- A path is read.
-abbrev read-in : tie.After-path-at invariant-loop decreases-loop → Turn
+abbrev read-in : tie.After-path_at-count invariant-loop decreases-loop → Turn
 read-in c = c.before.before
-
-next : (c : tie.After-path-at invariant-loop decreases-loop)
-    → NextPath (table (begun (read-in c))) (items (begun (read-in c))) (read-in c).loop.place (lent (begun (read-in c))) (read-in c).loop.invariant.2.ahead c.path-at.result
+next : (c : tie.After-path_at-count invariant-loop decreases-loop)
+    → NextPath (table (begun (read-in c))) (items (begun (read-in c))) (read-in c).loop-place.place (lent (begun (read-in c))) (read-in c).loop-place.invariant.2.ahead c.path_at-count.result
 next c =
-    let l = (read-in c).loop in
+    let l = (read-in c).loop-place in
     let start = begun (read-in c) in
-    next-path (table start) (given start) (items start) (lent start) (runs start) l.place l.marks c.before.loop-test.true l.inv.2
-    (λ count p found. subst (NextPath (table start) (items start) l.place (lent start) l.inv.2.ahead) (some_inj (sym p ∙ c.path-at.ensures)) found)
+    next-path (table start) (given start) (items start) (lent start) (runs start) l.place l.marks c.loop-place-test.true l.invariant.2
+    (λ count p found. subst (NextPath (table start) (items start) l.place (lent start) l.invariant.2.ahead) (some_inj (sym p ∙ c.path_at-count.ensures)) found)
 
 -- The first set is that of the root.
-abbrev rooted-in : tie.After-start invariant-loop decreases-loop → tie.After-path-at invariant-loop decreases-loop
+abbrev rooted-in : tie.After-start invariant-loop decreases-loop → tie.After-path_at-count invariant-loop decreases-loop
 rooted-in c = c.before.before
-
 abbrev rooted : tie.After-start invariant-loop decreases-loop → List ℕ
-rooted c = c.start.new.1.0 ++ drop (all (read-in (rooted-in c))) (read-in (rooted-in c)).loop.sets
+rooted c = c.start.new.1.0 ++ drop (all (read-in (rooted-in c))) (read-in (rooted-in c)).loop-place.sets
 
 rooted_length : (c : tie.After-start invariant-loop decreases-loop) → length (rooted c) ≡ length (begun (read-in (rooted-in c))).args.sets.now
 rooted_length c =
     let turn = read-in (rooted-in c) in
-    front_length (all turn) turn.loop.sets c.start.new.1.0 (omega (arith, room turn)) c.start.auto.1.0 ∙ turn.loop.inv.0
+    front_length (all turn) turn.loop-place.sets c.start.new.1.0 (omega (arith, room turn)) c.start.auto.1.0 ∙ turn.loop-place.invariant.0
 
 rooted_kept : (c : tie.After-start invariant-loop decreases-loop)
-    → Kept (table (begun (read-in (rooted-in c)))) (given (begun (read-in (rooted-in c)))) (items (begun (read-in (rooted-in c)))) (all (read-in (rooted-in c))) (read-in (rooted-in c)).loop.known (rooted c)
+    → Kept (table (begun (read-in (rooted-in c)))) (given (begun (read-in (rooted-in c)))) (items (begun (read-in (rooted-in c)))) (all (read-in (rooted-in c))) (read-in (rooted-in c)).loop-place.known (rooted c)
 rooted_kept c =
     let turn = read-in (rooted-in c) in
-    kept_same turn.loop.known turn.loop.sets (rooted c)
-    (kept_front (length turn.loop.known) (all turn) (all turn) turn.loop.sets c.start.new.1.0 (room turn) (c.start.auto.1.0 ∙ front turn)) turn.loop.inv.4
+    kept_same turn.loop-place.known turn.loop-place.sets (rooted c)
+    (kept_front (length turn.loop-place.known) (all turn) (all turn) turn.loop-place.sets c.start.new.1.0 (room turn) (c.start.auto.1.0 ∙ front turn)) turn.loop-place.invariant.4
 
 -- It is moved along the path.
-abbrev moved_in : tie.After-forward invariant-loop decreases-loop → tie.After-start invariant-loop decreases-loop
+abbrev moved_in : tie.After-forward-place invariant-loop decreases-loop → tie.After-start invariant-loop decreases-loop
 moved_in c = c.before.before.before.before.before
-
-abbrev moved-turn : tie.After-forward invariant-loop decreases-loop → Turn
+abbrev moved-turn : tie.After-forward-place invariant-loop decreases-loop → Turn
 moved-turn c = read-in (rooted-in (moved_in c))
 
-abbrev moved : tie.After-forward invariant-loop decreases-loop → List ℕ
-moved c = c.forward.new.1.1.1.1.1.1.0
+abbrev moved : tie.After-forward-place invariant-loop decreases-loop → List ℕ
+moved c = c.forward-place.new.1.1.1.1.1.1.0
 
-moved_length : (c : tie.After-forward invariant-loop decreases-loop) → length (moved c) ≡ length (begun (moved-turn c)).args.sets.now
-moved_length c = c.forward.auto.1.1.1.1.1.1.0 ∙ rooted_length (moved_in c)
+moved_length : (c : tie.After-forward-place invariant-loop decreases-loop) → length (moved c) ≡ length (begun (moved-turn c)).args.sets.now
+moved_length c = c.forward-place.auto.1.1.1.1.1.1.0 ∙ rooted_length (moved_in c)
 
-moved_room : (c : tie.After-forward invariant-loop decreases-loop) → all (moved-turn c) ≤ length (moved c)
-moved_room c = omega (arith, moved_length c, (moved-turn c).loop.invariant.0, room (moved-turn c))
+moved_room : (c : tie.After-forward-place invariant-loop decreases-loop) → all (moved-turn c) ≤ length (moved c)
+moved_room c = omega (arith, moved_length c, (moved-turn c).loop-place.invariant.0, room (moved-turn c))
 
 fill-requires : tie.Need-fill-requires invariant-loop decreases-loop
 fill-requires c κs = search rules
 
-loop-holds : tie.Need-loop-init invariant-loop decreases-loop
+loop-holds : tie.Need-loop-place-init invariant-loop decreases-loop
 loop-holds c =
-    let filled = c.before.before.fill in
-    let start = c.before.before.before.before.before.before.before.before.before.before.before in (
+    let filled = c.fill in
+    let start = c in (
       refl,
       filled.auto.0 ∙ start.requires.1.0,
-      paths_begin (table start) (given start) (items start) _ _ (runs start) (filled.ensures ∙ ap (λ (k : ℕ). replicate k 0) start.requires.1.0),
+      paths_begin (table start.before.before.before.before.before.before.before.before.before.before.before) (given start.before.before.before.before.before.before.before.before.before.before.before) (items start.before.before.before.before.before.before.before.before.before.before.before) _ _ (runs start.before.before.before.before.before.before.before.before.before.before.before) (filled.ensures ∙ ap (λ (k : ℕ). replicate k 0) start.requires.1.0),
       refl,
       start.requires.1.1.1,
     )
 
-path-at-requires : tie.Need-path-at-requires invariant-loop decreases-loop
+path-at-requires : tie.Need-path_at-count-requires invariant-loop decreases-loop
 path-at-requires c κs =
-    let l = c.before.loop in
+    let l = c.loop-place in
     let start = begun c.before in
-    let on = c.loop-test.true in
+    let on = c.loop-place-test.true in
     next-path (table start) (given start) (items start) (lent start) (runs start) l.place l.marks on l.invariant.2 (λ count p found. (on, (count, p)))
 
-slice-relend-prefix-start : tie.Need-slice-relend-prefix-start invariant-loop decreases-loop
+slice-relend-prefix-start : tie.Need-slice_bounds-start-end invariant-loop decreases-loop
 slice-relend-prefix-start c = omega (arith, room (read-in c))
 
-slice-aggregate-start : tie.Need-slice-aggregate-start invariant-loop decreases-loop
+slice-aggregate-start : tie.Need-slice_bounds-start-end-in-loop-place invariant-loop decreases-loop
 slice-aggregate-start c = sym (front (read-in c.before))
 
 start-requires : tie.Need-start-requires invariant-loop decreases-loop
 start-requires c κs =
     let turn = read-in c.before in
-    let ready = (begun turn).pre.0 in
+    let ready = (begun turn).requires.0 in
     let as_long = sym (front turn) in
     (omega (arith, as_long, ready.tree.rooted), ready.marks_all ∙ as_long, ready.marks_bits ∙ ap (λ (k : ℕ). bits k (marked (given (begun turn)))) as_long)
 
-add-forward : tie.Need-overflow-add-forward invariant-loop decreases-loop
+add-forward : tie.Need-overflow_add-place invariant-loop decreases-loop
 add-forward c = omega arith
 
-forward-requires : tie.Need-forward-requires invariant-loop decreases-loop
+forward-requires : tie.Need-forward-place-requires invariant-loop decreases-loop
 forward-requires c κs =
-    let root = c.before.before.before.before in
-    let path = rooted-in root in
-    let l = (read-in path).loop in
+    let root = c in
+    let path = rooted-in root.before.before.before.before in
+    let l = (read-in path).loop-place in
     let start = begun (read-in path) in (
-      start.pre.0,
+      start.requires.0,
       (
-        subst (λ (r : ℕ). Fits (items start) (l.place + 1) (nodes (table start)) r (take_steps (take_within bracket_limit) path.path-at.result (drop (l.place + 1) (items start))) (λ s. 1 + height_steps s))
-            (sym (spare_same (nodes (table start)) (rooted root) start.args.sets.now l.inv.3 (rooted_length root))) (next path).steps,
-        rooted_kept root,
+        subst (λ (r : ℕ). Fits (items start) (l.place + 1) (nodes (table start)) r (take_steps (take_within bracket_limit) path.path_at-count.result (drop (l.place + 1) (items start))) (λ s. 1 + height_steps s))
+            (sym (spare_same (nodes (table start)) (rooted root.before.before.before.before) start.args.sets.now l.invariant.3 (rooted_length root.before.before.before.before))) (next path).steps,
+        rooted_kept root.before.before.before.before,
       ),
     )
 
-slice-reshare-prefix-add : tie.Need-slice-reshare-prefix-add invariant-loop decreases-loop
+slice-reshare-prefix-add : tie.Need-slice_bounds-add-end invariant-loop decreases-loop
 slice-reshare-prefix-add c = moved_room c.before.before.before.before
 
-slice-aggregate-add : tie.Need-slice-aggregate-add invariant-loop decreases-loop
-slice-aggregate-add c = sym (length-take-le _ _ (moved_room c.before.before.before.before.before))
+slice-aggregate-add : tie.Need-slice_bounds-add-end-in-loop-place invariant-loop decreases-loop
+slice-aggregate-add c = sym (length-take-le _ _ (moved_room c.before.before.before.before))
 
 add-requires : tie.Need-add-requires invariant-loop decreases-loop
 add-requires c κs =
-    let gone = c.before.before.before.before.before.before in
-    length-take-le _ (moved gone) (moved_room gone) ∙ sym (moved-turn gone).loop.invariant.1
+    let gone = c in
+    length-take-le _ (moved gone.before.before.before.before.before) (moved_room gone.before.before.before.before.before) ∙ sym (moved-turn gone.before.before.before.before.before).loop-place.invariant.1
 
-loop-less : tie.Need-loop-smaller invariant-loop decreases-loop
+loop-less : tie.Need-loop-place-smaller invariant-loop decreases-loop
 loop-less c =
-    let gone = c.before.before.before.before.before.before.before.before.before in
-    omega (arith, gone.forward.ensures.0.onward, gone.forward.ensures.0.inside, (rooted-in (moved_in gone)).before.loop-test.taken)
+    let gone = c in
+    omega (arith, gone.forward-place.ensures.0.onward, gone.forward-place.ensures.0.inside, (rooted-in (moved_in gone.before.before.before.before.before.before.before.before)).loop-place-test.true)
 
-loop-again : tie.Need-loop-preserved invariant-loop decreases-loop
+loop-again : tie.Need-loop-place-preserved invariant-loop decreases-loop
 loop-again c =
-    let added = c.before.before.add in
-    let gone = c.before.before.before.before.before.before.before.before.before in
-    let root = moved_in gone in
-    let turn = moved-turn gone in
-    let l = turn.loop in
+    let added = c.add in
+    let gone = c in
+    let root = moved_in gone.before.before.before.before.before.before.before.before in
+    let turn = moved-turn gone.before.before.before.before.before.before.before.before in
+    let l = turn.loop-place in
     let start = begun turn in
     let t = table start in
     let from_root : ℕ → Bool = λ i. eqb i 0 && marked (given start) 0 in (
-      moved_length gone,
-      added.auto.1.0 ∙ l.inv.1,
-      path_added t (given start) (items start) (lent start) (runs start) l.place gone.forward.result _ l.marks l.sets (rooted root) (moved gone) added.new.1.0 l.inv.2 (next (rooted-in root))
+      moved_length gone.before.before.before.before.before.before.before.before,
+      added.auto.1.0 ∙ l.invariant.1,
+      path_added t (given start) (items start) (lent start) (runs start) l.place gone.forward-place.result _ l.marks l.sets (rooted root) (moved gone.before.before.before.before.before.before.before.before) added.new.1.0 l.invariant.2 (next (rooted-in root))
           (front_back (nodes t) from_root root.start.last.1.0 _ (root.start.ensures ∙ ap (λ (k : ℕ). bits k from_root) (front turn)))
-          gone.forward.ensures.0
+          gone.forward-place.ensures.0
           (λ f g x y.
-          added.ensures f g (x ∙ ap (λ (k : ℕ). bits k f) (sym l.inv.1)) (y ∙ ap (λ (k : ℕ). bits k g) (sym l.inv.1)) ∙ ap (λ (k : ℕ). bits k (λ i. f i || g i)) l.inv.1)
-          start.pre.0.tree.rooted,
-      gone.forward.auto.1.1.1.1.1.1.1.0 ∙ l.inv.3,
-      gone.forward.ensures.1,
+          added.ensures f g (x ∙ ap (λ (k : ℕ). bits k f) (sym l.invariant.1)) (y ∙ ap (λ (k : ℕ). bits k g) (sym l.invariant.1)) ∙ ap (λ (k : ℕ). bits k (λ i. f i || g i)) l.invariant.1)
+          start.requires.0.tree.rooted,
+      gone.forward-place.auto.1.1.1.1.1.1.1.0 ∙ l.invariant.3,
+      gone.forward-place.ensures.1,
     )
 
-same_length : tie.Need-same-length invariant-loop decreases-loop
+same_length : tie.Need-shape_of-marks invariant-loop decreases-loop
 same_length c = search rules
 
-same-length-2 : tie.Need-same-length-2 invariant-loop decreases-loop
+same-length-2 : tie.Need-shape_of-sets invariant-loop decreases-loop
 same-length-2 c = search rules
 
-same-length-3 : tie.Need-same-length-3 invariant-loop decreases-loop
-same-length-3 c = c.before.loop.invariant.3
+same-length-3 : tie.Need-shape_of-known invariant-loop decreases-loop
+same-length-3 c = c.loop-place.invariant.3
 
 returns : tie.Need-returns invariant-loop decreases-loop
 returns c =
-    let l = c.before.loop in
+    let l = c.loop-place in
     let start = begun c.before in
-    paths_selected (table start) (given start) (items start) (lent start) (runs start) l.place l.marks c.loop-test.false l.invariant.2
+    paths_selected (table start) (given start) (items start) (lent start) (runs start) l.place l.marks c.loop-place-test.false l.invariant.2
 
 pub select_spec : {M : Type 1} → statement M
 select_spec =

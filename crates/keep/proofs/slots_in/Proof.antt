@@ -6,16 +6,16 @@ use borrow.Author.Rules.{rules}
 use Rattle.keep.proofs.slots_in.Statement.{statement}
 use Rattle.keep.proofs.slots_in.Tie as tie
 
-div-slots : tie.Need-nonzero-div-slots
+div-slots : tie.Need-nonzero_div-slots-2
 div-slots c = search rules
 
-returns : tie.Need-returns
+returns : tie.Need-returns-then-slots-gt-MOST
 returns c =
-    let a = c.before.args in
-    (omega arith, omega (arith, mul-le-mul_left a.n (let q : 32 ≤ a.bytes / 2 / a.n = omega (arith, c.if1.true) in q), mul-div-le (a.bytes / 2) a.n))
+    let a = c.args in
+    (omega arith, omega (arith, mul-le-mul_left a.n (let q : 32 ≤ a.bytes / 2 / a.n = omega (arith, c.if-slots-gt-MOST.true) in q), mul-div-le (a.bytes / 2) a.n))
 
-returns-2 : tie.Need-returns-2
-returns-2 c = (omega (arith, c.if1.false), mul-div-le (c.before.args.bytes / 2) c.before.args.n)
+returns-2 : tie.Need-returns
+returns-2 c = (omega (arith, c.if-slots-gt-MOST.false), mul-div-le (c.args.bytes / 2) c.args.n)
 
 pub slots_in_spec : {M : Type 1} → statement M
 slots_in_spec =

@@ -12,21 +12,21 @@ use Rattle.keep.proofs.start.Tie as tie
 fill-requires : tie.Need-fill-requires
 fill-requires c κs = search rules
 
-shared-slice-read-set : tie.Need-shared-slice-read-set
+shared-slice-read-set : tie.Need-bounds-given-0
 shared-slice-read-set c = search rules
 
-slice-write-set : tie.Need-slice-write-set
+slice-write-set : tie.Need-bounds-set-0
 slice-write-set c = search rules
 
-same_length : tie.Need-same-length
+same_length : tie.Need-shape_of-set
 same_length c = search rules
 
 returns : tie.Need-returns
 returns c =
-    let a = c.before.before.before.before.before.before.before.args in
-    let pre = c.before.before.before.before.before.before.before.requires in
+    let a = c.args in
+    let pre = c.requires in
     let n = length a.set.now in
-    ap (λ (z : List ℕ). set z 0 (get_or a.given.now 0 0)) c.before.before.before.fill.ensures ∙
+    ap (λ (z : List ℕ). set z 0 (get_or a.given.now 0 0)) c.fill.ensures ∙
     root_alone n (marked a.given.now 0) (get_or a.given.now 0 0) pre.0 (first_mark n a.given.now pre.0 pre.2)
 
 pub start_spec : {M : Type 1} → statement M

@@ -8,40 +8,39 @@ use Rattle.kept_file.proofs.file.Statement.{statement}
 use Rattle.kept_file.proofs.file.Tie as tie
 
 -- What a count left of the empty part that it was lent.
-abbrev kept-none : tie.After-write-kept → List ℕ
+abbrev kept-none : tie.After-write_kept-needed → List ℕ
 kept-none c = c.write-Kept.new.1.1.1.1.1.1.0
 
-abbrev begun : tie.After-write-kept → tie.Start
+abbrev begun : tie.After-write_kept-needed → tie.Start
 begun c = c.before.before.before.before.before.before.before.before.before
-
-slice-relend-prefix-write-kept : tie.Need-slice-relend-prefix-write-kept
+slice-relend-prefix-write-kept : tie.Need-slice_bounds-write_kept-end
 slice-relend-prefix-write-kept c = search rules
 
-slice-aggregate-write-kept : tie.Need-slice-aggregate-write-kept
+slice-aggregate-write-kept : tie.Need-slice_bounds-write_kept-end-2
 slice-aggregate-write-kept c = search rules
 
-write-kept-requires : tie.Need-write-kept-requires
+write-kept-requires : tie.Need-write_kept-needed-requires
 write-kept-requires c κs = search rules
 
-same_length : tie.Need-same-length
+same_length : tie.Need-shape_of-out-then-out-needed
 same_length c = search rules
 
-returns : tie.Need-returns
+returns : tie.Need-returns-then-out-needed
 returns c =
-    let first = c.before.before.before in
-    lacking _ (kept-none first) (begun first).args.out.now _ first.write-Kept.ensures (omega arith)
+    let first = c in
+    lacking _ (kept-none first.before.before.before) (begun first.before.before.before).args.out.now _ first.write-Kept.ensures (omega arith)
 
-write-kept-requires-2 : tie.Need-write-kept-requires-2
+write-kept-requires-2 : tie.Need-write_kept-requires
 write-kept-requires-2 c κs = search rules
 
-same-length-2 : tie.Need-same-length-2
+same-length-2 : tie.Need-shape_of-out
 same-length-2 c = search rules
 
-returns-2 : tie.Need-returns-2
+returns-2 : tie.Need-returns
 returns-2 c =
-    let second = c.before.before in
-    let first = second.before.before.before.before.before in
-    wrote _ (kept-none first) (begun first).args.out.now _ _ _ first.write-Kept.ensures second.write-kept2.ensures (omega arith)
+    let second = c in
+    let first = second in
+    wrote _ (kept-none first.before.before.before.before.before.before.before) (begun first.before.before.before.before.before.before.before).args.out.now _ _ _ first.write-Kept.ensures second.write_kept.ensures (omega arith)
 
 pub file_spec : {M : Type 1} → statement M
 file_spec =

@@ -7,32 +7,32 @@ use Rattle.kin.proofs.Passing.{Passed, none_passed, one_passed, all_passed}
 use Rattle.kin.proofs.clear.Statement.{statement}
 use Rattle.kin.proofs.clear.Tie as tie
 
-abbrev invariant-loop : tie.invariant-loop
+abbrev invariant-loop : tie.invariant-loop-i
 invariant-loop marks₀ i₀ marks i = Passed (λ k. 0) marks₀ marks i
 
-abbrev decreases-loop : tie.decreases-loop
+abbrev decreases-loop : tie.decreases-loop-i
 decreases-loop marks₀ i₀ marks i = length marks₀ - i
 
-loop-holds : tie.Need-loop-init invariant-loop decreases-loop
+loop-holds : tie.Need-loop-i-init invariant-loop decreases-loop
 loop-holds c = none_passed
 
-slice-write-marks : tie.Need-slice-write-marks invariant-loop decreases-loop
+slice-write-marks : tie.Need-bounds-marks-i invariant-loop decreases-loop
 slice-write-marks c = omega arith
 
-add-i : tie.Need-overflow-add-i invariant-loop decreases-loop
+add-i : tie.Need-overflow_add-i invariant-loop decreases-loop
 add-i c = omega arith
 
-loop-less : tie.Need-loop-smaller invariant-loop decreases-loop
+loop-less : tie.Need-loop-i-smaller invariant-loop decreases-loop
 loop-less c = omega arith
 
-loop-again : tie.Need-loop-preserved invariant-loop decreases-loop
-loop-again c = one_passed c.before.loop.invariant (omega arith) refl
+loop-again : tie.Need-loop-i-preserved invariant-loop decreases-loop
+loop-again c = one_passed c.loop-i.invariant (omega arith) refl
 
-same_length : tie.Need-same-length invariant-loop decreases-loop
+same_length : tie.Need-shape_of-marks invariant-loop decreases-loop
 same_length c = omega arith
 
 returns : tie.Need-returns invariant-loop decreases-loop
-returns c = all_passed c.before.loop.invariant (omega arith) (length c.before.before.args.marks.now) refl (λ k. 0) (λ k l. refl)
+returns c = all_passed c.loop-i.invariant (omega arith) (length c.args.marks.now) refl (λ k. 0) (λ k l. refl)
 
 pub clear_spec : {M : Type 1} → statement M
 clear_spec =

@@ -6,14 +6,14 @@ use borrow.Author.Rules.{rules}
 use Rattle.kin.proofs.is_below.Statement.{statement}
 use Rattle.kin.proofs.is_below.Tie as tie
 
-is-over-requires : tie.Need-is-over-requires
+is-over-requires : tie.Need-is_over-requires
 is-over-requires c κs = search rules
 
 returns : tie.Need-returns
 returns c =
-    let a = c.before.before.args in
+    let a = c.args in
     λ kinds.
-    ap (λ b. b && not (eqb a.i a.j)) (c.is-over.ensures kinds)
+    ap (λ b. b && not (eqb a.i a.j)) (c.is_over.ensures kinds)
 
 pub is_below_spec : {M : Type 1} → statement M
 is_below_spec = tie.close (tie.spec is-over-requires returns)

@@ -6,10 +6,10 @@ use borrow.Author.Rules.{rules}
 use Rattle.kin.proofs.is_child.Statement.{statement}
 use Rattle.kin.proofs.is_child.Tie as tie
 
-mul_wide : tie.Need-overflow-mul-wide
+mul_wide : tie.Need-offset_bounds-parent-j
 mul_wide c = search rules
 
-shared-slice-read-wide : tie.Need-shared-slice-read-wide
+shared-slice-read-wide : tie.Need-bounds-parent-j
 shared-slice-read-wide c = search rules
 
 wide-requires : tie.Need-wide-requires
@@ -17,7 +17,7 @@ wide-requires c κs = search rules
 
 returns : tie.Need-returns
 returns c =
-    let a = c.before.before.before.args in
+    let a = c.args in
     λ kinds.
     ap (λ k. not (eqb a.j 0) && eqb k a.i) c.wide.ensures
 

@@ -9,24 +9,24 @@ use Rattle.lean_marks.proofs.down_at.Reads as reads
 use Rattle.lean_marks.proofs.down_at.Lts as lts
 use Rattle.lean_marks.proofs.down_item.Reads as down-item-reads
 
-returns : tie.Need-returns
-returns c = let a = c.before.before.args in sym (ap (λ n. down_at a.items.now a.next n a.last) c.if1.true)
+returns : tie.Need-returns-then-left-eq0
+returns c = let a = c.args in sym (ap (λ n. down_at a.items.now a.next n a.last) c.if-left-eq0.true)
 
-mul-down-item : tie.Need-overflow-mul-down-item
+mul-down-item : tie.Need-offset_bounds-items-next
 mul-down-item c = search rules
 
-shared-slice-read-down-item : tie.Need-shared-slice-read-down-item
+shared-slice-read-down-item : tie.Need-bounds-items-next
 shared-slice-read-down-item c = search rules
 
-down-item-requires : tie.Need-down-item-requires
+down-item-requires : tie.Need-down_item-requires
 down-item-requires c κs = search rules
 
-returns-2 : tie.Need-returns-2
-returns-2 c = let a = c.before.before.before.before.before.args in
-    c.down-item.ensures ∙ down_some a.items.now a.next a.left a.last c.before.before.before.if1.false c.before.before.if2.true
+returns-2 : tie.Need-returns-then-next-items
+returns-2 c = let a = c.args in
+    c.down_item.ensures ∙ down_some a.items.now a.next a.left a.last c.if-left-eq0.false c.if-next-items.true
 
-returns-3 : tie.Need-returns-3
-returns-3 c = let a = c.before.before.before.args in down_past a.items.now a.next a.left a.last c.before.if1.false c.if2.false
+returns-3 : tie.Need-returns
+returns-3 c = let a = c.args in down_past a.items.now a.next a.left a.last c.if-left-eq0.false c.if-next-items.false
 
 pub down_at_spec : {M : Type 1} → statement M
 down_at_spec =

@@ -8,20 +8,20 @@ use Rattle.lean_marks.proofs.down_item.Lts as lts
 use Rattle.item.proofs.unpack.Reads as unpack-reads
 use Rattle.lean_marks.proofs.goes_down.Reads as goes-down-reads
 
-unpack-requires : tie.Need-unpack-requires
+unpack-requires : tie.Need-unpack-item-requires
 unpack-requires c κs = search rules
 
-enum-known-item : tie.Need-enum-known-item
+enum-known-item : tie.Need-enum_known-item
 enum-known-item c = search rules
 
-returns : tie.Need-returns
-returns c = no_step_down _ _ c.before.unpack.ensures c.match.keys2
+returns : tie.Need-returns-in_default
+returns c = no_step_down _ _ c.unpack-item.ensures c.in-Step.in-Step-own.keys2
 
-goes-down-requires : tie.Need-goes-down-requires
+goes-down-requires : tie.Need-goes_down-requires
 goes-down-requires c κs = search rules
 
-returns-2 : tie.Need-returns-2
-returns-2 c = step_down _ _ _ _ c.before.before.before.before.unpack.ensures c.before.before.item.given.1 c.goes_down.ensures
+returns-2 : tie.Need-returns
+returns-2 c = step_down _ _ _ _ c.unpack-item.ensures c.in-Step.is c.goes_down.ensures
 
 pub down_item_spec : {M : Type 1} → statement M
 down_item_spec =

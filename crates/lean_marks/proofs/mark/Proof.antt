@@ -11,40 +11,40 @@ use Rattle.lean_marks.proofs.mark.Reads as reads
 use Rattle.lean_marks.proofs.mark.Lts as lts
 use Rattle.lean_marks.proofs.mark_item.Reads as mark-item-reads
 
-abbrev invariant-loop : tie.invariant-loop
+abbrev invariant-loop : tie.invariant-loop-place
 invariant-loop items marks₀ place₀ marks place = (place ≤ length items) × (length marks ≡ length marks₀) × (turns items 0 items marks₀ ≡ turns items place (drop place items) marks)
 
-abbrev decreases-loop : tie.decreases-loop
+abbrev decreases-loop : tie.decreases-loop-place
 decreases-loop items marks₀ place₀ marks place = length items - place
 
-loop-holds : tie.Need-loop-init invariant-loop decreases-loop
+loop-holds : tie.Need-loop-place-init invariant-loop decreases-loop
 loop-holds c = (omega arith, refl, refl)
 
-mark-item-requires : tie.Need-mark-item-requires invariant-loop decreases-loop
-mark-item-requires c κs = let l = c.before.before.loop in
-    let pre = c.before.before.before.before.before.requires in
-    (c.before.loop-test.true, pre.0, omega (arith, l.invariant.1, pre.1, c.before.loop-test.true))
+mark-item-requires : tie.Need-mark_item-requires invariant-loop decreases-loop
+mark-item-requires c κs = let l = c.loop-place in
+    let pre = c.requires in
+    (c.loop-place-test.true, pre.0, omega (arith, l.invariant.1, pre.1, c.loop-place-test.true))
 
-add-place : tie.Need-overflow-add-place invariant-loop decreases-loop
+add-place : tie.Need-overflow_add-place invariant-loop decreases-loop
 add-place c = omega arith
 
-loop-less : tie.Need-loop-smaller invariant-loop decreases-loop
+loop-less : tie.Need-loop-place-smaller invariant-loop decreases-loop
 loop-less c = omega arith
 
-loop-again : tie.Need-loop-preserved invariant-loop decreases-loop
-loop-again c = let put = c.before.before in
-    let test = put.before.before in
-    let l = test.before.loop in
-    let a = test.before.before.before.before.args in
-    (omega (arith, test.loop-test.true), ap length put.mark-item.ensures ∙ turn_length a.items.now l.place _ l.marks ∙ l.invariant.1, l.invariant.2 ∙ turns_more a.items.now l.place l.marks put.mark-item.new.1.1.0 test.loop-test.true put.mark-item.ensures)
+loop-again : tie.Need-loop-place-preserved invariant-loop decreases-loop
+loop-again c = let put = c in
+    let test = put in
+    let l = test.loop-place in
+    let a = test.args in
+    (omega (arith, test.loop-place-test.true), ap length put.mark_item.ensures ∙ turn_length a.items.now l.place _ l.marks ∙ l.invariant.1, l.invariant.2 ∙ turns_more a.items.now l.place l.marks put.mark_item.new.1.1.0 test.loop-place-test.true put.mark_item.ensures)
 
-same_length : tie.Need-same-length invariant-loop decreases-loop
-same_length c = c.before.loop.invariant.1
+same_length : tie.Need-shape_of-marks invariant-loop decreases-loop
+same_length c = c.loop-place.invariant.1
 
 returns : tie.Need-returns invariant-loop decreases-loop
-returns c = let a = c.before.before.before.before.args in
-    let l = c.before.loop in
-    sym (l.invariant.2 ∙ turns_end a.items.now l.place l.marks c.loop-test.false)
+returns c = let a = c.args in
+    let l = c.loop-place in
+    sym (l.invariant.2 ∙ turns_end a.items.now l.place l.marks c.loop-place-test.false)
 
 pub mark_spec : {M : Type 1} → statement M
 mark_spec =

@@ -11,50 +11,50 @@ use Rattle.lean_marks.proofs.pass_on.Reads as pass-on-reads
 use Rattle.lean_marks.proofs.tell.Reads as tell-reads
 use Rattle.owed.proofs.skip.Reads as skip-reads
 
-mul-marks : tie.Need-overflow-mul-marks
+mul-marks : tie.Need-offset_bounds-marks-place
 mul-marks c = search rules
 
-slice-write-marks : tie.Need-slice-write-marks
+slice-write-marks : tie.Need-bounds-marks-place
 slice-write-marks c = search rules
 
-add-pass-on : tie.Need-overflow-add-pass-on
+add-pass-on : tie.Need-overflow_add-place
 add-pass-on c = search rules
 
-pass-on-requires : tie.Need-pass-on-requires
+pass-on-requires : tie.Need-pass_on-requires
 pass-on-requires c κs = search rules
 
-add-skip : tie.Need-overflow-add-skip
+add-skip : tie.Need-overflow_add-place-then-last-eq1
 add-skip c = search rules
 
-skip-requires : tie.Need-skip-requires
+skip-requires : tie.Need-skip-next-requires
 skip-requires c κs = search rules
 
 tell-requires : tie.Need-tell-requires
 tell-requires c κs = search rules
 
-same_length : tie.Need-same-length
-same_length c = let put = c.before.before in
-    let top = put.before.before.before in
-    let passed = top.before.before.before in
-    let a = passed.before.before.before.before.args in
-    ap length (path_top a.items.now a.marks.now passed.pass_on.new.0 put.tell.new.0 a.place a.w a.count a.last _ top.if1.true passed.pass_on.ensures put.before.before.skip.ensures.0 put.tell.ensures) ∙ path_length a.items.now a.place a.w a.count a.last a.marks.now
+same_length : tie.Need-shape_of-marks-then-last-eq1
+same_length c = let put = c in
+    let top = put in
+    let passed = top in
+    let a = passed.args in
+    ap length (path_top a.items.now a.marks.now passed.pass_on.new.0 put.tell.new.0 a.place a.w a.count a.last _ top.if-last-eq1.true passed.pass_on.ensures put.skip-next.ensures.0 put.tell.ensures) ∙ path_length a.items.now a.place a.w a.count a.last a.marks.now
 
-returns : tie.Need-returns
-returns c = let put = c.before.before in
-    let top = put.before.before.before in
-    let passed = top.before.before.before in
-    let a = passed.before.before.before.before.args in
-    path_top a.items.now a.marks.now passed.pass_on.new.0 put.tell.new.0 a.place a.w a.count a.last _ top.if1.true passed.pass_on.ensures put.before.before.skip.ensures.0 put.tell.ensures
+returns : tie.Need-returns-then-last-eq1
+returns c = let put = c in
+    let top = put in
+    let passed = top in
+    let a = passed.args in
+    path_top a.items.now a.marks.now passed.pass_on.new.0 put.tell.new.0 a.place a.w a.count a.last _ top.if-last-eq1.true passed.pass_on.ensures put.skip-next.ensures.0 put.tell.ensures
 
-same-length-2 : tie.Need-same-length-2
-same-length-2 c = let passed = c.before.before.before in
-    let a = passed.before.before.before.before.args in
-    ap length (path_inner a.items.now a.marks.now passed.pass_on.new.0 a.place a.w a.count a.last c.if1.false passed.pass_on.ensures) ∙ path_length a.items.now a.place a.w a.count a.last a.marks.now
+same-length-2 : tie.Need-shape_of-marks-else-last-eq1
+same-length-2 c = let passed = c in
+    let a = passed.args in
+    ap length (path_inner a.items.now a.marks.now passed.pass_on.new.0 a.place a.w a.count a.last c.if-last-eq1.false passed.pass_on.ensures) ∙ path_length a.items.now a.place a.w a.count a.last a.marks.now
 
-returns-2 : tie.Need-returns-2
-returns-2 c = let passed = c.before.before.before in
-    let a = passed.before.before.before.before.args in
-    path_inner a.items.now a.marks.now passed.pass_on.new.0 a.place a.w a.count a.last c.if1.false passed.pass_on.ensures
+returns-2 : tie.Need-returns-else-last-eq1
+returns-2 c = let passed = c in
+    let a = passed.args in
+    path_inner a.items.now a.marks.now passed.pass_on.new.0 a.place a.w a.count a.last c.if-last-eq1.false passed.pass_on.ensures
 
 pub mark_path_spec : {M : Type 1} → statement M
 mark_path_spec =

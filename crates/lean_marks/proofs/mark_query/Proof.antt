@@ -26,37 +26,36 @@ fits start = omega (arith, long start, start.requires.1, length-set (marks start
 -- The turns are done.
 abbrev begun : tie.After-mark → tie.Start
 begun c = c.before.before.before.before
-
 part_length : (c : tie.After-mark) → length c.mark.new.1.0 ≡ length (take (length (items (begun c))) (set (marks (begun c)) 0 1))
 part_length c = c.mark.auto.1.0
 
-slice-write-marks : tie.Need-slice-write-marks
+slice-write-marks : tie.Need-bounds-marks-0
 slice-write-marks c = omega (arith, long c.before.before)
 
-slice-relend-prefix-mark : tie.Need-slice-relend-prefix-mark
+slice-relend-prefix-mark : tie.Need-slice_bounds-mark-end
 slice-relend-prefix-mark c = omega (arith, fits c.before.before)
 
-slice-aggregate-mark : tie.Need-slice-aggregate-mark
+slice-aggregate-mark : tie.Need-slice_bounds-mark-end-2
 slice-aggregate-mark c =
-    let start = c.before.before.before in
-    sym (length-take-le (length (items start)) (set (marks start) 0 1) (fits start))
+    let start = c in
+    sym (length-take-le (length (items start.before.before.before)) (set (marks start.before.before.before) 0 1) (fits start.before.before.before))
 
 mark-requires : tie.Need-mark-requires
 mark-requires c κs =
-    let start = c.before.before.before in
-    (start.requires.1, length-take-le (length (items start)) (set (marks start) 0 1) (fits start))
+    let start = c in
+    (start.requires.1, length-take-le (length (items start.before.before.before)) (set (marks start.before.before.before) 0 1) (fits start.before.before.before))
 
-same_length : tie.Need-same-length
+same_length : tie.Need-shape_of-marks
 same_length c =
-    let done = c.before.before in
-    let start = begun done in
-    length_front (set (marks start) 0 1) done.mark.new.1.0 (length (items start)) (part_length done) ∙ length-set (marks start) 0 1
+    let done = c in
+    let start = begun done.before.before in
+    length_front (set (marks start) 0 1) done.mark.new.1.0 (length (items start)) (part_length done.before.before) ∙ length-set (marks start) 0 1
 
 returns : tie.Need-returns
 returns c =
-    let done = c.before.before in
-    let start = begun done in
-    query_marked (items start) (marks start) done.mark.new.1.0 start.pre.0.query item_limit start.pre.0.decodes start.pre.1 start.pre.2 done.mark.ensures
+    let done = c in
+    let start = begun done.before.before in
+    query_marked (items start) (marks start) done.mark.new.1.0 start.requires.0.query item_limit start.requires.0.decodes start.requires.1 start.requires.2 done.mark.ensures
 
 pub mark_query_spec : {M : Type 1} → statement M
 mark_query_spec =

@@ -16,66 +16,66 @@ use Rattle.lean_marks.proofs.pass_on.Reads as pass-on-reads
 use Rattle.lean_marks.proofs.saying.Reads as saying-reads
 use Rattle.owed.proofs.skip.Reads as skip-reads
 
-mul-told : tie.Need-overflow-mul-told
+mul-told : tie.Need-offset_bounds-marks-place
 mul-told c = search rules
 
-slice-read-told : tie.Need-slice-read-told
+slice-read-told : tie.Need-bounds-marks-place
 slice-read-told c = search rules
 
-cast-told : tie.Need-overflow-cast-told
-cast-told c = omega (arith, c.slice-known2.given c.before.before.before.args.place)
+cast-told : tie.Need-overflow_cast-told
+cast-told c = omega (arith, c.slice_known-2-1.given c.args.place)
 
-add-skip : tie.Need-overflow-add-skip
+add-skip : tie.Need-overflow_add-place
 add-skip c = search rules
 
-skip-requires : tie.Need-skip-requires
+skip-requires : tie.Need-skip-next-requires
 skip-requires c κs = search rules
 
-down-at-requires : tie.Need-down-at-requires
+down-at-requires : tie.Need-down_at-down-requires
 down-at-requires c κs = search rules
 
-may-hide-requires : tie.Need-may-hide-requires
+may-hide-requires : tie.Need-may_hide-hidden-requires
 may-hide-requires c κs = search rules
 
-saying-requires : tie.Need-saying-requires
+saying-requires : tie.Need-saying-axis-requires
 saying-requires c κs = search rules
 
-pack-step-requires : tie.Need-pack-step-requires
-pack-step-requires c κs = let pre = c.before.before.before.before.before.before.before.requires in
-    (omega (arith, c.saying.ensures, one_most (c.before.may-hide.result && not c.before.before.down-at.result)), pre.0, omega (arith, pre.1))
+pack-step-requires : tie.Need-pack_step-requires
+pack-step-requires c κs = let pre = c.requires in
+    (omega (arith, c.saying-axis.ensures, one_most (c.may_hide-hidden.result && not c.down_at-down.result)), pre.0, omega (arith, pre.1))
 
-mul-marks : tie.Need-overflow-mul-marks
+mul-marks : tie.Need-offset_bounds-marks-place-2
 mul-marks c = search rules
 
-slice-write-marks : tie.Need-slice-write-marks
+slice-write-marks : tie.Need-bounds-marks-place-2
 slice-write-marks c = search rules
 
-pass-on-requires : tie.Need-pass-on-requires
-pass-on-requires c κs = let read = c.before.before.before.before.before.before in
-    let told = read.slice-known2.given read.before.before.before.args.place in
+pass-on-requires : tie.Need-pass_on-requires
+pass-on-requires c κs = let read = c in
+    let told = read.slice_known-2-1.given read.args.place in
     (omega (arith, told), omega arith)
 
-same_length : tie.Need-same-length
-same_length c = let put = c.before.before in
-    let packs = put.before.before in
-    let hides = packs.before.before in
-    let downs = hides.before in
-    let skips = downs.before in
-    let a = skips.before.before.before.before.args in
+same_length : tie.Need-shape_of-marks
+same_length c = let put = c in
+    let packs = put in
+    let hides = packs in
+    let downs = hides in
+    let skips = downs in
+    let a = skips.args in
     ap length
-    (step_done a.items.now a.marks.now put.pass_on.new.0 a.place a.step skips.skip.result downs.down-at.result hides.may-hide.result packs.before.saying.result packs.pack-step.result
-    skips.skip.ensures.0 downs.down-at.ensures hides.may-hide.ensures packs.before.saying.ensures packs.pack-step.ensures put.pass_on.ensures) ∙
+    (step_done a.items.now a.marks.now put.pass_on.new.0 a.place a.step skips.skip-next.result downs.down_at-down.result hides.may_hide-hidden.result packs.saying-axis.result packs.pack_step.result
+    skips.skip-next.ensures.0 downs.down_at-down.ensures hides.may_hide-hidden.ensures packs.saying-axis.ensures packs.pack_step.ensures put.pass_on.ensures) ∙
     step_length a.items.now a.place a.step a.marks.now
 
 returns : tie.Need-returns
-returns c = let put = c.before.before in
-    let packs = put.before.before in
-    let hides = packs.before.before in
-    let downs = hides.before in
-    let skips = downs.before in
-    let a = skips.before.before.before.before.args in
-    step_done a.items.now a.marks.now put.pass_on.new.0 a.place a.step skips.skip.result downs.down-at.result hides.may-hide.result packs.before.saying.result packs.pack-step.result
-    skips.skip.ensures.0 downs.down-at.ensures hides.may-hide.ensures packs.before.saying.ensures packs.pack-step.ensures put.pass_on.ensures
+returns c = let put = c in
+    let packs = put in
+    let hides = packs in
+    let downs = hides in
+    let skips = downs in
+    let a = skips.args in
+    step_done a.items.now a.marks.now put.pass_on.new.0 a.place a.step skips.skip-next.result downs.down_at-down.result hides.may_hide-hidden.result packs.saying-axis.result packs.pack_step.result
+    skips.skip-next.ensures.0 downs.down_at-down.ensures hides.may_hide-hidden.ensures packs.saying-axis.ensures packs.pack_step.ensures put.pass_on.ensures
 
 pub mark_step_spec : {M : Type 1} → statement M
 mark_step_spec =

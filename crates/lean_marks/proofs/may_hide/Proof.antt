@@ -13,7 +13,7 @@ guarded-requires : tie.Need-guarded-requires
 guarded-requires c κs = search rules
 
 returns : tie.Need-returns
-returns c = let a = c.before.args in ap (λ b. b || (eqb a.axis 0 && a.loose)) c.guarded.ensures
+returns c = let a = c.args in ap (λ b. b || (eqb a.axis 0 && a.loose)) c.guarded.ensures
 
 pub may_hide_spec : {M : Type 1} → statement M
 may_hide_spec = tie.close (tie.spec guarded-requires returns)

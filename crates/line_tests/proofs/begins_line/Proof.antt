@@ -16,7 +16,7 @@ says-requires-2 : tie.Need-says-requires-2
 says-requires-2 c κs = search rules
 
 returns : tie.Need-returns
-returns c = tells_both _ _ (subst (λ k. Tells c.before.says.result (Has c.before.before.before.before.before.args.parent.now c.before.before.before.before.before.args.n k)) c.before.before.wide.ensures c.before.says.ensures) c.says2.ensures
+returns c = tells_both _ _ (subst (λ k. Tells c.says.result (Has c.args.parent.now c.args.n k)) c.wide.ensures c.says.ensures) c.says-2.ensures
 
 pub begins_line_spec : {M : Type 1} → statement M
 begins_line_spec = tie.close (tie.spec wide-requires says-requires says-requires-2 returns)

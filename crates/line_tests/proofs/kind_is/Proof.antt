@@ -14,33 +14,33 @@ use mathlib.Core.Path.{◌≡◌, refl, sym, ◌∙◌, ap, subst}
 use native.Mathlib.Omega.{arith}
 
 -- The name's number is small.
-small : (c : tie.After-found) → c.found.given.0.0 < names_limit
-small c = c.before.before.before.requires _ (ap found_at c.found.given.1)
+small : (c : tie.In-At) → c.in-At.v < names_limit
+small c = c.requires _ (ap found_at c.in-At.is)
 
-enum-known-found : tie.Need-enum-known-found
+enum-known-found : tie.Need-enum_known-found
 enum-known-found c = search rules
 
 wide-requires : tie.Need-wide-requires
 wide-requires c κs = search rules
 
-add-says : tie.Need-overflow-add-says
-add-says c = omega (arith, small c.before.before, c.wide.ensures)
+add-says : tie.Need-overflow_add-wide
+add-says c = omega (arith, small c.before, c.wide.ensures)
 
 says-requires : tie.Need-says-requires
 says-requires c κs = search rules
 
-enum_told : tie.Need-enum-told
+enum_told : tie.Need-enum_told-1
 enum_told c = search rules
 
-returns : tie.Need-returns
+returns : tie.Need-returns-in-At
 returns c =
-    let s = c.before.before.before.before.before.before in
-    λ look name e. has_kind look name s.args.kind.now s.args.n _ _ (sym (ap found_at c.before.before.before.found.given.1) ∙ e) (ap (λ k. k + c.before.before.before.found.given.0.0) c.before.wide.ensures) c.says.ensures
+    let s = c in
+    λ look name e. has_kind look name s.args.kind.now s.args.n _ _ (sym (ap found_at c.in-At.is) ∙ e) (ap (λ k. k + c.in-At.v) c.wide.ensures) c.says.ensures
 
-returns-2 : tie.Need-returns-2
+returns-2 : tie.Need-returns-in-Nothing
 returns-2 c =
-    let s = c.before.before.before in
-    λ look name e. lacks_kind look name s.args.kind.now s.args.n (sym (ap found_at c.enum_told.given.1) ∙ e)
+    let s = c in
+    λ look name e. lacks_kind look name s.args.kind.now s.args.n (sym (ap found_at c.in-Nothing.is) ∙ e)
 
 pub kind_is_spec : {M : Type 1} → statement M
 kind_is_spec =

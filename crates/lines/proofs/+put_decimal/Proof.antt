@@ -25,7 +25,7 @@ abbrev put_decimal_below : ℕ → In 1 put-decimal-kinds.ps
 put_decimal_below t =
     and 1 put-decimal-kinds.ps (falls 1 put-decimal-kinds.ps ◌<◌ μ-put-decimal t) put-decimal.Pre
 
-put_decimal_put_digit_requires : (t : ℕ) → put-decimal-lts.Need-put-digit-requires (
+put_decimal_put_digit_requires : (t : ℕ) → put-decimal-lts.Need-put_digit-requires (
   put-digit-reads.Asked,
   put-digit-reads.Learnt,
   put_decimal_below t,
@@ -33,7 +33,7 @@ put_decimal_put_digit_requires : (t : ℕ) → put-decimal-lts.Need-put-digit-re
 ) (put_decimal_at t) put-decimal.Post
 put_decimal_put_digit_requires t c κs = omega arith
 
-put_decimal_same_length : (t : ℕ) → put-decimal-lts.Need-same-length (
+put_decimal_same_length : (t : ℕ) → put-decimal-lts.Need-shape_of-out-then-n-lt10 (
   put-digit-reads.Asked,
   put-digit-reads.Learnt,
   put_decimal_below t,
@@ -41,34 +41,34 @@ put_decimal_same_length : (t : ℕ) → put-decimal-lts.Need-same-length (
 ) (put_decimal_at t) put-decimal.Post
 put_decimal_same_length t c = search rules
 
-put_decimal_returns : (t : ℕ) → put-decimal-lts.Need-returns (
+put_decimal_returns : (t : ℕ) → put-decimal-lts.Need-returns-then-n-lt10 (
   put-digit-reads.Asked,
   put-digit-reads.Learnt,
   put_decimal_below t,
   put-decimal.Post,
 ) (put_decimal_at t) put-decimal.Post
 put_decimal_returns t c =
-    let a = c.before.before.before.before.before.before.args in
-    let puts = c.before.before.put-digit.ensures in
-    (puts_as (sym (decimal_one a.n c.before.before.before.before.if1.true)) puts, omega (arith, puts.moved))
+    let a = c.args in
+    let puts = c.put_digit.ensures in
+    (puts_as (sym (decimal_one a.n c.if-n-lt10.true)) puts, omega (arith, puts.moved))
 
-put_decimal_put_decimal_requires : (t : ℕ) → put-decimal-lts.Need-put-decimal-requires (
+put_decimal_put_decimal_requires : (t : ℕ) → put-decimal-lts.Need-put_decimal-next-requires (
   put-digit-reads.Asked,
   put-digit-reads.Learnt,
   put_decimal_below t,
   put-decimal.Post,
 ) (put_decimal_at t) put-decimal.Post
-put_decimal_put_decimal_requires t c κs = let measured = c.before.before.before.requires.0 in omega arith
+put_decimal_put_decimal_requires t c κs = let measured = c.requires.0 in omega arith
 
-put_decimal_put_digit_requires_2 : (t : ℕ) → put-decimal-lts.Need-put-digit-requires-2 (
+put_decimal_put_digit_requires_2 : (t : ℕ) → put-decimal-lts.Need-put_digit-requires-2 (
   put-digit-reads.Asked,
   put-digit-reads.Learnt,
   put_decimal_below t,
   put-decimal.Post,
 ) (put_decimal_at t) put-decimal.Post
-put_decimal_put_digit_requires_2 t c κs = omega (arith, c.before.before.before.put-decimal.ensures.1)
+put_decimal_put_digit_requires_2 t c κs = omega (arith, c.put_decimal-next.ensures.1)
 
-put_decimal_same_length_2 : (t : ℕ) → put-decimal-lts.Need-same-length-2 (
+put_decimal_same_length_2 : (t : ℕ) → put-decimal-lts.Need-shape_of-out (
   put-digit-reads.Asked,
   put-digit-reads.Learnt,
   put_decimal_below t,
@@ -76,18 +76,18 @@ put_decimal_same_length_2 : (t : ℕ) → put-decimal-lts.Need-same-length-2 (
 ) (put_decimal_at t) put-decimal.Post
 put_decimal_same_length_2 t c = search rules
 
-put_decimal_returns_2 : (t : ℕ) → put-decimal-lts.Need-returns-2 (
+put_decimal_returns_2 : (t : ℕ) → put-decimal-lts.Need-returns (
   put-digit-reads.Asked,
   put-digit-reads.Learnt,
   put_decimal_below t,
   put-decimal.Post,
 ) (put_decimal_at t) put-decimal.Post
 put_decimal_returns_2 t c =
-    let start = c.before.before.before.before.before.before.before.before.before.before in
+    let start = c in
     let n = start.args.n in
     let puts =
-    puts_as (sym (decimal_more n c.before.before.before.before.before.before.before.before.if1.false))
-    (puts_both c.before.before.before.before.before.before.put-decimal.ensures.0 c.before.before.put-digit2.ensures) in
+    puts_as (sym (decimal_more n c.if-n-lt10.false))
+    (puts_both c.put_decimal-next.ensures.0 c.put_digit-2.ensures) in
     let few : n < 10 ^ 20 = omega arith in
     (puts, omega (arith, puts.moved, decimal_few 19 n few))
 

@@ -7,34 +7,34 @@ use Rattle.lines.proofs.Parting.{Listed, none_listed, one_listed, parts_there, p
 use Rattle.lines.proofs.list_end.Statement.{statement}
 use Rattle.lines.proofs.list_end.Tie as tie
 
-abbrev invariant-loop : tie.invariant-loop
+abbrev invariant-loop : tie.invariant-loop-at
 invariant-loop bytes starts₀ at₀ starts at = Listed bytes starts at
 
-abbrev decreases-loop : tie.decreases-loop
+abbrev decreases-loop : tie.decreases-loop-at
 decreases-loop bytes starts₀ at₀ starts at = length bytes - at
 
-loop-holds : tie.Need-loop-init invariant-loop decreases-loop
+loop-holds : tie.Need-loop-at-init invariant-loop decreases-loop
 loop-holds c = none_listed _
 
-shared-slice-read-ends : tie.Need-shared-slice-read-ends invariant-loop decreases-loop
+shared-slice-read-ends : tie.Need-bounds-bytes-at invariant-loop decreases-loop
 shared-slice-read-ends c = search rules
 
-returns : tie.Need-returns invariant-loop decreases-loop
+returns : tie.Need-returns-then-starts-ends invariant-loop decreases-loop
 returns c =
-    let l = c.before.before.before.loop in parts_there _ l.starts l.at l.invariant (search rules) c.if1.true
+    let l = c.loop-at in parts_there _ l.starts l.at l.invariant (search rules) c.if-starts-ends.true
 
-add_at : tie.Need-overflow-add-at invariant-loop decreases-loop
+add_at : tie.Need-overflow_add-at invariant-loop decreases-loop
 add_at c = search rules
 
-loop-less : tie.Need-loop-smaller invariant-loop decreases-loop
+loop-less : tie.Need-loop-at-smaller invariant-loop decreases-loop
 loop-less c = search rules
 
-loop-again : tie.Need-loop-preserved invariant-loop decreases-loop
+loop-again : tie.Need-loop-at-preserved invariant-loop decreases-loop
 loop-again c =
-    let l = c.before.before.before.loop in one_listed _ l.starts l.at l.invariant (search rules) c.if1.false
+    let l = c.loop-at in one_listed _ l.starts l.at l.invariant (search rules) c.if-starts-ends.false
 
-returns-2 : tie.Need-returns-2 invariant-loop decreases-loop
-returns-2 c = parts_last _ c.before.loop.starts c.before.loop.at c.before.loop.invariant c.loop-test.false
+returns-2 : tie.Need-returns invariant-loop decreases-loop
+returns-2 c = parts_last _ c.loop-at.starts c.loop-at.at c.loop-at.invariant c.loop-at-test.false
 
 pub list_end_spec : {M : Type 1} → statement M
 list_end_spec =

@@ -9,81 +9,69 @@ use Rattle.lines.specs.Lines.{line_room}
 use Rattle.lines.proofs.put_refusal.Statement.{statement}
 use Rattle.lines.proofs.put_refusal.Tie as tie
 
-number-of-requires : tie.Need-number-of-requires
+number-of-requires : tie.Need-number_of-number-requires
 number-of-requires c κs = search rules
 
-place-of-requires : tie.Need-place-of-requires
+place-of-requires : tie.Need-place_of-place-requires
 place-of-requires c κs = search rules
 
-slice-aggregate-put : tie.Need-slice-aggregate-put
-slice-aggregate-put c = search rules
-
-put-requires : tie.Need-put-requires
+put-requires : tie.Need-put-begun-requires
 put-requires c κs = search rules
 
-put-requires-2 : tie.Need-put-requires-2
+put-requires-2 : tie.Need-put-named-requires
 put-requires-2 c κs = search rules
 
-slice-aggregate-put-2 : tie.Need-slice-aggregate-put-2
-slice-aggregate-put-2 c = search rules
-
-put-requires-3 : tie.Need-put-requires-3
+put-requires-3 : tie.Need-put-spaced-requires
 put-requires-3 c κs = search rules
 
-put-decimal-requires : tie.Need-put-decimal-requires
+put-decimal-requires : tie.Need-put_decimal-numbered-requires
 put-decimal-requires c κs = search rules
 
-slice-aggregate-put-3 : tie.Need-slice-aggregate-put-3
-slice-aggregate-put-3 c = search rules
-
-put-requires-4 : tie.Need-put-requires-4
+put-requires-4 : tie.Need-put-apart-requires
 put-requires-4 c κs = search rules
 
-put-decimal-requires-2 : tie.Need-put-decimal-requires-2
+put-decimal-requires-2 : tie.Need-put_decimal-placed-requires
 put-decimal-requires-2 c κs = search rules
 
-slice-aggregate-put-4 : tie.Need-slice-aggregate-put-4
-slice-aggregate-put-4 c = search rules
-
 -- Where the place is put, there is room for the end of the line.
-short : (c : tie.After-put-decimal2) → c.put-decimal2.result < line_room
+short : (c : tie.After-put_decimal-placed) → c.put_decimal-placed.result < line_room
 short c =
-    let apart = c.before.before.before.before in
-    let numbered = apart.before.before.before.before.before in
-    let spaced = numbered.before.before.before.before in
-    let named = spaced.before.before.before.before.before in
-    let begun = named.before.before.before.before in
+    let apart = c in
+    let numbered = apart in
+    let spaced = numbered in
+    let named = spaced in
+    let begun = named in
     omega (
       arith,
-      begun.put.ensures.moved,
-      named.put2.ensures.moved,
-      spaced.put3.ensures.moved,
-      numbered.put-decimal.ensures.1,
-      apart.put4.ensures.moved,
-      c.put-decimal2.ensures.1,
-      begun.before.before.before.before.before.before.before.requires,
+      begun.put-begun.ensures.moved,
+      named.put-named.ensures.moved,
+      spaced.put-spaced.ensures.moved,
+      numbered.put_decimal-numbered.ensures.1,
+      apart.put-apart.ensures.moved,
+      c.put_decimal-placed.ensures.1,
+      begun.requires,
     )
 
-put-requires-5 : tie.Need-put-requires-5
-put-requires-5 c κs = omega (arith, short c.before.before.before.before)
+put-requires-5 : tie.Need-put-requires
+put-requires-5 c κs = omega (arith, short c.before.before.before.before.before)
 
-same_length : tie.Need-same-length
+same_length : tie.Need-shape_of-out
 same_length c = search rules
 
 returns : tie.Need-returns
 returns c =
-    let ended = c.before.before in
-    let placed = ended.before.before.before.before.before in
-    let apart = placed.before.before.before.before in
-    let numbered = apart.before.before.before.before.before in
-    let spaced = numbered.before.before.before.before in
-    let named = spaced.before.before.before.before.before in
-    let begun = named.before.before.before.before in
-    let number = puts_as (ap decimal begun.before.before.before.before.number_of_lem.ensures) numbered.put-decimal.ensures.0 in
-    let place = puts_as (ap decimal begun.before.before.before.place_of.ensures) placed.put-decimal2.ensures.0 in
+    let ended = c in
+    let placed = ended in
+    let apart = placed in
+    let numbered = apart in
+    let spaced = numbered in
+    let named = spaced in
+    let begun = named in
+    let number = puts_as (ap decimal begun.number_of_lem.ensures) numbered.put_decimal-numbered.ensures.0 in
+    let place = puts_as (ap decimal begun.place_of-place.ensures) placed.put_decimal-placed.ensures.0 in
     record {
-      puts = puts_both (puts_both (puts_both (puts_both (puts_both (puts_both begun.put.ensures named.put2.ensures) spaced.put3.ensures) number) apart.put4.ensures) place) ended.put5.ensures;
-      few = omega (arith, short placed, ended.put5.ensures.moved);
+      puts = puts_both (puts_both (puts_both (puts_both (puts_both (puts_both begun.put-begun.ensures named.put-named.ensures) spaced.put-spaced.ensures) number) apart.put-apart.ensures) place) ended.put.ensures;
+      few = omega (arith, short placed.before.before.before.before.before.before.before.before, ended.put.ensures.moved);
     }
 
 pub put_refusal_spec : {M : Type 1} → statement M
@@ -92,16 +80,12 @@ put_refusal_spec =
     (tie.spec
     number-of-requires
     place-of-requires
-    slice-aggregate-put
     put-requires
     put-requires-2
-    slice-aggregate-put-2
     put-requires-3
     put-decimal-requires
-    slice-aggregate-put-3
     put-requires-4
     put-decimal-requires-2
-    slice-aggregate-put-4
     put-requires-5
     same_length
     returns)

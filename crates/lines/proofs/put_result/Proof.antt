@@ -5,56 +5,47 @@ use borrow.Author.Rules.{rules}
 use Rattle.lines.proofs.put_result.Statement.{statement}
 use Rattle.lines.proofs.put_result.Tie as tie
 
-put-requires : tie.Need-put-requires
+put-requires : tie.Need-put-ended-requires
 put-requires c κs = search rules
 
-slice-aggregate-put : tie.Need-slice-aggregate-put
-slice-aggregate-put c = search rules
-
-put-requires-2 : tie.Need-put-requires-2
+put-requires-2 : tie.Need-put-begun-requires
 put-requires-2 c κs = search rules
 
-put-decimal-requires : tie.Need-put-decimal-requires
+put-decimal-requires : tie.Need-put_decimal-sized-requires
 put-decimal-requires c κs = search rules
 
-slice-aggregate-put-2 : tie.Need-slice-aggregate-put-2
-slice-aggregate-put-2 c = search rules
-
-put-requires-3 : tie.Need-put-requires-3
+put-requires-3 : tie.Need-put-parted-requires
 put-requires-3 c κs = search rules
 
-put-decimal-requires-2 : tie.Need-put-decimal-requires-2
+put-decimal-requires-2 : tie.Need-put_decimal-nested-requires
 put-decimal-requires-2 c κs = search rules
 
-slice-aggregate-put-3 : tie.Need-slice-aggregate-put-3
-slice-aggregate-put-3 c = search rules
-
-put-requires-4 : tie.Need-put-requires-4
+put-requires-4 : tie.Need-put-requires
 put-requires-4 c κs = search rules
 
-same_length : tie.Need-same-length
+same_length : tie.Need-shape_of-out
 same_length c = search rules
 
 returns : tie.Need-returns
 returns c =
-    let ended = c.before.before in
-    let nested = ended.before.before.before.before.before in
-    let parted = nested.before.before.before.before in
-    let sized = parted.before.before.before.before.before in
-    let begun = sized.before.before.before.before in
-    let written = begun.before.before.before.before.before in
+    let ended = c in
+    let nested = ended in
+    let parted = nested in
+    let sized = parted in
+    let begun = sized in
+    let written = begun in
     record {
-      puts = puts_both (puts_both (puts_both (puts_both (puts_both written.put.ensures begun.put2.ensures) sized.put-decimal.ensures.0) parted.put3.ensures) nested.put-decimal2.ensures.0) ended.put4.ensures;
+      puts = puts_both (puts_both (puts_both (puts_both (puts_both written.put-ended.ensures begun.put-begun.ensures) sized.put_decimal-sized.ensures.0) parted.put-parted.ensures) nested.put_decimal-nested.ensures.0) ended.put.ensures;
       few =
           omega (
             arith,
-            written.put.ensures.moved,
-            begun.put2.ensures.moved,
-            sized.put-decimal.ensures.1,
-            parted.put3.ensures.moved,
-            nested.put-decimal2.ensures.1,
-            ended.put4.ensures.moved,
-            written.before.before.before.before.requires,
+            written.put-ended.ensures.moved,
+            begun.put-begun.ensures.moved,
+            sized.put_decimal-sized.ensures.1,
+            parted.put-parted.ensures.moved,
+            nested.put_decimal-nested.ensures.1,
+            ended.put.ensures.moved,
+            written.requires,
           );
     }
 
@@ -63,13 +54,10 @@ put_result_spec =
     tie.close
     (tie.spec
     put-requires
-    slice-aggregate-put
     put-requires-2
     put-decimal-requires
-    slice-aggregate-put-2
     put-requires-3
     put-decimal-requires-2
-    slice-aggregate-put-3
     put-requires-4
     same_length
     returns)

@@ -7,35 +7,35 @@ use Rattle.xml.specs.Pieces.{Finishes}
 use borrow.Author.Rules.{rules}
 use mathlib.Core.Path.{◌≡◌, refl, sym, ◌∙◌, ap, subst}
 
-enum-known-element : tie.Need-enum-known-element
+enum-known-element : tie.Need-enum_known-element
 enum-known-element c = search rules
 
-enum_told : tie.Need-enum-told
+enum_told : tie.Need-enum_told-1
 enum_told c = search rules
 
-returns : tie.Need-returns
-returns c = λ list cols h. subst (Judges _ list cols) (sym c.enum_told.given.1) (subst (Ends _ list cols) c.enum_told.given.1 h)
+returns : tie.Need-returns-in_default
+returns c = λ list cols h. subst (Judges _ list cols) (sym c.in_default.is) (subst (Ends _ list cols) c.in_default.is h)
 
 finish-requires : tie.Need-finish-requires
-finish-requires c κs = subst (Inside _) c.before.element.given.1 c.before.before.before.before.requires
+finish-requires c κs = subst (Inside _) c.in-On.is c.requires
 
-enum-told-2 : tie.Need-enum-told-2
+enum-told-2 : tie.Need-enum_told-in-At
 enum-told-2 c = search rules
 
-enum-told-3 : tie.Need-enum-told-3
+enum-told-3 : tie.Need-enum_told-in-Wrong
 enum-told-3 c = search rules
 
-enum-told-4 : tie.Need-enum-told-4
+enum-told-4 : tie.Need-enum_told-in-LeftOut
 enum-told-4 c = search rules
 
-returns-2 : tie.Need-returns-2
-returns-2 c = λ list cols h. ends_wanted _ list cols _ (subst (Ends _ list cols) c.before.before.before.before.element.given.1 h) _ (subst (Finishes _ _) c.enum-told2.given.1 c.before.before.finish.ensures)
+returns-2 : tie.Need-returns-in-At
+returns-2 c = λ list cols h. ends_wanted _ list cols _ (subst (Ends _ list cols) c.in-On.is h) _ (subst (Finishes _ _) c.in-At.is c.finish.ensures)
 
-returns-3 : tie.Need-returns-3
-returns-3 c = λ list cols h. ends_refused _ list cols _ (subst (Ends _ list cols) c.before.before.before.before.element.given.1 h) _ 11 _ refl (subst (Finishes _ _) c.enum-told3.given.1 c.before.before.finish.ensures)
+returns-3 : tie.Need-returns-in-Wrong
+returns-3 c = λ list cols h. ends_refused _ list cols _ (subst (Ends _ list cols) c.in-On.is h) _ 11 _ refl (subst (Finishes _ _) c.in-Wrong.is c.finish.ensures)
 
-returns-4 : tie.Need-returns-4
-returns-4 c = λ list cols h. ends_refused _ list cols _ (subst (Ends _ list cols) c.before.before.before.before.element.given.1 h) _ 12 _ refl (subst (Finishes _ _) c.enum-told4.given.1 c.before.before.finish.ensures)
+returns-4 : tie.Need-returns-in-LeftOut
+returns-4 c = λ list cols h. ends_refused _ list cols _ (subst (Ends _ list cols) c.in-On.is h) _ 12 _ refl (subst (Finishes _ _) c.in-LeftOut.is c.finish.ensures)
 
 pub finished_spec : {M : Type 1} → statement M
 finished_spec =

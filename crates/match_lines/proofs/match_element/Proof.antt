@@ -9,50 +9,48 @@ use borrow.Author.Rules.{rules}
 use mathlib.Core.Path.{◌≡◌, refl, sym, ◌∙◌, ap, subst}
 
 -- The root's line is compared first, then the start tag is taken.
-abbrev begun : tie.After-root → tie.Start
+abbrev begun : tie.After-root-root → tie.Start
 begun c = c.before.before.before.before.before.before.before.before.before.before
-
-abbrev rooted : tie.After-match-piece → tie.After-root
+abbrev rooted : tie.After-match_piece-begun → tie.After-root-root
 rooted c = c.before.before
-
-begins-line-requires : tie.Need-begins-line-requires
+begins-line-requires : tie.Need-begins_line-requires
 begins-line-requires c κs = search rules
 
 says-requires : tie.Need-says-requires
 says-requires c κs = search rules
 
-says-requires-2 : tie.Need-says-requires-2
+says-requires-2 : tie.Need-says-ended-requires
 says-requires-2 c κs = search rules
 
-root-requires : tie.Need-root-requires
+root-requires : tie.Need-root-root-requires
 root-requires c κs = search rules
 
-match-piece-requires : tie.Need-match-piece-requires
+match-piece-requires : tie.Need-match_piece-begun-requires
 match-piece-requires c κs =
-    let root = c.before in
-    let s = begun root in
-    let told = root.before in
-    (s.pre.0, (s.pre.1.0, root_faces _ _ _ _ _ _ _ refl (root_line _ _ _ _ (tells_both _ _ (tells_both _ _ told.before.before.begins-line.ensures told.before.says.ensures) told.says2.ensures)) s.pre.1.1 root.root.ensures))
+    let root = c in
+    let s = begun root.before in
+    let told = root in
+    (s.requires.0, (s.requires.1.0, root_faces _ _ _ _ _ _ _ refl (root_line _ _ _ _ (tells_both _ _ (tells_both _ _ told.begins_line.ensures told.says.ensures) told.says-ended.ensures)) s.requires.1.1 root.root-root.ensures))
 
-enum-known-begun : tie.Need-enum-known-begun
+enum-known-begun : tie.Need-enum_known-begun
 enum-known-begun c = search rules
 
-enum_told : tie.Need-enum-told
+enum_told : tie.Need-enum_told-1
 enum_told c = search rules
 
-returns : tie.Need-returns
+returns : tie.Need-returns-in_default
 returns c =
-    let call = c.before.before in
-    subst (Ends _ _ _) (sym c.enum_told.given.1) (subst (Comes _ _ _ _) c.enum_told.given.1 call.match-piece.ensures.0)
+    let call = c in
+    subst (Ends _ _ _) (sym c.in_default.is) (subst (Comes _ _ _ _) c.in_default.is call.match_piece-begun.ensures.0)
 
-match-inside-requires : tie.Need-match-inside-requires
+match-inside-requires : tie.Need-match_inside-requires
 match-inside-requires c κs =
-    let first = c.before.before in
-    let call = first.before.before in
-    let s = begun (rooted call) in
-    (s.pre.0, (s.pre.1.0, subst (Comes _ _ _ _) first.begun.given.1 call.match-piece.ensures.0))
+    let first = c in
+    let call = first in
+    let s = begun (rooted call.before.before) in
+    (s.requires.0, (s.requires.1.0, subst (Comes _ _ _ _) first.in-On.is call.match_piece-begun.ensures.0))
 
-returns-2 : tie.Need-returns-2
+returns-2 : tie.Need-returns
 returns-2 c = search rules
 
 pub match_element_spec : {M : Type 1} → statement M

@@ -29,171 +29,165 @@ small : (s : tie.Start) (r : Piece) → s.args.piece ≡ r → s.args.so_far.nod
 small s r e = let h = faced s r e in omega (arith, h.counts.nodes, h.counts.few, h.inside, s.requires.1.0.0)
 
 -- A START TAG.
-abbrev at-start : tie.After-known-told → tie.Start
-at-start c = c.before.before.before.before.before.before.before.before.before
-
-start : (c : tie.After-known-told) → let s = at-start c in Facing s.args.text.now s.args.list.now s.args.open.now (lent s) (Start c.before.piece.given.0.0 c.before.piece.given.0.1.0) s.args.so_far
-start c = faced (at-start c) _ c.before.piece.given.1
+abbrev at-start : tie.In-Start → tie.Start
+at-start c = c.before.before.before.before.before.before.before
+start : (c : tie.In-Start) → let s = at-start c in Facing s.args.text.now s.args.list.now s.args.open.now (lent s) (Start c.before.in-Start.name_end c.before.in-Start.next) s.args.so_far
+start c = faced (at-start c) _ c.in-Start.is
 
 -- It is looked at, and its place is kept.
-abbrev looked : tie.After-kind-is → tie.After-find-name
+abbrev looked : tie.After-kind_is → tie.After-find_name-found
 looked c = c.before.before
-
 -- AN EMPTY ELEMENT.
-abbrev at-empty : tie.After-known-told2 → tie.Start
-at-empty c = c.before.before.before.before.before.before.before.before.before
-
-empty : (c : tie.After-known-told2) → let s = at-empty c in Facing s.args.text.now s.args.list.now s.args.open.now (lent s) (Empty c.before.piece2.given.0.0 c.before.piece2.given.0.1.0) s.args.so_far
-empty c = faced (at-empty c) _ c.before.piece2.given.1
+abbrev at-empty : tie.In-Empty → tie.Start
+at-empty c = c.before.before.before.before.before.before.before
+empty : (c : tie.In-Empty) → let s = at-empty c in Facing s.args.text.now s.args.list.now s.args.open.now (lent s) (Empty c.before.in-Empty.name_end c.before.in-Empty.next) s.args.so_far
+empty c = faced (at-empty c) _ c.in-Empty.is
 
 -- AN END TAG.
-abbrev at-end : tie.After-known-told3 → tie.Start
-at-end c = c.before.before.before.before.before.before.before.before.before
-
-end : (c : tie.After-known-told3) → let s = at-end c in Facing s.args.text.now s.args.list.now s.args.open.now (lent s) (End c.before.piece3.given.0.0) s.args.so_far
-end c = faced (at-end c) _ c.before.piece3.given.1
+abbrev at-end : tie.In-End → tie.Start
+at-end c = c.before.before.before.before.before.before.before
+end : (c : tie.In-End) → let s = at-end c in Facing s.args.text.now s.args.list.now s.args.open.now (lent s) (End c.before.in-End.next) s.args.so_far
+end c = faced (at-end c) _ c.in-End.is
 
 -- What the columns say of it.
-abbrev closed : tie.After-parent-of → tie.After-known-told3
+abbrev closed : tie.After-parent_of-up → tie.In-End
 closed c = c.before.before.before
-
-ended : (c : tie.After-parent-of) → let d = closed c in let s = at-end d in Tells c.before.says2.result (Has s.args.end.now s.args.so_far.inner d.before.piece3.given.0.0.at)
-ended c = subst (λ k. Tells c.before.says2.result (Has (at-end (closed c)).args.end.now k (closed c).before.piece3.given.0.0.at)) c.before.before.wide.ensures c.before.says2.ensures
+ended : (c : tie.After-parent_of-up) → let d = closed c in let s = at-end d in Tells c.before.says-ended-in-End.result (Has s.args.end.now s.args.so_far.inner d.before.in-End.next.at)
+ended c = subst (λ k. Tells c.says-ended-in-End.result (Has (at-end (closed c)).args.end.now k (closed c).in-End.next.at)) c.wide.ensures c.says-ended-in-End.ensures
 
 -- A RUN OF CHARACTERS.
-abbrev at-text : tie.After-known-told4 → tie.Start
-at-text c = c.before.before.before.before.before.before.before.before.before
+abbrev at-text : tie.In-Text → tie.Start
+at-text c = c.before.before.before.before.before.before.before
+text : (c : tie.In-Text) → let s = at-text c in Facing s.args.text.now s.args.list.now s.args.open.now (lent s) (Text c.before.in-Text.next) s.args.so_far
+text c = faced (at-text c) _ c.in-Text.is
 
-text : (c : tie.After-known-told4) → let s = at-text c in Facing s.args.text.now s.args.list.now s.args.open.now (lent s) (Text c.before.piece4.given.0.0) s.args.so_far
-text c = faced (at-text c) _ c.before.piece4.given.1
-
-enum-known-piece : tie.Need-enum-known-piece
+enum-known-piece : tie.Need-enum_known-piece
 enum-known-piece c = search rules
 
-find-name-requires : tie.Need-find-name-requires
+find-name-requires : tie.Need-find_name-found-requires
 find-name-requires c κs = ((at-start c).requires.0, (start c).moves.1.0)
 
-begins-line-requires : tie.Need-begins-line-requires
+begins-line-requires : tie.Need-begins_line-requires
 begins-line-requires c κs = search rules
 
-kind-is-requires : tie.Need-kind-is-requires
-kind-is-requires c κs = let looks = c.before in λ v e. number_few _ _ _ _ v (at-start looks.before).requires.0.indexed (sym e ∙ looks.find-name.ensures)
+kind-is-requires : tie.Need-kind_is-requires
+kind-is-requires c κs = let looks = c in λ v e. number_few _ _ _ _ v (at-start looks.before.before).requires.0.indexed (sym e ∙ looks.find_name-found.ensures)
 
 narrow-requires : tie.Need-narrow-requires
-narrow-requires c κs = let d = (looked c).before in let t = (start d).moves in omega (arith, t.1, t.0.inside, (at-start d).pre.1.0.0)
+narrow-requires c κs = let d = (looked c).before in let t = (start d.before).moves in omega (arith, t.1, t.0.inside, (at-start d.before).requires.1.0.0)
 
-mul-open : tie.Need-overflow-mul-open
+mul-open : tie.Need-offset_bounds-open-depth
 mul-open c = search rules
 
-element-write-open : tie.Need-element-write-open
-element-write-open c = let d = (looked c.before).before in start_room _ _ _ _ _ (at-start d).pre.1.0.1 _ _ (start d) (at-start d).pre.1.0.0
+element-write-open : tie.Need-bounds-open-depth
+element-write-open c = let d = (looked c.before.before).before in start_room _ _ _ _ _ (at-start d.before).requires.1.0.1 _ _ (start d.before) (at-start d.before).requires.1.0.0
 
-add-deeper : tie.Need-overflow-add-deeper
-add-deeper c = let d = (looked c.before).before in omega (arith, start_room _ _ _ _ _ (at-start d).pre.1.0.1 _ _ (start d) (at-start d).pre.1.0.0)
+add-deeper : tie.Need-overflow_add-deeper
+add-deeper c = let d = (looked c.before.before).before in omega (arith, start_room _ _ _ _ _ (at-start d.before).requires.1.0.1 _ _ (start d.before) (at-start d.before).requires.1.0.0)
 
-add-nodes : tie.Need-overflow-add-nodes
-add-nodes c = let d = (looked c.before).before in omega (arith, small (at-start d) _ d.before.piece.given.1)
+add-nodes : tie.Need-overflow_add-nodes
+add-nodes c = let d = (looked c.before.before).before in omega (arith, small (at-start d.before) _ d.in-Start.is)
 
-narrow-requires-2 : tie.Need-narrow-requires-2
-narrow-requires-2 c κs = let d = (looked c.before).before in omega (arith, small (at-start d) _ d.before.piece.given.1)
+narrow-requires-2 : tie.Need-narrow-requires-in-Start
+narrow-requires-2 c κs = let d = (looked c.before.before).before in omega (arith, small (at-start d.before) _ d.in-Start.is)
 
-enum-known-piece-2 : tie.Need-enum-known-piece-2
+enum-known-piece-2 : tie.Need-enum_known-piece-in-Empty-1
 enum-known-piece-2 c = search rules
 
-find-name-requires-2 : tie.Need-find-name-requires-2
+find-name-requires-2 : tie.Need-find_name-found-requires-in-Empty
 find-name-requires-2 c κs = ((at-empty c).requires.0, (empty c).moves.1.0)
 
-begins-line-requires-2 : tie.Need-begins-line-requires-2
+begins-line-requires-2 : tie.Need-begins_line-requires-in-Empty
 begins-line-requires-2 c κs = search rules
 
-kind-is-requires-2 : tie.Need-kind-is-requires-2
-kind-is-requires-2 c κs = let looks = c.before in λ v e. number_few _ _ _ _ v (at-empty looks.before).requires.0.indexed (sym e ∙ looks.find-name2.ensures)
+kind-is-requires-2 : tie.Need-kind_is-requires-in-Empty
+kind-is-requires-2 c κs = let looks = c in λ v e. number_few _ _ _ _ v (at-empty looks.before.before).requires.0.indexed (sym e ∙ looks.find_name-found-in-Empty.ensures)
 
-says-requires : tie.Need-says-requires
+says-requires : tie.Need-says-ended-requires
 says-requires c κs = search rules
 
-add-nodes-2 : tie.Need-overflow-add-nodes-2
-add-nodes-2 c = let d = c.before.before.before.before in omega (arith, small (at-empty d) _ d.before.piece2.given.1)
+add-nodes-2 : tie.Need-overflow_add-nodes-in-Empty
+add-nodes-2 c = let d = c in omega (arith, small (at-empty d.before.before.before.before) _ d.in-Empty.is)
 
-enum-known-piece-3 : tie.Need-enum-known-piece-3
+enum-known-piece-3 : tie.Need-enum_known-piece-in-End-1
 enum-known-piece-3 c = search rules
 
 wide-requires : tie.Need-wide-requires
 wide-requires c κs = search rules
 
-says-requires-2 : tie.Need-says-requires-2
+says-requires-2 : tie.Need-says-ended-requires-in-End
 says-requires-2 c κs = search rules
 
-parent-of-requires : tie.Need-parent-of-requires
+parent-of-requires : tie.Need-parent_of-up-requires
 parent-of-requires c κs = search rules
 
-sub-shallower : tie.Need-overflow-sub-shallower
-sub-shallower c = (end_comes _ _ _ _ _ (at-end (closed c)).requires.1.0.1 _ (end (closed c)) _ _ (ended c) c.parent_of.ensures).2
+sub-shallower : tie.Need-overflow_sub-shallower
+sub-shallower c = (end_comes _ _ _ _ _ (at-end (closed c)).requires.1.0.1 _ (end (closed c)) _ _ (ended c) c.parent_of-up.ensures).2
 
-enum-known-piece-4 : tie.Need-enum-known-piece-4
+enum-known-piece-4 : tie.Need-enum_known-piece-in-Text-1
 enum-known-piece-4 c = search rules
 
-begins-line-requires-3 : tie.Need-begins-line-requires-3
+begins-line-requires-3 : tie.Need-begins_line-requires-in-Text
 begins-line-requires-3 c κs = search rules
 
-wide-requires-2 : tie.Need-wide-requires-2
+wide-requires-2 : tie.Need-wide-requires-in-Text
 wide-requires-2 c κs = search rules
 
-says-requires-3 : tie.Need-says-requires-3
+says-requires-3 : tie.Need-says-requires
 says-requires-3 c κs = search rules
 
-says-requires-4 : tie.Need-says-requires-4
+says-requires-4 : tie.Need-says-ended-requires-in-Text
 says-requires-4 c κs = search rules
 
-add-nodes-3 : tie.Need-overflow-add-nodes-3
-add-nodes-3 c = let d = c.before.before.before.before in omega (arith, small (at-text d) _ d.before.piece4.given.1)
+add-nodes-3 : tie.Need-overflow_add-nodes-in-Text
+add-nodes-3 c = let d = c in omega (arith, small (at-text d.before.before.before.before) _ d.in-Text.is)
 
-enum_told : tie.Need-enum-told
+enum_told : tie.Need-enum_told-1
 enum_told c = search rules
 
-enum-told-2 : tie.Need-enum-told-2
+enum-told-2 : tie.Need-enum_told-in-LeftOut
 enum-told-2 c = search rules
 
-returns : tie.Need-returns
+returns : tie.Need-returns-in-Start
 returns c =
-    let put = c.before in
-    let kind = put.before.before in
-    let looks = looked kind in
+    let put = c in
+    let kind = put in
+    let looks = looked kind.before.before.before.before in
     let d = looks.before in
     let s = at-start d in
-    start_comes _ _ _ (lent s) _ s.pre.1.0.1 _ _ (start d) s.pre.1.0.0 _ _ put.before.narrow.ensures put.narrow2.ensures _ (tells_both _ _ kind.before.begins-line.ensures (kind.kind-is.ensures (number_of (names_of s.args.list.now)) (name_at s.args.text.now (suc s.args.so_far.at)) looks.find-name.ensures))
+    start_comes _ _ _ (lent s) _ s.requires.1.0.1 _ _ (start d) s.requires.1.0.0 _ _ put.narrow.ensures put.narrow-in-Start.ensures _ (tells_both _ _ kind.begins_line.ensures (kind.kind_is.ensures (number_of (names_of s.args.list.now)) (name_at s.args.text.now (suc s.args.so_far.at)) looks.find_name-found.ensures))
 
-returns-2 : tie.Need-returns-2
+returns-2 : tie.Need-returns-in-Empty
 returns-2 c =
-    let told = c.before in
-    let kind = told.before in
-    let looks = kind.before.before in
-    let d = looks.before in
-    let s = at-empty d in
-    empty_comes _ _ _ (lent s) _ s.pre.1.0.1 _ _ (empty d) _ (tells_both _ _ (tells_both _ _ kind.before.begins-line2.ensures (kind.kind-is2.ensures (number_of (names_of s.args.list.now)) (name_at s.args.text.now (suc s.args.so_far.at)) looks.find-name2.ensures)) told.says.ensures)
+    let told = c in
+    let kind = told in
+    let looks = kind in
+    let d = looks in
+    let s = at-empty d.before.before.before.before.before in
+    empty_comes _ _ _ (lent s) _ s.requires.1.0.1 _ _ (empty d.before.before.before.before.before) _ (tells_both _ _ (tells_both _ _ kind.begins_line-in-Empty.ensures (kind.kind_is-in-Empty.ensures (number_of (names_of s.args.list.now)) (name_at s.args.text.now (suc s.args.so_far.at)) looks.find_name-found-in-Empty.ensures)) told.says-ended.ensures)
 
-returns-3 : tie.Need-returns-3
+returns-3 : tie.Need-returns-in-End
 returns-3 c =
-    let up = c.before in
-    let d = closed up in
+    let up = c in
+    let d = closed up.before in
     let s = at-end d in
-    let h = end_comes _ _ _ (lent s) _ s.pre.1.0.1 _ (end d) _ _ (ended up) up.parent_of.ensures in
+    let h = end_comes _ _ _ (lent s) _ s.requires.1.0.1 _ (end d) _ _ (ended up.before) up.parent_of-up.ensures in
     (h.0, h.1)
 
-returns-4 : tie.Need-returns-4
+returns-4 : tie.Need-returns-in-Text
 returns-4 c =
-    let told = c.before in
-    let kind = told.before in
-    let d = kind.before.before.before in
-    let s = at-text d in
-    let is-text = subst (λ k. Tells kind.says3.result (Has s.args.kind.now s.args.so_far.nodes k)) kind.before.wide2.ensures kind.says3.ensures in
-    text_comes _ _ _ (lent s) _ s.pre.1.0.1 _ (text d) _ (tells_both _ _ (tells_both _ _ kind.before.before.begins-line3.ensures is-text) told.says4.ensures)
+    let told = c in
+    let kind = told in
+    let d = kind in
+    let s = at-text d.before.before.before.before.before in
+    let is-text = subst (λ k. Tells kind.says.result (Has s.args.kind.now s.args.so_far.nodes k)) kind.wide-in-Text.ensures kind.says.ensures in
+    text_comes _ _ _ (lent s) _ s.requires.1.0.1 _ (text d.before.before.before.before.before) _ (tells_both _ _ (tells_both _ _ kind.begins_line-in-Text.ensures is-text) told.says-ended-in-Text.ensures)
 
-returns-5 : tie.Need-returns-5
-returns-5 c = (record { number = 11; place = _; is = (faced c.before.before.before.before.before.before.before.before _ c.enum_told.given.1).moves }, tt)
+returns-5 : tie.Need-returns-in-Wrong
+returns-5 c = (record { number = 11; place = _; is = (faced c.before.before.before.before.before.before.before.before _ c.in-Wrong.is).moves }, tt)
 
-returns-6 : tie.Need-returns-6
-returns-6 c = (record { number = 12; place = _; is = (faced c.before.before.before.before.before.before.before.before _ c.enum-told2.given.1).moves }, tt)
+returns-6 : tie.Need-returns-in-LeftOut
+returns-6 c = (record { number = 12; place = _; is = (faced c.before.before.before.before.before.before.before.before _ c.in-LeftOut.is).moves }, tt)
 
 pub match_piece_spec : {M : Type 1} → statement M
 match_piece_spec =

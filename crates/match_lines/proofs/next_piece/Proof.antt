@@ -14,34 +14,33 @@ inside : (s : tie.Start) →
 inside s = deep _ _ _ _ _ s.requires.1.0.0 s.requires.1.1.0 s.requires.1.1.1
 
 -- It is the place of the innermost open element.
-abbrev begun : tie.After-wide → tie.Start
-begun c = c.before.before.before.before.before.before.before.before.before
+abbrev begun : tie.After-wide-inner → tie.Start
+begun c = c.before.before.before.before.before.before.before.before.before.before
+inner : (c : tie.After-wide-inner) → c.wide-inner.result ≡ (inside (begun c)).inner.begin
+inner c = c.wide-inner.ensures ∙ (inside (begun c)).kept
 
-inner : (c : tie.After-wide) → c.wide.result ≡ (inside (begun c)).inner.begin
-inner c = c.wide.ensures ∙ (inside (begun c)).kept
-
-sub_wide : tie.Need-overflow-sub-wide
+sub_wide : tie.Need-overflow_sub-so_far
 sub_wide c = search rules
 
-mul_wide : tie.Need-overflow-mul-wide
+mul_wide : tie.Need-offset_bounds-open-so_far
 mul_wide c = search rules
 
-element-copy-out-wide : tie.Need-element-copy-out-wide
+element-copy-out-wide : tie.Need-bounds-open-so_far
 element-copy-out-wide c = search rules
 
-wide-requires : tie.Need-wide-requires
+wide-requires : tie.Need-wide-inner-requires
 wide-requires c κs = search rules
 
-take-requires : tie.Need-take-requires
+take-requires : tie.Need-take-piece-requires
 take-requires c κs =
     let h = inside (begun c) in
     (h.stands.inside, subst (Named (begun c).args.text.now) (sym (inner c)) h.stands.named.1)
 
-match-piece-requires : tie.Need-match-piece-requires
+match-piece-requires : tie.Need-match_piece-requires
 match-piece-requires c κs =
-    let taken = c.before in
-    let s = begun taken.before in
-    (s.pre.0, (s.pre.1.0, takes _ _ _ _ _ (inside s) _ _ (inner taken.before) taken.take.ensures))
+    let taken = c in
+    let s = begun taken.before.before in
+    (s.requires.0, (s.requires.1.0, takes _ _ _ _ _ (inside s) _ _ (inner taken.before.before) taken.take-piece.ensures))
 
 returns : tie.Need-returns
 returns c = search rules

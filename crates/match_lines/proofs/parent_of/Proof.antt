@@ -6,20 +6,20 @@ use borrow.Author.Rules.{rules}
 use mathlib.Core.Path.{◌≡◌, refl, sym, ◌∙◌, ap, subst}
 use native.Mathlib.Omega.{arith}
 
-wide-requires : tie.Need-wide-requires
+wide-requires : tie.Need-wide-i-requires
 wide-requires c κs = search rules
 
-returns : tie.Need-returns
+returns : tie.Need-returns-then-parent-i
 returns c = search rules
 
-mul-result : tie.Need-overflow-mul-result
+mul-result : tie.Need-offset_bounds-parent-i
 mul-result c = search rules
 
-shared-slice-read-result : tie.Need-shared-slice-read-result
+shared-slice-read-result : tie.Need-bounds-parent-i
 shared-slice-read-result c = search rules
 
-returns-2 : tie.Need-returns-2
-returns-2 c = λ l. rw c.before.before.wide.ensures refl
+returns-2 : tie.Need-returns
+returns-2 c = λ l. rw c.wide-i.ensures refl
 
 pub parent_of_spec : {M : Type 1} → statement M
 parent_of_spec =

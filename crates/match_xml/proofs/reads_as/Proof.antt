@@ -18,28 +18,27 @@ fit s =
 
 abbrev begun : tie.After-outcome → tie.Start
 begun c = c.before.before.before.before.before.before.before
-
 outcome-requires : tie.Need-outcome-requires
 outcome-requires c κs =
-    let s = c.before.before.before.before.before.before in
+    let s = c in
     (s.requires.0.0, (s.requires.1.0.0, s.requires.1.1.2))
 
-enum-known-read : tie.Need-enum-known-read
+enum-known-read : tie.Need-enum_known-read
 enum-known-read c = search rules
 
-enum_told : tie.Need-enum-told
+enum_told : tie.Need-enum_told-1
 enum_told c = search rules
 
-returns : tie.Need-returns
+returns : tie.Need-returns-in-On
 returns c =
-    let read = c.before.before.before in
-    let call = read.before.before in
-    told_as _ _ _ (fit (begun call)) _ (subst (Tells _ _ _) read.read.given.1 call.outcome.ensures)
+    let read = c in
+    let call = read in
+    told_as _ _ _ (fit (begun call.before.before.before)) _ (subst (Tells _ _ _) read.in-On.is call.outcome.ensures)
 
-returns-2 : tie.Need-returns-2
+returns-2 : tie.Need-returns-in-Refused
 returns-2 c =
-    let call = c.before.before in
-    refused_as _ _ _ (fit (begun call)) (subst (Tells _ _ _) c.enum_told.given.1 call.outcome.ensures)
+    let call = c in
+    refused_as _ _ _ (fit (begun call.before)) (subst (Tells _ _ _) c.in-Refused.is call.outcome.ensures)
 
 pub reads_as_spec : {M : Type 1} → statement M
 reads_as_spec = tie.close (tie.spec outcome-requires enum-known-read enum_told returns returns-2)

@@ -11,37 +11,37 @@ use Rattle.paper.specs.Tools.{some_below}
 use Rattle.name_keys.proofs.key_kept.Statement.{statement}
 use Rattle.name_keys.proofs.key_kept.Tie as tie
 
-abbrev invariant-loop : tie.invariant-loop
+abbrev invariant-loop : tie.invariant-loop-v
 invariant-loop keys count key found₀ v₀ found v = (v ≤ count) × (found ≡ some_below v (λ u. eqb (get_or keys u 0) key))
 
-abbrev decreases-loop : tie.decreases-loop
+abbrev decreases-loop : tie.decreases-loop-v
 decreases-loop keys count key found₀ v₀ found v = count - v
 
-loop-holds : tie.Need-loop-init invariant-loop decreases-loop
+loop-holds : tie.Need-loop-v-init invariant-loop decreases-loop
 loop-holds c = (omega arith, refl)
 
-mul-found : tie.Need-overflow-mul-found invariant-loop decreases-loop
+mul-found : tie.Need-offset_bounds-keys-v invariant-loop decreases-loop
 mul-found c = omega arith
 
-element-copy-out-found : tie.Need-element-copy-out-found invariant-loop decreases-loop
+element-copy-out-found : tie.Need-bounds-keys-v invariant-loop decreases-loop
 element-copy-out-found c = omega arith
 
-add-v : tie.Need-overflow-add-v invariant-loop decreases-loop
+add-v : tie.Need-overflow_add-v invariant-loop decreases-loop
 add-v c = omega arith
 
-loop-less : tie.Need-loop-smaller invariant-loop decreases-loop
+loop-less : tie.Need-loop-v-smaller invariant-loop decreases-loop
 loop-less c = omega arith
 
-loop-again : tie.Need-loop-preserved invariant-loop decreases-loop
+loop-again : tie.Need-loop-v-preserved invariant-loop decreases-loop
 loop-again c =
-    let a = c.before.before.before.args in
-    let l = c.before.before.loop in
+    let a = c.args in
+    let l = c.loop-v in
     (omega arith, rw add-one (ap (λ b. eqb (get_or a.keys.now l.v 0) a.key || b) l.invariant.1))
 
 returns : tie.Need-returns invariant-loop decreases-loop
 returns c =
-    let a = c.before.before.args in
-    let l = c.before.loop in
+    let a = c.args in
+    let l = c.loop-v in
     let all : l.v ≡ a.count = omega arith in
     l.invariant.1 ∙ ap (λ n. some_below n (λ u. eqb (get_or a.keys.now u 0) a.key)) all
 

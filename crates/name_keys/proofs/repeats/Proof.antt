@@ -13,24 +13,24 @@ use Rattle.name_keys.proofs.repeats.Tie as tie
 key-requires : tie.Need-key-requires
 key-requires c κs = search rules
 
-key-kept-requires : tie.Need-key-kept-requires
+key-kept-requires : tie.Need-key_kept-requires
 key-kept-requires c κs = search rules
 
-returns : tie.Need-returns
+returns : tie.Need-returns-then-not-key_kept
 returns c =
-    let start = c.before.before.before.before.before in
+    let start = c in
     let a = start.args in
     sym (no_key_no_line a.list.now a.starts.now a.keys.now a.count a.word.now start.requires.1.0
-    (ap (λ k. some_below a.count (λ v. eqb (get_or a.keys.now v 0) k)) (sym c.before.before.key.ensures)
-    ∙ sym c.before.key-kept.ensures ∙ not-true _ c.if1.true))
+    (ap (λ k. some_below a.count (λ v. eqb (get_or a.keys.now v 0) k)) (sym c.key.ensures)
+    ∙ sym c.key_kept.ensures ∙ not-true _ c.if-not-key_kept.true-raw))
 
-first-same-requires : tie.Need-first-same-requires
+first-same-requires : tie.Need-first_same-requires
 first-same-requires c κs = search rules
 
-returns-2 : tie.Need-returns-2
+returns-2 : tie.Need-returns
 returns-2 c =
-    let a = c.before.before.before.before.before.before.args in
-    sym (repeats_first a.list.now a.starts.now a.count a.word.now c.first-same.result c.first-same.ensures)
+    let a = c.args in
+    sym (repeats_first a.list.now a.starts.now a.count a.word.now c.first_same.result c.first_same.ensures)
 
 pub repeats_spec : {M : Type 1} → statement M
 repeats_spec =

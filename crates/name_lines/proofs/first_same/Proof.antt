@@ -13,10 +13,10 @@ use Rattle.name_lines.proofs.Parts.{part_room, part_test}
 use Rattle.name_lines.proofs.first_same.Statement.{statement}
 use Rattle.name_lines.proofs.first_same.Tie as tie
 
-abbrev invariant-loop : tie.invariant-loop
+abbrev invariant-loop : tie.invariant-loop-i
 invariant-loop list starts count word v from len i₀ i = (i ≤ len) × (from + len ≤ length list) × ((k : ℕ) → k < i → get_or list (from + k) 0 ≡ get_or word k 0)
 
-abbrev decreases-loop : tie.decreases-loop
+abbrev decreases-loop : tie.decreases-loop-i
 decreases-loop list starts count word v from len i₀ i = len - i
 
 abbrev invariant-lines : tie.invariant-lines
@@ -28,83 +28,83 @@ decreases-lines list starts count word v₀ v = count - v
 lines-holds : tie.Need-lines-init invariant-loop decreases-loop invariant-lines decreases-lines
 lines-holds c = (omega arith, λ u l. absurd (omega arith))
 
-line-part-requires : tie.Need-line-part-requires invariant-loop decreases-loop invariant-lines decreases-lines
+line-part-requires : tie.Need-line_part-line-requires invariant-loop decreases-loop invariant-lines decreases-lines
 line-part-requires c κs =
-    let rising = c.before.before.before.before.requires in
-    (omega (arith, rising.few), rising.rises c.before.lines.v c.lines-test.true)
+    let rising = c.requires in
+    (omega (arith, rising.few), rising.rises c.lines.v c.lines-test.true)
 
 -- Where line v lies.
-room : (c : tie.After-line-part invariant-loop decreases-loop invariant-lines decreases-lines)
-    → c.line-part.result.start + c.line-part.result.len ≤ length c.before.before.before.before.before.args.list.now
-room c = part_room c.before.before.before.before.before.requires c.before.before.lines.v c.before.lines-test.true c.line-part.result c.line-part.ensures
+room : (c : tie.After-line_part-line invariant-loop decreases-loop invariant-lines decreases-lines)
+    → c.line_part-line.result.start + c.line_part-line.result.len ≤ length c.before.before.before.before.before.args.list.now
+room c = part_room c.requires c.lines.v c.lines-test.true c.line_part-line.result c.line_part-line.ensures
 
-add-v : tie.Need-overflow-add-v invariant-loop decreases-loop invariant-lines decreases-lines
+add-v : tie.Need-overflow_add-v invariant-loop decreases-loop invariant-lines decreases-lines
 add-v c = omega arith
 
-lines-less : tie.Need-lines-smaller invariant-loop decreases-loop invariant-lines decreases-lines
+lines-less : tie.Need-lines-smaller-then-len-word invariant-loop decreases-loop invariant-lines decreases-lines
 lines-less c = omega arith
 
-lines-again : tie.Need-lines-preserved invariant-loop decreases-loop invariant-lines decreases-lines
+lines-again : tie.Need-lines-preserved-then-len-word invariant-loop decreases-loop invariant-lines decreases-lines
 lines-again c =
-    let a = c.before.before.before.before.before.before.args in
-    let l = c.before.before.before.lines in
-    let p = c.before.line-part in
+    let a = c.args in
+    let l = c.lines in
+    let p = c.line_part-line in
     let other : same (said a.list.now a.starts.now l.v) a.word.now ≡ false =
-    part_test a.list.now a.starts.now a.word.now l.v p.ensures (part_length_differs a.list.now a.word.now p.result.start p.result.len (room c.before) c.if1.true) in
+    part_test a.list.now a.starts.now a.word.now l.v p.ensures (part_length_differs a.list.now a.word.now p.result.start p.result.len (room c.before) c.if-len-word.true) in
     (omega arith, below_more (λ u. same (said a.list.now a.starts.now u) a.word.now ≡ false) l.v l.invariant.1 other)
 
-loop-holds : tie.Need-loop-init invariant-loop decreases-loop invariant-lines decreases-lines
+loop-holds : tie.Need-loop-i-init invariant-loop decreases-loop invariant-lines decreases-lines
 loop-holds c = (omega arith, room c.before, λ k l. absurd (omega arith))
 
-add-if2 : tie.Need-overflow-add-if2 invariant-loop decreases-loop invariant-lines decreases-lines
+add-if2 : tie.Need-overflow_add-from invariant-loop decreases-loop invariant-lines decreases-lines
 add-if2 c = omega arith
 
-shared-slice-read-if2 : tie.Need-shared-slice-read-if2 invariant-loop decreases-loop invariant-lines decreases-lines
+shared-slice-read-if2 : tie.Need-bounds-list-from invariant-loop decreases-loop invariant-lines decreases-lines
 shared-slice-read-if2 c = omega arith
 
-shared-slice-read-if2-2 : tie.Need-shared-slice-read-if2-2 invariant-loop decreases-loop invariant-lines decreases-lines
+shared-slice-read-if2-2 : tie.Need-bounds-word-i invariant-loop decreases-loop invariant-lines decreases-lines
 shared-slice-read-if2-2 c = omega arith
 
-add-i : tie.Need-overflow-add-i invariant-loop decreases-loop invariant-lines decreases-lines
+add-i : tie.Need-overflow_add-i invariant-loop decreases-loop invariant-lines decreases-lines
 add-i c = omega arith
 
-loop-less : tie.Need-loop-smaller invariant-loop decreases-loop invariant-lines decreases-lines
+loop-less : tie.Need-loop-i-smaller invariant-loop decreases-loop invariant-lines decreases-lines
 loop-less c = omega arith
 
-loop-again : tie.Need-loop-preserved invariant-loop decreases-loop invariant-lines decreases-lines
+loop-again : tie.Need-loop-i-preserved invariant-loop decreases-loop invariant-lines decreases-lines
 loop-again c =
-    let a = c.before.before.before.before.before.before.before.before.before.before.before.args in
-    let from = c.before.before.before.before.before.before.line-part.result.start in
-    let l = c.before.before.before.before.loop in
-    (omega arith, l.invariant.1, below_more (λ k. get_or a.list.now (from + k) 0 ≡ get_or a.word.now k 0) l.i l.invariant.2 c.if2.false)
+    let a = c.args in
+    let from = c.line_part-line.result.start in
+    let l = c.loop-i in
+    (omega arith, l.invariant.1, below_more (λ k. get_or a.list.now (from + k) 0 ≡ get_or a.word.now k 0) l.i l.invariant.2 c.if-list-from.false)
 
-add-v-2 : tie.Need-overflow-add-v-2 invariant-loop decreases-loop invariant-lines decreases-lines
+add-v-2 : tie.Need-overflow_add-v-in-lines invariant-loop decreases-loop invariant-lines decreases-lines
 add-v-2 c = omega arith
 
-lines-less-2 : tie.Need-lines-smaller-2 invariant-loop decreases-loop invariant-lines decreases-lines
+lines-less-2 : tie.Need-lines-smaller invariant-loop decreases-loop invariant-lines decreases-lines
 lines-less-2 c = omega arith
 
-lines-again-2 : tie.Need-lines-preserved-2 invariant-loop decreases-loop invariant-lines decreases-lines
+lines-again-2 : tie.Need-lines-preserved invariant-loop decreases-loop invariant-lines decreases-lines
 lines-again-2 c =
-    let a = c.before.before.before.before.before.before.before.before.before.before.before.args in
-    let l = c.before.before.before.before.before.before.before.before.lines in
-    let p = c.before.before.before.before.before.before.line-part in
-    let i = c.before.before.before.before.loop in
+    let a = c.args in
+    let l = c.lines in
+    let p = c.line_part-line in
+    let i = c.loop-i in
     let other : same (said a.list.now a.starts.now l.v) a.word.now ≡ false =
-    part_test a.list.now a.starts.now a.word.now l.v p.ensures (part_differs a.list.now a.word.now p.result.start p.result.len i.invariant.1 i.i (omega arith) c.if2.true) in
+    part_test a.list.now a.starts.now a.word.now l.v p.ensures (part_differs a.list.now a.word.now p.result.start p.result.len i.invariant.1 i.i (omega arith) c.if-list-from.true) in
     (omega arith, below_more (λ u. same (said a.list.now a.starts.now u) a.word.now ≡ false) l.v l.invariant.1 other)
 
-returns : tie.Need-returns invariant-loop decreases-loop invariant-lines decreases-lines
+returns : tie.Need-returns-after-lines invariant-loop decreases-loop invariant-lines decreases-lines
 returns c =
-    let l = c.before.lines in
+    let l = c.lines in
     record { most = l.invariant.0; before = l.invariant.1; here = λ h. absurd (omega arith) }
 
-returns-2 : tie.Need-returns-2 invariant-loop decreases-loop invariant-lines decreases-lines
+returns-2 : tie.Need-returns-then-i-len invariant-loop decreases-loop invariant-lines decreases-lines
 returns-2 c =
-    let a = c.before.before.before.before.before.before.before.before.args in
-    let l = c.before.before.before.before.before.lines in
-    let p = c.before.before.before.line-part in
-    let i = c.before.loop in
+    let a = c.args in
+    let l = c.lines in
+    let p = c.line_part-line in
+    let i = c.loop-i in
     record {
       most = l.invariant.0;
       before = l.invariant.1;

@@ -8,39 +8,39 @@ use lib.ListN.{get_or}
 use Rattle.name_lines.proofs.line_part.Statement.{statement}
 use Rattle.name_lines.proofs.line_part.Tie as tie
 
-mul_wide : tie.Need-overflow-mul-wide
+mul_wide : tie.Need-offset_bounds-starts-v
 mul_wide c = search rules
 
-element-copy-out-wide : tie.Need-element-copy-out-wide
+element-copy-out-wide : tie.Need-bounds-starts-v
 element-copy-out-wide c = search rules
 
-wide-requires : tie.Need-wide-requires
+wide-requires : tie.Need-wide-start-requires
 wide-requires c κs = search rules
 
-add_wide : tie.Need-overflow-add-wide
+add_wide : tie.Need-overflow_add-v
 add_wide c = search rules
 
-mul-wide-2 : tie.Need-overflow-mul-wide-2
+mul-wide-2 : tie.Need-offset_bounds-starts-v-2
 mul-wide-2 c = search rules
 
-element-copy-out-wide-2 : tie.Need-element-copy-out-wide-2
+element-copy-out-wide-2 : tie.Need-bounds-starts-v-2
 element-copy-out-wide-2 c = search rules
 
-wide-requires-2 : tie.Need-wide-requires-2
+wide-requires-2 : tie.Need-wide-next-requires
 wide-requires-2 c κs = search rules
 
 -- The number read second is the start of the next line.
-next_start : (c : tie.After-wide2) → c.wide2.result ≡ get_or c.before.before.before.before.args.starts.now (suc c.before.before.before.before.args.v) 0
-next_start c = c.wide2.ensures ∙ rw (add-one)
+next_start : (c : tie.After-wide-next) → c.wide-next.result ≡ get_or c.before.before.before.before.args.starts.now (suc c.before.before.before.before.args.v) 0
+next_start c = c.wide-next.ensures ∙ rw (add-one)
 
-sub-t5 : tie.Need-overflow-sub-t5
+sub-t5 : tie.Need-overflow_sub-result
 sub-t5 c = omega (arith, next_start c)
 
-sub-t9 : tie.Need-overflow-sub-t9
+sub-t9 : tie.Need-overflow_sub-result-2
 sub-t9 c = omega (arith, next_start c)
 
 returns : tie.Need-returns
-returns c = rw (next_start c, c.before.before.wide.ensures)
+returns c = rw (next_start c, c.wide-start.ensures)
 
 pub line_part_spec : {M : Type 1} → statement M
 line_part_spec =

@@ -14,10 +14,10 @@ use Rattle.names.proofs.Upto.{Upto, at_first, since_entry, at_last, at_fault, at
 use Rattle.names.proofs.index.Statement.{statement}
 use Rattle.names.proofs.index.Tie as tie
 
-abbrev invariant-loop : tie.invariant-loop
+abbrev invariant-loop : tie.invariant-loop-start
 invariant-loop list starts₀ start₀ count₀ keys₀ starts start count keys = Upto list starts₀ starts count start × Keyed list starts keys count × (length keys ≡ starts_count)
 
-abbrev decreases-loop : tie.decreases-loop
+abbrev decreases-loop : tie.decreases-loop-start
 decreases-loop list starts₀ start₀ count₀ keys₀ starts start count keys = length list - start
 
 abbrev Start : Type 0
@@ -25,122 +25,118 @@ Start = tie.Start invariant-loop decreases-loop
 
 -- The lines before this one are names.
 abbrev Turn : Type 0
-Turn = tie.At-loop invariant-loop decreases-loop
+Turn = tie.At-loop-start invariant-loop decreases-loop
 
 abbrev begun-of : Turn → Start
-begun-of c = c.before.before
-
+begun-of c = c.before.before.before
 -- There is one more, and where it ends is known.
 abbrev Ended : Type 0
-Ended = tie.After-line-end invariant-loop decreases-loop
+Ended = tie.After-line_end-end invariant-loop decreases-loop
 
 abbrev turn-of : Ended → Turn
 turn-of c = c.before.before
-
 -- It is judged.
 abbrev Judged : Type 0
-Judged = tie.After-bad-line invariant-loop decreases-loop
+Judged = tie.After-bad_line invariant-loop decreases-loop
 
 abbrev ended_of : Judged → Ended
-ended_of c = c.before.before.before
-
+ended_of c = c.before.before
 -- It is good, and its key is known.
 abbrev Measured : Type 0
 Measured = tie.After-key invariant-loop decreases-loop
 
 abbrev judged-of : Measured → Judged
 judged-of c = c.before.before.before
-
-element-write-starts : tie.Need-element-write-starts invariant-loop decreases-loop
+element-write-starts : tie.Need-bounds-starts-0 invariant-loop decreases-loop
 element-write-starts c = search rules
 
-loop-holds : tie.Need-loop-init invariant-loop decreases-loop
+loop-holds : tie.Need-loop-start-init invariant-loop decreases-loop
 loop-holds c =
-    let a = c.before.args in (
-      at_first a.list.now (set a.starts.now 0 0) (get_or-set_same a.starts.now 0 0 0 (omega arith)) (length-set a.starts.now 0 0 ∙ c.before.requires.1),
+    let a = c.args in (
+      at_first a.list.now (set a.starts.now 0 0) (get_or-set_same a.starts.now 0 0 0 (omega arith)) (length-set a.starts.now 0 0 ∙ c.requires.1),
       λ v l. absurd (omega arith),
       search rules,
     )
 
-line-end-requires : tie.Need-line-end-requires invariant-loop decreases-loop
-line-end-requires c κs = c.before.loop.invariant.0.most
+line-end-requires : tie.Need-line_end-end-requires invariant-loop decreases-loop
+line-end-requires c κs = c.loop-start.invariant.0.most
 
-bad-line-requires : tie.Need-bad-line-requires invariant-loop decreases-loop
+bad-line-requires : tie.Need-bad_line-requires invariant-loop decreases-loop
 bad-line-requires c κs =
-    let e = c.before.before.line-end.ensures in
-    let l = (turn-of c.before.before).loop in
-    ((e.least, e.most), (l.inv.0.rising, l.inv.1))
+    let e = c.line_end-end.ensures in
+    let l = (turn-of c.before).loop-start in
+    ((e.least, e.most), (l.invariant.0.rising, l.invariant.1))
 
-returns : tie.Need-returns invariant-loop decreases-loop
+returns : tie.Need-returns-then-bad_line invariant-loop decreases-loop
 returns c =
     let ended = ended_of c.before in
     let turn = turn-of ended in
     let a = (begun-of turn).args in
-    let l = turn.loop in
-    let e = ended.line-end in
-    at_fault a.list.now a.starts.now l.starts l.count l.start e.result (since_entry a.starts.now l.inv.0) (omega arith) e.ensures
-    (sym c.before.bad-line.ensures ∙ c.if1.true)
+    let l = turn.loop-start in
+    let e = ended.line_end-end in
+    at_fault a.list.now a.starts.now l.starts l.count l.start e.result (since_entry a.starts.now l.invariant.0) (omega arith) e.ensures
+    (sym c.bad_line.ensures ∙ c.if-bad_line.true)
 
 -- After a good line there is room for its key and for the next start.
-few : (c : tie.Else1 invariant-loop decreases-loop) → (turn-of (ended_of c.before)).loop.count < names_limit
+few : (c : tie.Else-bad_line invariant-loop decreases-loop) → (turn-of (ended_of c.before)).loop-start.count < names_limit
 few c =
     let ended = ended_of c.before in
     let turn = turn-of ended in
     let a = (begun-of turn).args in
-    let l = turn.loop in
-    let e = ended.line-end in
-    room a.list.now (set a.starts.now 0 0) l.starts l.count l.start e.result l.inv.0 (omega arith) e.ensures
-    (sym c.before.bad-line.ensures ∙ c.if1.false)
+    let l = turn.loop-start in
+    let e = ended.line_end-end in
+    room a.list.now (set a.starts.now 0 0) l.starts l.count l.start e.result l.invariant.0 (omega arith) e.ensures
+    (sym c.bad_line.ensures ∙ c.if-bad_line.false)
 
-sub-key : tie.Need-overflow-sub-key invariant-loop decreases-loop
-sub-key c = omega (arith, (ended_of c.before).line-end.ensures.least)
+sub-key : tie.Need-slice_bounds-key-count invariant-loop decreases-loop
+sub-key c = omega (arith, (ended_of c.before).line_end-end.ensures.least)
 
-part-key-start : tie.Need-slice-bounds-key-start invariant-loop decreases-loop
-part-key-start c = omega (arith, (ended_of c.before).line-end.ensures.least)
+part-key-start : tie.Need-slice_bounds-key-start invariant-loop decreases-loop
+part-key-start c = omega (arith, (ended_of c.before).line_end-end.ensures.least)
 
-part-key-end : tie.Need-slice-bounds-key-end invariant-loop decreases-loop
-part-key-end c = omega (arith, (ended_of c.before).line-end.ensures.most)
+part-key-end : tie.Need-slice_bounds-key-end invariant-loop decreases-loop
+part-key-end c = omega (arith, (ended_of c.before).line_end-end.ensures.most)
 
 key-requires : tie.Need-key-requires invariant-loop decreases-loop
 key-requires c κs =
     let ended = ended_of c.before.before in
     let turn = turn-of ended in
     let a = (begun-of turn).args in
-    let l = turn.loop in
-    let e = ended.line-end in
-    has_key a.list.now (set a.starts.now 0 0) l.starts l.count l.start e.result l.inv.0 (omega arith) e.ensures
-    (sym c.before.before.bad-line.ensures ∙ c.before.if1.false)
+    let l = turn.loop-start in
+    let e = ended.line_end-end in
+    has_key a.list.now (set a.starts.now 0 0) l.starts l.count l.start e.result l.invariant.0 (omega arith) e.ensures
+    (sym c.bad_line.ensures ∙ c.if-bad_line.false)
 
-mul-keys : tie.Need-overflow-mul-keys invariant-loop decreases-loop
+mul-keys : tie.Need-offset_bounds-keys-count invariant-loop decreases-loop
 mul-keys c = omega (arith, few c.before.before)
 
-array-write-keys : tie.Need-array-write-keys invariant-loop decreases-loop
+array-write-keys : tie.Need-bounds-keys-count invariant-loop decreases-loop
 array-write-keys c = omega (arith, few c.before.before)
 
-add_start : tie.Need-overflow-add-start invariant-loop decreases-loop
+add_start : tie.Need-overflow_add-start invariant-loop decreases-loop
 add_start c = omega arith
 
-add-count : tie.Need-overflow-add-count invariant-loop decreases-loop
+add-count : tie.Need-overflow_add-count invariant-loop decreases-loop
 add-count c = omega (arith, few c.before.before)
 
-cast-starts : tie.Need-overflow-cast-starts invariant-loop decreases-loop
+cast-starts : tie.Need-overflow_cast-starts invariant-loop decreases-loop
 cast-starts c = omega arith
 
-mul-starts : tie.Need-overflow-mul-starts invariant-loop decreases-loop
+mul-starts : tie.Need-offset_bounds-starts-count invariant-loop decreases-loop
 mul-starts c = omega (arith, few c.before.before)
 
-element-write-starts-2 : tie.Need-element-write-starts-2 invariant-loop decreases-loop
-element-write-starts-2 c = omega (arith, few c.before.before)
+element-write-starts-2 : tie.Need-bounds-starts-count invariant-loop decreases-loop
+element-write-starts-2 c = omega (arith, few c.before.before.before)
 
-loop-less : tie.Need-loop-smaller invariant-loop decreases-loop
-loop-less c = omega (arith, (ended_of (judged-of c)).line-end.ensures.least)
+loop-less : tie.Need-loop-start-smaller invariant-loop decreases-loop
+loop-less c = omega (arith, (ended_of (judged-of c.before)).line_end-end.ensures.least)
 
-loop-again : tie.Need-loop-preserved invariant-loop decreases-loop
+loop-again : tie.Need-loop-start-preserved invariant-loop decreases-loop
 loop-again c =
-    let a = c.before.before.before.before.before.before.before.before.before.before.args in
-    let l = c.before.before.before.before.before.before.before.before.loop in
-    let e = c.before.before.before.before.before.before.line-end in
-    let good = sym c.before.before.before.bad-line.ensures ∙ c.before.before.if1.false in
+    let a = c.args in
+    let l = c.loop-start in
+    let e = c.line_end-end in
+    let good = sym c.bad_line.ensures ∙ c.if-bad_line.false in
     rw (add-one l.count, add-one e.result) (
       at_next a.list.now (set a.starts.now 0 0) l.starts l.count l.start e.result l.invariant.0 (omega arith) e.ensures good,
       rw c.key.ensures
@@ -148,10 +144,10 @@ loop-again c =
       length-set l.keys l.count _ ∙ l.invariant.2,
     )
 
-returns-2 : tie.Need-returns-2 invariant-loop decreases-loop
+returns-2 : tie.Need-returns invariant-loop decreases-loop
 returns-2 c =
     let a = (begun-of c.before).args in
-    let l = c.before.loop in
+    let l = c.loop-start in
     at_last a.list.now a.starts.now l.starts l.count l.start (since_entry a.starts.now l.invariant.0) (omega arith)
 
 pub index_spec : {M : Type 1} → statement M

@@ -9,37 +9,37 @@ use lib.ListN.{length, get_or}
 use Rattle.names.proofs.line_end.Statement.{statement}
 use Rattle.names.proofs.line_end.Tie as tie
 
-abbrev invariant-loop : tie.invariant-loop
+abbrev invariant-loop : tie.invariant-loop-at
 invariant-loop list start at₀ at = (start ≤ at) × (at ≤ length list) × ((k : ℕ) → start ≤ k → k < at → get_or list k 0 ≡ 10 → ⊥)
 
-abbrev decreases-loop : tie.decreases-loop
+abbrev decreases-loop : tie.decreases-loop-at
 decreases-loop list start at₀ at = length list - at
 
-loop-holds : tie.Need-loop-init invariant-loop decreases-loop
+loop-holds : tie.Need-loop-at-init invariant-loop decreases-loop
 loop-holds c = (omega arith, omega arith, λ k a l e. omega arith)
 
-shared-slice-read-if1 : tie.Need-shared-slice-read-if1 invariant-loop decreases-loop
+shared-slice-read-if1 : tie.Need-bounds-list-at invariant-loop decreases-loop
 shared-slice-read-if1 c = omega arith
 
-returns : tie.Need-returns invariant-loop decreases-loop
+returns : tie.Need-returns-then-list-at-eq10 invariant-loop decreases-loop
 returns c =
-    let l = c.before.before.before.loop in
-    record { least = l.invariant.0; most = l.invariant.1; before = l.invariant.2; stops = λ _. c.if1.true }
+    let l = c.loop-at in
+    record { least = l.invariant.0; most = l.invariant.1; before = l.invariant.2; stops = λ _. c.if-list-at-eq10.true }
 
-add_at : tie.Need-overflow-add-at invariant-loop decreases-loop
+add_at : tie.Need-overflow_add-at invariant-loop decreases-loop
 add_at c = omega arith
 
-loop-less : tie.Need-loop-smaller invariant-loop decreases-loop
+loop-less : tie.Need-loop-at-smaller invariant-loop decreases-loop
 loop-less c = omega arith
 
-loop-again : tie.Need-loop-preserved invariant-loop decreases-loop
+loop-again : tie.Need-loop-at-preserved invariant-loop decreases-loop
 loop-again c =
-    let l = c.before.before.before.loop in
-    (omega arith, omega arith, λ k a b e. by_cases (ℕ_discrete k l.at) (λ q. c.if1.false (rw q at e)) (λ q. l.invariant.2 k a (omega arith) e))
+    let l = c.loop-at in
+    (omega arith, omega arith, λ k a b e. by_cases (ℕ_discrete k l.at) (λ q. c.if-list-at-eq10.false (rw q at e)) (λ q. l.invariant.2 k a (omega arith) e))
 
-returns-2 : tie.Need-returns-2 invariant-loop decreases-loop
+returns-2 : tie.Need-returns invariant-loop decreases-loop
 returns-2 c =
-    let l = c.before.loop in
+    let l = c.loop-at in
     record { least = l.invariant.0; most = l.invariant.1; before = l.invariant.2; stops = λ h. absurd (omega arith) }
 
 pub line_end_spec : {M : Type 1} → statement M

@@ -9,20 +9,20 @@ use Rattle.name_lines.proofs.Parts.{part_room}
 use Rattle.names.proofs.spell.Statement.{statement}
 use Rattle.names.proofs.spell.Tie as tie
 
-line-part-requires : tie.Need-line-part-requires
+line-part-requires : tie.Need-line_part-requires
 line-part-requires c κs =
-    let rising = c.before.requires.0.rising in
-    (omega (arith, rising.few), rising.rises c.before.args.v c.before.requires.1)
+    let rising = c.requires.0.rising in
+    (omega (arith, rising.few), rising.rises c.args.v c.requires.1)
 
 returns : tie.Need-returns
 returns c =
-    let a = c.before.before.args in
-    let pre = c.before.before.requires in
+    let a = c.args in
+    let pre = c.requires in
     let Said-at = sym (column_at a.count (said a.list.now a.starts.now) [] a.v pre.1) in
     record {
-      part = c.line-part.ensures;
-      says = ap (bytes_of a.list.now) c.line-part.ensures ∙ Said-at ∙ ap (λ names. get_or names a.v []) (sym pre.0.names);
-      within = part_room pre.0.rising a.v pre.1 c.line-part.result c.line-part.ensures;
+      part = c.line_part.ensures;
+      says = ap (bytes_of a.list.now) c.line_part.ensures ∙ Said-at ∙ ap (λ names. get_or names a.v []) (sym pre.0.names);
+      within = part_room pre.0.rising a.v pre.1 c.line_part.result c.line_part.ensures;
     }
 
 pub spell_spec : {M : Type 1} → statement M

@@ -12,44 +12,44 @@ use Rattle.pen.proofs.Putting.{puts_as, puts_none, puts_both, puts_long}
 use Rattle.pen.proofs.put.Statement.{statement}
 use Rattle.pen.proofs.put.Tie as tie
 
-abbrev invariant-loop : tie.invariant-loop
+abbrev invariant-loop : tie.invariant-loop-i
 invariant-loop out₀ pen bytes at₀ i₀ out at i = (i ≤ length bytes) × Puts (take i bytes) pen out₀ out at
 
-abbrev decreases-loop : tie.decreases-loop
+abbrev decreases-loop : tie.decreases-loop-i
 decreases-loop out₀ pen bytes at₀ i₀ out at i = length bytes - i
 
-loop-holds : tie.Need-loop-init invariant-loop decreases-loop
+loop-holds : tie.Need-loop-i-init invariant-loop decreases-loop
 loop-holds c = (omega arith, puts_none _ _)
 
-shared-slice-read-put-byte : tie.Need-shared-slice-read-put-byte invariant-loop decreases-loop
+shared-slice-read-put-byte : tie.Need-bounds-bytes-i invariant-loop decreases-loop
 shared-slice-read-put-byte c = omega arith
 
-put-byte-requires : tie.Need-put-byte-requires invariant-loop decreases-loop
+put-byte-requires : tie.Need-put_byte-at-requires invariant-loop decreases-loop
 put-byte-requires c κs =
-    let l = c.before.before.before.loop in
-    let bytes = c.before.before.before.before.before.before.args.bytes.now in
+    let l = c.loop-i in
+    let bytes = c.args.bytes.now in
     omega (arith, l.invariant.1.moved, length-take-le l.i bytes l.invariant.0)
 
-add-i : tie.Need-overflow-add-i invariant-loop decreases-loop
+add-i : tie.Need-overflow_add-i invariant-loop decreases-loop
 add-i c = search rules
 
-loop-less : tie.Need-loop-smaller invariant-loop decreases-loop
+loop-less : tie.Need-loop-i-smaller invariant-loop decreases-loop
 loop-less c = search rules
 
-loop-again : tie.Need-loop-preserved invariant-loop decreases-loop
+loop-again : tie.Need-loop-i-preserved invariant-loop decreases-loop
 loop-again c =
-    let l = c.before.before.before.before.before.before.loop in
-    let bytes = c.before.before.before.before.before.before.before.before.before.args.bytes.now in
+    let l = c.loop-i in
+    let bytes = c.args.bytes.now in
     let more : take l.i bytes ++ (get_or bytes l.i 0 ∷ []) ≡ take (l.i + 1) bytes = rw (add-one l.i) (sym (take-suc bytes l.i 0 (omega arith))) in
-    (omega arith, puts_as more (puts_both l.invariant.1 c.before.before.put_byte.ensures))
+    (omega arith, puts_as more (puts_both l.invariant.1 c.put_byte-at.ensures))
 
-same_length : tie.Need-same-length invariant-loop decreases-loop
-same_length c = puts_long c.before.loop.invariant.1
+same_length : tie.Need-shape_of-out invariant-loop decreases-loop
+same_length c = puts_long c.loop-i.invariant.1
 
 returns : tie.Need-returns invariant-loop decreases-loop
 returns c =
-    let l = c.before.loop in
-    puts_as (take_all l.i c.before.before.before.before.args.bytes.now c.loop-test.false) l.invariant.1
+    let l = c.loop-i in
+    puts_as (take_all l.i c.args.bytes.now c.loop-i-test.false) l.invariant.1
 
 pub put_spec : {M : Type 1} → statement M
 put_spec =

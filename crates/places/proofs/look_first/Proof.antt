@@ -7,7 +7,7 @@ use Rattle.places.proofs.look_first.Tie as tie
 
 look-requires : tie.Need-look-requires
 look-requires c κs =
-    let pre = c.before.requires in
+    let pre = c.requires in
     ((pre.0.0, pre.0.1, λ known. absurd (false≢true (sym known))), pre.1)
 
 returns : tie.Need-returns

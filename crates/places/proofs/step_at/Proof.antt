@@ -7,31 +7,31 @@ use borrow.Author.Rules.{rules}
 use Rattle.places.proofs.step_at.Statement.{statement}
 use Rattle.places.proofs.step_at.Tie as tie
 
-mul-unpack : tie.Need-overflow-mul-unpack
+mul-unpack : tie.Need-offset_bounds-items-place
 mul-unpack c = search rules
 
-shared-slice-read-unpack : tie.Need-shared-slice-read-unpack
+shared-slice-read-unpack : tie.Need-bounds-items-place
 shared-slice-read-unpack c = search rules
 
-unpack-requires : tie.Need-unpack-requires
+unpack-requires : tie.Need-unpack-item-requires
 unpack-requires c κs = search rules
 
-enum-known-item : tie.Need-enum-known-item
+enum-known-item : tie.Need-enum_known-item
 enum-known-item c = search rules
 
-returns : tie.Need-returns
+returns : tie.Need-returns-in_default
 returns c =
-    let a = c.before.before.before.before.args in
+    let a = c.args in
     let w = get_or a.items.now a.place 0 in
-    let u = c.before.unpack in
-    none-some (sym (not_step w u.result (said w u.result u.ensures) c.match.keys2) ∙ c.before.before.before.before.requires.1.1)
+    let u = c.unpack-item in
+    none-some (sym (not_step w u.result (said w u.result u.ensures) c.in-Step.in-Step-own.keys2) ∙ c.requires.1.1)
 
-returns-2 : tie.Need-returns-2
+returns-2 : tie.Need-returns
 returns-2 c =
-    let a = c.before.before.before.before.before.before.args in
+    let a = c.args in
     let w = get_or a.items.now a.place 0 in
-    let u = c.before.before.before.unpack in
-    rw c.before.item.given.1 at (said w u.result u.ensures)
+    let u = c.unpack-item in
+    rw c.in-Step.is at (said w u.result u.ensures)
 
 pub step_at_spec : {M : Type 1} → statement M
 step_at_spec =

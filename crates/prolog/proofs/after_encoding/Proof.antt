@@ -14,41 +14,40 @@ use Rattle.prolog.proofs.after_encoding.Statement.{statement}
 use Rattle.prolog.proofs.after_encoding.Tie as tie
 
 -- White space is skipped up to a place, and it is known what stands there.
-abbrev past-space : tie.After-stands → tie.After-skip
+abbrev past-space : tie.After-stands → tie.After-skip-place
 past-space c = c.before
-
 abbrev begun : tie.After-stands → tie.Start
 begun c = (past-space c).before.before
 
 abbrev space : tie.After-stands → Bool
-space c = ltb (begun c).args.at (past-space c).skip.result
+space c = ltb (begun c).args.at (past-space c).skip-place.result
 
-both : (c : tie.Then1) → (space c.before ≡ true) × (c.before.stands.result ≡ true)
-both c = and_true (space c.before) c.before.stands.result c.if1.true
+both : (c : tie.Then-at-place) → (space c.before ≡ true) × (c.before.stands.result ≡ true)
+both c = and_true (space c.before) c.stands.result c.if-at-place.true
 
-one_fails : (c : tie.Else1) → let s = begun c.before in (space c.before && begins 115 (drop (past-space c.before).skip.result s.args.text.now)) ≡ false
-one_fails c = ap (λ (t : Bool). space c.before && t) (sym c.before.stands.ensures) ∙ c.if1.false
+one_fails : (c : tie.Else-at-place) → let s = begun c.before in (space c.before && begins 115 (drop (past-space c.before).skip-place.result s.args.text.now)) ≡ false
+one_fails c = ap (λ (t : Bool). space c.before && t) (sym c.stands.ensures) ∙ c.if-at-place.false
 
-skip-requires : tie.Need-skip-requires
+skip-requires : tie.Need-skip-place-requires
 skip-requires c κs = search rules
 
 stands-requires : tie.Need-stands-requires
 stands-requires c κs = search rules
 
 standalone-requires : tie.Need-standalone-requires
-standalone-requires c κs = let b = c.before in run_inside white _ _ _ (past-space b).skip.ensures (begun b).requires
+standalone-requires c κs = let b = c in run_inside white _ _ _ (past-space b.before).skip-place.ensures (begun b.before).requires
 
-declaration-end-requires : tie.Need-declaration-end-requires
+declaration-end-requires : tie.Need-declaration_end-requires
 declaration-end-requires c κs = search rules
 
-returns : tie.Need-returns
+returns : tie.Need-returns-then-at-place
 returns c =
-    let b = c.before.before in
+    let b = c in
     let here = both c.before in
-    alone_on _ _ _ (begun b).requires (past-space b).skip.ensures _ (ltb-true _ _ here.0) (sym b.stands.ensures ∙ here.1) c.standalone.ensures
+    alone_on _ _ _ (begun b.before.before).requires (past-space b.before.before).skip-place.ensures _ (ltb-true _ _ here.0) (sym b.stands.ensures ∙ here.1) c.standalone.ensures
 
-returns-2 : tie.Need-returns-2
-returns-2 c = let b = c.before.before in alone_off _ _ _ (begun b).requires (past-space b).skip.ensures _ (one_fails c.before) c.declaration-end.ensures
+returns-2 : tie.Need-returns-else-at-place
+returns-2 c = let b = c in alone_off _ _ _ (begun b.before.before).requires (past-space b.before.before).skip-place.ensures _ (one_fails c.before) c.declaration_end.ensures
 
 pub after_encoding_spec : {M : Type 1} → statement M
 after_encoding_spec =

@@ -15,24 +15,20 @@ use Rattle.prolog.proofs.declaration_end.Tie as tie
 -- White space is skipped up to a place of the text.
 abbrev begun : tie.After-skip → tie.Start
 begun c = c.before.before
-
 inside : (c : tie.After-skip) → c.skip.result ≤ length (begun c).args.text.now
 inside c = run_inside white _ _ _ c.skip.ensures (begun c).requires
 
 skip-requires : tie.Need-skip-requires
 skip-requires c κs = search rules
 
-slice-aggregate-say : tie.Need-slice-aggregate-say
-slice-aggregate-say c = search rules
-
 say-requires : tie.Need-say-requires
-say-requires c κs = inside c.before
+say-requires c κs = inside c.before.before
 
 returns : tie.Need-returns
 returns c =
-    let skipped = c.before.before in
-    over_on _ _ _ (begun skipped).requires skipped.skip.ensures _ (word_heads _ _ (ascii "?>") c.say.result refl (inside skipped) c.say.ensures done)
+    let skipped = c in
+    over_on _ _ _ (begun skipped.before.before.before).requires skipped.skip.ensures _ (word_heads _ _ (ascii "?>") c.say.result refl (inside skipped.before.before.before) c.say.ensures done)
 
 pub declaration_end_spec : {M : Type 1} → statement M
 declaration_end_spec =
-    tie.close (tie.spec skip-requires slice-aggregate-say say-requires returns)
+    tie.close (tie.spec skip-requires say-requires returns)

@@ -9,39 +9,35 @@ use Rattle.prolog.proofs.declared.Statement.{statement}
 use Rattle.prolog.proofs.declared.Tie as tie
 
 -- It is known whether the text begins with `<?xml`.
-abbrev text : tie.After-begins-with → List ℕ
-text c = c.before.before.before.args.text.now
+abbrev text : tie.After-begins_with → List ℕ
+text c = c.args.text.now
 
-slice-aggregate-begins-with : tie.Need-slice-aggregate-begins-with
-slice-aggregate-begins-with c = search rules
-
-begins-with-requires : tie.Need-begins-with-requires
+begins-with-requires : tie.Need-begins_with-requires
 begins-with-requires c κs = search rules
 
-returns : tie.Need-returns
-returns c = let b = c.before in sym (undeclared (text b) (sym b.begins-with.ensures ∙ not-true _ c.if1.true))
+returns : tie.Need-returns-then-not-begins_with
+returns c = let b = c in sym (undeclared (text b.before) (sym b.begins_with.ensures ∙ not-true _ c.if-not-begins_with.true-raw))
 
-returns-2 : tie.Need-returns-2
-returns-2 c = sym (declares_cut (text c.before.before) c.if2.true)
+returns-2 : tie.Need-returns-then-text-le5
+returns-2 c = sym (declares_cut (text c.before.before) c.if-text-le5.true)
 
-shared-slice-read-white-space : tie.Need-shared-slice-read-white-space
+shared-slice-read-white-space : tie.Need-bounds-text-5
 shared-slice-read-white-space c = search rules
 
-white-space-requires : tie.Need-white-space-requires
+white-space-requires : tie.Need-white_space-requires
 white-space-requires c κs = search rules
 
-returns-3 : tie.Need-returns-3
+returns-3 : tie.Need-returns
 returns-3 c =
-    let long = c.before.before in
-    let begins = long.before in
-    let b = begins.before in
-    c.white-space.ensures ∙ sym (declares_by (text b) long.if2.false (sym b.begins-with.ensures ∙ not-false _ begins.if1.false))
+    let long = c in
+    let begins = long in
+    let b = begins in
+    c.white_space.ensures ∙ sym (declares_by (text b.before.before.before.before) long.if-text-le5.false (sym b.begins_with.ensures ∙ not-false _ begins.if-not-begins_with.false-raw))
 
 pub declared_spec : {M : Type 1} → statement M
 declared_spec =
     tie.close
     (tie.spec
-    slice-aggregate-begins-with
     begins-with-requires
     returns
     returns-2

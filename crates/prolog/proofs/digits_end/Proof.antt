@@ -12,57 +12,56 @@ use Rattle.paper.specs.Xml.{digit}
 use Rattle.prolog.proofs.digits_end.Statement.{statement}
 use Rattle.prolog.proofs.digits_end.Tie as tie
 
-abbrev invariant-loop : tie.invariant-loop
+abbrev invariant-loop : tie.invariant-loop-at
 invariant-loop text from at₀ at = (from ≤ at) × (at ≤ length text) × (from + run_of digit (drop from text) ≡ at + run_of digit (drop at text))
 
-abbrev decreases-loop : tie.decreases-loop
+abbrev decreases-loop : tie.decreases-loop-at
 decreases-loop text from at₀ at = length text - at
 
 abbrev Turn : Type 0
-Turn = tie.At-loop invariant-loop decreases-loop
+Turn = tie.At-loop-at invariant-loop decreases-loop
 
 abbrev text : Turn → List ℕ
-text t = t.before.args.text.now
+text t = t.args.text.now
 
 -- A byte stands at the place of a turn.
-abbrev turn : tie.After-shared-slice-known invariant-loop decreases-loop → Turn
+abbrev turn : tie.After-shared_slice_known-1 invariant-loop decreases-loop → Turn
 turn c = c.before.before
+inside : (c : tie.After-shared_slice_known-1 invariant-loop decreases-loop) → (turn c).loop-at.at < length (text (turn c))
+inside c = c.loop-at-test.true
 
-inside : (c : tie.After-shared-slice-known invariant-loop decreases-loop) → (turn c).loop.at < length (text (turn c))
-inside c = c.before.loop-test.true
-
-loop-holds : tie.Need-loop-init invariant-loop decreases-loop
+loop-holds : tie.Need-loop-at-init invariant-loop decreases-loop
 loop-holds c = (omega arith, c.requires, refl)
 
-shared-slice-read-b : tie.Need-shared-slice-read-b invariant-loop decreases-loop
+shared-slice-read-b : tie.Need-bounds-text-at invariant-loop decreases-loop
 shared-slice-read-b c = omega arith
 
-returns : tie.Need-returns invariant-loop decreases-loop
+returns : tie.Need-returns-then-not-b invariant-loop decreases-loop
 returns c =
     let t = turn c.before in
-    let none = run_ends_lem (text t) t.loop.at (inside c.before) digit (not-true _ c.if1.true) in
-    omega (arith, t.loop.inv.2, none)
+    let none = run_ends_lem (text t) t.loop-at.at (inside c.before) digit (not-true _ c.if-not-b.true-raw) in
+    omega (arith, t.loop-at.invariant.2, none)
 
-add_at : tie.Need-overflow-add-at invariant-loop decreases-loop
+add_at : tie.Need-overflow_add-at invariant-loop decreases-loop
 add_at c = omega arith
 
-loop-less : tie.Need-loop-smaller invariant-loop decreases-loop
+loop-less : tie.Need-loop-at-smaller invariant-loop decreases-loop
 loop-less c = omega arith
 
-loop-again : tie.Need-loop-preserved invariant-loop decreases-loop
+loop-again : tie.Need-loop-at-preserved invariant-loop decreases-loop
 loop-again c =
     let t = turn c.before in
-    let at = t.loop.at in
+    let at = t.loop-at.at in
     let next : suc at ≡ at + 1 = omega arith in
-    let one = run_more (text t) at (inside c.before) digit (not-false _ c.if1.false) in
+    let one = run_more (text t) at (inside c.before) digit (not-false _ c.if-not-b.false-raw) in
     let rest : run_of digit (drop (suc at) (text t)) ≡ run_of digit (drop (at + 1) (text t)) = ap (λ n. run_of digit (drop n (text t))) next in
-    (omega (arith, t.loop.inv.0), omega (arith, inside c.before), omega (arith, t.loop.inv.2, one, rest))
+    (omega (arith, t.loop-at.invariant.0), omega (arith, inside c.before), omega (arith, t.loop-at.invariant.2, one, rest))
 
-returns-2 : tie.Need-returns-2 invariant-loop decreases-loop
+returns-2 : tie.Need-returns invariant-loop decreases-loop
 returns-2 c =
-    let t = c.before in
-    let none : run_of digit (drop t.loop.at (text t)) ≡ 0 = ap (run_of digit) (drop_of_length-le (text t) {i = t.loop.at} (omega arith)) in
-    omega (arith, t.loop.invariant.2, none)
+    let t = c in
+    let none : run_of digit (drop t.loop-at.at (text t.before)) ≡ 0 = ap (run_of digit) (drop_of_length-le (text t.before) {i = t.loop-at.at} (omega arith)) in
+    omega (arith, t.loop-at.invariant.2, none)
 
 pub digits_end_spec : {M : Type 1} → statement M
 digits_end_spec =

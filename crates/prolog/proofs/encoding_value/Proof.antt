@@ -13,49 +13,47 @@ use Rattle.prolog.proofs.encoding_value.Statement.{statement}
 use Rattle.prolog.proofs.encoding_value.Tie as tie
 
 -- No other encoding is named.
-abbrev begun : tie.Else1 → tie.Start
+abbrev begun : tie.Else-other_encoding → tie.Start
 begun c = c.before.before.before
-
-no_other : (c : tie.Else1) → let s = begun c in other_encoding (some s.args.closing) (drop s.args.at s.args.text.now) ≡ false
-no_other c = sym c.before.other-encoding.ensures ∙ c.if1.false
+no_other : (c : tie.Else-other_encoding) → let s = begun c in other_encoding (some s.args.closing) (drop s.args.at s.args.text.now) ≡ false
+no_other c = sym c.other_encoding.ensures ∙ c.if-other_encoding.false
 
 -- UTF-8 is read.
-abbrev sought : tie.After-known-told → tie.After-utf-8
-sought c = c.before.before.before
-
-value_read : (c : tie.After-known-told) → let s = begun (sought c).before in Heads s.args.text.now s.args.at (utf8 s.args.closing) after_encoding (At c.before.value.given.0.0)
+abbrev sought : tie.In-At → tie.After-utf_8-value
+sought c = c.before
+value_read : (c : tie.In-At) → let s = begun (sought c).before in Heads s.args.text.now s.args.at (utf8 s.args.closing) after_encoding (At c.before.in-At.next)
 value_read c =
     let s = begun (sought c).before in
-    subst (Heads s.args.text.now s.args.at (utf8 s.args.closing) after_encoding) c.before.value.given.1 (sought c).utf-8.ensures
+    subst (Heads s.args.text.now s.args.at (utf8 s.args.closing) after_encoding) c.in-At.is (sought c).utf_8-value.ensures
 
-other-encoding-requires : tie.Need-other-encoding-requires
+other-encoding-requires : tie.Need-other_encoding-requires
 other-encoding-requires c κs = search rules
 
-returns : tie.Need-returns
+returns : tie.Need-returns-then-other_encoding
 returns c =
-    let s = c.before.before.before in
-    encoding_other _ _ s.args.closing s.requires.0 (sym c.before.other-encoding.ensures ∙ c.if1.true)
+    let s = c in
+    encoding_other _ _ s.args.closing s.requires.0 (sym c.other_encoding.ensures ∙ c.if-other_encoding.true)
 
-utf-8-requires : tie.Need-utf-8-requires
+utf-8-requires : tie.Need-utf_8-value-requires
 utf-8-requires c κs = search rules
 
-enum-known-value : tie.Need-enum-known-value
+enum-known-value : tie.Need-enum_known-value
 enum-known-value c = search rules
 
-returns-2 : tie.Need-returns-2
+returns-2 : tie.Need-returns-in_default
 returns-2 c =
-    let u = c.before in
-    let s = begun u.before in
-    encoding_none _ _ s.args.closing s.pre.0 _ (no_other u.before) (heads_stuck _ _ (utf8 s.args.closing) after_encoding done u.utf-8.result c.match.keys2 u.utf-8.ensures)
+    let u = c in
+    let s = begun u.before.before in
+    encoding_none _ _ s.args.closing s.requires.0 _ (no_other u.before.before) (heads_stuck _ _ (utf8 s.args.closing) after_encoding done u.utf_8-value.result c.in-At.in-At-own.keys2 u.utf_8-value.ensures)
 
-after-encoding-requires : tie.Need-after-encoding-requires
+after-encoding-requires : tie.Need-after_encoding-requires
 after-encoding-requires c κs = (value_read c).bounds.1
 
-returns-3 : tie.Need-returns-3
+returns-3 : tie.Need-returns
 returns-3 c =
     let u = sought c.before in
     let s = begun u.before in
-    encoding_none _ _ s.args.closing s.pre.0 _ (no_other u.before) (heads_then _ _ _ _ done _ c.after-encoding.result (value_read c.before) c.after-encoding.ensures)
+    encoding_none _ _ s.args.closing s.requires.0 _ (no_other u.before) (heads_then _ _ _ _ done _ c.after_encoding.result (value_read c.before) c.after_encoding.ensures)
 
 pub encoding_value_spec : {M : Type 1} → statement M
 encoding_value_spec =

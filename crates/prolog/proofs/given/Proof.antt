@@ -23,55 +23,52 @@ abbrev Mark : tie.Start → ℕ → Reach → Type 0
 Mark s from r = (p : Pattern) → is_done p ≡ false → quote_of p ≡ none → Heads s.args.text.now from (many white (one (eqb 61) (many white p))) p r
 
 -- The name is read.
-abbrev begun : tie.After-say → tie.Start
+abbrev begun : tie.After-say-named → tie.Start
 begun c = c.before.before.before
+name_sought : (c : tie.After-say-named) → Name (begun c) c.say-named.result
+name_sought c = let s = begun c in word_heads _ _ s.args.name.now c.say-named.result s.requires.1 s.requires.0 c.say-named.ensures
 
-name_sought : (c : tie.After-say) → Name (begun c) c.say.result
-name_sought c = let s = begun c in word_heads _ _ s.args.name.now c.say.result s.pre.1 s.pre.0 c.say.ensures
+abbrev found_name : tie.In-At → tie.After-say-named
+found_name c = c.before
+abbrev name-end : tie.In-At → ℕ
+name-end c = c.in-At.name_end
 
-abbrev found_name : tie.After-known-told → tie.After-say
-found_name c = c.before.before.before
-
-abbrev name-end : tie.After-known-told → ℕ
-name-end c = c.before.named.given.0.0
-
-name_read : (c : tie.After-known-told) → Name (begun (found_name c)) (At (name-end c))
-name_read c = subst (Name (begun (found_name c))) c.before.named.given.1 (name_sought (found_name c))
+name_read : (c : tie.In-At) → Name (begun (found_name c)) (At (name-end c))
+name_read c = subst (Name (begun (found_name c))) c.in-At.is (name_sought (found_name c))
 
 -- `=` is read.
-abbrev found-mark : tie.After-known-told2 → tie.After-equals
-found-mark c = c.before.before.before
+abbrev found-mark : tie.In-At-marked → tie.After-equals-marked
+found-mark c = c.before
+mark_read : (c : tie.In-At-marked) → let n = (found-mark c).before in Mark (begun (found_name n)) (name-end n) (At c.before.in-At-marked.place)
+mark_read c = let n = (found-mark c).before in subst (Mark (begun (found_name n.before)) (name-end n.before)) c.in-At-marked.is (found-mark c).equals-marked.ensures
 
-mark_read : (c : tie.After-known-told2) → let n = (found-mark c).before in Mark (begun (found_name n)) (name-end n) (At c.before.marked.given.0.0)
-mark_read c = let n = (found-mark c).before in subst (Mark (begun (found_name n)) (name-end n)) c.before.marked.given.1 (found-mark c).equals.ensures
-
-say-requires : tie.Need-say-requires
+say-requires : tie.Need-say-named-requires
 say-requires c κs = search rules
 
-enum-known-named : tie.Need-enum-known-named
+enum-known-named : tie.Need-enum_known-named
 enum-known-named c = search rules
 
-returns : tie.Need-returns
-returns c = name_stuck _ _ (begun c.before).args.name.now c.before.say.result c.match.keys2 (name_sought c.before)
+returns : tie.Need-returns-in_default
+returns c = name_stuck _ _ (begun c.before).args.name.now c.say-named.result c.in-At.in-At-own.keys2 (name_sought c.before)
 
-equals-requires : tie.Need-equals-requires
+equals-requires : tie.Need-equals-marked-requires
 equals-requires c κs = (name_read c done).bounds.1
 
-enum-known-marked : tie.Need-enum-known-marked
+enum-known-marked : tie.Need-enum_known-marked
 enum-known-marked c = search rules
 
-returns-2 : tie.Need-returns-2
+returns-2 : tie.Need-returns-in_default-marked
 returns-2 c =
-    let n = c.before.before in
-    mark_stuck _ _ (begun (found_name n)).args.name.now _ (name_read n) c.before.equals.result c.match2.keys2 c.before.equals.ensures
+    let n = c in
+    mark_stuck _ _ (begun (found_name n.before.before)).args.name.now _ (name_read n.before.before) c.equals-marked.result c.in-At-marked.in-At-marked-own.keys2 c.equals-marked.ensures
 
 quote-requires : tie.Need-quote-requires
 quote-requires c κs = (mark_read c (one white done) refl refl).bounds.1
 
-returns-3 : tie.Need-returns-3
+returns-3 : tie.Need-returns
 returns-3 c =
     let n = (found-mark c.before).before in
-    name_quote _ _ (begun (found_name n)).args.name.now _ (name_read n) _ c.quote.result (mark_read c.before) c.quote.ensures
+    name_quote _ _ (begun (found_name n.before)).args.name.now _ (name_read n.before) _ c.quote.result (mark_read c.before) c.quote.ensures
 
 pub given_spec : {M : Type 1} → statement M
 given_spec =

@@ -14,73 +14,67 @@ use Rattle.prolog.proofs.lead.Tie as tie
 
 -- The text, and whether it begins with a declaration.
 abbrev text : tie.After-declared → List ℕ
-text c = c.before.before.args.text.now
+text c = c.args.text.now
 
-is_declared : (c : tie.Then1) → declares (text c.before) ≡ true
-is_declared c = sym c.before.declared.ensures ∙ c.if1.true
+is_declared : (c : tie.Then-declared) → declares (text c.before) ≡ true
+is_declared c = sym c.declared.ensures ∙ c.if-declared.true
 
-not_declared : (c : tie.Else1) → declares (text c.before) ≡ false
-not_declared c = sym c.before.declared.ensures ∙ c.if1.false
+not_declared : (c : tie.Else-declared) → declares (text c.before) ≡ false
+not_declared c = sym c.declared.ensures ∙ c.if-declared.false
 
 -- The declaration is read, from its version on.
-abbrev declaring : tie.After-version → tie.Then1
+abbrev declaring : tie.After-version-declaration → tie.Then-declared
 declaring c = c.before.before
-
-abbrev sought : tie.After-known-told → tie.After-version
-sought c = c.before.before.before
-
-declaration_read : (c : tie.After-known-told) → let v = sought c in
-    Heads (text (declaring v).before) v.before.skip.result (say (ascii "version") (valued version_value)) done (At c.before.declaration.given.0.0)
+abbrev sought : tie.In-At → tie.After-version-declaration
+sought c = c.before
+declaration_read : (c : tie.In-At) → let v = sought c in
+    Heads (text (declaring v).before) v.before.skip.result (say (ascii "version") (valued version_value)) done (At c.before.in-At.end)
 declaration_read c =
     let v = sought c in
-    subst (Heads (text (declaring v).before) v.before.skip.result (say (ascii "version") (valued version_value)) done) c.before.declaration.given.1 v.version.ensures
+    subst (Heads (text (declaring v).before) v.skip.result (say (ascii "version") (valued version_value)) done) c.in-At.is v.version-declaration.ensures
 
 -- Without a declaration a byte order mark is looked for.
-abbrev plain : tie.After-begins-with → tie.Else1
-plain c = c.before.before
-
+abbrev plain : tie.After-begins_with → tie.Else-declared
+plain c = c.before.before.before
 declared-requires : tie.Need-declared-requires
 declared-requires c κs = search rules
 
 skip-requires : tie.Need-skip-requires
 skip-requires c κs = room (text c.before) (is_declared c)
 
-version-requires : tie.Need-version-requires
+version-requires : tie.Need-version-declaration-requires
 version-requires c κs = version_inside (text c.before.before) (is_declared c.before) _ c.skip.ensures
 
-enum-known-declaration : tie.Need-enum-known-declaration
+enum-known-declaration : tie.Need-enum_known-declaration
 enum-known-declaration c = search rules
 
-returns : tie.Need-returns
+returns : tie.Need-returns-in_default
 returns c =
-    let v = c.before in
-    lead_stuck (text (declaring v).before) (is_declared (declaring v)) _ v.before.skip.ensures v.version.result c.match.keys2 v.version.ensures
+    let v = c in
+    lead_stuck (text (declaring v.before).before) (is_declared (declaring v.before)) _ v.skip.ensures v.version-declaration.result c.in-At.in-At-own.keys2 v.version-declaration.ensures
 
 land-requires : tie.Need-land-requires
 land-requires c κs = (declaration_read c).bounds.1
 
-returns-2 : tie.Need-returns-2
+returns-2 : tie.Need-returns-then-declared
 returns-2 c =
     let v = sought c.before in
-    lead_declared (text (declaring v).before) (is_declared (declaring v)) _ v.before.skip.ensures _ c.land.result (declaration_read c.before) c.land.ensures
+    lead_declared (text (declaring v).before) (is_declared (declaring v)) _ v.skip.ensures _ c.land.result (declaration_read c.before) c.land.ensures
 
-slice-aggregate-begins-with : tie.Need-slice-aggregate-begins-with
-slice-aggregate-begins-with c = search rules
-
-begins-with-requires : tie.Need-begins-with-requires
+begins-with-requires : tie.Need-begins_with-requires
 begins-with-requires c κs = search rules
 
-returns-3 : tie.Need-returns-3
-returns-3 c = let m = c.before in lead_mark (text (plain m).before) (sym m.begins-with.ensures ∙ c.if2.true)
+returns-3 : tie.Need-returns-then-begins_with
+returns-3 c = let m = c in lead_mark (text (plain m.before).before) (sym m.begins_with.ensures ∙ c.if-begins_with.true)
 
 land-requires-2 : tie.Need-land-requires-2
 land-requires-2 c κs = search rules
 
-returns-4 : tie.Need-returns-4
+returns-4 : tie.Need-returns
 returns-4 c =
-    let unmarked = c.before in
-    let m = unmarked.before in
-    lead_plain (text (plain m).before) c.land2.result (not_declared (plain m)) (sym m.begins-with.ensures ∙ unmarked.if2.false) c.land2.ensures
+    let unmarked = c in
+    let m = unmarked in
+    lead_plain (text (plain m.before.before).before) c.land-2.result (not_declared (plain m.before.before)) (sym m.begins_with.ensures ∙ unmarked.if-begins_with.false) c.land-2.ensures
 
 pub lead_spec : {M : Type 1} → statement M
 lead_spec =
@@ -93,7 +87,6 @@ lead_spec =
     returns
     land-requires
     returns-2
-    slice-aggregate-begins-with
     begins-with-requires
     returns-3
     land-requires-2

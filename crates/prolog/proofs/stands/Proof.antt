@@ -8,14 +8,14 @@ use Rattle.prolog.proofs.Declaring.{stood}
 use Rattle.prolog.proofs.stands.Statement.{statement}
 use Rattle.prolog.proofs.stands.Tie as tie
 
-returns : tie.Need-returns
-returns c = sym (ap (begins c.before.args.wanted) (drop_of_length-le c.before.args.text.now {i = c.before.args.at} c.if1.true))
+returns : tie.Need-returns-then-text-at
+returns c = sym (ap (begins c.args.wanted) (drop_of_length-le c.args.text.now {i = c.args.at} c.if-text-at.true))
 
-shared-slice-read-result : tie.Need-shared-slice-read-result
+shared-slice-read-result : tie.Need-bounds-text-at
 shared-slice-read-result c = search rules
 
-returns-2 : tie.Need-returns-2
-returns-2 c = sym (stood c.before.before.args.text.now c.before.before.args.at c.before.before.args.wanted (omega arith))
+returns-2 : tie.Need-returns
+returns-2 c = sym (stood c.args.text.now c.args.at c.args.wanted (omega arith))
 
 pub stands_spec : {M : Type 1} → statement M
 stands_spec = tie.close (tie.spec returns shared-slice-read-result returns-2)

@@ -40,106 +40,98 @@ letter_read : (s : tie.Start) (from small : ℕ) (r : Reach) → 97 ≤ small �
 letter_read s from small r l inside h p = row_heads s.args.text.now from (any_case small ∷ []) r ((λ b t. case_calm b small l t), tt) inside h p
 
 -- The `u`: what looking for it came to, and that it was read.
-abbrev start-u : tie.After-any-case → tie.Start
+abbrev start-u : tie.After-any_case-u → tie.Start
 start-u c = c.before.before
+u_sought : (c : tie.After-any_case-u) → Read (start-u c) (past-u (start-u c)) c.any_case-u.result
+u_sought c = letter_read (start-u c) (start-u c).args.at 117 c.any_case-u.result (omega arith) (start-u c).requires.0 c.any_case-u.ensures (past-u (start-u c))
 
-u_sought : (c : tie.After-any-case) → Read (start-u c) (past-u (start-u c)) c.any-case.result
-u_sought c = letter_read (start-u c) (start-u c).args.at 117 c.any-case.result (omega arith) (start-u c).requires.0 c.any-case.ensures (past-u (start-u c))
-
-abbrev found-u : tie.After-known-told → tie.After-any-case
-found-u c = c.before.before.before
-
-u_read : (c : tie.After-known-told) → let s = start-u (found-u c) in Read s (past-u s) (At c.before.u.given.0.0)
-u_read c = let s = start-u (found-u c) in subst (Read s (past-u s)) c.before.u.given.1 (u_sought (found-u c))
+abbrev found-u : tie.In-At → tie.After-any_case-u
+found-u c = c.before
+u_read : (c : tie.In-At) → let s = start-u (found-u c) in Read s (past-u s) (At c.before.in-At.past_u)
+u_read c = let s = start-u (found-u c) in subst (Read s (past-u s)) c.in-At.is (u_sought (found-u c))
 
 -- The `t`.
-abbrev start-t : tie.After-any-case2 → tie.Start
+abbrev start-t : tie.After-any_case-t → tie.Start
 start-t c = start-u (found-u c.before)
 
-t_sought : (c : tie.After-any-case2) → Read (start-t c) (past-t (start-t c)) c.any-case2.result
+t_sought : (c : tie.After-any_case-t) → Read (start-t c) (past-t (start-t c)) c.any_case-t.result
 t_sought c =
     let so_far = u_read c.before in
-    heads_then _ _ _ _ _ _ _ so_far (letter_read (start-t c) _ 116 c.any-case2.result (omega arith) so_far.bounds.1 c.any-case2.ensures (past-t (start-t c)))
+    heads_then _ _ _ _ _ _ _ so_far (letter_read (start-t c) _ 116 c.any_case-t.result (omega arith) so_far.bounds.1 c.any_case-t.ensures (past-t (start-t c)))
 
-abbrev found-t : tie.After-known-told2 → tie.After-any-case2
-found-t c = c.before.before.before
-
-t_read : (c : tie.After-known-told2) → let s = start-t (found-t c) in Read s (past-t s) (At c.before.t.given.0.0)
-t_read c = let s = start-t (found-t c) in subst (Read s (past-t s)) c.before.t.given.1 (t_sought (found-t c))
+abbrev found-t : tie.In-At-t → tie.After-any_case-t
+found-t c = c.before
+t_read : (c : tie.In-At-t) → let s = start-t (found-t c) in Read s (past-t s) (At c.before.in-At-t.past_t)
+t_read c = let s = start-t (found-t c) in subst (Read s (past-t s)) c.in-At-t.is (t_sought (found-t c))
 
 -- The `f`.
-abbrev start-f : tie.After-any-case3 → tie.Start
+abbrev start-f : tie.After-any_case-f → tie.Start
 start-f c = start-t (found-t c.before)
 
-f_sought : (c : tie.After-any-case3) → Read (start-f c) (past-f (start-f c)) c.any-case3.result
+f_sought : (c : tie.After-any_case-f) → Read (start-f c) (past-f (start-f c)) c.any_case-f.result
 f_sought c =
     let so_far = t_read c.before in
-    heads_then _ _ _ _ _ _ _ so_far (letter_read (start-f c) _ 102 c.any-case3.result (omega arith) so_far.bounds.1 c.any-case3.ensures (past-f (start-f c)))
+    heads_then _ _ _ _ _ _ _ so_far (letter_read (start-f c) _ 102 c.any_case-f.result (omega arith) so_far.bounds.1 c.any_case-f.ensures (past-f (start-f c)))
 
-abbrev found-f : tie.After-known-told3 → tie.After-any-case3
-found-f c = c.before.before.before
-
-f_read : (c : tie.After-known-told3) → let s = start-f (found-f c) in Read s (past-f s) (At c.before.f.given.0.0)
-f_read c = let s = start-f (found-f c) in subst (Read s (past-f s)) c.before.f.given.1 (f_sought (found-f c))
+abbrev found-f : tie.In-At-f → tie.After-any_case-f
+found-f c = c.before
+f_read : (c : tie.In-At-f) → let s = start-f (found-f c) in Read s (past-f s) (At c.before.in-At-f.past_f)
+f_read c = let s = start-f (found-f c) in subst (Read s (past-f s)) c.in-At-f.is (f_sought (found-f c))
 
 -- `-8`.
-abbrev start-8 : tie.After-say → tie.Start
-start-8 c = start-f (found-f c.before.before)
+abbrev start-8 : tie.After-say-rest → tie.Start
+start-8 c = start-f (found-f c.before.before.before)
 
-rest_sought : (c : tie.After-say) → Read (start-8 c) (past-8 (start-8 c)) c.say.result
+rest_sought : (c : tie.After-say-rest) → Read (start-8 c) (past-8 (start-8 c)) c.say-rest.result
 rest_sought c =
-    let so_far = f_read c.before.before in
-    heads_then _ _ _ _ _ _ _ so_far (word_heads _ _ (ascii "-8") c.say.result refl so_far.bounds.1 c.say.ensures (past-8 (start-8 c)))
+    let so_far = f_read c.before.before.before in
+    heads_then _ _ _ _ _ _ _ so_far (word_heads _ _ (ascii "-8") c.say-rest.result refl so_far.bounds.1 c.say-rest.ensures (past-8 (start-8 c)))
 
-abbrev found-8 : tie.After-known-told4 → tie.After-say
-found-8 c = c.before.before.before
+abbrev found-8 : tie.In-At-rest → tie.After-say-rest
+found-8 c = c.before
+rest_read : (c : tie.In-At-rest) → let s = start-8 (found-8 c) in Read s (past-8 s) (At c.before.in-At-rest.end)
+rest_read c = let s = start-8 (found-8 c) in subst (Read s (past-8 s)) c.in-At-rest.is (rest_sought (found-8 c))
 
-rest_read : (c : tie.After-known-told4) → let s = start-8 (found-8 c) in Read s (past-8 s) (At c.before.rest.given.0.0)
-rest_read c = let s = start-8 (found-8 c) in subst (Read s (past-8 s)) c.before.rest.given.1 (rest_sought (found-8 c))
-
-any-case-requires : tie.Need-any-case-requires
+any-case-requires : tie.Need-any_case-u-requires
 any-case-requires c κs = search rules
 
-enum-known-u : tie.Need-enum-known-u
+enum-known-u : tie.Need-enum_known-u
 enum-known-u c = search rules
 
-returns : tie.Need-returns
-returns c = heads_stuck _ _ _ _ after_encoding c.before.any-case.result c.match.keys2 (u_sought c.before)
+returns : tie.Need-returns-in_default
+returns c = heads_stuck _ _ _ _ after_encoding c.any_case-u.result c.in-At.in-At-own.keys2 (u_sought c.before)
 
-any-case-requires-2 : tie.Need-any-case-requires-2
+any-case-requires-2 : tie.Need-any_case-t-requires
 any-case-requires-2 c κs = ((u_read c).bounds.1, omega arith, omega arith)
 
-enum-known-t : tie.Need-enum-known-t
+enum-known-t : tie.Need-enum_known-t
 enum-known-t c = search rules
 
-returns-2 : tie.Need-returns-2
-returns-2 c = heads_stuck _ _ _ _ after_encoding c.before.any-case2.result c.match2.keys2 (t_sought c.before)
+returns-2 : tie.Need-returns-in_default-t
+returns-2 c = heads_stuck _ _ _ _ after_encoding c.any_case-t.result c.in-At-t.in-At-t-own.keys2 (t_sought c.before)
 
-any-case-requires-3 : tie.Need-any-case-requires-3
+any-case-requires-3 : tie.Need-any_case-f-requires
 any-case-requires-3 c κs = ((t_read c).bounds.1, omega arith, omega arith)
 
-enum-known-f : tie.Need-enum-known-f
+enum-known-f : tie.Need-enum_known-f
 enum-known-f c = search rules
 
-returns-3 : tie.Need-returns-3
-returns-3 c = heads_stuck _ _ _ _ after_encoding c.before.any-case3.result c.match3.keys2 (f_sought c.before)
+returns-3 : tie.Need-returns-in_default-f
+returns-3 c = heads_stuck _ _ _ _ after_encoding c.any_case-f.result c.in-At-f.in-At-f-own.keys2 (f_sought c.before)
 
-slice-aggregate-say : tie.Need-slice-aggregate-say
-slice-aggregate-say c = search rules
+say-requires : tie.Need-say-rest-requires
+say-requires c κs = (f_read c.before.before).bounds.1
 
-say-requires : tie.Need-say-requires
-say-requires c κs = (f_read c.before).bounds.1
-
-enum-known-rest : tie.Need-enum-known-rest
+enum-known-rest : tie.Need-enum_known-rest
 enum-known-rest c = search rules
 
-returns-4 : tie.Need-returns-4
-returns-4 c = heads_stuck _ _ _ _ after_encoding c.before.say.result c.match4.keys2 (rest_sought c.before)
+returns-4 : tie.Need-returns-in_default-rest
+returns-4 c = heads_stuck _ _ _ _ after_encoding c.say-rest.result c.in-At-rest.in-At-rest-own.keys2 (rest_sought c.before)
 
 byte-requires : tie.Need-byte-requires
 byte-requires c κs = (rest_read c).bounds.1
 
-returns-5 : tie.Need-returns-5
+returns-5 : tie.Need-returns
 returns-5 c =
     let so_far = rest_read c.before in
     heads_then _ _ _ _ _ _ c.byte.result so_far (byte_heads _ _ _ c.byte.result (start-8 (found-8 c.before)).requires.1 so_far.bounds.1 c.byte.ensures after_encoding)
@@ -157,7 +149,6 @@ utf_8_spec =
     any-case-requires-3
     enum-known-f
     returns-3
-    slice-aggregate-say
     say-requires
     enum-known-rest
     returns-4

@@ -18,63 +18,56 @@ Read s p r = Heads s.args.text.now s.args.at (version_value s.args.closing) p r
 abbrev digits-next : tie.Start → Pattern
 digits-next s = numbered s.args.closing after_version
 
-abbrev begun : tie.After-say → tie.Start
-begun c = c.before.before.before
+abbrev begun : tie.After-say-one → tie.Start
+begun c = c.before.before.before.before
+one : (c : tie.After-say-one) → Read (begun c) (digits-next (begun c)) c.say-one.result
+one c = word_heads _ _ (ascii "1.") c.say-one.result refl (begun c).requires.0 c.say-one.ensures (digits-next (begun c))
 
-one : (c : tie.After-say) → Read (begun c) (digits-next (begun c)) c.say.result
-one c = word_heads _ _ (ascii "1.") c.say.result refl (begun c).requires.0 c.say.ensures (digits-next (begun c))
-
-abbrev past_one : tie.After-known-told → tie.After-say
-past_one c = c.before.before.before
-
-one_read : (c : tie.After-known-told) → let s = begun (past_one c) in Read s (digits-next s) (At c.before.one.given.0.0)
-one_read c = let s = begun (past_one c) in subst (Read s (digits-next s)) c.before.one.given.1 (one (past_one c))
+abbrev past_one : tie.In-At → tie.After-say-one
+past_one c = c.before
+one_read : (c : tie.In-At) → let s = begun (past_one c) in Read s (digits-next s) (At c.before.in-At.from)
+one_read c = let s = begun (past_one c) in subst (Read s (digits-next s)) c.in-At.is (one (past_one c))
 
 -- The digits and the quote, behind which the rest of the declaration must come.
-abbrev start_of : tie.After-number → tie.Start
+abbrev start_of : tie.After-number-digits → tie.Start
 start_of c = begun (past_one c.before)
 
-digits : (c : tie.After-number) → Read (start_of c) after_version c.number.result
-digits c = heads_then _ _ _ _ _ _ _ (one_read c.before) (c.number.ensures after_version)
+digits : (c : tie.After-number-digits) → Read (start_of c) after_version c.number-digits.result
+digits c = heads_then _ _ _ _ _ _ _ (one_read c.before) (c.number-digits.ensures after_version)
 
-abbrev past-digits : tie.After-known-told2 → tie.After-number
-past-digits c = c.before.before.before
+abbrev past-digits : tie.In-At-digits → tie.After-number-digits
+past-digits c = c.before
+digits_read : (c : tie.In-At-digits) → Read (start_of (past-digits c)) after_version (At c.before.in-At-digits.next)
+digits_read c = subst (Read (start_of (past-digits c)) after_version) c.in-At-digits.is (digits (past-digits c))
 
-digits_read : (c : tie.After-known-told2) → Read (start_of (past-digits c)) after_version (At c.before.digits.given.0.0)
-digits_read c = subst (Read (start_of (past-digits c)) after_version) c.before.digits.given.1 (digits (past-digits c))
-
-slice-aggregate-say : tie.Need-slice-aggregate-say
-slice-aggregate-say c = search rules
-
-say-requires : tie.Need-say-requires
+say-requires : tie.Need-say-one-requires
 say-requires c κs = search rules
 
-enum-known-one : tie.Need-enum-known-one
+enum-known-one : tie.Need-enum_known-one
 enum-known-one c = search rules
 
-returns : tie.Need-returns
-returns c = heads_stuck _ _ _ _ done c.before.say.result c.match.keys2 (one c.before)
+returns : tie.Need-returns-in_default
+returns c = heads_stuck _ _ _ _ done c.say-one.result c.in-At.in-At-own.keys2 (one c.before)
 
-number-requires : tie.Need-number-requires
+number-requires : tie.Need-number-digits-requires
 number-requires c κs = ((one_read c).bounds.1, (begun (past_one c)).requires.1)
 
-enum-known-digits : tie.Need-enum-known-digits
+enum-known-digits : tie.Need-enum_known-digits
 enum-known-digits c = search rules
 
-returns-2 : tie.Need-returns-2
-returns-2 c = heads_stuck _ _ _ _ done c.before.number.result c.match2.keys2 (digits c.before)
+returns-2 : tie.Need-returns-in_default-digits
+returns-2 c = heads_stuck _ _ _ _ done c.number-digits.result c.in-At-digits.in-At-digits-own.keys2 (digits c.before)
 
-after-version-requires : tie.Need-after-version-requires
+after-version-requires : tie.Need-after_version-requires
 after-version-requires c κs = (digits_read c).bounds.1
 
-returns-3 : tie.Need-returns-3
-returns-3 c = heads_then _ _ _ _ _ _ c.after-version.result (digits_read c.before) c.after-version.ensures
+returns-3 : tie.Need-returns
+returns-3 c = heads_then _ _ _ _ _ _ c.after_version.result (digits_read c.before) c.after_version.ensures
 
 pub version_value_spec : {M : Type 1} → statement M
 version_value_spec =
     tie.close
     (tie.spec
-    slice-aggregate-say
     say-requires
     enum-known-one
     returns

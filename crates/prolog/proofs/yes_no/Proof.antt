@@ -10,36 +10,28 @@ use Rattle.prolog.proofs.yes_no.Tie as tie
 stands-requires : tie.Need-stands-requires
 stands-requires c κs = search rules
 
-slice-aggregate-say : tie.Need-slice-aggregate-say
-slice-aggregate-say c = search rules
-
 say-requires : tie.Need-say-requires
 say-requires c κs = search rules
 
-slice-aggregate-say-2 : tie.Need-slice-aggregate-say-2
-slice-aggregate-say-2 c = search rules
-
-say-requires-2 : tie.Need-say-requires-2
+say-requires-2 : tie.Need-say-requires-else-stands
 say-requires-2 c κs = search rules
 
-returns : tie.Need-returns
+returns : tie.Need-returns-then-stands
 returns c =
-    let yes = c.before.before in
-    λ p. is_yes _ _ p _ (sym yes.before.stands.ensures ∙ yes.if1.true) (word_heads _ _ (ascii "yes") c.say.result refl yes.before.before.before.requires c.say.ensures p)
+    let yes = c in
+    λ p. is_yes _ _ p _ (sym yes.stands.ensures ∙ yes.if-stands.true) (word_heads _ _ (ascii "yes") c.say.result refl yes.requires c.say.ensures p)
 
-returns-2 : tie.Need-returns-2
+returns-2 : tie.Need-returns-else-stands
 returns-2 c =
-    let no = c.before.before in
-    λ p. is_no _ _ p _ (sym no.before.stands.ensures ∙ no.if1.false) (word_heads _ _ (ascii "no") c.say2.result refl no.before.before.before.requires c.say2.ensures p)
+    let no = c in
+    λ p. is_no _ _ p _ (sym no.stands.ensures ∙ no.if-stands.false) (word_heads _ _ (ascii "no") c.say-else-stands.result refl no.requires c.say-else-stands.ensures p)
 
 pub yes_no_spec : {M : Type 1} → statement M
 yes_no_spec =
     tie.close
     (tie.spec
     stands-requires
-    slice-aggregate-say
     say-requires
-    slice-aggregate-say-2
     say-requires-2
     returns
     returns-2)

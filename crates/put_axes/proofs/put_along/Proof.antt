@@ -6,38 +6,36 @@ use Rattle.put_axes.proofs.Words.{along_none, along_told}
 use Rattle.put_axes.proofs.put_along.Statement.{statement}
 use Rattle.put_axes.proofs.put_along.Tie as tie
 
-returns : tie.Need-returns
+returns : tie.Need-returns-then-child
 returns c =
-    let a = c.before.before.args in
-    (λ x e. puts_as (along_none a.brief x a.axis e c.if1.true) (puts_none a.pen a.out.now), omega arith)
+    let a = c.args in
+    (λ x e. puts_as (along_none a.brief x a.axis e c.if-child.true) (puts_none a.pen a.out.now), omega arith)
 
 -- Past the test the axis is put, and then two bytes.
-abbrev named : tie.After-slice-known4 → tie.After-put-axis
+abbrev named : tie.After-slice_known-4-1 → tie.After-put_axis-named
 named c = c.before.before.before.before.before.before.before.before.before.before
-
-abbrev start : tie.After-put-axis → tie.Start
+abbrev start : tie.After-put_axis-named → tie.Start
 start c = c.before.before.before.before
-
-put-axis-requires : tie.Need-put-axis-requires
+put-axis-requires : tie.Need-put_axis-named-requires
 put-axis-requires c κs = search rules
 
-put-byte-requires : tie.Need-put-byte-requires
+put-byte-requires : tie.Need-put_byte-colon-requires
 put-byte-requires c κs = search rules
 
-put-byte-requires-2 : tie.Need-put-byte-requires-2
+put-byte-requires-2 : tie.Need-put_byte-requires
 put-byte-requires-2 c κs = search rules
 
-same_length : tie.Need-same-length
+same_length : tie.Need-shape_of-out
 same_length c = search rules
 
-returns-2 : tie.Need-returns-2
+returns-2 : tie.Need-returns
 returns-2 c =
     let n = named c in
     let a = (start n).args in
-    let one = c.before.before.before.before.before.before.put_byte.ensures in
-    let two = c.before.before.put-byte2.ensures in (
-      λ x e. puts_as (along_told a.brief x a.axis e n.before.before.if1.left) (puts_both (puts_both (n.put-axis.ensures.0 x e) one) two),
-      omega (arith, n.put-axis.ensures.1, one.moved, two.moved),
+    let one = c.put_byte-colon.ensures in
+    let two = c.put_byte.ensures in (
+      λ x e. puts_as (along_told a.brief x a.axis e n.if-child.false) (puts_both (puts_both (n.put_axis-named.ensures.0 x e) one) two),
+      omega (arith, n.put_axis-named.ensures.1, one.moved, two.moved),
     )
 
 pub put_along_spec : {M : Type 1} → statement M

@@ -13,86 +13,82 @@ use Rattle.put_kept.proofs.Walking.{Walking, walking_as, lines, walk_start, walk
 use Rattle.put_kept.proofs.put_kept.Statement.{statement}
 use Rattle.put_kept.proofs.put_kept.Tie as tie
 
-abbrev invariant-loop : tie.invariant-loop
+abbrev invariant-loop : tie.invariant-loop-i
 invariant-loop text parent kind begin end marks out₀ pen at₀ squares₀ top₀ i₀ out at squares top i =
     (g : Lent text parent kind begin end marks) → Walking text marks (lines text parent kind begin end marks g) pen out₀ out at squares top i
 
-abbrev decreases-loop : tie.decreases-loop
+abbrev decreases-loop : tie.decreases-loop-i
 decreases-loop text parent kind begin end marks out₀ pen at₀ squares₀ top₀ i₀ out at squares top i = length parent - i
 
 abbrev Turn : Type 0
-Turn = tie.At-loop invariant-loop decreases-loop
+Turn = tie.At-loop-i invariant-loop decreases-loop
 
 abbrev start : Turn → tie.Start invariant-loop decreases-loop
 start t = t.before.before.before.before.before.before.before.before
-
 -- The columns as they were checked.
 abbrev lent : (t : Turn)
     → Lent (start t).args.text.now (start t).args.parent.now (start t).args.kind.now (start t).args.begin.now (start t).args.end.now (start t).args.marks.now
-lent t = (start t).pre.0
+lent t = (start t).requires.0
 
-abbrev within : tie.After-shared-slice-known7 invariant-loop decreases-loop → Turn
+abbrev within : tie.After-shared_slice_known-in-loop-i-1 invariant-loop decreases-loop → Turn
 within c = c.before.before
-
-loop-holds : tie.Need-loop-init invariant-loop decreases-loop
+loop-holds : tie.Need-loop-i-init invariant-loop decreases-loop
 loop-holds c g =
-    let a = c.before.before.before.before.before.before.before.args in
+    let a = c.args in
     walk_start a.text.now a.parent.now a.kind.now a.begin.now a.end.now a.marks.now g a.pen a.out.now
 
-shared-slice-read-mark : tie.Need-shared-slice-read-mark invariant-loop decreases-loop
-shared-slice-read-mark c = omega (arith, (lent (within c)).marks_long, c.before.loop-test.true)
+shared-slice-read-mark : tie.Need-bounds-marks-i invariant-loop decreases-loop
+shared-slice-read-mark c = omega (arith, (lent (within c)).marks_long, c.loop-i-test.true)
 
-put-node-requires : tie.Need-put-node-requires invariant-loop decreases-loop
+put-node-requires : tie.Need-put_node-next-requires invariant-loop decreases-loop
 put-node-requires c κs =
-    let b = c.before.before in
-    let t = within b in
+    let b = c in
+    let t = within b.before.before in
     let a = (start t).args in
-    walk_placeable a.text.now a.parent.now a.kind.now a.begin.now a.end.now a.marks.now (lent t) (t.loop.inv (lent t)) b.before.loop-test.true
-    (eq-eqb _ 1 c.before.if1.true) (start t).pre.1
+    walk_placeable a.text.now a.parent.now a.kind.now a.begin.now a.end.now a.marks.now (lent t) (t.loop-i.invariant (lent t)) b.loop-i-test.true
+    (eq-eqb _ 1 c.if-mark-eq1.true) (start t).requires.1
 
-add-i : tie.Need-overflow-add-i invariant-loop decreases-loop
+add-i : tie.Need-overflow_add-i invariant-loop decreases-loop
 add-i c = search rules
 
-loop-less : tie.Need-loop-smaller invariant-loop decreases-loop
+loop-less : tie.Need-loop-i-smaller invariant-loop decreases-loop
 loop-less c = search rules
 
-loop-again : tie.Need-loop-preserved invariant-loop decreases-loop
+loop-again : tie.Need-loop-i-preserved invariant-loop decreases-loop
 loop-again c g =
-    let b = c.before in
-    let t = within b in
+    let b = c in
+    let t = within b.before in
     let a = (start t).args in
     ⊎_elim
     (λ w.
     walking_as w.5 w.6 w.7 w.8
-    (walk_node a.text.now a.parent.now a.kind.now a.begin.now a.end.now a.marks.now g (t.loop.inv g) b.before.loop-test.true (eq-eqb _ 1 w.0.taken) w.2.ensures))
+    (walk_node a.text.now a.parent.now a.kind.now a.begin.now a.end.now a.marks.now g (t.loop-i.invariant g) b.loop-i-test.true (eq-eqb _ 1 w.0.taken) w.2.ensures))
     (λ w.
     walking_as w.1 w.2 w.3 w.4
-    (walk_pass a.text.now a.parent.now a.kind.now a.begin.now a.end.now a.marks.now g (t.loop.inv g) b.before.loop-test.true (ne_eqb _ 1 w.0.left)))
-    c.if1.branch
+    (walk_pass a.text.now a.parent.now a.kind.now a.begin.now a.end.now a.marks.now g (t.loop-i.invariant g) b.loop-i-test.true (ne_eqb _ 1 w.0.left)))
+    c.if-mark-eq1.branch
 
 close-requires : tie.Need-close-requires invariant-loop decreases-loop
 close-requires c κs =
-    let t = c.before.before in
-    let a = (start t).args in
-    walk_closable a.text.now a.parent.now a.kind.now a.begin.now a.end.now a.marks.now (lent t) (t.loop.invariant (lent t)) c.before.loop-test.false (start t).requires.1
+    let t = c in
+    let a = (start t.before.before).args in
+    walk_closable a.text.now a.parent.now a.kind.now a.begin.now a.end.now a.marks.now (lent t.before.before) (t.loop-i.invariant (lent t.before.before)) c.loop-i-test.false (start t.before.before).requires.1
 
 -- The end of the walk, where what is open is closed.
-abbrev closing : tie.After-slice-known3 invariant-loop decreases-loop → tie.After-close invariant-loop decreases-loop
+abbrev closing : tie.After-slice_known-2-1 invariant-loop decreases-loop → tie.After-close invariant-loop decreases-loop
 closing c = c.before.before
-
-abbrev after : tie.After-close invariant-loop decreases-loop → tie.After-loop invariant-loop decreases-loop
+abbrev after : tie.After-close invariant-loop decreases-loop → tie.After-loop-i invariant-loop decreases-loop
 after c = c.before.before
-
-done : (c : tie.After-slice-known3 invariant-loop decreases-loop)
+done : (c : tie.After-slice_known-2-1 invariant-loop decreases-loop)
     → Puts (kept_xml (start (after (closing c)).before).args.text.now (start (after (closing c)).before).args.marks.now) (start (after (closing c)).before).args.pen
     (start (after (closing c)).before).args.out.now (closing c).close.new.1.1.1.0 (closing c).close.result
 done c =
     let e = after (closing c) in
     let t = e.before in
     let a = (start t).args in
-    walk_done a.text.now a.parent.now a.kind.now a.begin.now a.end.now a.marks.now (lent t) (t.loop.inv (lent t)) e.loop-test.left (closing c).close.ensures
+    walk_done a.text.now a.parent.now a.kind.now a.begin.now a.end.now a.marks.now (lent t) (t.loop-i.invariant (lent t)) e.loop-i-test.false (closing c).close.ensures
 
-same_length : tie.Need-same-length invariant-loop decreases-loop
+same_length : tie.Need-shape_of-out invariant-loop decreases-loop
 same_length c = puts_long (done c)
 
 returns : tie.Need-returns invariant-loop decreases-loop

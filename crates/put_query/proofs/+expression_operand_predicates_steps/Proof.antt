@@ -107,11 +107,11 @@ predicates_claims t = (put-byte-reads.Asked, put-byte-reads.Learnt, expression_b
 abbrev steps_claims : ℕ → steps-lts.Claims
 steps_claims t = (unpack-reads.Asked, unpack-reads.Learnt, put-head-reads.Asked, put-head-reads.Learnt, predicates_below t, predicates.Post, put-slash-reads.Asked, put-slash-reads.Learnt, deep-reads.Asked, deep-reads.Learnt)
 
-abbrev expression_Inv_loop : expression-lts.invariant-loop
+abbrev expression_Inv_loop : expression-lts.invariant-loop-ands
 expression_Inv_loop items list starts count out₀ at pen depth brief ors₀ ands₀ place₀ byte₀ out ors ands place byte =
     Turn brief (names_of list) depth items at pen out₀ out place byte ands ors
 
-abbrev expression_μ_loop : expression-lts.decreases-loop
+abbrev expression_μ_loop : expression-lts.decreases-loop-ands
 expression_μ_loop items list starts count out₀ at pen depth brief ors₀ ands₀ place₀ byte₀ out ors ands place byte = length items - place
 
 abbrev Expression-start : ℕ → Type 0
@@ -119,372 +119,354 @@ Expression-start t = expression-lts.Start (expression_claims t) (expression_at t
 
 -- Of what is lent nothing is read yet.
 abbrev Expression-lent : ℕ → Type 0
-Expression-lent t = expression-lts.After-slice-known (expression_claims t) (expression_at t) expression.Post expression_Inv_loop expression_μ_loop
+Expression-lent t = expression-lts.After-slice_known-1 (expression_claims t) (expression_at t) expression.Post expression_Inv_loop expression_μ_loop
 
 abbrev expression_start : (t : ℕ) → Expression-lent t → Expression-start t
 expression_start t c = c.before.before.before
-
 -- An operand is to be put.
 abbrev Expression-turn : ℕ → Type 0
-Expression-turn t = expression-lts.At-loop (expression_claims t) (expression_at t) expression.Post expression_Inv_loop expression_μ_loop
+Expression-turn t = expression-lts.At-loop-ands (expression_claims t) (expression_at t) expression.Post expression_Inv_loop expression_μ_loop
 
 abbrev expression_begun : (t : ℕ) → Expression-turn t → Expression-start t
 expression_begun t c = expression_start t c.before.before.before
 
 -- It is put.
 abbrev Expression-put : ℕ → Type 0
-Expression-put t = expression-lts.After-operand (expression_claims t) (expression_at t) expression.Post expression_Inv_loop expression_μ_loop
+Expression-put t = expression-lts.After-operand-one (expression_claims t) (expression_at t) expression.Post expression_Inv_loop expression_μ_loop
 
 abbrev expression_turn : (t : ℕ) → Expression-put t → Expression-turn t
 expression_turn t c = c.before.before
-
 -- Operands of the term are owed,
 abbrev Expression-inside : ℕ → Type 0
-Expression-inside t = expression-lts.Then1 (expression_claims t) (expression_at t) expression.Post expression_Inv_loop expression_μ_loop
+Expression-inside t = expression-lts.Then-ands-gt0 (expression_claims t) (expression_at t) expression.Post expression_Inv_loop expression_μ_loop
 
 abbrev expression_inner : (t : ℕ) → Expression-inside t → Expression-put t
 expression_inner t c = c.before.before.before
-
 -- and `and` is put.
 abbrev Expression-and : ℕ → Type 0
-Expression-and t = expression-lts.After-slice-known3 (expression_claims t) (expression_at t) expression.Post expression_Inv_loop expression_μ_loop
+Expression-and t = expression-lts.After-slice_known-then-ands-gt0-1 (expression_claims t) (expression_at t) expression.Post expression_Inv_loop expression_μ_loop
 
 abbrev expression_owed : (t : ℕ) → Expression-and t → Expression-inside t
 expression_owed t c = c.before.before.before.before
-
 -- The term is put.
 abbrev Expression-term : ℕ → Type 0
-Expression-term t = expression-lts.Else1 (expression_claims t) (expression_at t) expression.Post expression_Inv_loop expression_μ_loop
+Expression-term t = expression-lts.Else-ands-gt0 (expression_claims t) (expression_at t) expression.Post expression_Inv_loop expression_μ_loop
 
 abbrev expression_outer : (t : ℕ) → Expression-term t → Expression-put t
 expression_outer t c = c.before.before.before
-
 -- Terms are owed,
 abbrev Expression-more : ℕ → Type 0
-Expression-more t = expression-lts.Else2 (expression_claims t) (expression_at t) expression.Post expression_Inv_loop expression_μ_loop
+Expression-more t = expression-lts.Else-ors-eq0 (expression_claims t) (expression_at t) expression.Post expression_Inv_loop expression_μ_loop
 
 abbrev expression_term : (t : ℕ) → Expression-more t → Expression-term t
 expression_term t c = c.before
-
 -- and `or` is put.
 abbrev Expression-or : ℕ → Type 0
-Expression-or t = expression-lts.After-slice-known4 (expression_claims t) (expression_at t) expression.Post expression_Inv_loop expression_μ_loop
+Expression-or t = expression-lts.After-slice_known-else-ands-gt0-1 (expression_claims t) (expression_at t) expression.Post expression_Inv_loop expression_μ_loop
 
 abbrev expression_more : (t : ℕ) → Expression-or t → Expression-more t
 expression_more t c = c.before.before.before.before
-
-expression_run_of_requires : (t : ℕ) → expression-lts.Need-run-of-requires (expression_claims t) (expression_at t) expression.Post expression_Inv_loop expression_μ_loop
+expression_run_of_requires : (t : ℕ) → expression-lts.Need-run_of-ors-requires (expression_claims t) (expression_at t) expression.Post expression_Inv_loop expression_μ_loop
 expression_run_of_requires t c κs = search rules
 
-expression_add_run_of : (t : ℕ) → expression-lts.Need-overflow-add-run-of (expression_claims t) (expression_at t) expression.Post expression_Inv_loop expression_μ_loop
-expression_add_run_of t c = omega (arith, c.run_of.ensures.1, (expression_start t c.before).good.0.1)
+expression_add_run_of : (t : ℕ) → expression-lts.Need-overflow_add-at (expression_claims t) (expression_at t) expression.Post expression_Inv_loop expression_μ_loop
+expression_add_run_of t c = omega (arith, c.run_of-ors.ensures.1, (expression_start t c.before).well_formed.0.1)
 
-expression_run_of_requires_2 : (t : ℕ) → expression-lts.Need-run-of-requires-2 (expression_claims t) (expression_at t) expression.Post expression_Inv_loop expression_μ_loop
+expression_run_of_requires_2 : (t : ℕ) → expression-lts.Need-run_of-ands-requires (expression_claims t) (expression_at t) expression.Post expression_Inv_loop expression_μ_loop
 expression_run_of_requires_2 t c κs = search rules
 
-expression_add_place : (t : ℕ) → expression-lts.Need-overflow-add-place (expression_claims t) (expression_at t) expression.Post expression_Inv_loop expression_μ_loop
-expression_add_place t c = omega (arith, c.run-of2.ensures.1, (expression_start t c.before.before).good.0.1)
+expression_add_place : (t : ℕ) → expression-lts.Need-overflow_add-place (expression_claims t) (expression_at t) expression.Post expression_Inv_loop expression_μ_loop
+expression_add_place t c = omega (arith, c.run_of-ands.ensures.1, (expression_start t c.before.before).well_formed.0.1)
 
-expression_add_place_2 : (t : ℕ) → expression-lts.Need-overflow-add-place-2 (expression_claims t) (expression_at t) expression.Post expression_Inv_loop expression_μ_loop
-expression_add_place_2 t c = omega (arith, c.run-of2.ensures.1, (expression_start t c.before.before).good.0.1)
+expression_add_place_2 : (t : ℕ) → expression-lts.Need-overflow_add-place-2 (expression_claims t) (expression_at t) expression.Post expression_Inv_loop expression_μ_loop
+expression_add_place_2 t c = omega (arith, c.run_of-ands.ensures.1, (expression_start t c.before.before).well_formed.0.1)
 
-expression_loop_holds : (t : ℕ) → expression-lts.Need-loop-init (expression_claims t) (expression_at t) expression.Post expression_Inv_loop expression_μ_loop
+expression_loop_holds : (t : ℕ) → expression-lts.Need-loop-ands-init (expression_claims t) (expression_at t) expression.Post expression_Inv_loop expression_μ_loop
 expression_loop_holds t c =
     let start = expression_start t c.before.before in
     let a = start.args in
-    turn_start a.brief (names_of a.list.now) a.depth a.items.now a.at a.pen a.out.now start.pre.1.1.1 c.before.run_of.result c.run-of2.result c.before.run_of.ensures.0 c.run-of2.ensures.0 c.before.run_of.ensures.1 c.run-of2.ensures.1
+    turn_start a.brief (names_of a.list.now) a.depth a.items.now a.at a.pen a.out.now start.requires.1.1.1 c.run_of-ors.result c.run_of-ands.result c.run_of-ors.ensures.0 c.run_of-ands.ensures.0 c.run_of-ors.ensures.1 c.run_of-ands.ensures.1
 
-expression_operand_requires : (t : ℕ) → expression-lts.Need-operand-requires (expression_claims t) (expression_at t) expression.Post expression_Inv_loop expression_μ_loop
+expression_operand_requires : (t : ℕ) → expression-lts.Need-operand-one-requires (expression_claims t) (expression_at t) expression.Post expression_Inv_loop expression_μ_loop
 expression_operand_requires t c κs =
     let begun = expression_begun t c.before in
-    let l = c.before.loop in
-    let p = begun.pre.1 in
-    let i = l.invariant in (omega (arith, begun.pre.0, i.past), (p.0, ((i.inner.inside, omega (arith, turn_low l.invariant, p.1.0.1)), i.inner.there)))
+    let l = c.loop-ands in
+    let p = begun.requires.1 in
+    let i = l.invariant in (omega (arith, begun.requires.0, i.past), (p.0, ((i.inner.inside, omega (arith, turn_low l.invariant, p.1.0.1)), i.inner.there)))
 
-expression_put_and_requires : (t : ℕ) → expression-lts.Need-put-and-requires (expression_claims t) (expression_at t) expression.Post expression_Inv_loop expression_μ_loop
+expression_put_and_requires : (t : ℕ) → expression-lts.Need-put_and-byte-requires (expression_claims t) (expression_at t) expression.Post expression_Inv_loop expression_μ_loop
 expression_put_and_requires t c κs =
     let inner = expression_inner t c.before in
     let turn = expression_turn t inner in
-    let l = turn.loop in
-    let w = inner.operand.ensures in
-    omega (arith, w.low, w.inside, turn_low l.inv, (expression_begun t turn).pre.1.1.0.1)
+    let l = turn.loop-ands in
+    let w = inner.operand-one.ensures in
+    omega (arith, w.low, w.inside, turn_low l.invariant, (expression_begun t turn).requires.1.1.0.1)
 
-expression_sub_ands : (t : ℕ) → expression-lts.Need-overflow-sub-ands (expression_claims t) (expression_at t) expression.Post expression_Inv_loop expression_μ_loop
-expression_sub_ands t c = omega (arith, (expression_owed t c).if1.true)
+expression_sub_ands : (t : ℕ) → expression-lts.Need-overflow_sub-ands (expression_claims t) (expression_at t) expression.Post expression_Inv_loop expression_μ_loop
+expression_sub_ands t c = omega (arith, (expression_owed t c).if-ands-gt0.true)
 
-expression_loop_less : (t : ℕ) → expression-lts.Need-loop-smaller (expression_claims t) (expression_at t) expression.Post expression_Inv_loop expression_μ_loop
+expression_loop_less : (t : ℕ) → expression-lts.Need-loop-ands-smaller-then-ands-gt0 (expression_claims t) (expression_at t) expression.Post expression_Inv_loop expression_μ_loop
 expression_loop_less t c =
     let owed = expression_owed t c in
     let inner = expression_inner t owed in
-    let l = (expression_turn t inner).loop in
-    omega (arith, turn_onward l.inv inner.operand.ensures, inner.operand.ensures.inside)
+    let l = (expression_turn t inner).loop-ands in
+    omega (arith, turn_onward l.invariant inner.operand-one.ensures, inner.operand-one.ensures.inside)
 
-expression_loop_again : (t : ℕ) → expression-lts.Need-loop-preserved (expression_claims t) (expression_at t) expression.Post expression_Inv_loop expression_μ_loop
+expression_loop_again : (t : ℕ) → expression-lts.Need-loop-ands-preserved-then-ands-gt0 (expression_claims t) (expression_at t) expression.Post expression_Inv_loop expression_μ_loop
 expression_loop_again t c =
     let owed = expression_owed t c in
     let inner = expression_inner t owed in
-    let l = (expression_turn t inner).loop in
-    turn_and l.inv inner.operand.ensures owed.if1.taken c.before.before.put-and.ensures
+    let l = (expression_turn t inner).loop-ands in
+    turn_and l.invariant inner.operand-one.ensures owed.if-ands-gt0.true c.put_and-byte.ensures
 
-expression_same_length : (t : ℕ) → expression-lts.Need-same-length (expression_claims t) (expression_at t) expression.Post expression_Inv_loop expression_μ_loop
+expression_same_length : (t : ℕ) → expression-lts.Need-shape_of-out-then-ors-eq0 (expression_claims t) (expression_at t) expression.Post expression_Inv_loop expression_μ_loop
 expression_same_length t c =
     let outer = expression_outer t c.before in
-    let l = (expression_turn t outer).loop in
-    puts_long outer.operand.ensures.puts ∙ turn_long l.inv
+    let l = (expression_turn t outer).loop-ands in
+    puts_long outer.operand-one.ensures.puts ∙ turn_long l.invariant
 
-expression_returns : (t : ℕ) → expression-lts.Need-returns (expression_claims t) (expression_at t) expression.Post expression_Inv_loop expression_μ_loop
+expression_returns : (t : ℕ) → expression-lts.Need-returns-then-ors-eq0 (expression_claims t) (expression_at t) expression.Post expression_Inv_loop expression_μ_loop
 expression_returns t c =
     let outer = expression_outer t c.before in
-    let l = (expression_turn t outer).loop in
-    turn_done l.inv outer.operand.ensures c.before.if1.false (omega (arith, c.if2.true))
+    let l = (expression_turn t outer).loop-ands in
+    turn_done l.invariant outer.operand-one.ensures c.if-ands-gt0.false (omega (arith, c.if-ors-eq0.true))
 
-expression_put_or_requires : (t : ℕ) → expression-lts.Need-put-or-requires (expression_claims t) (expression_at t) expression.Post expression_Inv_loop expression_μ_loop
+expression_put_or_requires : (t : ℕ) → expression-lts.Need-put_or-byte-requires (expression_claims t) (expression_at t) expression.Post expression_Inv_loop expression_μ_loop
 expression_put_or_requires t c κs =
     let term = expression_term t c.before in
     let outer = expression_outer t term in
     let turn = expression_turn t outer in
-    let l = turn.loop in
-    let w = outer.operand.ensures in
-    omega (arith, w.low, w.inside, turn_low l.inv, (expression_begun t turn).pre.1.1.0.1)
+    let l = turn.loop-ands in
+    let w = outer.operand-one.ensures in
+    omega (arith, w.low, w.inside, turn_low l.invariant, (expression_begun t turn).requires.1.1.0.1)
 
-expression_sub_ors : (t : ℕ) → expression-lts.Need-overflow-sub-ors (expression_claims t) (expression_at t) expression.Post expression_Inv_loop expression_μ_loop
-expression_sub_ors t c = omega (arith, (expression_more t c).if2.false)
+expression_sub_ors : (t : ℕ) → expression-lts.Need-overflow_sub-ors (expression_claims t) (expression_at t) expression.Post expression_Inv_loop expression_μ_loop
+expression_sub_ors t c = omega (arith, (expression_more t c).if-ors-eq0.false)
 
-expression_run_of_requires_3 : (t : ℕ) → expression-lts.Need-run-of-requires-3 (expression_claims t) (expression_at t) expression.Post expression_Inv_loop expression_μ_loop
-expression_run_of_requires_3 t c κs = (expression_outer t (expression_term t (expression_more t c))).operand.ensures.inside
+expression_run_of_requires_3 : (t : ℕ) → expression-lts.Need-run_of-ands-requires-else-ands-gt0 (expression_claims t) (expression_at t) expression.Post expression_Inv_loop expression_μ_loop
+expression_run_of_requires_3 t c κs = (expression_outer t (expression_term t (expression_more t c))).operand-one.ensures.inside
 
-expression_add_place_3 : (t : ℕ) → expression-lts.Need-overflow-add-place-3 (expression_claims t) (expression_at t) expression.Post expression_Inv_loop expression_μ_loop
-expression_add_place_3 t c = omega (arith, c.run-of3.ensures.1, (expression_begun t (expression_turn t (expression_outer t (expression_term t (expression_more t c.before))))).good.0.1)
+expression_add_place_3 : (t : ℕ) → expression-lts.Need-overflow_add-place-else-ands-gt0 (expression_claims t) (expression_at t) expression.Post expression_Inv_loop expression_μ_loop
+expression_add_place_3 t c = omega (arith, c.run_of-ands-else-ands-gt0.ensures.1, (expression_begun t (expression_turn t (expression_outer t (expression_term t (expression_more t c.before))))).well_formed.0.1)
 
-expression_loop_less_2 : (t : ℕ) → expression-lts.Need-loop-smaller-2 (expression_claims t) (expression_at t) expression.Post expression_Inv_loop expression_μ_loop
+expression_loop_less_2 : (t : ℕ) → expression-lts.Need-loop-ands-smaller (expression_claims t) (expression_at t) expression.Post expression_Inv_loop expression_μ_loop
 expression_loop_less_2 t c =
     let more = expression_more t c.before in
     let term = expression_term t more in
     let outer = expression_outer t term in
-    let l = (expression_turn t outer).loop in
-    omega (arith, turn_onward l.inv outer.operand.ensures, outer.operand.ensures.inside, c.run-of3.ensures.1)
+    let l = (expression_turn t outer).loop-ands in
+    omega (arith, turn_onward l.invariant outer.operand-one.ensures, outer.operand-one.ensures.inside, c.run_of-ands-else-ands-gt0.ensures.1)
 
-expression_loop_again_2 : (t : ℕ) → expression-lts.Need-loop-preserved-2 (expression_claims t) (expression_at t) expression.Post expression_Inv_loop expression_μ_loop
+expression_loop_again_2 : (t : ℕ) → expression-lts.Need-loop-ands-preserved (expression_claims t) (expression_at t) expression.Post expression_Inv_loop expression_μ_loop
 expression_loop_again_2 t c =
     let more = expression_more t c.before in
     let term = expression_term t more in
     let outer = expression_outer t term in
     let turn = expression_turn t outer in
-    let l = turn.loop in
-    turn_or l.inv outer.operand.ensures term.if1.left (expression_begun t turn).pre.1.1.1 (omega (arith, more.if2.left)) c.before.before.before.put-or.ensures c.run-of3.ensures.0 c.run-of3.ensures.1
+    let l = turn.loop-ands in
+    turn_or l.invariant outer.operand-one.ensures term.if-ands-gt0.false (expression_begun t turn).requires.1.1.1 (omega (arith, more.if-ors-eq0.false)) c.put_or-byte.ensures c.run_of-ands-else-ands-gt0.ensures.0 c.run_of-ands-else-ands-gt0.ensures.1
 
 abbrev Operand-start : ℕ → Type 0
 Operand-start t = operand-lts.Start (operand_claims t) (operand_at t) operand.Post
 
 -- Of what is lent nothing is read yet.
 abbrev Operand-lent : ℕ → Type 0
-Operand-lent t = operand-lts.After-slice-known (operand_claims t) (operand_at t) operand.Post
+Operand-lent t = operand-lts.After-slice_known-1 (operand_claims t) (operand_at t) operand.Post
 
 abbrev operand_start : (t : ℕ) → Operand-lent t → Operand-start t
 operand_start t c = c.before.before.before
-
 -- The first item says what follows:
 abbrev Operand-unpacked : ℕ → Type 0
-Operand-unpacked t = operand-lts.After-unpack (operand_claims t) (operand_at t) operand.Post
+Operand-unpacked t = operand-lts.After-unpack-item (operand_claims t) (operand_at t) operand.Post
 
 abbrev operand_begun : (t : ℕ) → Operand-unpacked t → Operand-start t
 operand_begun t c = operand_start t c.before.before
 
 -- a path,
 abbrev Operand-path : ℕ → Type 0
-Operand-path t = operand-lts.After-item (operand_claims t) (operand_at t) operand.Post
+Operand-path t = operand-lts.In-Path (operand_claims t) (operand_at t) operand.Post
 
 abbrev operand_unpacked : (t : ℕ) → Operand-path t → Operand-unpacked t
-operand_unpacked t c = c.before.before
-
+operand_unpacked t c = c.before
 -- of which the steps are put;
 abbrev Operand-walked : ℕ → Type 0
 Operand-walked t = operand-lts.After-steps (operand_claims t) (operand_at t) operand.Post
 
 abbrev operand_path : (t : ℕ) → Operand-walked t → Operand-path t
-operand_path t c = c.before.before.before
-
+operand_path t c = c.before.before
 -- `not`,
 abbrev Operand-denied : ℕ → Type 0
-Operand-denied t = operand-lts.After-enum-told (operand_claims t) (operand_at t) operand.Post
+Operand-denied t = operand-lts.In-Not (operand_claims t) (operand_at t) operand.Post
 
 abbrev operand_told : (t : ℕ) → Operand-denied t → Operand-unpacked t
-operand_told t c = c.before.before.before
-
+operand_told t c = c.before.before
 -- of which the word is put,
 abbrev Operand-noted : ℕ → Type 0
-Operand-noted t = operand-lts.After-put-not (operand_claims t) (operand_at t) operand.Post
+Operand-noted t = operand-lts.After-put_not-opened (operand_claims t) (operand_at t) operand.Post
 
 abbrev operand_denied : (t : ℕ) → Operand-noted t → Operand-denied t
 operand_denied t c = c.before.before
-
 -- the inside,
 abbrev Operand-inner : ℕ → Type 0
-Operand-inner t = operand-lts.After-expression (operand_claims t) (operand_at t) operand.Post
+Operand-inner t = operand-lts.After-expression-denied (operand_claims t) (operand_at t) operand.Post
 
 abbrev operand_noted : (t : ℕ) → Operand-inner t → Operand-noted t
 operand_noted t c = c.before.before.before.before
-
 -- and the bracket;
 abbrev Operand-closed : ℕ → Type 0
 Operand-closed t = operand-lts.After-closed (operand_claims t) (operand_at t) operand.Post
 
 abbrev operand_inner : (t : ℕ) → Operand-closed t → Operand-inner t
 operand_inner t c = c.before.before.before.before
-
 -- or an operator,
 abbrev Operand-joined : ℕ → Type 0
-Operand-joined t = operand-lts.At-match2-keys2 (operand_claims t) (operand_at t) operand.Post
+Operand-joined t = operand-lts.In_default-item (operand_claims t) (operand_at t) operand.Post
 
 abbrev operand_other : (t : ℕ) → Operand-joined t → Operand-unpacked t
 operand_other t c = c.before.before
-
 -- of which the bracket is opened,
 abbrev Operand-opened : ℕ → Type 0
-Operand-opened t = operand-lts.After-put-open (operand_claims t) (operand_at t) operand.Post
+Operand-opened t = operand-lts.After-put_open-opened (operand_claims t) (operand_at t) operand.Post
 
 abbrev operand_joined : (t : ℕ) → Operand-opened t → Operand-joined t
 operand_joined t c = c.before.before
-
 -- the run put,
 abbrev Operand-run : ℕ → Type 0
-Operand-run t = operand-lts.After-expression2 (operand_claims t) (operand_at t) operand.Post
+Operand-run t = operand-lts.After-expression-inner (operand_claims t) (operand_at t) operand.Post
 
 abbrev operand_opened : (t : ℕ) → Operand-run t → Operand-opened t
 operand_opened t c = c.before.before.before.before
-
 -- and the bracket closed.
 abbrev Operand-shut : ℕ → Type 0
-Operand-shut t = operand-lts.After-closed2 (operand_claims t) (operand_at t) operand.Post
+Operand-shut t = operand-lts.After-closed-2 (operand_claims t) (operand_at t) operand.Post
 
 abbrev operand_run : (t : ℕ) → Operand-shut t → Operand-run t
 operand_run t c = c.before.before.before.before
-
 -- Where the item is that of `not`.
-operand_not : (t : ℕ) (c : operand-lts.After-enum-told (operand_claims t) (operand_at t) operand.Post) →
+operand_not : (t : ℕ) (c : operand-lts.In-Not (operand_claims t) (operand_at t) operand.Post) →
     let a = (operand_begun t (operand_told t c)).args in
     get_or a.items.now a.at 0 ≡ not_item
 operand_not t c =
-    let u = (operand_told t c).unpack in
-    said _ _ (sym c.enum_told.given.1 ∙ u.ensures)
+    let u = (operand_told t c).unpack-item in
+    said _ _ (sym c.in-Not.is ∙ u.ensures)
 
 -- Where the item is neither a path nor `not`.
-operand_operator : (t : ℕ) (c : operand-lts.At-match2-keys2 (operand_claims t) (operand_at t) operand.Post) →
+operand_operator : (t : ℕ) (c : operand-lts.In_default-item (operand_claims t) (operand_at t) operand.Post) →
     let a = (operand_begun t (operand_other t c)).args in
     Operator (get_or a.items.now a.at 0)
 operand_operator t c =
     let other = operand_other t c in
     let begun = operand_begun t other in
     let a = begun.args in
-    let u = other.unpack in
-    operator_there a.items.now a.at a.depth begun.pre.1.1.1 u.result (said _ u.result u.ensures) c.before.match.keys2 c.match2.keys2
+    let u = other.unpack-item in
+    operator_there a.items.now a.at a.depth begun.requires.1.1.1 u.result (said _ u.result u.ensures) c.in-Path.in-Path-own.keys2 c.in-Not.in-Not-own.keys2
 
-operand_mul_unpack : (t : ℕ) → operand-lts.Need-overflow-mul-unpack (operand_claims t) (operand_at t) operand.Post
+operand_mul_unpack : (t : ℕ) → operand-lts.Need-offset_bounds-items-at (operand_claims t) (operand_at t) operand.Post
 operand_mul_unpack t c =
     let start = operand_start t c in
     let a = start.args in
-    omega (arith, operand_there a.depth a.items.now a.at start.pre.1.1.1, start.good.0.1)
+    omega (arith, operand_there a.depth a.items.now a.at start.requires.1.1.1, start.well_formed.0.1)
 
-operand_shared_slice_read_unpack : (t : ℕ) → operand-lts.Need-shared-slice-read-unpack (operand_claims t) (operand_at t) operand.Post
+operand_shared_slice_read_unpack : (t : ℕ) → operand-lts.Need-bounds-items-at (operand_claims t) (operand_at t) operand.Post
 operand_shared_slice_read_unpack t c =
     let start = operand_start t c.before in
     let a = start.args in
-    operand_there a.depth a.items.now a.at start.pre.1.1.1
+    operand_there a.depth a.items.now a.at start.requires.1.1.1
 
-operand_unpack_requires : (t : ℕ) → operand-lts.Need-unpack-requires (operand_claims t) (operand_at t) operand.Post
+operand_unpack_requires : (t : ℕ) → operand-lts.Need-unpack-item-requires (operand_claims t) (operand_at t) operand.Post
 operand_unpack_requires t c κs = search rules
 
-operand_enum_known_item : (t : ℕ) → operand-lts.Need-enum-known-item (operand_claims t) (operand_at t) operand.Post
+operand_enum_known_item : (t : ℕ) → operand-lts.Need-enum_known-item (operand_claims t) (operand_at t) operand.Post
 operand_enum_known_item t c = search rules
 
-operand_add_steps : (t : ℕ) → operand-lts.Need-overflow-add-steps (operand_claims t) (operand_at t) operand.Post
+operand_add_steps : (t : ℕ) → operand-lts.Need-overflow_add-at (operand_claims t) (operand_at t) operand.Post
 operand_add_steps t c =
-    let unpacked = operand_unpacked t c.before.before in
+    let unpacked = operand_unpacked t c.before in
     let begun = operand_begun t unpacked in
     let a = begun.args in
-    let p = begun.pre.1 in
+    let p = begun.requires.1 in
     let there = operand_there a.depth a.items.now a.at p.1.1 in
-    omega (arith, there, begun.good.0.1)
+    omega (arith, there, begun.well_formed.0.1)
 
 operand_steps_requires : (t : ℕ) → operand-lts.Need-steps-requires (operand_claims t) (operand_at t) operand.Post
 operand_steps_requires t c κs =
-    let unpacked = operand_unpacked t c.before.before in
+    let unpacked = operand_unpacked t c.before in
     let begun = operand_begun t unpacked in
     let a = begun.args in
-    let p = begun.pre.1 in
+    let p = begun.requires.1 in
     let there = operand_there a.depth a.items.now a.at p.1.1 in
-    let u = unpacked.unpack in
+    let u = unpacked.unpack-item in
     let w = get_or a.items.now a.at 0 in
-    let s = said w _ (sym c.before.before.item.given.1 ∙ u.ensures) in (
-      omega (arith, begun.pre.0, there),
+    let s = said w _ (sym c.in-Path.is ∙ u.ensures) in (
+      omega (arith, begun.requires.0, there),
       (p.0, ((omega (arith, there), omega (arith, p.1.0.1)), path_opens a.depth a.items.now a.at there _ s p.1.1)),
     )
 
-operand_same_length : (t : ℕ) → operand-lts.Need-same-length (operand_claims t) (operand_at t) operand.Post
-operand_same_length t c = puts_long c.before.before.steps.ensures.puts
+operand_same_length : (t : ℕ) → operand-lts.Need-shape_of-out-in-Path (operand_claims t) (operand_at t) operand.Post
+operand_same_length t c = puts_long c.steps.ensures.puts
 
-operand_returns : (t : ℕ) → operand-lts.Need-returns (operand_claims t) (operand_at t) operand.Post
+operand_returns : (t : ℕ) → operand-lts.Need-returns-in-Path (operand_claims t) (operand_at t) operand.Post
 operand_returns t c =
     let path = operand_path t c.before.before in
     let unpacked = operand_unpacked t path in
     let begun = operand_begun t unpacked in
     let a = begun.args in
-    let p = begun.pre.1 in
+    let p = begun.requires.1 in
     let there = operand_there a.depth a.items.now a.at p.1.1 in
-    let u = unpacked.unpack in
+    let u = unpacked.unpack-item in
     let w = get_or a.items.now a.at 0 in
-    let s = said w _ (sym path.item.given.1 ∙ u.ensures) in
-    path_prints a.depth a.items.now a.at there _ _ _ _ _ _ _ s p.1.1 c.before.before.steps.ensures
+    let s = said w _ (sym path.in-Path.is ∙ u.ensures) in
+    path_prints a.depth a.items.now a.at there _ _ _ _ _ _ _ s p.1.1 c.steps.ensures
 
-operand_enum_told : (t : ℕ) → operand-lts.Need-enum-told (operand_claims t) (operand_at t) operand.Post
+operand_enum_told : (t : ℕ) → operand-lts.Need-enum_told-1 (operand_claims t) (operand_at t) operand.Post
 operand_enum_told t c = search rules
 
-operand_put_not_requires : (t : ℕ) → operand-lts.Need-put-not-requires (operand_claims t) (operand_at t) operand.Post
+operand_put_not_requires : (t : ℕ) → operand-lts.Need-put_not-opened-requires (operand_claims t) (operand_at t) operand.Post
 operand_put_not_requires t c κs =
     let told = operand_told t c.before in
     let begun = operand_begun t told in
-    omega (arith, begun.pre.1.1.0.0, begun.pre.1.1.0.1)
+    omega (arith, begun.requires.1.1.0.0, begun.requires.1.1.0.1)
 
-operand_add_expression : (t : ℕ) → operand-lts.Need-overflow-add-expression (operand_claims t) (operand_at t) operand.Post
+operand_add_expression : (t : ℕ) → operand-lts.Need-overflow_add-at-in-Not (operand_claims t) (operand_at t) operand.Post
 operand_add_expression t c =
     let denied = operand_denied t c.before.before.before in
     let told = operand_told t denied in
     let begun = operand_begun t told in
     let a = begun.args in
-    omega (arith, operand_there a.depth a.items.now a.at begun.pre.1.1.1, begun.good.0.1)
+    omega (arith, operand_there a.depth a.items.now a.at begun.requires.1.1.1, begun.well_formed.0.1)
 
-operand_sub_expression : (t : ℕ) → operand-lts.Need-overflow-sub-expression (operand_claims t) (operand_at t) operand.Post
+operand_sub_expression : (t : ℕ) → operand-lts.Need-overflow_sub-depth (operand_claims t) (operand_at t) operand.Post
 operand_sub_expression t c =
     let denied = operand_denied t c.before.before.before in
     let told = operand_told t denied in
     let begun = operand_begun t told in
     let a = begun.args in
-    omega (arith, not_deep a.items.now a.at a.depth begun.pre.1.1.1 (operand_not t denied))
+    omega (arith, not_deep a.items.now a.at a.depth begun.requires.1.1.1 (operand_not t denied))
 
-operand_expression_requires : (t : ℕ) → operand-lts.Need-expression-requires (operand_claims t) (operand_at t) operand.Post
+operand_expression_requires : (t : ℕ) → operand-lts.Need-expression-denied-requires (operand_claims t) (operand_at t) operand.Post
 operand_expression_requires t c κs =
     let denied = operand_denied t c.before.before.before in
     let told = operand_told t denied in
     let begun = operand_begun t told in
     let a = begun.args in
-    let p = begun.pre.1 in
+    let p = begun.requires.1 in
     let there = operand_there a.depth a.items.now a.at p.1.1 in (
-      omega (arith, begun.pre.0, there),
-      (p.0, ((omega (arith, there), omega (arith, p.1.0.1, c.before.before.before.put-not.ensures.moved)), not_opens a.items.now a.at a.depth p.1.1 (operand_not t denied))),
+      omega (arith, begun.requires.0, there),
+      (p.0, ((omega (arith, there), omega (arith, p.1.0.1, c.put_not-opened.ensures.moved)), not_opens a.items.now a.at a.depth p.1.1 (operand_not t denied))),
     )
 
 operand_closed_requires : (t : ℕ) → operand-lts.Need-closed-requires (operand_claims t) (operand_at t) operand.Post
 operand_closed_requires t c κs =
     let noted = operand_noted t c.before.before.before in
-    let v = c.before.before.before.expression.ensures in
-    omega (arith, v.low, v.inside, (operand_begun t (operand_told t (operand_denied t noted))).pre.1.1.0.1, noted.put-not.ensures.moved)
+    let v = c.expression-denied.ensures in
+    omega (arith, v.low, v.inside, (operand_begun t (operand_told t (operand_denied t noted))).requires.1.1.0.1, noted.put_not-opened.ensures.moved)
 
-operand_same_length_2 : (t : ℕ) → operand-lts.Need-same-length-2 (operand_claims t) (operand_at t) operand.Post
+operand_same_length_2 : (t : ℕ) → operand-lts.Need-shape_of-out-in-Not (operand_claims t) (operand_at t) operand.Post
 operand_same_length_2 t c =
     let inner = operand_inner t c.before.before in
-    puts_long c.before.before.closed.ensures.0 ∙ puts_long inner.expression.ensures.puts ∙ puts_long (operand_noted t inner).put-not.ensures
+    puts_long c.closed.ensures.0 ∙ puts_long inner.expression-denied.ensures.puts ∙ puts_long (operand_noted t inner).put_not-opened.ensures
 
-operand_returns_2 : (t : ℕ) → operand-lts.Need-returns-2 (operand_claims t) (operand_at t) operand.Post
+operand_returns_2 : (t : ℕ) → operand-lts.Need-returns-in-Not (operand_claims t) (operand_at t) operand.Post
 operand_returns_2 t c =
     let inner = operand_inner t c.before.before in
     let noted = operand_noted t inner in
@@ -492,47 +474,47 @@ operand_returns_2 t c =
     let told = operand_told t denied in
     let begun = operand_begun t told in
     let a = begun.args in
-    not_prints a.items.now a.at a.depth begun.pre.1.1.1 _ _ _ _ _ _ _ _ _ _ (operand_not t denied) noted.put-not.ensures inner.expression.ensures c.before.before.closed.ensures.0 c.before.before.closed.ensures.1
+    not_prints a.items.now a.at a.depth begun.requires.1.1.1 _ _ _ _ _ _ _ _ _ _ (operand_not t denied) noted.put_not-opened.ensures inner.expression-denied.ensures c.closed.ensures.0 c.closed.ensures.1
 
-operand_put_open_requires : (t : ℕ) → operand-lts.Need-put-open-requires (operand_claims t) (operand_at t) operand.Post
+operand_put_open_requires : (t : ℕ) → operand-lts.Need-put_open-opened-requires (operand_claims t) (operand_at t) operand.Post
 operand_put_open_requires t c κs =
     let other = operand_other t c.before in
     let begun = operand_begun t other in
-    omega (arith, begun.pre.1.1.0.0, begun.pre.1.1.0.1)
+    omega (arith, begun.requires.1.1.0.0, begun.requires.1.1.0.1)
 
-operand_sub_expression_2 : (t : ℕ) → operand-lts.Need-overflow-sub-expression-2 (operand_claims t) (operand_at t) operand.Post
+operand_sub_expression_2 : (t : ℕ) → operand-lts.Need-overflow_sub-depth-2 (operand_claims t) (operand_at t) operand.Post
 operand_sub_expression_2 t c =
     let joined = operand_joined t c.before.before.before in
     let other = operand_other t joined in
     let begun = operand_begun t other in
     let a = begun.args in
-    omega (arith, joined_deep a.items.now a.at a.depth begun.pre.1.1.1 (operand_operator t joined))
+    omega (arith, joined_deep a.items.now a.at a.depth begun.requires.1.1.1 (operand_operator t joined))
 
-operand_expression_requires_2 : (t : ℕ) → operand-lts.Need-expression-requires-2 (operand_claims t) (operand_at t) operand.Post
+operand_expression_requires_2 : (t : ℕ) → operand-lts.Need-expression-inner-requires (operand_claims t) (operand_at t) operand.Post
 operand_expression_requires_2 t c κs =
     let joined = operand_joined t c.before.before.before in
     let other = operand_other t joined in
     let begun = operand_begun t other in
     let a = begun.args in
-    let p = begun.pre.1 in
+    let p = begun.requires.1 in
     let there = operand_there a.depth a.items.now a.at p.1.1 in
     let o = operand_operator t joined in (
-      omega (arith, begun.pre.0, there, operators_there a.items.now a.at a.depth there o),
-      (p.0, ((p.1.0.0, omega (arith, p.1.0.1, c.before.before.before.put-open.ensures.moved, operators_there a.items.now a.at a.depth there o)), joined_opens a.items.now a.at a.depth p.1.1 o)),
+      omega (arith, begun.requires.0, there, operators_there a.items.now a.at a.depth there o),
+      (p.0, ((p.1.0.0, omega (arith, p.1.0.1, c.put_open-opened.ensures.moved, operators_there a.items.now a.at a.depth there o)), joined_opens a.items.now a.at a.depth p.1.1 o)),
     )
 
 operand_closed_requires_2 : (t : ℕ) → operand-lts.Need-closed-requires-2 (operand_claims t) (operand_at t) operand.Post
 operand_closed_requires_2 t c κs =
     let opened = operand_opened t c.before.before.before in
-    let v = c.before.before.before.expression2.ensures in
-    omega (arith, v.low, v.inside, (operand_begun t (operand_other t (operand_joined t opened))).pre.1.1.0.1, opened.put-open.ensures.moved)
+    let v = c.expression-inner.ensures in
+    omega (arith, v.low, v.inside, (operand_begun t (operand_other t (operand_joined t opened))).requires.1.1.0.1, opened.put_open-opened.ensures.moved)
 
-operand_same_length_3 : (t : ℕ) → operand-lts.Need-same-length-3 (operand_claims t) (operand_at t) operand.Post
+operand_same_length_3 : (t : ℕ) → operand-lts.Need-shape_of-out (operand_claims t) (operand_at t) operand.Post
 operand_same_length_3 t c =
     let run = operand_run t c.before.before in
-    puts_long c.before.before.closed2.ensures.0 ∙ puts_long run.expression2.ensures.puts ∙ puts_long (operand_opened t run).put-open.ensures
+    puts_long c.closed-2.ensures.0 ∙ puts_long run.expression-inner.ensures.puts ∙ puts_long (operand_opened t run).put_open-opened.ensures
 
-operand_returns_3 : (t : ℕ) → operand-lts.Need-returns-3 (operand_claims t) (operand_at t) operand.Post
+operand_returns_3 : (t : ℕ) → operand-lts.Need-returns (operand_claims t) (operand_at t) operand.Post
 operand_returns_3 t c =
     let run = operand_run t c.before.before in
     let opened = operand_opened t run in
@@ -540,13 +522,13 @@ operand_returns_3 t c =
     let other = operand_other t joined in
     let begun = operand_begun t other in
     let a = begun.args in
-    joined_prints a.items.now a.at a.depth begun.pre.1.1.1 _ _ _ _ _ _ _ _ _ _ (operand_operator t joined) opened.put-open.ensures run.expression2.ensures c.before.before.closed2.ensures.0 c.before.before.closed2.ensures.1
+    joined_prints a.items.now a.at a.depth begun.requires.1.1.1 _ _ _ _ _ _ _ _ _ _ (operand_operator t joined) opened.put_open-opened.ensures run.expression-inner.ensures c.closed-2.ensures.0 c.closed-2.ensures.1
 
-abbrev predicates_Inv_loop : predicates-lts.invariant-loop
+abbrev predicates_Inv_loop : predicates-lts.invariant-loop-owed
 predicates_Inv_loop items list starts count out₀ at pen number depth brief place₀ byte₀ owed₀ out place byte owed =
     Rest (take_preds (take_within depth)) (preds_pieces brief) (names_of list) items at pen (take_preds (take_within depth) number (drop at items)) out₀ out place byte owed
 
-abbrev predicates_μ_loop : predicates-lts.decreases-loop
+abbrev predicates_μ_loop : predicates-lts.decreases-loop-owed
 predicates_μ_loop items list starts count out₀ at pen number depth brief place₀ byte₀ owed₀ out place byte owed = owed
 
 abbrev Predicates-start : ℕ → Type 0
@@ -554,109 +536,104 @@ Predicates-start t = predicates-lts.Start (predicates_claims t) (predicates_at t
 
 -- Of what is lent nothing is read yet.
 abbrev Predicates-lent : ℕ → Type 0
-Predicates-lent t = predicates-lts.After-slice-known (predicates_claims t) (predicates_at t) predicates.Post predicates_Inv_loop predicates_μ_loop
+Predicates-lent t = predicates-lts.After-slice_known-1 (predicates_claims t) (predicates_at t) predicates.Post predicates_Inv_loop predicates_μ_loop
 
 abbrev predicates_start : (t : ℕ) → Predicates-lent t → Predicates-start t
 predicates_start t c = c.before.before.before
-
 -- So many predicates are owed,
 abbrev Predicates-turn : ℕ → Type 0
-Predicates-turn t = predicates-lts.At-loop (predicates_claims t) (predicates_at t) predicates.Post predicates_Inv_loop predicates_μ_loop
+Predicates-turn t = predicates-lts.At-loop-owed (predicates_claims t) (predicates_at t) predicates.Post predicates_Inv_loop predicates_μ_loop
 
 abbrev predicates_begun : (t : ℕ) → Predicates-turn t → Predicates-start t
 predicates_begun t c = predicates_start t c.before
 
 -- one at least:
 abbrev Predicates-owed : ℕ → Type 0
-Predicates-owed t = predicates-lts.In-loop (predicates_claims t) (predicates_at t) predicates.Post predicates_Inv_loop predicates_μ_loop
+Predicates-owed t = predicates-lts.In-loop-owed (predicates_claims t) (predicates_at t) predicates.Post predicates_Inv_loop predicates_μ_loop
 
 abbrev predicates_turn : (t : ℕ) → Predicates-owed t → Predicates-turn t
 predicates_turn t c = c.before
-
 -- its bracket is opened,
 abbrev Predicates-opened : ℕ → Type 0
-Predicates-opened t = predicates-lts.After-put-byte (predicates_claims t) (predicates_at t) predicates.Post predicates_Inv_loop predicates_μ_loop
+Predicates-opened t = predicates-lts.After-put_byte-opened (predicates_claims t) (predicates_at t) predicates.Post predicates_Inv_loop predicates_μ_loop
 
 abbrev predicates_owed : (t : ℕ) → Predicates-opened t → Predicates-owed t
 predicates_owed t c = c.before.before
-
 -- its expression put,
 abbrev Predicates-put : ℕ → Type 0
-Predicates-put t = predicates-lts.After-expression (predicates_claims t) (predicates_at t) predicates.Post predicates_Inv_loop predicates_μ_loop
+Predicates-put t = predicates-lts.After-expression-more (predicates_claims t) (predicates_at t) predicates.Post predicates_Inv_loop predicates_μ_loop
 
 abbrev predicates_opened : (t : ℕ) → Predicates-put t → Predicates-opened t
 predicates_opened t c = c.before.before.before.before
-
 -- and the bracket closed.
 abbrev Predicates-closed : ℕ → Type 0
-Predicates-closed t = predicates-lts.After-put-byte2 (predicates_claims t) (predicates_at t) predicates.Post predicates_Inv_loop predicates_μ_loop
+Predicates-closed t = predicates-lts.After-put_byte-byte (predicates_claims t) (predicates_at t) predicates.Post predicates_Inv_loop predicates_μ_loop
 
 abbrev predicates_put : (t : ℕ) → Predicates-closed t → Predicates-put t
 predicates_put t c = c.before.before.before.before
-
-predicates_loop_holds : (t : ℕ) → predicates-lts.Need-loop-init (predicates_claims t) (predicates_at t) predicates.Post predicates_Inv_loop predicates_μ_loop
+predicates_loop_holds : (t : ℕ) → predicates-lts.Need-loop-owed-init (predicates_claims t) (predicates_at t) predicates.Post predicates_Inv_loop predicates_μ_loop
 predicates_loop_holds t c =
     let p = (predicates_start t c).requires.1 in
     rest_start _ _ _ _ _ _ _ _ _ p.1.0.0 refl p.1.1
 
-predicates_put_byte_requires : (t : ℕ) → predicates-lts.Need-put-byte-requires (predicates_claims t) (predicates_at t) predicates.Post predicates_Inv_loop predicates_μ_loop
+predicates_put_byte_requires : (t : ℕ) → predicates-lts.Need-put_byte-opened-requires (predicates_claims t) (predicates_at t) predicates.Post predicates_Inv_loop predicates_μ_loop
 predicates_put_byte_requires t c κs =
     let turn = predicates_turn t c.before in
-    omega (arith, turn.loop.inv.low, turn.loop.inv.inside, (predicates_begun t turn).pre.1.1.0.1)
+    omega (arith, turn.loop-owed.invariant.low, turn.loop-owed.invariant.inside, (predicates_begun t turn).requires.1.1.0.1)
 
-predicates_sub_expression : (t : ℕ) → predicates-lts.Need-overflow-sub-expression (predicates_claims t) (predicates_at t) predicates.Post predicates_Inv_loop predicates_μ_loop
+predicates_sub_expression : (t : ℕ) → predicates-lts.Need-overflow_sub-depth (predicates_claims t) (predicates_at t) predicates.Post predicates_Inv_loop predicates_μ_loop
 predicates_sub_expression t c =
     let owed = predicates_owed t c.before.before.before in
     let turn = predicates_turn t owed in
     let a = (predicates_begun t turn).args in
-    let l = turn.loop in
-    omega (arith, (pred_opens a.depth a.items.now l.place l.owed (l.inv.rest, l.inv.left) owed.loop-test.taken l.inv.takes).0)
+    let l = turn.loop-owed in
+    omega (arith, (pred_opens a.depth a.items.now l.place l.owed (l.invariant.rest, l.invariant.left) owed.loop-owed-test.true l.invariant.takes).0)
 
-predicates_expression_requires : (t : ℕ) → predicates-lts.Need-expression-requires (predicates_claims t) (predicates_at t) predicates.Post predicates_Inv_loop predicates_μ_loop
+predicates_expression_requires : (t : ℕ) → predicates-lts.Need-expression-more-requires (predicates_claims t) (predicates_at t) predicates.Post predicates_Inv_loop predicates_μ_loop
 predicates_expression_requires t c κs =
     let owed = predicates_owed t c.before.before.before in
     let turn = predicates_turn t owed in
     let begun = predicates_begun t turn in
     let a = begun.args in
-    let p = begun.pre.1 in
-    let l = turn.loop in (
-      omega (arith, begun.pre.0, l.inv.onward),
-      (p.0, ((l.inv.inside, omega (arith, l.inv.low, c.before.before.before.put_byte.ensures.moved, p.1.0.1)), (pred_opens a.depth a.items.now l.place l.owed (l.inv.rest, l.inv.left) owed.loop-test.taken l.inv.takes).1)),
+    let p = begun.requires.1 in
+    let l = turn.loop-owed in (
+      omega (arith, begun.requires.0, l.invariant.onward),
+      (p.0, ((l.invariant.inside, omega (arith, l.invariant.low, c.put_byte-opened.ensures.moved, p.1.0.1)), (pred_opens a.depth a.items.now l.place l.owed (l.invariant.rest, l.invariant.left) owed.loop-owed-test.true l.invariant.takes).1)),
     )
 
-predicates_put_byte_requires_2 : (t : ℕ) → predicates-lts.Need-put-byte-requires-2 (predicates_claims t) (predicates_at t) predicates.Post predicates_Inv_loop predicates_μ_loop
+predicates_put_byte_requires_2 : (t : ℕ) → predicates-lts.Need-put_byte-byte-requires (predicates_claims t) (predicates_at t) predicates.Post predicates_Inv_loop predicates_μ_loop
 predicates_put_byte_requires_2 t c κs =
     let opened = predicates_opened t c.before.before.before in
     let owed = predicates_owed t opened in
     let turn = predicates_turn t owed in
-    let w = c.before.before.before.expression.ensures in
-    omega (arith, w.low, w.inside, turn.loop.inv.low, opened.put_byte.ensures.moved, (predicates_begun t turn).pre.1.1.0.1)
+    let w = c.expression-more.ensures in
+    omega (arith, w.low, w.inside, turn.loop-owed.invariant.low, opened.put_byte-opened.ensures.moved, (predicates_begun t turn).requires.1.1.0.1)
 
-predicates_sub_owed : (t : ℕ) → predicates-lts.Need-overflow-sub-owed (predicates_claims t) (predicates_at t) predicates.Post predicates_Inv_loop predicates_μ_loop
-predicates_sub_owed t c = omega (arith, (predicates_owed t (predicates_opened t (predicates_put t c.before.before))).loop-test.taken)
+predicates_sub_owed : (t : ℕ) → predicates-lts.Need-overflow_sub-owed (predicates_claims t) (predicates_at t) predicates.Post predicates_Inv_loop predicates_μ_loop
+predicates_sub_owed t c = omega (arith, (predicates_owed t (predicates_opened t (predicates_put t c.before.before))).loop-owed-test.true)
 
-predicates_loop_less : (t : ℕ) → predicates-lts.Need-loop-smaller (predicates_claims t) (predicates_at t) predicates.Post predicates_Inv_loop predicates_μ_loop
-predicates_loop_less t c = omega (arith, (predicates_owed t (predicates_opened t (predicates_put t c.before.before))).loop-test.taken)
+predicates_loop_less : (t : ℕ) → predicates-lts.Need-loop-owed-smaller (predicates_claims t) (predicates_at t) predicates.Post predicates_Inv_loop predicates_μ_loop
+predicates_loop_less t c = omega (arith, (predicates_owed t (predicates_opened t (predicates_put t c.before.before))).loop-owed-test.true)
 
-predicates_loop_again : (t : ℕ) → predicates-lts.Need-loop-preserved (predicates_claims t) (predicates_at t) predicates.Post predicates_Inv_loop predicates_μ_loop
+predicates_loop_again : (t : ℕ) → predicates-lts.Need-loop-owed-preserved (predicates_claims t) (predicates_at t) predicates.Post predicates_Inv_loop predicates_μ_loop
 predicates_loop_again t c =
     let put = predicates_put t c.before.before in
     let opened = predicates_opened t put in
     let owed = predicates_owed t opened in
     let turn = predicates_turn t owed in
-    pred_turn _ _ (predicates_begun t turn).args.depth _ _ _ _ _ _ _ _ _ _ _ _ _ _ _ owed.loop-test.taken turn.loop.inv opened.put_byte.ensures put.expression.ensures c.before.before.put-byte2.ensures
+    pred_turn _ _ (predicates_begun t turn).args.depth _ _ _ _ _ _ _ _ _ _ _ _ _ _ _ owed.loop-owed-test.true turn.loop-owed.invariant opened.put_byte-opened.ensures put.expression-more.ensures c.put_byte-byte.ensures
 
-predicates_same_length : (t : ℕ) → predicates-lts.Need-same-length (predicates_claims t) (predicates_at t) predicates.Post predicates_Inv_loop predicates_μ_loop
-predicates_same_length t c = puts_long c.before.loop.invariant.puts
+predicates_same_length : (t : ℕ) → predicates-lts.Need-shape_of-out (predicates_claims t) (predicates_at t) predicates.Post predicates_Inv_loop predicates_μ_loop
+predicates_same_length t c = puts_long c.loop-owed.invariant.puts
 
 predicates_returns : (t : ℕ) → predicates-lts.Need-returns (predicates_claims t) (predicates_at t) predicates.Post predicates_Inv_loop predicates_μ_loop
-predicates_returns t c = rest_done _ _ _ _ _ _ _ _ _ _ _ _ bare (λ ws. refl) refl c.loop-test.false c.before.loop.invariant
+predicates_returns t c = rest_done _ _ _ _ _ _ _ _ _ _ _ _ bare (λ ws. refl) refl c.loop-owed-test.false c.loop-owed.invariant
 
-abbrev steps_Inv_loop : steps-lts.invariant-loop
+abbrev steps_Inv_loop : steps-lts.invariant-loop-owed
 steps_Inv_loop items list starts count out₀ at pen number depth brief place₀ byte₀ owed₀ out place byte owed =
     Rest (take_steps (take_within depth)) (relative_pieces brief) (names_of list) items at pen (take_steps (take_within depth) number (drop at items)) out₀ out place byte owed
 
-abbrev steps_μ_loop : steps-lts.decreases-loop
+abbrev steps_μ_loop : steps-lts.decreases-loop-owed
 steps_μ_loop items list starts count out₀ at pen number depth brief place₀ byte₀ owed₀ out place byte owed = owed
 
 abbrev Steps-start : ℕ → Type 0
@@ -664,127 +641,119 @@ Steps-start t = steps-lts.Start (steps_claims t) (steps_at t) steps.Post steps_I
 
 -- Of what is lent nothing is read yet.
 abbrev Steps-lent : ℕ → Type 0
-Steps-lent t = steps-lts.After-slice-known (steps_claims t) (steps_at t) steps.Post steps_Inv_loop steps_μ_loop
+Steps-lent t = steps-lts.After-slice_known-1 (steps_claims t) (steps_at t) steps.Post steps_Inv_loop steps_μ_loop
 
 abbrev steps_start : (t : ℕ) → Steps-lent t → Steps-start t
 steps_start t c = c.before.before.before
-
 -- So many steps are owed,
 abbrev Steps-turn : ℕ → Type 0
-Steps-turn t = steps-lts.At-loop (steps_claims t) (steps_at t) steps.Post steps_Inv_loop steps_μ_loop
+Steps-turn t = steps-lts.At-loop-owed (steps_claims t) (steps_at t) steps.Post steps_Inv_loop steps_μ_loop
 
 abbrev steps_begun : (t : ℕ) → Steps-turn t → Steps-start t
 steps_begun t c = steps_start t c.before
 
 -- one at least:
 abbrev Steps-owed : ℕ → Type 0
-Steps-owed t = steps-lts.In-loop (steps_claims t) (steps_at t) steps.Post steps_Inv_loop steps_μ_loop
+Steps-owed t = steps-lts.In-loop-owed (steps_claims t) (steps_at t) steps.Post steps_Inv_loop steps_μ_loop
 
 abbrev steps-turn : (t : ℕ) → Steps-owed t → Steps-turn t
 steps-turn t c = c.before
-
 -- its item is read,
 abbrev Steps-unpacked : ℕ → Type 0
-Steps-unpacked t = steps-lts.After-unpack (steps_claims t) (steps_at t) steps.Post steps_Inv_loop steps_μ_loop
+Steps-unpacked t = steps-lts.After-unpack-item (steps_claims t) (steps_at t) steps.Post steps_Inv_loop steps_μ_loop
 
 abbrev steps_owed : (t : ℕ) → Steps-unpacked t → Steps-owed t
 steps_owed t c = c.before.before
-
 -- and is a step's;
 abbrev Steps-told : ℕ → Type 0
-Steps-told t = steps-lts.After-item (steps_claims t) (steps_at t) steps.Post steps_Inv_loop steps_μ_loop
+Steps-told t = steps-lts.In-Step (steps_claims t) (steps_at t) steps.Post steps_Inv_loop steps_μ_loop
 
 abbrev steps_unpacked : (t : ℕ) → Steps-told t → Steps-unpacked t
-steps_unpacked t c = c.before.before
-
+steps_unpacked t c = c.before
 -- its axis and its test are put,
 abbrev Steps-headed : ℕ → Type 0
-Steps-headed t = steps-lts.After-put-head (steps_claims t) (steps_at t) steps.Post steps_Inv_loop steps_μ_loop
+Steps-headed t = steps-lts.After-put_head-headed (steps_claims t) (steps_at t) steps.Post steps_Inv_loop steps_μ_loop
 
 abbrev steps_told : (t : ℕ) → Steps-headed t → Steps-told t
-steps_told t c = c.before.before.before
-
+steps_told t c = c.before.before
 -- its predicates,
 abbrev Steps-put : ℕ → Type 0
-Steps-put t = steps-lts.After-predicates (steps_claims t) (steps_at t) steps.Post steps_Inv_loop steps_μ_loop
+Steps-put t = steps-lts.After-predicates-more (steps_claims t) (steps_at t) steps.Post steps_Inv_loop steps_μ_loop
 
 abbrev steps_headed : (t : ℕ) → Steps-put t → Steps-headed t
 steps_headed t c = c.before.before.before.before
-
 -- the slash behind it, and how many steps `//` stands for is asked.
 abbrev Steps-slashed : ℕ → Type 0
-Steps-slashed t = steps-lts.After-deep (steps_claims t) (steps_at t) steps.Post steps_Inv_loop steps_μ_loop
+Steps-slashed t = steps-lts.After-deep-skipped (steps_claims t) (steps_at t) steps.Post steps_Inv_loop steps_μ_loop
 
 abbrev steps_put : (t : ℕ) → Steps-slashed t → Steps-put t
 steps_put t c = c.before.before.before.before.before.before.before
-
 abbrev Steps-done : ℕ → Type 0
-Steps-done t = steps-lts.After-slice-known5 (steps_claims t) (steps_at t) steps.Post steps_Inv_loop steps_μ_loop
+Steps-done t = steps-lts.After-slice_known-in-loop-owed-4-1 (steps_claims t) (steps_at t) steps.Post steps_Inv_loop steps_μ_loop
 
 abbrev steps_slashed : (t : ℕ) → Steps-done t → Steps-slashed t
 steps_slashed t c = c.before.before.before.before
-
-steps_loop_holds : (t : ℕ) → steps-lts.Need-loop-init (steps_claims t) (steps_at t) steps.Post steps_Inv_loop steps_μ_loop
+steps_loop_holds : (t : ℕ) → steps-lts.Need-loop-owed-init (steps_claims t) (steps_at t) steps.Post steps_Inv_loop steps_μ_loop
 steps_loop_holds t c =
     let p = (steps_start t c).requires.1 in
     rest_start _ _ _ _ _ _ _ _ _ p.1.0.0 refl p.1.1
 
-steps_mul_unpack : (t : ℕ) → steps-lts.Need-overflow-mul-unpack (steps_claims t) (steps_at t) steps.Post steps_Inv_loop steps_μ_loop
+steps_mul_unpack : (t : ℕ) → steps-lts.Need-offset_bounds-items-place (steps_claims t) (steps_at t) steps.Post steps_Inv_loop steps_μ_loop
 steps_mul_unpack t c =
     let turn = steps-turn t c in
     let begun = steps_begun t turn in
     let a = begun.args in
-    let l = turn.loop in
-    omega (arith, step_there a.depth a.items.now l.place l.owed (l.inv.rest, l.inv.left) c.loop-test.true l.inv.takes, begun.good.0.1)
+    let l = turn.loop-owed in
+    omega (arith, step_there a.depth a.items.now l.place l.owed (l.invariant.rest, l.invariant.left) c.loop-owed-test.true l.invariant.takes, begun.well_formed.0.1)
 
-steps_shared_slice_read_unpack : (t : ℕ) → steps-lts.Need-shared-slice-read-unpack (steps_claims t) (steps_at t) steps.Post steps_Inv_loop steps_μ_loop
+steps_shared_slice_read_unpack : (t : ℕ) → steps-lts.Need-bounds-items-place (steps_claims t) (steps_at t) steps.Post steps_Inv_loop steps_μ_loop
 steps_shared_slice_read_unpack t c =
     let turn = steps-turn t c.before in
     let a = (steps_begun t turn).args in
-    let l = turn.loop in
-    step_there a.depth a.items.now l.place l.owed (l.inv.rest, l.inv.left) c.before.loop-test.true l.inv.takes
+    let l = turn.loop-owed in
+    step_there a.depth a.items.now l.place l.owed (l.invariant.rest, l.invariant.left) c.loop-owed-test.true l.invariant.takes
 
-steps_unpack_requires : (t : ℕ) → steps-lts.Need-unpack-requires (steps_claims t) (steps_at t) steps.Post steps_Inv_loop steps_μ_loop
+steps_unpack_requires : (t : ℕ) → steps-lts.Need-unpack-item-requires (steps_claims t) (steps_at t) steps.Post steps_Inv_loop steps_μ_loop
 steps_unpack_requires t c κs = search rules
 
-steps_enum_known_item : (t : ℕ) → steps-lts.Need-enum-known-item (steps_claims t) (steps_at t) steps.Post steps_Inv_loop steps_μ_loop
+steps_enum_known_item : (t : ℕ) → steps-lts.Need-enum_known-item (steps_claims t) (steps_at t) steps.Post steps_Inv_loop steps_μ_loop
 steps_enum_known_item t c = search rules
 
-steps_same_length : (t : ℕ) → steps-lts.Need-same-length (steps_claims t) (steps_at t) steps.Post steps_Inv_loop steps_μ_loop
-steps_same_length t c = puts_long (steps-turn t (steps_owed t c.before)).loop.inv.puts
+steps_same_length : (t : ℕ) → steps-lts.Need-shape_of-out-in_default (steps_claims t) (steps_at t) steps.Post steps_Inv_loop steps_μ_loop
+steps_same_length t c = puts_long (steps-turn t (steps_owed t c.before)).loop-owed.invariant.puts
 
-steps_returns : (t : ℕ) → steps-lts.Need-returns (steps_claims t) (steps_at t) steps.Post steps_Inv_loop steps_μ_loop
+steps_returns : (t : ℕ) → steps-lts.Need-returns-in_default (steps_claims t) (steps_at t) steps.Post steps_Inv_loop steps_μ_loop
 steps_returns t c =
     let owed = steps_owed t c.before in
     let turn = steps-turn t owed in
     let a = (steps_begun t turn).args in
-    let l = turn.loop in
-    let u = c.before.unpack in
+    let l = turn.loop-owed in
+    let u = c.unpack-item in
     let w = get_or a.items.now l.place 0 in
-    none-some (sym (not_step w u.result (said w u.result u.ensures) c.match.keys2) ∙ (step-head a.depth a.items.now l.place l.owed (l.inv.rest, l.inv.left) owed.loop-test.taken l.inv.takes).1)
+    none-some (sym (not_step w u.result (said w u.result u.ensures) c.in-Step.in-Step-own.keys2) ∙ (step-head a.depth a.items.now l.place l.owed (l.invariant.rest, l.invariant.left) owed.loop-owed-test.true l.invariant.takes).1)
 
-steps_put_head_requires : (t : ℕ) → steps-lts.Need-put-head-requires (steps_claims t) (steps_at t) steps.Post steps_Inv_loop steps_μ_loop
+steps_put_head_requires : (t : ℕ) → steps-lts.Need-put_head-headed-requires (steps_claims t) (steps_at t) steps.Post steps_Inv_loop steps_μ_loop
 steps_put_head_requires t c κs =
-    let unpacked = steps_unpacked t c.before.before in
+    let unpacked = steps_unpacked t c.before in
     let owed = steps_owed t unpacked in
     let turn = steps-turn t owed in
     let begun = steps_begun t turn in
     let a = begun.args in
-    let l = turn.loop in
-    let u = unpacked.unpack in
+    let l = turn.loop-owed in
+    let u = unpacked.unpack-item in
     let w = get_or a.items.now l.place 0 in
-    let s = said w _ (sym c.before.before.item.given.1 ∙ u.ensures) in
-    let p = begun.pre.1 in
+    let s = said w _ (sym c.in-Step.is ∙ u.ensures) in
+    let p = begun.requires.1 in
     let unknown : unknown_test a.count s.0.test ≡ false = rw s.1 at (p.0.known l.place) in (
       p.0.indexed,
       (
         rw (ap (λ x. x.test) s.2) (known_test a.count s.0.test (step_found w s.0 s.1).1 unknown),
         p.0.few,
-        omega (arith, l.inv.low, step_there a.depth a.items.now l.place l.owed (l.inv.rest, l.inv.left) owed.loop-test.taken l.inv.takes, p.1.0.1),
+        omega (arith, l.invariant.low, step_there a.depth a.items.now l.place l.owed (l.invariant.rest, l.invariant.left) owed.loop-owed-test.true l.invariant.takes, p.1.0.1),
       ),
     )
 
-steps_add_predicates : (t : ℕ) → steps-lts.Need-overflow-add-predicates (steps_claims t) (steps_at t) steps.Post steps_Inv_loop steps_μ_loop
+steps_add_predicates : (t : ℕ) → steps-lts.Need-overflow_add-place (steps_claims t) (steps_at t) steps.Post steps_Inv_loop steps_μ_loop
 steps_add_predicates t c =
     let told = steps_told t c.before.before.before in
     let unpacked = steps_unpacked t told in
@@ -792,10 +761,10 @@ steps_add_predicates t c =
     let turn = steps-turn t owed in
     let begun = steps_begun t turn in
     let a = begun.args in
-    let l = turn.loop in
-    omega (arith, step_there a.depth a.items.now l.place l.owed (l.inv.rest, l.inv.left) owed.loop-test.taken l.inv.takes, begun.good.0.1)
+    let l = turn.loop-owed in
+    omega (arith, step_there a.depth a.items.now l.place l.owed (l.invariant.rest, l.invariant.left) owed.loop-owed-test.true l.invariant.takes, begun.well_formed.0.1)
 
-steps_predicates_requires : (t : ℕ) → steps-lts.Need-predicates-requires (steps_claims t) (steps_at t) steps.Post steps_Inv_loop steps_μ_loop
+steps_predicates_requires : (t : ℕ) → steps-lts.Need-predicates-more-requires (steps_claims t) (steps_at t) steps.Post steps_Inv_loop steps_μ_loop
 steps_predicates_requires t c κs =
     let told = steps_told t c.before.before.before in
     let unpacked = steps_unpacked t told in
@@ -803,41 +772,41 @@ steps_predicates_requires t c κs =
     let turn = steps-turn t owed in
     let begun = steps_begun t turn in
     let a = begun.args in
-    let l = turn.loop in
-    let u = unpacked.unpack in
+    let l = turn.loop-owed in
+    let u = unpacked.unpack-item in
     let w = get_or a.items.now l.place 0 in
-    let s = said w _ (sym told.item.given.1 ∙ u.ensures) in
-    let p = begun.pre.1 in
-    let h = step-head a.depth a.items.now l.place l.owed (l.inv.rest, l.inv.left) owed.loop-test.taken l.inv.takes in
+    let s = said w _ (sym told.in-Step.is ∙ u.ensures) in
+    let p = begun.requires.1 in
+    let h = step-head a.depth a.items.now l.place l.owed (l.invariant.rest, l.invariant.left) owed.loop-owed-test.true l.invariant.takes in
     let same : h.0 ≡ s.0 = some_inj (sym h.1 ∙ s.1) in
-    let there = step_there a.depth a.items.now l.place l.owed (l.inv.rest, l.inv.left) owed.loop-test.taken l.inv.takes in (
-      omega (arith, begun.pre.0, l.inv.onward, there),
+    let there = step_there a.depth a.items.now l.place l.owed (l.invariant.rest, l.invariant.left) owed.loop-owed-test.true l.invariant.takes in (
+      omega (arith, begun.requires.0, l.invariant.onward, there),
       (
         p.0,
         (
-          (omega (arith, there), omega (arith, l.inv.low, c.before.before.before.put-head.ensures.1, p.1.0.1)),
+          (omega (arith, there), omega (arith, l.invariant.low, c.put_head-headed.ensures.1, p.1.0.1)),
           rw (ap (λ x. x.count) s.2, ← same) h.2,
         ),
       ),
     )
 
-steps_sub_owed : (t : ℕ) → steps-lts.Need-overflow-sub-owed (steps_claims t) (steps_at t) steps.Post steps_Inv_loop steps_μ_loop
-steps_sub_owed t c = omega (arith, (steps_owed t (steps_unpacked t (steps_told t (steps_headed t c.before.before)))).loop-test.taken)
+steps_sub_owed : (t : ℕ) → steps-lts.Need-overflow_sub-owed (steps_claims t) (steps_at t) steps.Post steps_Inv_loop steps_μ_loop
+steps_sub_owed t c = omega (arith, (steps_owed t (steps_unpacked t (steps_told t (steps_headed t c.before.before)))).loop-owed-test.true)
 
-steps_put_slash_requires : (t : ℕ) → steps-lts.Need-put-slash-requires (steps_claims t) (steps_at t) steps.Post steps_Inv_loop steps_μ_loop
+steps_put_slash_requires : (t : ℕ) → steps-lts.Need-put_slash-parted-requires (steps_claims t) (steps_at t) steps.Post steps_Inv_loop steps_μ_loop
 steps_put_slash_requires t c κs =
     let headed = steps_headed t c.before.before.before in
     let told = steps_told t headed in
     let unpacked = steps_unpacked t told in
     let owed = steps_owed t unpacked in
     let turn = steps-turn t owed in
-    let w = c.before.before.before.predicates.ensures in
-    omega (arith, w.low, w.inside, turn.loop.inv.low, headed.put-head.ensures.1, (steps_begun t turn).pre.1.1.0.1)
+    let w = c.predicates-more.ensures in
+    omega (arith, w.low, w.inside, turn.loop-owed.invariant.low, headed.put_head-headed.ensures.1, (steps_begun t turn).requires.1.1.0.1)
 
 -- No more are skipped than are left, and the item after them is there.
 steps_few : (t : ℕ) (c : Steps-slashed t) →
     let a = (steps_begun t (steps-turn t (steps_owed t (steps_unpacked t (steps_told t (steps_headed t (steps_put t c))))))).args in
-    (c.deep.result ≤ (steps-turn t (steps_owed t (steps_unpacked t (steps_told t (steps_headed t (steps_put t c)))))).loop.owed - 1) × ((steps_put t c).predicates.result.item + c.deep.result ≤ length a.items.now) × (c.deep.result ≤ 1)
+    (c.deep-skipped.result ≤ (steps-turn t (steps_owed t (steps_unpacked t (steps_told t (steps_headed t (steps_put t c)))))).loop-owed.owed - 1) × ((steps_put t c).predicates-more.result.item + c.deep-skipped.result ≤ length a.items.now) × (c.deep-skipped.result ≤ 1)
 steps_few t c =
     let put = steps_put t c in
     let headed = steps_headed t put in
@@ -846,42 +815,42 @@ steps_few t c =
     let owed = steps_owed t unpacked in
     let turn = steps-turn t owed in
     let a = (steps_begun t turn).args in
-    let l = turn.loop in
-    let u = unpacked.unpack in
+    let l = turn.loop-owed in
+    let u = unpacked.unpack-item in
     let w = get_or a.items.now l.place 0 in
-    let s = said w _ (sym told.item.given.1 ∙ u.ensures) in
-    let v = preds_counted a.depth (drop (l.place + 1) a.items.now) s.0.count (ap (λ x. x.count) s.2) put.predicates.ensures in
-    skip_few a.brief a.depth a.items.now l.place l.owed put.predicates.result.item c.deep.result l.inv.rest l.inv.left s.0 v.what
-    owed.loop-test.taken l.inv.takes s.1 v.reads v.inside c.deep.ensures
+    let s = said w _ (sym told.in-Step.is ∙ u.ensures) in
+    let v = preds_counted a.depth (drop (l.place + 1) a.items.now) s.0.count (ap (λ x. x.count) s.2) put.predicates-more.ensures in
+    skip_few a.brief a.depth a.items.now l.place l.owed put.predicates-more.result.item c.deep-skipped.result l.invariant.rest l.invariant.left s.0 v.what
+    owed.loop-owed-test.true l.invariant.takes s.1 v.reads v.inside c.deep-skipped.ensures
 
-steps_deep_requires : (t : ℕ) → steps-lts.Need-deep-requires (steps_claims t) (steps_at t) steps.Post steps_Inv_loop steps_μ_loop
+steps_deep_requires : (t : ℕ) → steps-lts.Need-deep-skipped-requires (steps_claims t) (steps_at t) steps.Post steps_Inv_loop steps_μ_loop
 steps_deep_requires t c κs = search rules
 
-steps_put_slash_requires_2 : (t : ℕ) → steps-lts.Need-put-slash-requires-2 (steps_claims t) (steps_at t) steps.Post steps_Inv_loop steps_μ_loop
+steps_put_slash_requires_2 : (t : ℕ) → steps-lts.Need-put_slash-byte-requires (steps_claims t) (steps_at t) steps.Post steps_Inv_loop steps_μ_loop
 steps_put_slash_requires_2 t c κs =
-    let d = c.before in
-    let put = steps_put t d in
+    let d = c in
+    let put = steps_put t d.before in
     let headed = steps_headed t put in
     let told = steps_told t headed in
     let unpacked = steps_unpacked t told in
     let owed = steps_owed t unpacked in
     let turn = steps-turn t owed in
-    let l = turn.loop in
-    let w = put.predicates.ensures in
-    omega (arith, w.low, w.inside, l.inv.low, headed.put-head.ensures.1, d.before.before.before.put-slash.ensures.moved, between_brief (ascii "/") (l.owed - 1), (steps_begun t turn).pre.1.1.0.1)
+    let l = turn.loop-owed in
+    let w = put.predicates-more.ensures in
+    omega (arith, w.low, w.inside, l.invariant.low, headed.put_head-headed.ensures.1, d.put_slash-parted.ensures.moved, between_brief (ascii "/") (l.owed - 1), (steps_begun t turn).requires.1.1.0.1)
 
-steps_add_place : (t : ℕ) → steps-lts.Need-overflow-add-place (steps_claims t) (steps_at t) steps.Post steps_Inv_loop steps_μ_loop
+steps_add_place : (t : ℕ) → steps-lts.Need-overflow_add-place-in-loop-owed (steps_claims t) (steps_at t) steps.Post steps_Inv_loop steps_μ_loop
 steps_add_place t c = let d = steps_slashed t c in
-    omega (arith, (steps_few t d).1, (steps_begun t (steps-turn t (steps_owed t (steps_unpacked t (steps_told t (steps_headed t (steps_put t d))))))).good.0.1)
+    omega (arith, (steps_few t d).1, (steps_begun t (steps-turn t (steps_owed t (steps_unpacked t (steps_told t (steps_headed t (steps_put t d))))))).well_formed.0.1)
 
-steps_sub_owed_2 : (t : ℕ) → steps-lts.Need-overflow-sub-owed-2 (steps_claims t) (steps_at t) steps.Post steps_Inv_loop steps_μ_loop
+steps_sub_owed_2 : (t : ℕ) → steps-lts.Need-overflow_sub-owed-in-loop-owed (steps_claims t) (steps_at t) steps.Post steps_Inv_loop steps_μ_loop
 steps_sub_owed_2 t c = omega (arith, (steps_few t (steps_slashed t c)).0)
 
-steps_loop_less : (t : ℕ) → steps-lts.Need-loop-smaller (steps_claims t) (steps_at t) steps.Post steps_Inv_loop steps_μ_loop
+steps_loop_less : (t : ℕ) → steps-lts.Need-loop-owed-smaller (steps_claims t) (steps_at t) steps.Post steps_Inv_loop steps_μ_loop
 steps_loop_less t c = let d = steps_slashed t c in
-    omega (arith, (steps_owed t (steps_unpacked t (steps_told t (steps_headed t (steps_put t d))))).loop-test.taken)
+    omega (arith, (steps_owed t (steps_unpacked t (steps_told t (steps_headed t (steps_put t d))))).loop-owed-test.true)
 
-steps_loop_again : (t : ℕ) → steps-lts.Need-loop-preserved (steps_claims t) (steps_at t) steps.Post steps_Inv_loop steps_μ_loop
+steps_loop_again : (t : ℕ) → steps-lts.Need-loop-owed-preserved (steps_claims t) (steps_at t) steps.Post steps_Inv_loop steps_μ_loop
 steps_loop_again t c =
     let d = steps_slashed t c in
     let put = steps_put t d in
@@ -891,21 +860,21 @@ steps_loop_again t c =
     let owed = steps_owed t unpacked in
     let turn = steps-turn t owed in
     let a = (steps_begun t turn).args in
-    let l = turn.loop in
-    let u = unpacked.unpack in
+    let l = turn.loop-owed in
+    let u = unpacked.unpack-item in
     let w = get_or a.items.now l.place 0 in
-    let s = said w _ (sym told.item.given.1 ∙ u.ensures) in
+    let s = said w _ (sym told.in-Step.is ∙ u.ensures) in
     let h = s.0 in
-    let p = headed.put-head.ensures in
-    step-turn _ _ a.depth _ _ _ _ _ _ _ _ _ _ _ _ _ _ _ _ _ h _ owed.loop-test.taken l.inv s.1
+    let p = headed.put_head-headed.ensures in
+    step-turn _ _ a.depth _ _ _ _ _ _ _ _ _ _ _ _ _ _ _ _ _ h _ owed.loop-owed-test.true l.invariant s.1
     (head_counted (names_of a.list.now) a.brief h.axis h.test h.count (ap (λ x. x.count) s.2) (p.0 h.axis h.test (ap (λ x. x.axis) s.2) (ap (λ x. x.test) s.2) (step_found w h s.1).1)) p.1
-    (preds_counted a.depth (drop (l.place + 1) a.items.now) s.0.count (ap (λ x. x.count) s.2) put.predicates.ensures) d.before.before.before.put-slash.ensures d.deep.ensures c.before.before.put-slash2.ensures
+    (preds_counted a.depth (drop (l.place + 1) a.items.now) s.0.count (ap (λ x. x.count) s.2) put.predicates-more.ensures) d.put_slash-parted.ensures d.deep-skipped.ensures c.put_slash-byte.ensures
 
-steps_same_length_2 : (t : ℕ) → steps-lts.Need-same-length-2 (steps_claims t) (steps_at t) steps.Post steps_Inv_loop steps_μ_loop
-steps_same_length_2 t c = puts_long c.before.loop.invariant.puts
+steps_same_length_2 : (t : ℕ) → steps-lts.Need-shape_of-out (steps_claims t) (steps_at t) steps.Post steps_Inv_loop steps_μ_loop
+steps_same_length_2 t c = puts_long c.loop-owed.invariant.puts
 
-steps_returns_2 : (t : ℕ) → steps-lts.Need-returns-2 (steps_claims t) (steps_at t) steps.Post steps_Inv_loop steps_μ_loop
-steps_returns_2 t c = rest_done _ _ _ _ _ _ _ _ _ _ _ _ stop (λ ws. refl) refl c.loop-test.false c.before.loop.invariant
+steps_returns_2 : (t : ℕ) → steps-lts.Need-returns (steps_claims t) (steps_at t) steps.Post steps_Inv_loop steps_μ_loop
+steps_returns_2 t c = rest_done _ _ _ _ _ _ _ _ _ _ _ _ stop (λ ws. refl) refl c.loop-owed-test.false c.loop-owed.invariant
 
 pub +expression-operand-predicates-steps-spec : {M : Type 1} → statement M
 +expression-operand-predicates-steps-spec =

@@ -10,63 +10,60 @@ use Rattle.put_text.proofs.Texts.{text_none, text_more, text_done, text_room}
 use Rattle.put_text.proofs.put_text.Statement.{statement}
 use Rattle.put_text.proofs.put_text.Tie as tie
 
-abbrev invariant-loop : tie.invariant-loop
+abbrev invariant-loop : tie.invariant-loop-i
 invariant-loop out₀ pen squares bytes at₀ k₀ i₀ out at k i = (i ≤ length bytes) × PutsText (take i bytes) squares pen out₀ out at k
 
-abbrev decreases-loop : tie.decreases-loop
+abbrev decreases-loop : tie.decreases-loop-i
 decreases-loop out₀ pen squares bytes at₀ k₀ i₀ out at k i = length bytes - i
 
 abbrev Turn : Type 0
-Turn = tie.At-loop invariant-loop decreases-loop
+Turn = tie.At-loop-i invariant-loop decreases-loop
 
 abbrev start : Turn → tie.Start invariant-loop decreases-loop
 start t = t.before.before.before
-
 abbrev text : Turn → List ℕ
 text t = (start t).args.bytes.now
 
 -- Where a byte is put, and where it is counted.
-abbrev putting : tie.After-put-char-arg invariant-loop decreases-loop → Turn
+abbrev putting : tie.After-put_char-arg-1 invariant-loop decreases-loop → Turn
 putting c = c.before.before.before
-
-abbrev put : tie.After-squares-by invariant-loop decreases-loop → tie.After-put-char invariant-loop decreases-loop
+abbrev put : tie.After-squares_by-k invariant-loop decreases-loop → tie.After-put_char-at invariant-loop decreases-loop
 put c = c.before.before.before
-
-loop-holds : tie.Need-loop-init invariant-loop decreases-loop
+loop-holds : tie.Need-loop-i-init invariant-loop decreases-loop
 loop-holds c =
-    let a = c.before.before.args in
+    let a = c.args in
     (omega arith, text_none a.bytes.now a.squares a.pen a.out.now)
 
-shared-slice-read-b : tie.Need-shared-slice-read-b invariant-loop decreases-loop
+shared-slice-read-b : tie.Need-bounds-bytes-i invariant-loop decreases-loop
 shared-slice-read-b c = omega arith
 
-put-char-requires : tie.Need-put-char-requires invariant-loop decreases-loop
+put-char-requires : tie.Need-put_char-at-requires invariant-loop decreases-loop
 put-char-requires c κs =
     let t = putting c in
-    omega (arith, text_room (text t) t.loop.i t.loop.inv.1 t.loop.inv.0, (start t).pre)
+    omega (arith, text_room (text t) t.loop-i.i t.loop-i.invariant.1 t.loop-i.invariant.0, (start t).requires)
 
-squares-by-requires : tie.Need-squares-by-requires invariant-loop decreases-loop
+squares-by-requires : tie.Need-squares_by-k-requires invariant-loop decreases-loop
 squares-by-requires c κs = search rules
 
-add-i : tie.Need-overflow-add-i invariant-loop decreases-loop
+add-i : tie.Need-overflow_add-i invariant-loop decreases-loop
 add-i c = search rules
 
-loop-less : tie.Need-loop-smaller invariant-loop decreases-loop
+loop-less : tie.Need-loop-i-smaller invariant-loop decreases-loop
 loop-less c = search rules
 
-loop-again : tie.Need-loop-preserved invariant-loop decreases-loop
+loop-again : tie.Need-loop-i-preserved invariant-loop decreases-loop
 loop-again c =
     let p = put c in
     let t = putting p.before in
-    (omega arith, text_more (text t) t.loop.i t.loop.inv.1 (omega arith) p.put-char.ensures c.squares-by.ensures)
+    (omega arith, text_more (text t) t.loop-i.i t.loop-i.invariant.1 (omega arith) p.put_char-at.ensures c.squares_by-k.ensures)
 
-same_length : tie.Need-same-length invariant-loop decreases-loop
-same_length c = puts_long c.before.loop.invariant.1.puts
+same_length : tie.Need-shape_of-out invariant-loop decreases-loop
+same_length c = puts_long c.loop-i.invariant.1.puts
 
 returns : tie.Need-returns invariant-loop decreases-loop
 returns c =
-    let t = c.before in
-    text_done (text t) t.loop.i t.loop.invariant.1 c.loop-test.false
+    let t = c in
+    text_done (text t.before) t.loop-i.i t.loop-i.invariant.1 c.loop-i-test.false
 
 pub put_text_spec : {M : Type 1} → statement M
 put_text_spec =

@@ -181,11 +181,11 @@ module _ {M : Type 1} {𝓤 : Ura M} (𝓛 : Logic 𝓤) (mem : Memory → SProp
   abbrev to : (PutKept 𝓛 mem run).Ghost
   to = ((κs, qs, tt, args, passed), tt)
 
-  asked : Asked → ent 𝓤 (on_entry 𝓛 put-kept.signature κs qs args passed) ((PutKept 𝓛 mem run).pre to)
+  asked : Asked → ent 𝓤 (on_entry 𝓛 put-kept.signature κs qs args passed) ((PutKept 𝓛 mem run).requires to)
   asked ok = qed 𝓛 (tokens ∷ ‵ (owns (ShrSlice (named 0) κ₀ u8 ∷ ShrSlice (named 1) κ₁ u16 ∷ ShrSlice (named 2) κ₂ u16 ∷ ShrSlice (named 3) κ₃ u16 ∷ ShrSlice (named 4) κ₄ u16 ∷ ShrSlice (named 5) κ₅ u8 ∷ MutSlice (named 6) κ₆ u8 ∷ usize ∷ []) args passed) ∷ []) ∵ says ! ok $ frame ! $ done !
 
   -- what is lent gives what the callee asks, and what the shared slices own is kept
-  apart : Asked → ent 𝓤 (on_entry 𝓛 keeps.signature κs qs a vals) (sep 𝓤 ((PutKept 𝓛 mem run).pre to) (sem 𝓛 Owned))
+  apart : Asked → ent 𝓤 (on_entry 𝓛 keeps.signature κs qs a vals) (sep 𝓤 ((PutKept 𝓛 mem run).requires to) (sem 𝓛 Owned))
   apart ok =
       qed 𝓛 (tokens ∷ ‵ (owns (ShrSlice (named 0) κ₀ u8 ∷ ShrSlice (named 1) κ₁ u16 ∷ ShrSlice (named 2) κ₂ u16 ∷ ShrSlice (named 3) κ₃ u16 ∷ ShrSlice (named 4) κ₄ u16 ∷ ShrSlice (named 5) κ₅ u8 ∷ T.the_row α ∷ []) a vals) ∷ []) ∵
       move ! (1 ∷ []) $ fsplit ! $ use1 𝓛 (‵ O₀ ⊛ ‵ O₀) ((shr_slice_copy 𝓛 (named 0) κ₀ u8).twice s₀ (v₀ ∷ [])) $ split ! $
@@ -197,7 +197,7 @@ module _ {M : Type 1} {𝓤 : Ura M} (𝓛 : Logic 𝓤) (mem : Memory → SProp
       move ! (2 ∷ []) $ fsplit ! $ use1 𝓛 (given (mach ∷ [] ≡ mach ∷ []) (‵ (all_own (T.the_type α).parts (T'.the_laws α) (x, (n, tt))))) (own_open 𝓛 (T.the_type α) (T'.the_laws α) (x, (n, tt)) mach) $ learn ! (λ _.
       -- [what the pen's fields own; true; what each shared slice owns, twice, the last first; the tokens]
       move ! (2 ∷ 0 ∷ []) $ fjoin ! $ move ! (3 ∷ 0 ∷ []) $ fjoin ! $ move ! (4 ∷ 0 ∷ []) $ fjoin ! $ move ! (5 ∷ 0 ∷ []) $ fjoin ! $ move ! (6 ∷ 0 ∷ []) $ fjoin ! $ move ! (7 ∷ 0 ∷ []) $ fjoin ! $
-      move ! (8 ∷ 0 ∷ []) $ use2 𝓛 (raw ((PutKept 𝓛 mem run).pre to)) (asked ok) $
+      move ! (8 ∷ 0 ∷ []) $ use2 𝓛 (raw ((PutKept 𝓛 mem run).requires to)) (asked ok) $
       move ! (2 ∷ 1 ∷ []) $ fjoin ! $ move ! (2 ∷ 0 ∷ []) $ fjoin ! $ move ! (2 ∷ 0 ∷ []) $ fjoin ! $ move ! (2 ∷ 0 ∷ []) $ fjoin ! $ move ! (2 ∷ 0 ∷ []) $ fjoin ! $ move ! (2 ∷ 0 ∷ []) $ fjoin ! $ move ! (1 ∷ 0 ∷ []) $ frame ! $ done !)
 
   -- what is had of the pen's fields at exit, at their machine values
@@ -239,7 +239,7 @@ module _ {M : Type 1} {𝓤 : Ura M} (𝓛 : Logic 𝓤) (mem : Memory → SProp
         assigns ! (of_opd ! (load ! (from ! (fld ! refl (stop !))) (look_in ! 6 (sub ! 1 refl (whole !))))) (from ! (stop !)) (init ! 4 refl (tt, record { fits = n-fits })) $
         assigns ! (addr ! (from ! (fld ! refl (fld ! refl (hop ! (look_in ! 6 (sub ! 0 refl (sub ! 0 refl (whole !)))) (stop !)))))) (from ! (stop !)) (init ! 2 refl (tt, tt)) $
         assigns ! (agg ! (and_then ! (load ! (from ! (stop !)) (look ! 2 refl)) (and_then ! (load ! (from ! (fld ! refl (fld ! refl (stop !)))) (look_in ! 6 (sub ! 1 refl (sub ! 0 refl (whole !))))) (no_more !)))) (from ! (stop !)) (init ! 0 refl (tt, (tt, (record { fits = room.0 }, tt)))) $
-        move ! (22 ∷ []) $ use1 𝓛 (raw ((PutKept 𝓛 mem run).pre to) ⊛ ‵ Owned) (apart ok) $ split ! $
+        move ! (22 ∷ []) $ use1 𝓛 (raw ((PutKept 𝓛 mem run).requires to) ⊛ ‵ Owned) (apart ok) $ split ! $
         calls_at ! fm (PutKept 𝓛 mem run) known to (and_then ! (load ! (from ! (stop !)) (look ! 20 refl)) (and_then ! (load ! (from ! (stop !)) (look ! 18 refl)) (and_then ! (load ! (from ! (stop !)) (look ! 16 refl)) (and_then ! (load ! (from ! (stop !)) (look ! 14 refl)) (and_then ! (load ! (from ! (stop !)) (look ! 12 refl)) (and_then ! (load ! (from ! (stop !)) (look ! 10 refl)) (and_then ! (load ! (from ! (stop !)) (look ! 2 refl)) (and_then ! (load ! (from ! (stop !)) (look ! 6 refl)) (no_more !))))))))) (λ w.
         use1 𝓛 (later (some (λ (r : ℕ). (tokens ⊛ ‵ (usize.own_val r (w ∷ []))) ⊛ raw (ensured 𝓛 put-kept.ended (put-kept.clauses 𝓛 mem run) κs args tt r)))) (id⊢ 𝓤 _) $ await ! tt $ pick ! (λ r.
         -- what `put_kept` ensures, at some last list

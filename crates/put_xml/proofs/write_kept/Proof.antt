@@ -70,8 +70,8 @@ module _ {M : Type 1} {𝓤 : Ura M} (𝓛 : Logic 𝓤) (mem : Memory → SProp
   Keep = triple_of 𝓛 keeps.signature (keeps.spec 𝓛 mem run)
 
   -- of what `new` ensures, the clause alone: it has no last value
-  new_of : (κ : Lft) (x : Bor (List ℕ)) (r : Pen) → ent 𝓤 (ensured 𝓛 new.ended (new.clauses 𝓛 mem run) (κ, tt) (x, tt) tt r) (fact 𝓤 ((r.out ≡ x) × (r.at ≡ 0)))
-  new_of κ x r = ex_e 𝓤 _ (λ ws. snd∗ 𝓤 (sem 𝓛 (lasts new.ended (κ, tt) (x, tt) ws)) (fact 𝓤 ((r.out ≡ x) × (r.at ≡ 0))))
+  new_of : (κ : Lft) (x : Bor (List ℕ)) (r : Pen) → ent 𝓤 (ensured 𝓛 new.ended (new.clauses 𝓛 mem run) (κ, tt) (x, tt) tt r) (fact 𝓤 ((r.out-1 ≡ x) × (r.at ≡ 0)))
+  new_of κ x r = ex_e 𝓤 _ (λ ws. snd∗ 𝓤 (sem 𝓛 (lasts new.ended (κ, tt) (x, tt) ws)) (fact 𝓤 ((r.out-1 ≡ x) × (r.at ≡ 0))))
 
 module _ {M : Type 1} {𝓤 : Ura M} (𝓛 : Logic 𝓤) (mem : Memory → SProp 𝓤) (run : Routine → Fun 𝓤)
     (κ₀ κ₁ κ₂ κ₃ κ₄ κ₅ κ₆ : Lft) (q₀ q₁ q₂ q₃ q₄ q₅ q₆ : Share) (s₀ s₁ s₂ s₃ s₄ s₅ : MutBor (List ℕ)) (b o : ℕ) (γ : GName) (ys : List ℕ) where
@@ -168,10 +168,10 @@ module _ {M : Type 1} {𝓤 : Ura M} (𝓛 : Logic 𝓤) (mem : Memory → SProp
   abbrev to_new : (New 𝓛 mem run).Ghost
   to_new = (((κ₆, tt), (q₆, tt), tt, (x, tt), (s ∷ [], tt)), tt)
 
-  goes_new : ent 𝓤 (⋆ 𝓛 ((‵ (flft κ₆ q₆) ⊛ ‵ ftrue) ∷ ‵ ((MutSlice (named 6) κ₆ u8).own_val x (s ∷ [])) ∷ [])) ((New 𝓛 mem run).pre to_new)
+  goes_new : ent 𝓤 (⋆ 𝓛 ((‵ (flft κ₆ q₆) ⊛ ‵ ftrue) ∷ ‵ ((MutSlice (named 6) κ₆ u8).own_val x (s ∷ [])) ∷ [])) ((New 𝓛 mem run).requires to_new)
   goes_new = qed 𝓛 ((‵ (flft κ₆ q₆) ⊛ ‵ ftrue) ∷ ‵ ((MutSlice (named 6) κ₆ u8).own_val x (s ∷ [])) ∷ []) ∵ nothing ! $ move ! (2 ∷ 0 ∷ []) $ fjoin ! $ move ! (1 ∷ 0 ∷ []) $ join ! $ frame ! $ done !
 
-  apart : ent 𝓤 (on_entry 𝓛 write-Kept.signature κs qs a vals) (sep 𝓤 ((New 𝓛 mem run).pre to_new) (sep 𝓤 (sem 𝓛 Owned) (sem 𝓛 Tokens)))
+  apart : ent 𝓤 (on_entry 𝓛 write-Kept.signature κs qs a vals) (sep 𝓤 ((New 𝓛 mem run).requires to_new) (sep 𝓤 (sem 𝓛 Owned) (sem 𝓛 Tokens)))
   apart =
       qed 𝓛 (tokens ∷ ‵ (owns (ShrSlice (named 0) κ₀ u8 ∷ ShrSlice (named 1) κ₁ u16 ∷ ShrSlice (named 2) κ₂ u16 ∷ ShrSlice (named 3) κ₃ u16 ∷ ShrSlice (named 4) κ₄ u16 ∷ ShrSlice (named 5) κ₅ u8 ∷ MutSlice (named 6) κ₆ u8 ∷ []) a vals) ∷ []) ∵
       split ! $ move ! (1 ∷ []) $ split ! $ move ! (1 ∷ []) $ split ! $ move ! (1 ∷ []) $ split ! $ move ! (1 ∷ []) $ split ! $ move ! (1 ∷ []) $ split ! $
@@ -180,7 +180,7 @@ module _ {M : Type 1} {𝓤 : Ura M} (𝓛 : Logic 𝓤) (mem : Memory → SProp
       move ! (2 ∷ []) $ fsplit ! $ move ! (1 ∷ []) $ fsplit ! $ move ! (1 ∷ []) $ fsplit ! $ move ! (1 ∷ []) $ fsplit ! $ move ! (1 ∷ []) $ fsplit ! $ move ! (1 ∷ []) $ fsplit ! $ move ! (1 ∷ []) $ fsplit ! $
       move ! (2 ∷ 1 ∷ []) $ fjoin ! $ move ! (2 ∷ 0 ∷ []) $ fjoin ! $ move ! (2 ∷ 0 ∷ []) $ fjoin ! $ move ! (2 ∷ 0 ∷ []) $ fjoin ! $ move ! (2 ∷ 0 ∷ []) $ fjoin ! $ move ! (2 ∷ 0 ∷ []) $ fjoin ! $
       -- [what the shared slices own; what the output's borrow owns; the tokens; the output's token]
-      move ! (3 ∷ 1 ∷ []) $ use2 𝓛 (raw ((New 𝓛 mem run).pre to_new)) goes_new $ frame ! $ frame ! $ done !
+      move ! (3 ∷ 1 ∷ []) $ use2 𝓛 (raw ((New 𝓛 mem run).requires to_new)) goes_new $ frame ! $ frame ! $ done !
 
   -- the call of `keep`, of the pen with the machine value u
   abbrev args : Bor (List ℕ) × (Bor (List ℕ) × (Bor (List ℕ) × (Bor (List ℕ) × (Bor (List ℕ) × (Bor (List ℕ) × (Pen × Unit {0}))))))
@@ -192,10 +192,10 @@ module _ {M : Type 1} {𝓤 : Ura M} (𝓛 : Logic 𝓤) (mem : Memory → SProp
   abbrev to_keep : Val → (Keep 𝓛 mem run).Ghost
   to_keep u = ((κs, qs, tt, args, passed u), tt)
 
-  asked : (u : Val) → Asked → ent 𝓤 (on_entry 𝓛 keeps.signature κs qs args (passed u)) ((Keep 𝓛 mem run).pre (to_keep u))
+  asked : (u : Val) → Asked → ent 𝓤 (on_entry 𝓛 keeps.signature κs qs args (passed u)) ((Keep 𝓛 mem run).requires (to_keep u))
   asked u ok = qed 𝓛 (tokens ∷ ‵ (owns (ShrSlice (named 0) κ₀ u8 ∷ ShrSlice (named 1) κ₁ u16 ∷ ShrSlice (named 2) κ₂ u16 ∷ ShrSlice (named 3) κ₃ u16 ∷ ShrSlice (named 4) κ₄ u16 ∷ ShrSlice (named 5) κ₅ u8 ∷ T.the_row α ∷ []) args (passed u)) ∷ []) ∵ says ! (ok, lit< tt) $ frame ! $ done !
 
-  again : (u : Val) → Asked → ent 𝓤 (⋆ 𝓛 ((‵ (flft κ₆ q₆) ⊛ ‵ ftrue) ∷ ‵ (fsep ((T.the_row α).own_val h (u ∷ [])) (fsep Owned Tokens)) ∷ [])) (sep 𝓤 ((Keep 𝓛 mem run).pre (to_keep u)) (sem 𝓛 Owned))
+  again : (u : Val) → Asked → ent 𝓤 (⋆ 𝓛 ((‵ (flft κ₆ q₆) ⊛ ‵ ftrue) ∷ ‵ (fsep ((T.the_row α).own_val h (u ∷ [])) (fsep Owned Tokens)) ∷ [])) (sep 𝓤 ((Keep 𝓛 mem run).requires (to_keep u)) (sem 𝓛 Owned))
   again u ok =
       qed 𝓛 ((‵ (flft κ₆ q₆) ⊛ ‵ ftrue) ∷ ‵ (fsep ((T.the_row α).own_val h (u ∷ [])) (fsep Owned Tokens)) ∷ []) ∵ move ! (1 ∷ []) $ fsplit ! $ move ! (1 ∷ []) $ fsplit ! $
       fsplit ! $ use1 𝓛 (‵ O₀ ⊛ ‵ O₀) ((shr_slice_copy 𝓛 (named 0) κ₀ u8).twice s₀ (v₀ ∷ [])) $ split ! $
@@ -209,7 +209,7 @@ module _ {M : Type 1} {𝓤 : Ura M} (𝓛 : Logic 𝓤) (mem : Memory → SProp
       nothing ! $ move ! (9 ∷ 0 ∷ []) $ fjoin ! $ move ! (2 ∷ 0 ∷ []) $ fjoin ! $ move ! (2 ∷ 0 ∷ []) $ fjoin ! $ move ! (2 ∷ 0 ∷ []) $ fjoin ! $ move ! (2 ∷ 0 ∷ []) $ fjoin ! $ move ! (2 ∷ 0 ∷ []) $ fjoin ! $ move ! (2 ∷ 0 ∷ []) $ fjoin ! $
       -- [what `keep` is lent; what the shared slices own; the tokens; the output's token]
       move ! (2 ∷ []) $ fsplit ! $ move ! (1 ∷ []) $ fsplit ! $ move ! (1 ∷ []) $ fsplit ! $ move ! (1 ∷ []) $ fsplit ! $ move ! (1 ∷ []) $ fsplit ! $ move ! (1 ∷ []) $ fsplit ! $ move ! (1 ∷ []) $ drop ! $
-      move ! (0 ∷ 8 ∷ []) $ join ! $ move ! (1 ∷ 0 ∷ []) $ join ! $ move ! (1 ∷ 0 ∷ []) $ join ! $ move ! (1 ∷ 0 ∷ []) $ join ! $ move ! (1 ∷ 0 ∷ []) $ join ! $ move ! (1 ∷ 0 ∷ []) $ join ! $ use2 𝓛 (raw ((Keep 𝓛 mem run).pre (to_keep u))) (asked u ok) $ frame ! $ done !
+      move ! (0 ∷ 8 ∷ []) $ join ! $ move ! (1 ∷ 0 ∷ []) $ join ! $ move ! (1 ∷ 0 ∷ []) $ join ! $ move ! (1 ∷ 0 ∷ []) $ join ! $ move ! (1 ∷ 0 ∷ []) $ join ! $ move ! (1 ∷ 0 ∷ []) $ join ! $ use2 𝓛 (raw ((Keep 𝓛 mem run).requires (to_keep u))) (asked u ok) $ frame ! $ done !
 
   exits : (r : ℕ) (w : Val) (zs : List ℕ) → Ensured r zs → length zs ≡ length ys
       → ent 𝓤 (⋆ 𝓛 (tokens ∷ ‵ (finally u8 γ zs) ∷ ‵ (usize.own_val r (w ∷ [])) ∷ ‵ Owned ∷ [])) (Post w)
@@ -243,15 +243,15 @@ module _ {M : Type 1} {𝓤 : Ura M} (𝓛 : Logic 𝓤) (mem : Memory → SProp
         assigns ! (addr ! (from ! (fld ! refl (hop ! (look_in ! 8 (sub ! 0 refl (whole !))) (stop !))))) (from ! (stop !)) (init ! 4 refl (tt, tt)) $
         assigns ! (agg ! (and_then ! (load ! (from ! (stop !)) (look ! 4 refl)) (and_then ! (load ! (from ! (fld ! refl (stop !))) (look_in ! 8 (sub ! 1 refl (whole !)))) (no_more !)))) (from ! (stop !)) (init ! 2 refl (tt, (tt, (record { fits = room.0 }, tt)))) $
         -- `new`
-        move ! (24 ∷ []) $ use1 𝓛 (raw ((New 𝓛 mem run).pre to_new) ⊛ ‵ Owned ⊛ ‵ Tokens) apart $ split ! $ move ! (1 ∷ []) $ split ! $ move ! (2 ∷ []) $
+        move ! (24 ∷ []) $ use1 𝓛 (raw ((New 𝓛 mem run).requires to_new) ⊛ ‵ Owned ⊛ ‵ Tokens) apart $ split ! $ move ! (1 ∷ []) $ split ! $ move ! (2 ∷ []) $
         calls_at ! fm (New 𝓛 mem run) known-new to_new (and_then ! (load ! (from ! (stop !)) (look ! 5 refl)) (no_more !)) (λ u.
         use1 𝓛 (later (some (λ (r : Pen). ((‵ (flft κ₆ q₆) ⊛ ‵ ftrue) ⊛ ‵ ((T.the_row α).own_val r (u ∷ []))) ⊛ raw (ensured 𝓛 new.ended (new.clauses 𝓛 mem run) (κ₆, tt) (x, tt) tt r)))) (id⊢ 𝓤 _) $ await ! tt $ pick ! (λ r₀.
-        split ! $ move ! (1 ∷ []) $ use1 𝓛 (raw (fact 𝓤 ((r₀.out ≡ x) × (r₀.at ≡ 0)))) (new_of 𝓛 mem run κ₆ x r₀) $ heard ! ((r₀.out ≡ x) × (r₀.at ≡ 0)) (λ e₀.
+        split ! $ move ! (1 ∷ []) $ use1 𝓛 (raw (fact 𝓤 ((r₀.out-1 ≡ x) × (r₀.at ≡ 0)))) (new_of 𝓛 mem run κ₆ x r₀) $ heard ! ((r₀.out-1 ≡ x) × (r₀.at ≡ 0)) (λ e₀.
         split ! $ rewrite ! 1 (λ (p : Pen). ‵ ((T.the_row α).own_val p (u ∷ []))) (λ i. record { out = e₀.0 i; at = e₀.1 i }) refl $
         move ! (1 ∷ []) $ peeks ! (T.the_row α) (Is (T.the_row α)) (shows 𝓛 (T.the_row α)) h (u ∷ []) (λ is₀. land ! (from ! (stop !)) (init ! 10 refl (typed u is₀)) $
         assigns ! (of_opd ! (load ! (from ! (stop !)) (look ! 10 refl))) (from ! (stop !)) (init ! 4 refl (typed u is₀)) $
         -- `keep`: [the pen; the output's token; what the shared slices own; their tokens; …]
-        move ! (2 ∷ 3 ∷ []) $ fjoin ! $ move ! (1 ∷ 0 ∷ []) $ fjoin ! $ move ! (1 ∷ 0 ∷ []) $ use2 𝓛 (raw ((Keep 𝓛 mem run).pre (to_keep u)) ⊛ ‵ Owned) (again u ok) $ split ! $
+        move ! (2 ∷ 3 ∷ []) $ fjoin ! $ move ! (1 ∷ 0 ∷ []) $ fjoin ! $ move ! (1 ∷ 0 ∷ []) $ use2 𝓛 (raw ((Keep 𝓛 mem run).requires (to_keep u)) ⊛ ‵ Owned) (again u ok) $ split ! $
         calls_at ! fm (Keep 𝓛 mem run) known-keep (to_keep u) (and_then ! (load ! (from ! (stop !)) (look ! 22 refl)) (and_then ! (load ! (from ! (stop !)) (look ! 20 refl)) (and_then ! (load ! (from ! (stop !)) (look ! 18 refl)) (and_then ! (load ! (from ! (stop !)) (look ! 16 refl)) (and_then ! (load ! (from ! (stop !)) (look ! 14 refl)) (and_then ! (load ! (from ! (stop !)) (look ! 12 refl)) (and_then ! (load ! (from ! (stop !)) (look ! 2 refl)) (no_more !)))))))) (λ w.
         use1 𝓛 (later (some (λ (r : ℕ). (tokens ⊛ ‵ (usize.own_val r (w ∷ []))) ⊛ raw (ensured 𝓛 keeps.ended (keeps.clauses 𝓛 mem run) κs args tt r)))) (id⊢ 𝓤 _) $ await ! tt $ pick ! (λ r.
         split ! $ move ! (1 ∷ []) $ use1 𝓛 (some (λ (zs : Unit {0} × (Unit {0} × (Unit {0} × (Unit {0} × (Unit {0} × (Unit {0} × ((List ℕ × Unit {0}) × Unit {0}))))))). ‵ (lasts keeps.ended κs args zs) ⊛ raw (fact 𝓤 (Ensured r zs.1.1.1.1.1.1.0.0)))) (id⊢ 𝓤 _) $ pick ! (λ zs.

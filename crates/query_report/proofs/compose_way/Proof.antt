@@ -16,29 +16,29 @@ by_flag : (b lean : Bool) (said : Told) (outer inner old out : List ℕ) → lea
     → (said ≡ way_answer lean outer inner (length old)) × (out ≡ way_out lean outer inner old)
 by_flag b lean said outer inner old out e h = subst (λ x. (said ≡ way_answer x outer inner (length old)) × (out ≡ way_out x outer inner old)) (sym e) h
 
-compose-lean-requires : tie.Need-compose-lean-requires
+compose-lean-requires : tie.Need-compose_lean-requires
 compose-lean-requires c κs = search rules
 
-same_length : tie.Need-same-length
+same_length : tie.Need-shape_of-out-then-lean
 same_length c = search rules
 
-returns : tie.Need-returns
+returns : tie.Need-returns-then-lean
 returns c =
-    let called = c.before.before in
-    let start = called.before.before.before.before.before.before in
-    by_flag true start.args.lean _ start.args.outer.now start.args.inner.now start.args.out.now _ called.before.before.if1.true called.compose-lean.ensures
+    let called = c in
+    let start = called in
+    by_flag true start.args.lean _ start.args.outer.now start.args.inner.now start.args.out.now _ called.if-lean.true called.compose_lean.ensures
 
 compose-requires : tie.Need-compose-requires
 compose-requires c κs = search rules
 
-same-length-2 : tie.Need-same-length-2
+same-length-2 : tie.Need-shape_of-out
 same-length-2 c = search rules
 
-returns-2 : tie.Need-returns-2
+returns-2 : tie.Need-returns
 returns-2 c =
-    let called = c.before.before in
-    let start = called.before.before.before.before.before.before in
-    by_flag false start.args.lean _ start.args.outer.now start.args.inner.now start.args.out.now _ called.before.before.if1.false called.compose.ensures
+    let called = c in
+    let start = called in
+    by_flag false start.args.lean _ start.args.outer.now start.args.inner.now start.args.out.now _ called.if-lean.false called.compose.ensures
 
 pub compose_way_spec : {M : Type 1} → statement M
 compose_way_spec =

@@ -15,63 +15,60 @@ use borrow.Author.Rules.{rules}
 use Rattle.query_report.proofs.report_queries.Statement.{statement}
 use Rattle.query_report.proofs.report_queries.Tie as tie
 
-slice-aggregate-compose-way : tie.Need-slice-aggregate-compose-way
+slice-aggregate-compose-way : tie.Need-slice_bounds-compose_way-end
 slice-aggregate-compose-way c = search rules
 
-compose-way-requires : tie.Need-compose-way-requires
+compose-way-requires : tie.Need-compose_way-answer-requires
 compose-way-requires c κs = search rules
 
-enum-known-answer : tie.Need-enum-known-answer
+enum-known-answer : tie.Need-enum_known-answer
 enum-known-answer c = search rules
 
-slice-aggregate-put-refusal : tie.Need-slice-aggregate-put-refusal
-slice-aggregate-put-refusal c = search rules
-
-put-refusal-requires : tie.Need-put-refusal-requires
+put-refusal-requires : tie.Need-put_refusal-requires
 put-refusal-requires c κs = search rules
 
-same_length : tie.Need-same-length
+same_length : tie.Need-shape_of-out-in_default
 same_length c = search rules
 
-returns : tie.Need-returns
+returns : tie.Need-returns-in_default
 unfolding queries_print_by
 returns c =
-    let asked = c.before.before.before.before.before.before.before in
-    refused_part "compose" _ _ report_limit _ _ _ (omega arith) asked.compose-way.result c.before.before.before.before.before.match.keys2 asked.compose-way.ensures.0 c.before.before.put-refusal.ensures
+    let asked = c in
+    refused_part "compose" _ _ report_limit _ _ _ (omega arith) asked.compose_way-answer.result c.in-Value.in-Value-own.keys2 asked.compose_way-answer.ensures.0 c.put_refusal.ensures
 
 -- The queries are composed, and the composition stands at the start of the room.
-says : (c : tie.After-known-told) →
+says : (c : tie.In-Value) →
     let start = c.before.before.before.before.before.before.before.before.before.before in
-    value c.before.answer.given.0.0 ≡ way_answer start.args.lean start.args.outer.now start.args.inner.now item_limit
-says c = ap told (sym c.before.answer.given.1) ∙ c.before.before.before.before.compose-way.ensures.0
+    value c.before.in-Value.size ≡ way_answer start.args.lean start.args.outer.now start.args.inner.now item_limit
+says c = ap told (sym c.in-Value.is) ∙ c.compose_way-answer.ensures.0
 
-gives : (c : tie.After-known-told) →
+gives : (c : tie.In-Value) →
     let start = c.before.before.before.before.before.before.before.before.before.before in
-    Gives (way_got start.args.lean (decode start.args.outer.now) (decode start.args.inner.now)) c.before.answer.given.0.0 item_limit c.before.before.before.before.compose-way.new.1.1.0
+    Gives (way_got start.args.lean (decode start.args.outer.now) (decode start.args.inner.now)) c.before.in-Value.size item_limit c.before.before.before.before.compose_way-answer.new.1.1.0
 gives c =
-    let start = c.before.before.before.before.before.before.before.before.before.before in
-    compose_gives c.before.answer.given.0.0 (replicate item_limit 0) _ start.args.lean start.args.outer.now start.args.inner.now (says c) c.before.before.before.before.compose-way.ensures.1
+    let start = c in
+    compose_gives c.in-Value.size (replicate item_limit 0) _ start.args.lean start.args.outer.now start.args.inner.now (says c) c.compose_way-answer.ensures.1
 
-array-share-prefix-room : tie.Need-array-share-prefix-room
+array-share-prefix-room : tie.Need-slice_bounds-room-end
 array-share-prefix-room c = (gives c).inside
 
-slice-aggregate-query : tie.Need-slice-aggregate-query
+slice-aggregate-query : tie.Need-slice_bounds-query-end
 slice-aggregate-query c = (gives c.before).counts
 
-nesting-of-requires : tie.Need-nesting-of-requires
+nesting-of-requires : tie.Need-nesting_of-nesting-requires
 nesting-of-requires c κs = search rules
 
-report-query-requires : tie.Need-report-query-requires
+report-query-requires : tie.Need-report_query-requires
 report-query-requires c κs = search rules
 
-same-length-2 : tie.Need-same-length-2
+same-length-2 : tie.Need-shape_of-out
 same-length-2 c = search rules
 
-returns-2 : tie.Need-returns-2
+returns-2 : tie.Need-returns
 unfolding queries_print_by
 returns-2 c =
     given_part "compose" _ _ _ _ _ _ _ (says c.before.before.before.before.before.before)
-    (rw (gives c.before.before.before.before.before.before).starts at c.before.before.report-query.ensures)
+    (rw (gives c.before.before.before.before.before.before).starts at c.report_query.ensures)
 
 pub report_queries_spec : {M : Type 1} → statement M
 report_queries_spec =
@@ -80,7 +77,6 @@ report_queries_spec =
     slice-aggregate-compose-way
     compose-way-requires
     enum-known-answer
-    slice-aggregate-put-refusal
     put-refusal-requires
     same_length
     returns

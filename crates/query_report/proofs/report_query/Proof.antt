@@ -16,60 +16,57 @@ use borrow.Author.Rules.{rules}
 use Rattle.query_report.proofs.report_query.Statement.{statement}
 use Rattle.query_report.proofs.report_query.Tie as tie
 
-slice-aggregate-print-long : tie.Need-slice-aggregate-print-long
+slice-aggregate-print-long : tie.Need-slice_bounds-print_long-end
 slice-aggregate-print-long c = search rules
 
-print-long-requires : tie.Need-print-long-requires
+print-long-requires : tie.Need-print_long-answer-requires
 print-long-requires c κs = search rules
 
-enum-known-answer : tie.Need-enum-known-answer
+enum-known-answer : tie.Need-enum_known-answer
 enum-known-answer c = search rules
 
-slice-aggregate-put-refusal : tie.Need-slice-aggregate-put-refusal
-slice-aggregate-put-refusal c = search rules
-
-put-refusal-requires : tie.Need-put-refusal-requires
+put-refusal-requires : tie.Need-put_refusal-requires
 put-refusal-requires c κs = search rules
 
-same_length : tie.Need-same-length
+same_length : tie.Need-shape_of-out-in_default
 same_length c = search rules
 
-returns : tie.Need-returns
+returns : tie.Need-returns-in_default
 unfolding query_prints
 returns c =
-    let asked = c.before.before.before.before.before.before.before in
-    refused_part "print" _ _ report_limit _ _ _ (omega arith) asked.print-long.result c.before.before.before.before.before.match.keys2 asked.print-long.ensures.0 c.before.before.put-refusal.ensures
+    let asked = c in
+    refused_part "print" _ _ report_limit _ _ _ (omega arith) asked.print_long-answer.result c.in-Value.in-Value-own.keys2 asked.print_long-answer.ensures.0 c.put_refusal.ensures
 
 -- The query is printed, and its text stands at the start of the room.
-says : (c : tie.After-known-told) →
+says : (c : tie.In-Value) →
     let start = c.before.before.before.before.before.before.before.before.before in
-    value c.before.answer.given.0.0 ≡ print_answer long_form start.args.query.now start.args.list.now text_limit
-says c = ap told (sym c.before.answer.given.1) ∙ c.before.before.before.before.print-long.ensures.0
+    value c.before.in-Value.count ≡ print_answer long_form start.args.query.now start.args.list.now text_limit
+says c = ap told (sym c.in-Value.is) ∙ c.print_long-answer.ensures.0
 
-gives : (c : tie.After-known-told) →
+gives : (c : tie.In-Value) →
     let start = c.before.before.before.before.before.before.before.before.before in
-    Gives (text_got long_form (names_of start.args.list.now) (decode start.args.query.now)) c.before.answer.given.0.0 text_limit c.before.before.before.before.print-long.new.1.1.0
+    Gives (text_got long_form (names_of start.args.list.now) (decode start.args.query.now)) c.before.in-Value.count text_limit c.before.before.before.before.print_long-answer.new.1.1.0
 gives c =
-    let start = c.before.before.before.before.before.before.before.before.before in
-    print_gives c.before.answer.given.0.0 (replicate text_limit 0) _ long_form start.args.query.now start.args.list.now (says c) c.before.before.before.before.print-long.ensures.1
+    let start = c in
+    print_gives c.in-Value.count (replicate text_limit 0) _ long_form start.args.query.now start.args.list.now (says c) c.print_long-answer.ensures.1
 
-array-share-prefix-text : tie.Need-array-share-prefix-text
+array-share-prefix-text : tie.Need-slice_bounds-text-end
 array-share-prefix-text c = (gives c.before).inside
 
-slice-aggregate-put-result : tie.Need-slice-aggregate-put-result
+slice-aggregate-put-result : tie.Need-slice_bounds-put_result-end
 slice-aggregate-put-result c = (gives c.before.before).counts
 
-put-result-requires : tie.Need-put-result-requires
+put-result-requires : tie.Need-put_result-requires
 put-result-requires c κs = let g = gives c.before.before in omega (arith, g.counts, g.fits)
 
-same-length-2 : tie.Need-same-length-2
+same-length-2 : tie.Need-shape_of-out
 same-length-2 c = search rules
 
-returns-2 : tie.Need-returns-2
+returns-2 : tie.Need-returns
 unfolding query_prints
 returns-2 c =
     given_part "print" _ _ _ _ _ _ _ (says c.before.before.before.before.before)
-    (rw ((gives c.before.before.before.before.before).starts, c.before.before.before.before.before.before.before.before.before.before.before.before.before.before.requires) at c.before.before.put-result.ensures)
+    (rw ((gives c.before.before.before.before.before).starts, c.requires) at c.put_result.ensures)
 
 pub report_query_spec : {M : Type 1} → statement M
 report_query_spec =
@@ -78,7 +75,6 @@ report_query_spec =
     slice-aggregate-print-long
     print-long-requires
     enum-known-answer
-    slice-aggregate-put-refusal
     put-refusal-requires
     same_length
     returns

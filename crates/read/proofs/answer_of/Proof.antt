@@ -3,29 +3,29 @@ use borrow.Author.Rules.{rules}
 use Rattle.read.proofs.answer_of.Statement.{statement}
 use Rattle.read.proofs.answer_of.Tie as tie
 
-enum-known-part : tie.Need-enum-known-part
+enum-known-part : tie.Need-enum_known-part
 enum-known-part c = search rules
 
-enum-known-part-2 : tie.Need-enum-known-part-2
+enum-known-part-2 : tie.Need-enum_known-part-in-NoQuery-1
 enum-known-part-2 c = search rules
 
-enum-known-part-3 : tie.Need-enum-known-part-3
+enum-known-part-3 : tie.Need-enum_known-part-in-TooDeep-1
 enum-known-part-3 c = search rules
 
-enum-known-part-4 : tie.Need-enum-known-part-4
+enum-known-part-4 : tie.Need-enum_known-part-in-UnknownName-1
 enum-known-part-4 c = search rules
 
-returns : tie.Need-returns
-returns c = rw c.before.part.given.1
+returns : tie.Need-returns-in-Done
+returns c = rw c.in-Done.is
 
-returns-2 : tie.Need-returns-2
-returns-2 c = rw c.before.part2.given.1
+returns-2 : tie.Need-returns-in-NoQuery
+returns-2 c = rw c.in-NoQuery.is
 
-returns-3 : tie.Need-returns-3
-returns-3 c = rw c.before.part3.given.1
+returns-3 : tie.Need-returns-in-TooDeep
+returns-3 c = rw c.in-TooDeep.is
 
-returns-4 : tie.Need-returns-4
-returns-4 c = rw c.before.part4.given.1
+returns-4 : tie.Need-returns-in-UnknownName
+returns-4 c = rw c.in-UnknownName.is
 
 pub answer_of_spec : {M : Type 1} → statement M
 answer_of_spec =

@@ -10,33 +10,33 @@ use mathlib.Core.Path.{refl, sym, ◌∙◌, ap, subst}
 lead-requires : tie.Need-lead-requires
 lead-requires c κs = search rules
 
-enum-known-at : tie.Need-enum-known-at
+enum-known-at : tie.Need-enum_known-at
 enum-known-at c = search rules
 
-read-element-requires : tie.Need-read-element-requires
+read-element-requires : tie.Need-read_element-requires
 read-element-requires c κs =
-    let place = c.before.before.before.before.before in
-    let lead = place.before.before in
-    let start = lead.before.before.before in
-    (start.requires.0, (start.requires.1.0, (subst (Leads _) place.at.given.1 lead.lead.ensures, start.requires.1.1)))
+    let place = c in
+    let lead = place in
+    let start = lead in
+    (start.requires.0, (start.requires.1.0, (subst (Leads _) place.in-At.is lead.lead.ensures, start.requires.1.1)))
 
 finished-requires : tie.Need-finished-requires
-finished-requires c κs = ends_inside _ _ _ c.read-element.result c.read-element.ensures
+finished-requires c κs = ends_inside _ _ _ c.read_element.result c.read_element.ensures
 
-enum-known-place : tie.Need-enum-known-place
+enum-known-place : tie.Need-enum_known-place
 enum-known-place c = search rules
 
-enum-known-place-2 : tie.Need-enum-known-place-2
+enum-known-place-2 : tie.Need-enum_known-place-in-LeftOut-1
 enum-known-place-2 c = search rules
 
-returns : tie.Need-returns
-returns c = c.finished.ensures _ _ c.before.read-element.ensures
+returns : tie.Need-returns-in-At
+returns c = c.finished.ensures _ _ c.read_element.ensures
 
-returns-2 : tie.Need-returns-2
-returns-2 c = lead_wrong _ _ (subst (Leads _) c.before.place.given.1 c.before.before.before.lead.ensures)
+returns-2 : tie.Need-returns-in-Wrong
+returns-2 c = lead_wrong _ _ (subst (Leads _) c.in-Wrong.is c.lead.ensures)
 
-returns-3 : tie.Need-returns-3
-returns-3 c = lead_left_out _ _ (subst (Leads _) c.before.place2.given.1 c.before.before.before.lead.ensures)
+returns-3 : tie.Need-returns-in-LeftOut
+returns-3 c = lead_left_out _ _ (subst (Leads _) c.in-LeftOut.is c.lead.ensures)
 
 pub judge_spec : {M : Type 1} → statement M
 judge_spec =

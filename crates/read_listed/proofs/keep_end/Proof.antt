@@ -6,29 +6,29 @@ use borrow.Author.Rules.{rules}
 use mathlib.Core.Path.{refl, ap, ◌∙◌}
 use native.Mathlib.Omega.{arith}
 
-wide-requires : tie.Need-wide-requires
+wide-requires : tie.Need-wide-n-requires
 wide-requires c κs = search rules
 
-returns : tie.Need-returns
-returns c = λ few. absurd (omega (arith, c.if1.true, c.before.wide.ensures, few))
+returns : tie.Need-returns-then-n-ge-LINES
+returns c = λ few. absurd (omega (arith, c.if-n-ge-LINES.true, c.wide-n.ensures, few))
 
 narrow-requires : tie.Need-narrow-requires
 narrow-requires c κs = search rules
 
-mul-ends : tie.Need-overflow-mul-ends
+mul-ends : tie.Need-offset_bounds-ends-n
 mul-ends c = search rules
 
-element-write-ends : tie.Need-element-write-ends
+element-write-ends : tie.Need-bounds-ends-n
 element-write-ends c = search rules
 
-mul-result : tie.Need-overflow-mul-result
+mul-result : tie.Need-offset_bounds-parents-n
 mul-result c = search rules
 
-element-copy-out-result : tie.Need-element-copy-out-result
+element-copy-out-result : tie.Need-bounds-parents-n
 element-copy-out-result c = search rules
 
-returns-2 : tie.Need-returns-2
-returns-2 c = λ few. (rw (c.before.narrow.ensures, c.before.before.before.wide.ensures) refl, rw c.before.before.before.wide.ensures refl)
+returns-2 : tie.Need-returns
+returns-2 c = λ few. (rw (c.narrow.ensures, c.wide-n.ensures) refl, rw c.wide-n.ensures refl)
 
 pub keep_end_spec : {M : Type 1} → statement M
 keep_end_spec =

@@ -10,39 +10,37 @@ use mathlib.Core.Path.{◌≡◌, refl, ◌∙◌, ap, subst}
 use native.Mathlib.Omega.{arith}
 
 -- The root's line is kept first.
-abbrev begun : tie.After-keep-line → tie.Start
+abbrev begun : tie.After-keep_line → tie.Start
 begun c = c.before.before.before.before.before.before.before
-
 -- The start tag is then taken.
-abbrev rooted : tie.After-keep-piece-arg4 → tie.After-root
+abbrev rooted : tie.After-keep_piece-arg-4-1 → tie.After-root-root
 rooted c = c.before.before.before.before.before
+keep-line-requires : tie.Need-keep_line-requires
+keep-line-requires c κs = (omega arith, omega (arith, c.requires.1.0))
 
-keep-line-requires : tie.Need-keep-line-requires
-keep-line-requires c κs = (omega arith, omega (arith, c.before.before.before.before.before.before.requires.1.0))
-
-root-requires : tie.Need-root-requires
+root-requires : tie.Need-root-root-requires
 root-requires c κs = search rules
 
-keep-piece-requires : tie.Need-keep-piece-requires
+keep-piece-requires : tie.Need-keep_piece-begun-requires
 keep-piece-requires c κs =
     let root = rooted c in
     let start = begun root.before in
-    (start.pre.0, (start.pre.1.0, root_faces _ _ _ _ _ _ refl (root.before.keep-line.ensures (omega arith) ∙ ap (line_set 0 0 0 0 (length start.args.text.now)) start.pre.1.1.1) start.pre.1.1.0 root.root.ensures))
+    (start.requires.0, (start.requires.1.0, root_faces _ _ _ _ _ _ refl (root.keep_line.ensures (omega arith) ∙ ap (line_set 0 0 0 0 (length start.args.text.now)) start.requires.1.1.1) start.requires.1.1.0 root.root-root.ensures))
 
-enum-known-begun : tie.Need-enum-known-begun
+enum-known-begun : tie.Need-enum_known-begun
 enum-known-begun c = search rules
 
-returns : tie.Need-returns
-returns c = comes_ends _ _ _ _ c.before.keep-piece.result c.match.keys2 c.before.keep-piece.ensures.0
+returns : tie.Need-returns-in_default
+returns c = comes_ends _ _ _ _ c.keep_piece-begun.result c.in-On.in-On-own.keys2 c.keep_piece-begun.ensures.0
 
-read-inside-requires : tie.Need-read-inside-requires
+read-inside-requires : tie.Need-read_inside-requires
 read-inside-requires c κs =
-    let first = c.before.before.before.before.before.before in
-    let call = first.before.before in
-    let start = begun (rooted call.before).before in
-    (start.pre.0, (start.pre.1.0, subst (Comes _ _ _ _) first.begun.given.1 call.keep-piece.ensures.0))
+    let first = c in
+    let call = first in
+    let start = begun (rooted call.before.before.before.before.before.before.before).before in
+    (start.requires.0, (start.requires.1.0, subst (Comes _ _ _ _) first.in-On.is call.keep_piece-begun.ensures.0))
 
-returns-2 : tie.Need-returns-2
+returns-2 : tie.Need-returns
 returns-2 c = search rules
 
 pub read_element_spec : {M : Type 1} → statement M

@@ -11,55 +11,53 @@ use lib.ListN.{length}
 use mathlib.Core.Path.{◌≡◌, sym, ◌∙◌, ap, subst}
 use native.Mathlib.Omega.{arith}
 
-abbrev invariant-loop : tie.invariant-loop
+abbrev invariant-loop : tie.invariant-loop-so_far
 invariant-loop text list starts count chains open₀ parents₀ kinds₀ begins₀ ends₀ so-far₀ «open» parents kinds begins ends so_far =
     Standing text list «open» (columns parents kinds begins ends) so_far
 
-abbrev decreases-loop : tie.decreases-loop
+abbrev decreases-loop : tie.decreases-loop-so_far
 decreases-loop text list starts count chains open₀ parents₀ kinds₀ begins₀ ends₀ so-far₀ «open» parents kinds begins ends so_far =
     length text - so_far.at
 
 abbrev Turn : Type 0
-Turn = tie.At-loop invariant-loop decreases-loop
+Turn = tie.At-loop-so_far invariant-loop decreases-loop
 
 abbrev begun : Turn → tie.Start invariant-loop decreases-loop
 begun c = c.before.before.before
-
 -- The turn in which a piece was read.
-abbrev turn : tie.After-read-piece invariant-loop decreases-loop → Turn
+abbrev turn : tie.After-read_piece-step invariant-loop decreases-loop → Turn
 turn c = c.before.before.before.before.before.before.before.before
+loop-holds : tie.Need-loop-so_far-init invariant-loop decreases-loop
+loop-holds c = c.requires.1.1
 
-loop-holds : tie.Need-loop-init invariant-loop decreases-loop
-loop-holds c = c.before.before.requires.1.1
-
-read-piece-requires : tie.Need-read-piece-requires invariant-loop decreases-loop
+read-piece-requires : tie.Need-read_piece-step-requires invariant-loop decreases-loop
 read-piece-requires c κs =
-    let test = c.before.before.before.before.before in
-    let loop = test.before.before in
-    let start = begun loop in
-    (start.pre.0, (start.pre.1.0, (loop.loop.invariant, test.if1.true)))
+    let test = c in
+    let loop = test in
+    let start = begun loop.before.before.before.before.before.before.before in
+    (start.requires.0, (start.requires.1.0, (loop.loop-so_far.invariant, test.loop-so_far-test.true)))
 
-enum-known-step : tie.Need-enum-known-step invariant-loop decreases-loop
+enum-known-step : tie.Need-enum_known-step invariant-loop decreases-loop
 enum-known-step c = search rules
 
-returns : tie.Need-returns invariant-loop decreases-loop
-returns c = comes_ends _ _ _ _ c.before.read-piece.result c.match.keys2 c.before.read-piece.ensures.0
+returns : tie.Need-returns-in_default invariant-loop decreases-loop
+returns c = comes_ends _ _ _ _ c.read_piece-step.result c.in-On.in-On-own.keys2 c.read_piece-step.ensures.0
 
-loop-again : tie.Need-loop-preserved invariant-loop decreases-loop
+loop-again : tie.Need-loop-so_far-preserved invariant-loop decreases-loop
 loop-again c =
-    let call = c.before.before.before in
-    subst (Comes _ _ _ _) c.before.step.given.1 call.read-piece.ensures.0
+    let call = c in
+    subst (Comes _ _ _ _) c.in-On.is call.read_piece-step.ensures.0
 
-loop-less : tie.Need-loop-smaller invariant-loop decreases-loop
+loop-less : tie.Need-loop-so_far-smaller invariant-loop decreases-loop
 loop-less c =
-    let call = c.before.before.before in
-    let at = (turn call).loop.so_far.at in
-    let rises : Rises at (On c.before.step.given.0.0) = subst (Rises at) c.before.step.given.1 call.read-piece.ensures.1 in
+    let call = c in
+    let at = (turn call.before).loop-so_far.so_far.at in
+    let rises : Rises at (On c.in-On.next) = subst (Rises at) c.in-On.is call.read_piece-step.ensures.1 in
     let inside = (loop-again c).stands.inside in
     omega (arith, rises, inside)
 
-returns-2 : tie.Need-returns-2 invariant-loop decreases-loop
-returns-2 c = element_read _ _ _ _ _ c.before.before.loop.invariant (λ l. omega (arith, c.if1.false))
+returns-2 : tie.Need-returns invariant-loop decreases-loop
+returns-2 c = element_read _ _ _ _ _ c.loop-so_far.invariant (λ l. omega (arith, c.loop-so_far-test.false))
 
 pub read_inside_spec : {M : Type 1} → statement M
 read_inside_spec =

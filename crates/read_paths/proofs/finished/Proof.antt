@@ -6,20 +6,20 @@ use borrow.Author.Rules.{rules}
 use Rattle.read_paths.proofs.finished.Statement.{statement}
 use Rattle.read_paths.proofs.finished.Tie as tie
 
-take-requires : tie.Need-take-requires
+take-requires : tie.Need-take-taken-requires
 take-requires c κs = search rules
 
-enum_told : tie.Need-enum-told
+enum_told : tie.Need-enum_told-1
 enum_told c = search rules
 
-returns : tie.Need-returns
+returns : tie.Need-returns-in-Finish
 returns c =
-    let t = c.before.before.before.take.ensures in
-    let is = c.enum_told.given.1 in
+    let t = c.take-taken.ensures in
+    let is = c.in-Finish.is in
     ((refl, ends_here _ _ _ t is), stops_here _ _ _ t is)
 
-returns-2 : tie.Need-returns-2
-returns-2 c = ((ends_not _ _ _ c.before.before.take.ensures (not_finish c.before.before.take.result.token c.match.keys2), taken_at _ _ _ c.before.before.take.ensures), tt)
+returns-2 : tie.Need-returns-in_default
+returns-2 c = ((ends_not _ _ _ c.take-taken.ensures (not_finish c.take-taken.result.token c.in-Finish.in-Finish-own.keys2), taken_at _ _ _ c.take-taken.ensures), tt)
 
 pub finished_spec : {M : Type 1} → statement M
 finished_spec = tie.close (tie.spec take-requires enum_told returns returns-2)

@@ -12,74 +12,72 @@ use mathlib.Core.Path.{◌≡◌, refl, sym, ◌∙◌, ap, subst}
 use native.Mathlib.Omega.{arith}
 
 -- Past line 1 the lengths are right.
-abbrev begun : tie.Else1 → tie.Start
+abbrev begun : tie.Else-text-list → tie.Start
 begun c = c.before.before.before.before.before.before.before
-
-lengths : (c : tie.Else1) →
+lengths : (c : tie.Else-text-list) →
     let a = (begun c).args in
     Agree a.text.now a.list.now (length a.parent.now) (length a.kind.now) (length a.begin.now) (length a.end.now)
-lengths c = agree _ _ _ _ _ _ c.if1.false
+lengths c = agree _ _ _ _ _ _ c.if-text-list.false
 
 -- The list is good.
-abbrev past-1 : tie.After-count → tie.Else1
-past-1 c = c.before.before.before.before
+abbrev past-1 : tie.In-Good → tie.Else-text-list
+past-1 c = c.before.before.before
+indexed : (c : tie.In-Good) → Indexed (begun (past-1 c)).args.list.now c.before.before.index.new.1.0 c.in-Good.count
+indexed c = c.index.ensures.good _ c.in-Good.is
 
-indexed : (c : tie.After-count) → Indexed (begun (past-1 c)).args.list.now c.before.before.index.new.1.0 c.count.given.0.0
-indexed c = c.before.before.index.ensures.good _ c.count.given.1
-
-returns : tie.Need-returns
+returns : tie.Need-returns-then-text-list
 unfolding read_xml_column
 returns c =
-    let a = c.before.before.before.before.before.before.before.args in
-    (too_long_lem a.text.now a.list.now (length a.parent.now) (length a.kind.now) (length a.begin.now) (length a.end.now) c.if1.true, (refl, (refl, (refl, refl))))
+    let a = c.args in
+    (too_long_lem a.text.now a.list.now (length a.parent.now) (length a.kind.now) (length a.begin.now) (length a.end.now) c.if-text-list.true, (refl, (refl, (refl, refl))))
 
 index-requires : tie.Need-index-requires
 index-requires c κs = ((lengths c.before).list_short, refl)
 
-enum-known-start : tie.Need-enum-known-start
+enum-known-start : tie.Need-enum_known-start
 enum-known-start c = search rules
 
-enum-known-count : tie.Need-enum-known-count
+enum-known-count : tie.Need-enum_known-count
 enum-known-count c = search rules
 
 link-requires : tie.Need-link-requires
-link-requires c κs = (indexed c.before.before.before, refl)
+link-requires c κs = (indexed c.before.before, refl)
 
 fill-requires : tie.Need-fill-requires
 fill-requires c κs =
-    let good = c.before.before.before.before.before.before.before.before.before.before in
-    let l = lengths (past-1 good) in
-    (record { indexed = indexed good; chained = c.before.before.before.before.before.before.link.ensures }, (l.text_short, (l.kinds, l.begins, l.ends)))
+    let good = c in
+    let l = lengths (past-1 good.before.before.before.before.before.before.before.before.before) in
+    (record { indexed = indexed good.before.before.before.before.before.before.before.before.before; chained = c.link.ensures }, (l.text_short, (l.kinds, l.begins, l.ends)))
 
-returns-2 : tie.Need-returns-2
+returns-2 : tie.Need-returns-in-Bad
 unfolding read_xml_column
 returns-2 c =
-    let first = c.before.before.before.before.before in
-    let a = (begun first).args in
-    let fault = sym (ap fault_of c.before.start.given.1) ∙ c.before.before.before.index.ensures.fault in
-    (bad_list a.text.now a.list.now (length a.parent.now) (length a.kind.now) (length a.begin.now) (length a.end.now) _ first.if1.false fault, (refl, (refl, (refl, refl))))
+    let first = c in
+    let a = (begun first.before.before.before).args in
+    let fault = sym (ap fault_of c.in-Bad.is) ∙ c.index.ensures.fault in
+    (bad_list a.text.now a.list.now (length a.parent.now) (length a.kind.now) (length a.begin.now) (length a.end.now) _ first.if-text-list.false fault, (refl, (refl, (refl, refl))))
 
-same_length : tie.Need-same-length
+same_length : tie.Need-shape_of-parent
 same_length c = search rules
 
-same-length-2 : tie.Need-same-length-2
+same-length-2 : tie.Need-shape_of-kind
 same-length-2 c = search rules
 
-same-length-3 : tie.Need-same-length-3
+same-length-3 : tie.Need-shape_of-begin
 same-length-3 c = search rules
 
-same-length-4 : tie.Need-same-length-4
+same-length-4 : tie.Need-shape_of-end
 same-length-4 c = search rules
 
-returns-3 : tie.Need-returns-3
+returns-3 : tie.Need-returns-in-Good
 returns-3 c =
-    let call = c.before.before.before.before.before.before.before.before in
-    let good = call.before.before.before.before.before.before.before.before.before.before.before in
-    let first = past-1 good in
+    let call = c in
+    let good = call in
+    let first = past-1 good.before.before.before.before.before.before.before.before.before.before.before.before.before.before.before.before.before.before in
     let a = (begun first).args in
-    let fault = sym (ap fault_of good.count.given.1) ∙ good.before.before.index.ensures.fault in
+    let fault = sym (ap fault_of good.in-Good.is) ∙ good.index.ensures.fault in
     let wrote = call.fill.ensures.1 in (
-      call.fill.ensures.0 ∙ good_list a.text.now a.list.now (length a.parent.now) (length a.kind.now) (length a.begin.now) (length a.end.now) first.if1.left fault,
+      call.fill.ensures.0 ∙ good_list a.text.now a.list.now (length a.parent.now) (length a.kind.now) (length a.begin.now) (length a.end.now) first.if-text-list.false fault,
       (ap (λ (w : Columns). w.parents) wrote, (ap (λ (w : Columns). w.kinds) wrote, (ap (λ (w : Columns). w.begins) wrote, ap (λ (w : Columns). w.ends) wrote))),
     )
 

@@ -11,45 +11,45 @@ use borrow.Author.Rules.{rules}
 use Rattle.reverse.proofs.put_at_root.Statement.{statement}
 use Rattle.reverse.proofs.put_at_root.Tie as tie
 
-mul-out : tie.Need-overflow-mul-out
+mul-out : tie.Need-offset_bounds-out-at
 mul-out c = search rules
 
-slice-write-out : tie.Need-slice-write-out
+slice-write-out : tie.Need-bounds-out-at
 slice-write-out c = search rules
 
-pack-path-requires : tie.Need-pack-path-requires
+pack-path-requires : tie.Need-pack_path-requires
 pack-path-requires c κs = search rules
 
-add-out : tie.Need-overflow-add-out
+add-out : tie.Need-overflow_add-out
 add-out c = search rules
 
-mul-out-2 : tie.Need-overflow-mul-out-2
+mul-out-2 : tie.Need-offset_bounds-out-at-2
 mul-out-2 c = search rules
 
-slice-write-out-2 : tie.Need-slice-write-out-2
+slice-write-out-2 : tie.Need-bounds-out-at-2
 slice-write-out-2 c = simp length-set (omega arith)
 
-pack-step-requires : tie.Need-pack-step-requires
+pack-step-requires : tie.Need-pack_step-requires
 pack-step-requires c κs = search rules
 
-add-out-2 : tie.Need-overflow-add-out-2
+add-out-2 : tie.Need-overflow_add-out-2
 add-out-2 c = search rules
 
-mul-out-3 : tie.Need-overflow-mul-out-3
+mul-out-3 : tie.Need-offset_bounds-out-at-3
 mul-out-3 c = search rules
 
-slice-write-out-3 : tie.Need-slice-write-out-3
+slice-write-out-3 : tie.Need-bounds-out-at-3
 slice-write-out-3 c = simp length-set (omega arith)
 
-same_length : tie.Need-same-length
+same_length : tie.Need-shape_of-out
 same_length c = search rules
 
 returns : tie.Need-returns
 returns c =
-    let old = c.before.before.before.args.out.now in
-    let at = c.before.before.before.args.at in
-    ap (λ (x : List ℕ). set x (at + 2) c.pack-step.result) (two_put old at not_item c.before.pack-path.result not_item (pack_path 1) refl c.before.pack-path.ensures (omega arith)) ∙
-    ap (set (placed (not_item ∷ pack_path 1 ∷ []) at old) (at + 2)) c.pack-step.ensures ∙
+    let old = c.args.out.now in
+    let at = c.args.at in
+    ap (λ (x : List ℕ). set x (at + 2) c.pack_step.result) (two_put old at not_item c.pack_path.result not_item (pack_path 1) refl c.pack_path.ensures (omega arith)) ∙
+    ap (set (placed (not_item ∷ pack_path 1 ∷ []) at old) (at + 2)) c.pack_step.ensures ∙
     then_one (not_item ∷ pack_path 1 ∷ []) old at (at + 2) 17 refl (omega arith)
 
 pub put_at_root_spec : {M : Type 1} → statement M

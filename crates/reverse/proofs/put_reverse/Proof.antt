@@ -7,33 +7,33 @@ use borrow.Author.Rules.{rules}
 use Rattle.reverse.proofs.put_reverse.Statement.{statement}
 use Rattle.reverse.proofs.put_reverse.Tie as tie
 
-add-pack-path : tie.Need-overflow-add-pack-path
+add-pack-path : tie.Need-overflow_add-count
 add-pack-path c = search rules
 
-pack-path-requires : tie.Need-pack-path-requires
+pack-path-requires : tie.Need-pack_path-requires
 pack-path-requires c κs = search rules
 
-mul-out : tie.Need-overflow-mul-out
+mul-out : tie.Need-offset_bounds-out-at
 mul-out c = search rules
 
-slice-write-out : tie.Need-slice-write-out
+slice-write-out : tie.Need-bounds-out-at
 slice-write-out c = search rules
 
-add-put-way-back : tie.Need-overflow-add-put-way-back
+add-put-way-back : tie.Need-overflow_add-at
 add-put-way-back c = search rules
 
-put-way-back-requires : tie.Need-put-way-back-requires
+put-way-back-requires : tie.Need-put_way_back-requires
 put-way-back-requires c κs = (omega arith, simp length-set (omega arith))
 
-same_length : tie.Need-same-length
-same_length c = c.before.before.put-way-back.ensures.0 ∙ simp length-set
+same_length : tie.Need-shape_of-out
+same_length c = c.put_way_back.ensures.0 ∙ simp length-set
 
 returns : tie.Need-returns
 returns c = (
-  c.before.before.put-way-back.ensures.0 ∙ simp length-set,
+  c.put_way_back.ensures.0 ∙ simp length-set,
   λ s es g n.
-      reverse_put c.before.before.before.before.before.before.before.args.steps.now c.before.before.before.before.before.before.before.args.out.now c.before.before.put-way-back.new.1.0 c.before.before.before.before.before.before.before.args.at c.before.before.before.before.before.before.before.args.count c.before.before.before.before.pack-path.result s (omega arith) n c.before.before.before.before.pack-path.ensures
-      (c.before.before.put-way-back.ensures.1 s es g),
+      reverse_put c.args.steps.now c.args.out.now c.put_way_back.new.1.0 c.args.at c.args.count c.pack_path.result s (omega arith) n c.pack_path.ensures
+      (c.put_way_back.ensures.1 s es g),
 )
 
 pub put_reverse_spec : {M : Type 1} → statement M

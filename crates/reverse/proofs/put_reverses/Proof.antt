@@ -12,10 +12,10 @@ use Rattle.reverse.proofs.WayBack.{part_size, reversed_length}
 use Rattle.reverse.proofs.put_reverses.Statement.{statement}
 use Rattle.reverse.proofs.put_reverses.Tie as tie
 
-abbrev invariant-loop : tie.invariant-loop
+abbrev invariant-loop : tie.invariant-loop-place
 invariant-loop inner out₀ start place₀ at₀ out place at = Writing reversed_items inner out₀ out start place at
 
-abbrev decreases-loop : tie.decreases-loop
+abbrev decreases-loop : tie.decreases-loop-place
 decreases-loop inner out₀ start place₀ at₀ out place at = length inner - place
 
 abbrev Start : Type 0
@@ -23,118 +23,112 @@ Start = tie.Start invariant-loop decreases-loop
 
 -- Of what is lent nothing is read yet.
 abbrev Lent : Type 0
-Lent = tie.After-slice-known invariant-loop decreases-loop
+Lent = tie.After-slice_known-1 invariant-loop decreases-loop
 
 abbrev begun-of : Lent → Start
 begun-of c = c.before.before
-
 -- The paths before this place are reversed.
 abbrev Turn : Type 0
-Turn = tie.At-loop invariant-loop decreases-loop
+Turn = tie.At-loop-place invariant-loop decreases-loop
 
 abbrev lent_of : Turn → Lent
 lent_of c = c.before
-
 -- There is one more,
 abbrev Inside : Type 0
-Inside = tie.In-loop invariant-loop decreases-loop
+Inside = tie.In-loop-place invariant-loop decreases-loop
 
 abbrev turn-of : Inside → Turn
 turn-of c = c.before
-
 -- its steps are counted,
 abbrev Counted : Type 0
-Counted = tie.After-owes invariant-loop decreases-loop
+Counted = tie.After-owes-count invariant-loop decreases-loop
 
 abbrev inside_of : Counted → Inside
 inside_of c = c.before.before
-
 -- where they end is known,
 abbrev Ended : Type 0
-Ended = tie.After-skip invariant-loop decreases-loop
+Ended = tie.After-skip-next invariant-loop decreases-loop
 
 abbrev counted_of : Ended → Counted
 counted_of c = c.before
-
 -- and its reverse is put.
 abbrev Put : Type 0
-Put = tie.After-put-reverse invariant-loop decreases-loop
+Put = tie.After-put_reverse invariant-loop decreases-loop
 
 abbrev ended_of : Put → Ended
 ended_of c = c.before.before.before
-
-loop-holds : tie.Need-loop-init invariant-loop decreases-loop
+loop-holds : tie.Need-loop-place-init invariant-loop decreases-loop
 loop-holds c =
     let begun = begun-of c in
-    writing_start reversed_items begun.args.inner.now begun.args.out.now begun.args.start begun.pre.0
+    writing_start reversed_items begun.args.inner.now begun.args.out.now begun.args.start begun.requires.0
 
-mul-owes : tie.Need-overflow-mul-owes invariant-loop decreases-loop
+mul-owes : tie.Need-offset_bounds-inner-place invariant-loop decreases-loop
 mul-owes c = omega arith
 
-shared-slice-read-owes : tie.Need-shared-slice-read-owes invariant-loop decreases-loop
+shared-slice-read-owes : tie.Need-bounds-inner-place invariant-loop decreases-loop
 shared-slice-read-owes c = omega arith
 
-owes-requires : tie.Need-owes-requires invariant-loop decreases-loop
+owes-requires : tie.Need-owes-count-requires invariant-loop decreases-loop
 owes-requires c κs = search rules
 
-add-skip : tie.Need-overflow-add-skip invariant-loop decreases-loop
+add-skip : tie.Need-overflow_add-place invariant-loop decreases-loop
 add-skip c = omega arith
 
-skip-requires : tie.Need-skip-requires invariant-loop decreases-loop
+skip-requires : tie.Need-skip-next-requires invariant-loop decreases-loop
 skip-requires c κs =
     let inside = inside_of c in
-    ((begun-of (lent_of (turn-of inside))).requires.1, omega (arith, inside.loop-test.taken), c.owes.ensures.1)
+    ((begun-of (lent_of (turn-of inside))).requires.1, omega (arith, inside.loop-place-test.true), c.owes-count.ensures.1)
 
-add-put-reverse : tie.Need-overflow-add-put-reverse invariant-loop decreases-loop
+add-put-reverse : tie.Need-overflow_add-place-in-loop-place invariant-loop decreases-loop
 add-put-reverse c = omega arith
 
-mul-put-reverse : tie.Need-overflow-mul-put-reverse invariant-loop decreases-loop
+mul-put-reverse : tie.Need-offset_bounds-inner-place-in-loop-place invariant-loop decreases-loop
 mul-put-reverse c = omega arith
 
-sub-put-reverse : tie.Need-overflow-sub-put-reverse invariant-loop decreases-loop
-sub-put-reverse c = omega (arith, c.skip.ensures.0)
+sub-put-reverse : tie.Need-slice_bounds-put_reverse-count invariant-loop decreases-loop
+sub-put-reverse c = omega (arith, c.skip-next.ensures.0)
 
-part-put-reverse-start : tie.Need-slice-bounds-put-reverse-start invariant-loop decreases-loop
-part-put-reverse-start c = omega (arith, c.skip.ensures.0)
+part-put-reverse-start : tie.Need-slice_bounds-put_reverse-start invariant-loop decreases-loop
+part-put-reverse-start c = omega (arith, c.skip-next.ensures.0)
 
-part-put-reverse-end : tie.Need-slice-bounds-put-reverse-end invariant-loop decreases-loop
-part-put-reverse-end c = omega (arith, c.skip.ensures.1)
+part-put-reverse-end : tie.Need-slice_bounds-put_reverse-end invariant-loop decreases-loop
+part-put-reverse-end c = omega (arith, c.skip-next.ensures.1)
 
-put-reverse-requires : tie.Need-put-reverse-requires invariant-loop decreases-loop
+put-reverse-requires : tie.Need-put_reverse-requires invariant-loop decreases-loop
 put-reverse-requires c κs =
     let counted = counted_of c.before.before in
     let inside = inside_of counted in
     let turn = turn-of inside in
     let begun = begun-of (lent_of turn) in
     let a = begun.args in
-    let l = turn.loop in
-    top a.inner.now l.place c.before.before.skip.result counted.owes.result l.inv.rest inside.loop-test.taken l.inv.walks counted.owes.ensures.0 c.before.before.skip.ensures.0
+    let l = turn.loop-place in
+    top a.inner.now l.place c.skip-next.result counted.owes-count.result l.invariant.rest inside.loop-place-test.true l.invariant.walks counted.owes-count.ensures.0 c.skip-next.ensures.0
     (λ p ps e t.
-    let n = part_size a.inner.now (l.place + 1) c.before.before.skip.result (omega (arith, c.before.before.skip.ensures.0)) c.before.before.skip.ensures.1 in (
-      omega (arith, n, c.before.before.skip.ensures.1, begun.pre.1),
-      omega (arith, t.counts, t.few, t.ends, c.before.before.skip.ensures.1, begun.pre.1),
+    let n = part_size a.inner.now (l.place + 1) c.skip-next.result (omega (arith, c.skip-next.ensures.0)) c.skip-next.ensures.1 in (
+      omega (arith, n, c.skip-next.ensures.1, begun.requires.1),
+      omega (arith, t.counts, t.few, t.ends, c.skip-next.ensures.1, begun.requires.1),
       omega (
         arith,
         n,
         t.ends,
         reversed_length p,
-        room_left reversed_items a.inner.now a.out.now l.out a.start l.place l.at l.inv,
+        room_left reversed_items a.inner.now a.out.now l.out a.start l.place l.at l.invariant,
         ap (λ (x : List Steps). length (each_path reversed_items x)) e,
         length-append (reversed_items p) (each_path reversed_items ps),
-        l.inv.size,
-        begun.pre.2,
+        l.invariant.size,
+        begun.requires.2,
       ),
     ))
 
-sub_at : tie.Need-overflow-sub-at invariant-loop decreases-loop
-sub_at c = omega (arith, (ended_of c.before.before).skip.ensures.0)
+sub_at : tie.Need-overflow_sub-at invariant-loop decreases-loop
+sub_at c = omega (arith, (ended_of c.before.before).skip-next.ensures.0)
 
-add_at : tie.Need-overflow-add-at invariant-loop decreases-loop
+add_at : tie.Need-overflow_add-at invariant-loop decreases-loop
 add_at c =
     let ended = ended_of c.before.before in
-    omega (arith, ended.skip.ensures.0, ended.skip.ensures.1, (begun-of (lent_of (turn-of (inside_of (counted_of ended))))).requires.1)
+    omega (arith, ended.skip-next.ensures.0, ended.skip-next.ensures.1, (begun-of (lent_of (turn-of (inside_of (counted_of ended))))).requires.1)
 
-add-at-2 : tie.Need-overflow-add-at-2 invariant-loop decreases-loop
+add-at-2 : tie.Need-overflow_add-at-in-loop-place invariant-loop decreases-loop
 add-at-2 c =
     let ended = ended_of c.before.before in
     let counted = counted_of ended in
@@ -142,25 +136,25 @@ add-at-2 c =
     let turn = turn-of inside in
     let begun = begun-of (lent_of turn) in
     let a = begun.args in
-    let l = turn.loop in
-    top a.inner.now l.place ended.skip.result counted.owes.result l.inv.rest inside.loop-test.taken l.inv.walks counted.owes.ensures.0 ended.skip.ensures.0
+    let l = turn.loop-place in
+    top a.inner.now l.place ended.skip-next.result counted.owes-count.result l.invariant.rest inside.loop-place-test.true l.invariant.walks counted.owes-count.ensures.0 ended.skip-next.ensures.0
     (λ p ps e t.
     omega (
       arith,
       t.ends,
       reversed_length p,
-      room_left reversed_items a.inner.now a.out.now l.out a.start l.place l.at l.inv,
+      room_left reversed_items a.inner.now a.out.now l.out a.start l.place l.at l.invariant,
       ap (λ (x : List Steps). length (each_path reversed_items x)) e,
       length-append (reversed_items p) (each_path reversed_items ps),
-      begun.pre.2,
+      begun.requires.2,
     ))
 
-loop-less : tie.Need-loop-smaller invariant-loop decreases-loop
+loop-less : tie.Need-loop-place-smaller invariant-loop decreases-loop
 loop-less c =
     let ended = ended_of c.before.before in
-    omega (arith, ended.skip.ensures.0, ended.skip.ensures.1, (inside_of (counted_of ended)).loop-test.taken)
+    omega (arith, ended.skip-next.ensures.0, ended.skip-next.ensures.1, (inside_of (counted_of ended)).loop-place-test.true)
 
-loop-again : tie.Need-loop-preserved invariant-loop decreases-loop
+loop-again : tie.Need-loop-place-preserved invariant-loop decreases-loop
 loop-again c =
     let ended = ended_of c.before.before in
     let counted = counted_of ended in
@@ -168,19 +162,19 @@ loop-again c =
     let turn = turn-of inside in
     let begun = begun-of (lent_of turn) in
     let a = begun.args in
-    let l = turn.loop in
-    top a.inner.now l.place ended.skip.result counted.owes.result l.inv.rest inside.loop-test.taken l.inv.walks counted.owes.ensures.0 ended.skip.ensures.0
+    let l = turn.loop-place in
+    top a.inner.now l.place ended.skip-next.result counted.owes-count.result l.invariant.rest inside.loop-place-test.true l.invariant.walks counted.owes-count.ensures.0 ended.skip-next.ensures.0
     (λ p ps e t.
-    writing_more reversed_items a.inner.now a.out.now l.out c.before.before.put-reverse.new.1.1.0 a.start l.place l.at ended.skip.result (l.at + (ended.skip.result - l.place + 4)) counted.owes.result
-    p ps l.inv e t begun.pre.2 (c.before.before.put-reverse.ensures.1 p t.part t.fine t.counts) (omega (arith, t.ends, reversed_length p)))
+    writing_more reversed_items a.inner.now a.out.now l.out c.put_reverse.new.1.1.0 a.start l.place l.at ended.skip-next.result (l.at + (ended.skip-next.result - l.place + 4)) counted.owes-count.result
+    p ps l.invariant e t begun.requires.2 (c.put_reverse.ensures.1 p t.part t.fine t.counts) (omega (arith, t.ends, reversed_length p)))
 
-same_length : tie.Need-same-length invariant-loop decreases-loop
-same_length c = c.before.loop.invariant.size
+same_length : tie.Need-shape_of-out invariant-loop decreases-loop
+same_length c = c.loop-place.invariant.size
 
 returns : tie.Need-returns invariant-loop decreases-loop
 returns c =
     let begun = begun-of (lent_of c.before) in
-    writing_done reversed_items begun.args.inner.now begun.args.out.now c.before.loop.out begun.args.start c.before.loop.place c.before.loop.at c.loop-test.false c.before.loop.invariant
+    writing_done reversed_items begun.args.inner.now begun.args.out.now c.loop-place.out begun.args.start c.loop-place.place c.loop-place.at c.loop-place-test.false c.loop-place.invariant
 
 pub put_reverses_spec : {M : Type 1} → statement M
 put_reverses_spec =

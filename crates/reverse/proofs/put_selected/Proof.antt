@@ -14,83 +14,80 @@ use Rattle.reverse.proofs.put_selected.Statement.{statement}
 use Rattle.reverse.proofs.put_selected.Tie as tie
 
 -- Of what is lent nothing is read yet.
-abbrev begun-of : tie.After-slice-known → tie.Start
+abbrev begun-of : tie.After-slice_known-1 → tie.Start
 begun-of c = c.before.before
-
 -- The items of `or` are put,
-abbrev lent_of : tie.After-put-same → tie.After-slice-known
+abbrev lent_of : tie.After-put_same → tie.After-slice_known-1
 lent_of c = c.before.before
-
 -- and the reverses behind them.
-abbrev joined_of : tie.After-put-reverses → tie.After-put-same
+abbrev joined_of : tie.After-put_reverses → tie.After-put_same
 joined_of c = c.before.before.before.before
-
-sub-put-same : tie.Need-overflow-sub-put-same
+sub-put-same : tie.Need-overflow_sub-paths
 sub-put-same c =
     let begun = begun-of c.before in
     let a = begun.args in
     let inner = a.inner.now in
     let old = a.out.now in
-    let parts = selected_parts inner a.paths begun.pre.0 begun.pre.2 in
+    let parts = selected_parts inner a.paths begun.requires.0 begun.requires.2 in
     let ors = replicate (a.paths - 1) or_item in
     let n = length-append ors (each_got reversed_items (decode inner)) in
     let k = length-replicate (a.paths - 1) or_item in
     let whole = ap length parts.1 in
     omega (arith, parts.0)
 
-put-same-requires : tie.Need-put-same-requires
+put-same-requires : tie.Need-put_same-requires
 put-same-requires c κs =
     let begun = begun-of c.before in
     let a = begun.args in
     let inner = a.inner.now in
     let old = a.out.now in
-    let parts = selected_parts inner a.paths begun.pre.0 begun.pre.2 in
+    let parts = selected_parts inner a.paths begun.requires.0 begun.requires.2 in
     let ors = replicate (a.paths - 1) or_item in
     let n = length-append ors (each_got reversed_items (decode inner)) in
     let k = length-replicate (a.paths - 1) or_item in
     let whole = ap length parts.1 in
-    omega (arith, begun.pre.3)
+    omega (arith, begun.requires.3)
 
-sub-put-reverses : tie.Need-overflow-sub-put-reverses
+sub-put-reverses : tie.Need-overflow_sub-paths-2
 sub-put-reverses c =
     let begun = begun-of (lent_of c.before.before.before) in
     let a = begun.args in
     let inner = a.inner.now in
     let old = a.out.now in
-    let parts = selected_parts inner a.paths begun.pre.0 begun.pre.2 in
+    let parts = selected_parts inner a.paths begun.requires.0 begun.requires.2 in
     let ors = replicate (a.paths - 1) or_item in
     let n = length-append ors (each_got reversed_items (decode inner)) in
     let k = length-replicate (a.paths - 1) or_item in
     let whole = ap length parts.1 in
     omega (arith, parts.0)
 
-add-put-reverses : tie.Need-overflow-add-put-reverses
+add-put-reverses : tie.Need-overflow_add-at
 add-put-reverses c =
     let begun = begun-of (lent_of c.before.before.before) in
     let a = begun.args in
     let inner = a.inner.now in
     let old = a.out.now in
-    let parts = selected_parts inner a.paths begun.pre.0 begun.pre.2 in
+    let parts = selected_parts inner a.paths begun.requires.0 begun.requires.2 in
     let ors = replicate (a.paths - 1) or_item in
     let n = length-append ors (each_got reversed_items (decode inner)) in
     let k = length-replicate (a.paths - 1) or_item in
     let whole = ap length parts.1 in
-    omega (arith, begun.pre.3)
+    omega (arith, begun.requires.3)
 
-put-reverses-requires : tie.Need-put-reverses-requires
+put-reverses-requires : tie.Need-put_reverses-requires
 put-reverses-requires c κs =
     let begun = begun-of (lent_of c.before.before.before) in
     let a = begun.args in
     let inner = a.inner.now in
     let old = a.out.now in
-    let parts = selected_parts inner a.paths begun.pre.0 begun.pre.2 in
+    let parts = selected_parts inner a.paths begun.requires.0 begun.requires.2 in
     let ors = replicate (a.paths - 1) or_item in
     let n = length-append ors (each_got reversed_items (decode inner)) in
     let k = length-replicate (a.paths - 1) or_item in
     let whole = ap length parts.1 in
-    (begun.pre.0, begun.pre.1, omega (arith, begun.pre.3, same_size ors old c.before.before.before.put_same.new.0 a.at c.before.before.before.put_same.ensures (omega (arith, begun.pre.3))))
+    (begun.requires.0, begun.requires.1, omega (arith, begun.requires.3, same_size ors old c.put_same.new.0 a.at c.put_same.ensures (omega (arith, begun.requires.3))))
 
-same_length : tie.Need-same-length
+same_length : tie.Need-shape_of-out
 same_length c = search rules
 
 returns : tie.Need-returns
@@ -100,13 +97,13 @@ returns c =
     let a = begun.args in
     let inner = a.inner.now in
     let old = a.out.now in
-    let parts = selected_parts inner a.paths begun.pre.0 begun.pre.2 in
+    let parts = selected_parts inner a.paths begun.requires.0 begun.requires.2 in
     let ors = replicate (a.paths - 1) or_item in
     let n = length-append ors (each_got reversed_items (decode inner)) in
     let k = length-replicate (a.paths - 1) or_item in
     let whole = ap length parts.1 in
-    c.before.before.put-reverses.ensures ∙ ap (placed (each_got reversed_items (decode inner)) (a.at + (a.paths - 1))) joined.put_same.ensures ∙
-    placed_after ors (each_got reversed_items (decode inner)) old a.at (a.at + (a.paths - 1)) (omega (arith, begun.pre.3)) (omega arith) ∙
+    c.put_reverses.ensures ∙ ap (placed (each_got reversed_items (decode inner)) (a.at + (a.paths - 1))) joined.put_same.ensures ∙
+    placed_after ors (each_got reversed_items (decode inner)) old a.at (a.at + (a.paths - 1)) (omega (arith, begun.requires.3)) (omega arith) ∙
     ap (λ (x : List ℕ). placed x a.at old) (sym parts.1)
 
 pub put_selected_spec : {M : Type 1} → statement M

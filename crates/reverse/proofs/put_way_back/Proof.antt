@@ -12,10 +12,10 @@ use Rattle.reverse.proofs.WayBack.{TurnedTo, turned_start, turned_more, turned_d
 use Rattle.reverse.proofs.put_way_back.Statement.{statement}
 use Rattle.reverse.proofs.put_way_back.Tie as tie
 
-abbrev invariant-loop : tie.invariant-loop
+abbrev invariant-loop : tie.invariant-loop-place
 invariant-loop steps out₀ at back₀ place₀ test₀ count₀ out back place test count = TurnedTo steps out₀ out at back place test count
 
-abbrev decreases-loop : tie.decreases-loop
+abbrev decreases-loop : tie.decreases-loop-place
 decreases-loop steps out₀ at back₀ place₀ test₀ count₀ out back place test count = length steps - place
 
 abbrev Start : Type 0
@@ -23,146 +23,138 @@ Start = tie.Start invariant-loop decreases-loop
 
 -- Of what is lent nothing is read yet.
 abbrev Lent : Type 0
-Lent = tie.After-slice-known invariant-loop decreases-loop
+Lent = tie.After-slice_known-1 invariant-loop decreases-loop
 
 abbrev begun-of : Lent → Start
 begun-of c = c.before.before
-
 -- The last predicate is put.
 abbrev Rooted : Type 0
-Rooted = tie.After-put-at-root invariant-loop decreases-loop
+Rooted = tie.After-put_at_root invariant-loop decreases-loop
 
 abbrev lent_of : Rooted → Lent
 lent_of c = c.before.before
-
 -- The steps before this place are put.
 abbrev Turn : Type 0
-Turn = tie.At-loop invariant-loop decreases-loop
+Turn = tie.At-loop-place invariant-loop decreases-loop
 
 abbrev rooted_of : Turn → Rooted
 rooted_of c = c.before.before.before
-
 -- There is one more,
 abbrev Inside : Type 0
-Inside = tie.In-loop invariant-loop decreases-loop
+Inside = tie.In-loop-place invariant-loop decreases-loop
 
 abbrev turn-of : Inside → Turn
 turn-of c = c.before
-
 -- its item is read,
 abbrev Read : Type 0
-Read = tie.After-as-step invariant-loop decreases-loop
+Read = tie.After-as_step-step invariant-loop decreases-loop
 
 abbrev inside_of : Read → Inside
 inside_of c = c.before.before
-
 -- where its predicates end is known,
 abbrev Ended : Type 0
-Ended = tie.After-skip invariant-loop decreases-loop
+Ended = tie.After-skip-next invariant-loop decreases-loop
 
 abbrev read_of : Ended → Read
 read_of c = c.before
-
 -- its new item is made,
 abbrev Packed : Type 0
-Packed = tie.After-pack-step invariant-loop decreases-loop
+Packed = tie.After-pack_step invariant-loop decreases-loop
 
 abbrev ended_of : Packed → Ended
 ended_of c = c.before.before
-
 -- and its predicates are put.
 abbrev Put : Type 0
-Put = tie.After-put-items invariant-loop decreases-loop
+Put = tie.After-put_items invariant-loop decreases-loop
 
 abbrev packed_of : Put → Packed
 packed_of c = c.before.before.before
-
-add_back : tie.Need-overflow-add-back invariant-loop decreases-loop
+add_back : tie.Need-overflow_add-back invariant-loop decreases-loop
 add_back c = omega arith
 
-add-back-2 : tie.Need-overflow-add-back-2 invariant-loop decreases-loop
+add-back-2 : tie.Need-overflow_add-back-2 invariant-loop decreases-loop
 add-back-2 c = omega arith
 
-put-at-root-requires : tie.Need-put-at-root-requires invariant-loop decreases-loop
+put-at-root-requires : tie.Need-put_at_root-requires invariant-loop decreases-loop
 put-at-root-requires c κs = omega arith
 
-loop-holds : tie.Need-loop-init invariant-loop decreases-loop
+loop-holds : tie.Need-loop-place-init invariant-loop decreases-loop
 loop-holds c =
     let begun = begun-of (lent_of c.before.before) in
-    turned_start begun.args.steps.now begun.args.out.now c.before.before.put-at-root.new.0 begun.args.at (begun.args.at + 1 + length begun.args.steps.now) refl begun.pre.1 c.before.before.put-at-root.ensures
+    turned_start begun.args.steps.now begun.args.out.now c.put_at_root.new.0 begun.args.at (begun.args.at + 1 + length begun.args.steps.now) refl begun.requires.1 c.put_at_root.ensures
 
-mul-as-step : tie.Need-overflow-mul-as-step invariant-loop decreases-loop
+mul-as-step : tie.Need-offset_bounds-steps-place invariant-loop decreases-loop
 mul-as-step c = omega arith
 
-shared-slice-read-as-step : tie.Need-shared-slice-read-as-step invariant-loop decreases-loop
+shared-slice-read-as-step : tie.Need-bounds-steps-place invariant-loop decreases-loop
 shared-slice-read-as-step c = omega arith
 
-as-step-requires : tie.Need-as-step-requires invariant-loop decreases-loop
+as-step-requires : tie.Need-as_step-step-requires invariant-loop decreases-loop
 as-step-requires c κs = search rules
 
-add-skip : tie.Need-overflow-add-skip invariant-loop decreases-loop
+add-skip : tie.Need-overflow_add-place invariant-loop decreases-loop
 add-skip c = omega arith
 
-skip-requires : tie.Need-skip-requires invariant-loop decreases-loop
-skip-requires c κs = (omega arith, omega arith, omega (arith, c.as_step.ensures.small))
+skip-requires : tie.Need-skip-next-requires invariant-loop decreases-loop
+skip-requires c κs = (omega arith, omega arith, omega (arith, c.as_step-step.ensures.small))
 
 turn-requires : tie.Need-turn-requires invariant-loop decreases-loop
 turn-requires c κs = search rules
 
-pack-step-requires : tie.Need-pack-step-requires invariant-loop decreases-loop
+pack-step-requires : tie.Need-pack_step-requires invariant-loop decreases-loop
 pack-step-requires c κs =
     let read = read_of c.before in
     let turn = turn-of (inside_of read) in
-    (omega (arith, c.turn.ensures read.as_step.ensures.axis read.as_step.ensures.axis_is, axis_small (turned read.as_step.ensures.axis)), turn.loop.inv.test_small, turn.loop.inv.count_small)
+    (omega (arith, c.turn.ensures read.as_step-step.ensures.axis read.as_step-step.ensures.axis_is, axis_small (turned read.as_step-step.ensures.axis)), turn.loop-place.invariant.test_small, turn.loop-place.invariant.count_small)
 
-sub_out : tie.Need-overflow-sub-out invariant-loop decreases-loop
-sub_out c = omega (arith, (turn-of (inside_of (read_of (ended_of c)))).loop.inv.room)
+sub_out : tie.Need-overflow_sub-out invariant-loop decreases-loop
+sub_out c = omega (arith, (turn-of (inside_of (read_of (ended_of c)))).loop-place.invariant.room)
 
-mul-out : tie.Need-overflow-mul-out invariant-loop decreases-loop
+mul-out : tie.Need-offset_bounds-out-back invariant-loop decreases-loop
 mul-out c =
     let turn = turn-of (inside_of (read_of (ended_of c))) in
-    omega (arith, turn.loop.inv.room, turn.loop.inv.size, turn.loop.inv.fits)
+    omega (arith, turn.loop-place.invariant.room, turn.loop-place.invariant.size, turn.loop-place.invariant.fits)
 
-slice-write-out : tie.Need-slice-write-out invariant-loop decreases-loop
+slice-write-out : tie.Need-bounds-out-back invariant-loop decreases-loop
 slice-write-out c =
     let turn = turn-of (inside_of (read_of (ended_of c))) in
-    omega (arith, turn.loop.inv.room, turn.loop.inv.size, turn.loop.inv.fits)
+    omega (arith, turn.loop-place.invariant.room, turn.loop-place.invariant.size, turn.loop-place.invariant.fits)
 
-sub_back : tie.Need-overflow-sub-back invariant-loop decreases-loop
-sub_back c = omega (arith, (ended_of c).skip.ensures.0)
+sub_back : tie.Need-overflow_sub-back invariant-loop decreases-loop
+sub_back c = omega (arith, (ended_of c).skip-next.ensures.0)
 
-sub-back-2 : tie.Need-overflow-sub-back-2 invariant-loop decreases-loop
+sub-back-2 : tie.Need-overflow_sub-back-in-loop-place invariant-loop decreases-loop
 sub-back-2 c =
     let ended = ended_of c in
-    omega (arith, ended.skip.ensures.0, ended.skip.ensures.1, (turn-of (inside_of (read_of ended))).loop.inv.room)
+    omega (arith, ended.skip-next.ensures.0, ended.skip-next.ensures.1, (turn-of (inside_of (read_of ended))).loop-place.invariant.room)
 
-add-put-items : tie.Need-overflow-add-put-items invariant-loop decreases-loop
+add-put-items : tie.Need-overflow_add-place-in-loop-place invariant-loop decreases-loop
 add-put-items c = omega arith
 
-mul-put-items : tie.Need-overflow-mul-put-items invariant-loop decreases-loop
+mul-put-items : tie.Need-offset_bounds-steps-place-in-loop-place invariant-loop decreases-loop
 mul-put-items c = omega arith
 
-sub-put-items : tie.Need-overflow-sub-put-items invariant-loop decreases-loop
-sub-put-items c = omega (arith, (ended_of c).skip.ensures.0)
+sub-put-items : tie.Need-slice_bounds-put_items-count invariant-loop decreases-loop
+sub-put-items c = omega (arith, (ended_of c).skip-next.ensures.0)
 
-part-put-items-start : tie.Need-slice-bounds-put-items-start invariant-loop decreases-loop
-part-put-items-start c = omega (arith, (ended_of c).skip.ensures.0)
+part-put-items-start : tie.Need-slice_bounds-put_items-start invariant-loop decreases-loop
+part-put-items-start c = omega (arith, (ended_of c).skip-next.ensures.0)
 
-part-put-items-end : tie.Need-slice-bounds-put-items-end invariant-loop decreases-loop
-part-put-items-end c = omega (arith, (ended_of c).skip.ensures.1)
+part-put-items-end : tie.Need-slice_bounds-put_items-end invariant-loop decreases-loop
+part-put-items-end c = omega (arith, (ended_of c).skip-next.ensures.1)
 
-put-items-requires : tie.Need-put-items-requires invariant-loop decreases-loop
+put-items-requires : tie.Need-put_items-requires invariant-loop decreases-loop
 put-items-requires c κs =
     let ended = ended_of c.before.before in
     let turn = turn-of (inside_of (read_of ended)) in
-    simp length-set (omega (arith, part_size (begun-of (lent_of (rooted_of turn))).args.steps.now (turn.loop.place + 1) ended.skip.result (omega (arith, ended.skip.ensures.0)) ended.skip.ensures.1, ended.skip.ensures.0, ended.skip.ensures.1, turn.loop.inv.room, turn.loop.inv.size, turn.loop.inv.fits))
+    simp length-set (omega (arith, part_size (begun-of (lent_of (rooted_of turn))).args.steps.now (turn.loop-place.place + 1) ended.skip-next.result (omega (arith, ended.skip-next.ensures.0)) ended.skip-next.ensures.1, ended.skip-next.ensures.0, ended.skip-next.ensures.1, turn.loop-place.invariant.room, turn.loop-place.invariant.size, turn.loop-place.invariant.fits))
 
-loop-less : tie.Need-loop-smaller invariant-loop decreases-loop
+loop-less : tie.Need-loop-place-smaller invariant-loop decreases-loop
 loop-less c =
     let ended = ended_of (packed_of c.before.before) in
-    omega (arith, ended.skip.ensures.0, ended.skip.ensures.1, (inside_of (read_of ended)).loop-test.taken)
+    omega (arith, ended.skip-next.ensures.0, ended.skip-next.ensures.1, (inside_of (read_of ended)).loop-place-test.true)
 
-loop-again : tie.Need-loop-preserved invariant-loop decreases-loop
+loop-again : tie.Need-loop-place-preserved invariant-loop decreases-loop
 loop-again c =
     let packed = packed_of c.before.before in
     let ended = ended_of packed in
@@ -171,35 +163,35 @@ loop-again c =
     let turn = turn-of inside in
     let rooted = rooted_of turn in
     let a = (begun-of (lent_of rooted)).args in
-    let l = turn.loop in
-    turned_more a.steps.now rooted.put-at-root.last.0 l.out c.before.before.put-items.new.1.0 a.at l.back (l.back - (ended.skip.result - l.place)) l.place ended.skip.result
-    l.test l.count packed.pack-step.result packed.before.turn.result read.as_step.result inside.loop-test.taken l.inv read.as_step.ensures ended.skip.ensures.0 ended.skip.ensures.1 packed.before.turn.ensures
-    packed.pack-step.ensures refl c.before.before.put-items.ensures
+    let l = turn.loop-place in
+    turned_more a.steps.now rooted.put_at_root.last.0 l.out c.put_items.new.1.0 a.at l.back (l.back - (ended.skip-next.result - l.place)) l.place ended.skip-next.result
+    l.test l.count packed.pack_step.result packed.turn.result read.as_step-step.result inside.loop-place-test.true l.invariant read.as_step-step.ensures ended.skip-next.ensures.0 ended.skip-next.ensures.1 packed.turn.ensures
+    packed.pack_step.ensures refl c.put_items.ensures
 
-pack-step-requires-2 : tie.Need-pack-step-requires-2 invariant-loop decreases-loop
-pack-step-requires-2 c κs = (omega arith, c.before.loop.invariant.test_small, c.before.loop.invariant.count_small)
+pack-step-requires-2 : tie.Need-pack_step-requires-2 invariant-loop decreases-loop
+pack-step-requires-2 c κs = (omega arith, c.loop-place.invariant.test_small, c.loop-place.invariant.count_small)
 
-mul-out-2 : tie.Need-overflow-mul-out-2 invariant-loop decreases-loop
-mul-out-2 c = omega (arith, c.before.before.loop.invariant.size, c.before.before.loop.invariant.fits)
+mul-out-2 : tie.Need-offset_bounds-out-at invariant-loop decreases-loop
+mul-out-2 c = omega (arith, c.loop-place.invariant.size, c.loop-place.invariant.fits)
 
-slice-write-out-2 : tie.Need-slice-write-out-2 invariant-loop decreases-loop
-slice-write-out-2 c = omega (arith, c.before.before.loop.invariant.size, c.before.before.loop.invariant.fits)
+slice-write-out-2 : tie.Need-bounds-out-at invariant-loop decreases-loop
+slice-write-out-2 c = omega (arith, c.loop-place.invariant.size, c.loop-place.invariant.fits)
 
-same_length : tie.Need-same-length invariant-loop decreases-loop
+same_length : tie.Need-shape_of-out invariant-loop decreases-loop
 same_length c =
     let rooted = rooted_of c.before.before in
     let begun = begun-of (lent_of rooted) in
-    let same = same_size (encode_expr at_root) begun.args.out.now rooted.put-at-root.last.0 (begun.args.at + 1 + length begun.args.steps.now) rooted.put-at-root.ensures (omega arith) in
-    simp length-set (omega (arith, c.before.before.loop.invariant.size))
+    let same = same_size (encode_expr at_root) begun.args.out.now rooted.put_at_root.last.0 (begun.args.at + 1 + length begun.args.steps.now) rooted.put_at_root.ensures (omega arith) in
+    simp length-set (omega (arith, c.loop-place.invariant.size))
 
 returns : tie.Need-returns invariant-loop decreases-loop
 returns c =
     let rooted = rooted_of c.before.before in
     let begun = begun-of (lent_of rooted) in
-    let same = same_size (encode_expr at_root) begun.args.out.now rooted.put-at-root.last.0 (begun.args.at + 1 + length begun.args.steps.now) rooted.put-at-root.ensures (omega arith) in (
-      simp length-set (omega (arith, c.before.before.loop.invariant.size)),
-      turned_done begun.args.steps.now begun.args.out.now rooted.put-at-root.last.0 c.before.before.loop.out begun.args.at (begun.args.at + 1 + length begun.args.steps.now) c.before.before.loop.back c.before.before.loop.place
-          c.before.before.loop.test c.before.before.loop.count c.pack-step2.result c.before.loop-test.false c.before.before.loop.invariant refl rooted.put-at-root.ensures begun.pre.1 c.pack-step2.ensures,
+    let same = same_size (encode_expr at_root) begun.args.out.now rooted.put_at_root.last.0 (begun.args.at + 1 + length begun.args.steps.now) rooted.put_at_root.ensures (omega arith) in (
+      simp length-set (omega (arith, c.loop-place.invariant.size)),
+      turned_done begun.args.steps.now begun.args.out.now rooted.put_at_root.last.0 c.loop-place.out begun.args.at (begun.args.at + 1 + length begun.args.steps.now) c.loop-place.back c.loop-place.place
+          c.loop-place.test c.loop-place.count c.pack_step-2.result c.loop-place-test.false c.loop-place.invariant refl rooted.put_at_root.ensures begun.requires.1 c.pack_step-2.ensures,
     )
 
 pub put_way_back_spec : {M : Type 1} → statement M

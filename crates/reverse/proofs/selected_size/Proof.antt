@@ -4,13 +4,13 @@ use Rattle.reverse.proofs.Selected.{paths-got, selected-got}
 use Rattle.reverse.proofs.selected_size.Statement.{statement}
 use Rattle.reverse.proofs.selected_size.Tie as tie
 
-mul-result : tie.Need-overflow-mul-result
+mul-result : tie.Need-overflow_mul-result
 mul-result c = let few = paths-got c.args.inner.now c.requires.0 in omega (arith, c.requires.1, c.requires.2)
 
-add-result : tie.Need-overflow-add-result
+add-result : tie.Need-overflow_add-result
 add-result c = let few = paths-got c.args.inner.now c.requires.0 in omega (arith, c.requires.1, c.requires.2)
 
-sub-result : tie.Need-overflow-sub-result
+sub-result : tie.Need-overflow_sub-result
 sub-result c = let few = paths-got c.args.inner.now c.requires.0 in omega (arith, c.requires.1, c.requires.2)
 
 returns : tie.Need-returns

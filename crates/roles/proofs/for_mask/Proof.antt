@@ -37,117 +37,114 @@ refused : (s : tie.Start) (number place : ℕ) → refusal number place ≡ line
     × (old s ≡ mask_out (views s) (list s) s.args.roles s.args.role s.args.mask (text s) (old s))
 refused s number place e = (e, kept_out (views s) (list s) (text s) (old s) s.args.roles s.args.role s.args.mask number place e)
 
-abbrev begun : tie.Else1 → tie.Start
+abbrev begun : tie.Else-long → tie.Start
 begun c = c.before.before.before.before.before
-
 -- The lengths are within their limits, and so is the number of views.
-short : (c : tie.Else1) → long (views (begun c)) (list (begun c)) (text (begun c)) (begun c).args.roles (begun c).args.role (begun c).args.mask (length (old (begun c))) ≡ false
-short c = c.if1.false
+short : (c : tie.Else-long) → long (views (begun c)) (list (begun c)) (text (begun c)) (begun c).args.roles (begun c).args.role (begun c).args.mask (length (old (begun c))) ≡ false
+short c = c.if-long.false
 
-views_short : (c : tie.Else1) → length (views (begun c)) ≤ text_limit
+views_short : (c : tie.Else-long) → length (views (begun c)) ≤ text_limit
 views_short c =
     let s = begun c in
     let three = (or_none (too_long (views s) text_limit || too_long (list s) list_limit || too_long (text s) text_limit) (ltb role_limit s.args.roles) (short c)).0 in
     let two = (or_none (too_long (views s) text_limit || too_long (list s) list_limit) (too_long (text s) text_limit) three).0 in
     ltb-false text_limit (length (views s)) (or_none (too_long (views s) text_limit) (too_long (list s) list_limit) two).0
 
-abbrev past-lengths : tie.Else2 → tie.Else1
+abbrev past-lengths : tie.Else-count-gt-VIEW_LIMIT → tie.Else-long
 past-lengths c = c.before.before
-
-few : (c : tie.Else2) → views_counted (views (begun (past-lengths c))) ≤ view_limit
-few c = omega (arith, c.if2.false, c.before.count-views.ensures)
+few : (c : tie.Else-count-gt-VIEW_LIMIT) → views_counted (views (begun (past-lengths c))) ≤ view_limit
+few c = omega (arith, c.if-count-gt-VIEW_LIMIT.false, c.count_views-count.ensures)
 
 -- The list is good.
-abbrev of-list : tie.After-enum-told → tie.Else2
-of-list c = c.before.before.before
-
-abbrev start : tie.After-enum-told → tie.Start
+abbrev of-list : tie.In-Value → tie.Else-count-gt-VIEW_LIMIT
+of-list c = c.before.before
+abbrev start : tie.In-Value → tie.Start
 start c = begun (past-lengths (of-list c))
 
-good_list : (c : tie.After-enum-told) → value c.enum_told.given.0.0 ≡ list_answer (list (start c))
-good_list c = ap told (sym c.enum_told.given.1) ∙ c.before.before.judge-list.ensures
+good_list : (c : tie.In-Value) → value c.in-Value.field-0 ≡ list_answer (list (start c))
+good_list c = ap told (sym c.in-Value.is) ∙ c.judge_list-listed.ensures
 
 -- The role is there, and its mask is not 0.
-there : (c : tie.Else3) → (start c.before).args.role < (start c.before).args.roles
-there c = omega (arith, c.if3.false)
+there : (c : tie.Else-roles-number) → (start c.before).args.role < (start c.before).args.roles
+there c = omega (arith, c.if-roles-number.false)
 
-returns : tie.Need-returns
+returns : tie.Need-returns-then-long
 returns c =
-    let s = c.before.before.before.before.before in
-    refused s 1 0 (too_long_lem (views s) (list s) (text s) s.args.roles s.args.role s.args.mask (length (old s)) c.if1.true)
+    let s = c in
+    refused s 1 0 (too_long_lem (views s.before.before.before.before.before) (list s.before.before.before.before.before) (text s.before.before.before.before.before) s.args.roles s.args.role s.args.mask (length (old s.before.before.before.before.before)) c.if-long.true)
 
-count-views-requires : tie.Need-count-views-requires
+count-views-requires : tie.Need-count_views-count-requires
 count-views-requires c κs = views_short c
 
-returns-2 : tie.Need-returns-2
+returns-2 : tie.Need-returns-then-count-gt-VIEW_LIMIT
 returns-2 c =
     let s = begun c.before.before in
-    refused s 1 0 (too_many (views s) (list s) (text s) s.args.roles s.args.role s.args.mask (length (old s)) (omega (arith, c.if2.true, c.before.count-views.ensures)))
+    refused s 1 0 (too_many (views s) (list s) (text s) s.args.roles s.args.role s.args.mask (length (old s)) (omega (arith, c.if-count-gt-VIEW_LIMIT.true, c.count_views-count.ensures)))
 
-judge-list-requires : tie.Need-judge-list-requires
+judge-list-requires : tie.Need-judge_list-listed-requires
 judge-list-requires c κs = search rules
 
-enum_told : tie.Need-enum-told
+enum_told : tie.Need-enum_told-1
 enum_told c = search rules
 
-returns-3 : tie.Need-returns-3
+returns-3 : tie.Need-returns-in_default
 returns-3 c =
-    let e2 = c.before.before in
-    let s = begun (past-lengths e2) in
-    let (number, place, t) = refusal_told c.before.judge-list.result c.match.keys2 in
+    let e2 = c in
+    let s = begun (past-lengths e2.before.before) in
+    let (number, place, t) = refusal_told c.judge_list-listed.result c.in-Value.in-Value-own.keys2 in
     let e =
-    bad_list (views s) (list s) (text s) s.args.roles s.args.role s.args.mask (length (old s)) (short (past-lengths e2)) (few e2) number place (sym t ∙ c.before.judge-list.ensures) in
+    bad_list (views s) (list s) (text s) s.args.roles s.args.role s.args.mask (length (old s)) (short (past-lengths e2.before.before)) (few e2.before.before) number place (sym t ∙ c.judge_list-listed.ensures) in
     let both = refused s number place e in
     (t ∙ both.0, both.1)
 
-returns-4 : tie.Need-returns-4
+returns-4 : tie.Need-returns-then-roles-number
 returns-4 c =
-    let k = c.before in
-    let s = start k in
+    let k = c in
+    let s = start k.before in
     refused s 15 s.args.role
-    (no_role (views s) (list s) (text s) s.args.roles s.args.role s.args.mask (length (old s)) (short (past-lengths (of-list k))) (few (of-list k)) _ (good_list k) (omega (arith, c.if3.true)))
+    (no_role (views s) (list s) (text s) s.args.roles s.args.role s.args.mask (length (old s)) (short (past-lengths (of-list k.before))) (few (of-list k.before)) _ (good_list k.before) (omega (arith, c.if-roles-number.true)))
 
-returns-5 : tie.Need-returns-5
+returns-5 : tie.Need-returns-then-mask-eq0
 returns-5 c =
-    let e3 = c.before in
-    let k = e3.before in
-    let s = start k in
+    let e3 = c in
+    let k = e3 in
+    let s = start k.before.before in
     refused s 16 s.args.role
-    (no_view (views s) (list s) (text s) s.args.roles s.args.role s.args.mask (length (old s)) (short (past-lengths (of-list k))) (few (of-list k)) _ (good_list k) (there e3) (omega (arith, c.if4.true)))
+    (no_view (views s) (list s) (text s) s.args.roles s.args.role s.args.mask (length (old s)) (short (past-lengths (of-list k.before.before))) (few (of-list k.before.before)) _ (good_list k.before.before) (there e3.before) (omega (arith, c.if-mask-eq0.true)))
 
-left-of-requires : tie.Need-left-of-requires
+left-of-requires : tie.Need-left_of-requires
 left-of-requires c κs = search rules
 
 -- What is left of the mask once the views have taken their bits.
-left_is : (c : tie.After-left-of) → c.left-of.result ≡ beyond (start c.before.before.before).args.mask (views_counted (views (start c.before.before.before)))
-left_is c = c.left-of.ensures ∙ ap (beyond _) (of-list c.before.before.before).before.count-views.ensures
+left_is : (c : tie.After-left_of) → c.left_of.result ≡ beyond (start c.before.before.before).args.mask (views_counted (views (start c.before.before.before)))
+left_is c = c.left_of.ensures ∙ ap (beyond _) (of-list c.before.before.before).count_views-count.ensures
 
-returns-6 : tie.Need-returns-6
+returns-6 : tie.Need-returns-then-left_of-ne0
 returns-6 c =
-    let e3 = c.before.before.before in
-    let k = e3.before in
-    let s = start k in
+    let e3 = c in
+    let k = e3 in
+    let s = start k.before.before.before.before in
     refused s 16 s.args.role
-    (not_given (views s) (list s) (text s) s.args.roles s.args.role s.args.mask (length (old s)) (short (past-lengths (of-list k))) (few (of-list k)) _ (good_list k) (there e3)
-    (λ e. c.if5.true (left_is c.before ∙ e)))
+    (not_given (views s) (list s) (text s) s.args.roles s.args.role s.args.mask (length (old s)) (short (past-lengths (of-list k.before.before.before.before))) (few (of-list k.before.before.before.before)) _ (good_list k.before.before.before.before) (there e3.before.before.before)
+    (λ e. c.if-left_of-ne0.true (left_is c.before ∙ e)))
 
-compose-union-requires : tie.Need-compose-union-requires
+compose-union-requires : tie.Need-compose_union-requires
 compose-union-requires c κs = views_short (past-lengths (of-list c.before.before.before.before.before))
 
-same_length : tie.Need-same-length
+same_length : tie.Need-shape_of-out
 same_length c = search rules
 
-returns-7 : tie.Need-returns-7
+returns-7 : tie.Need-returns
 returns-7 c =
-    let called = c.before.before in
-    let e5 = called.before.before in
-    let e3 = e5.before.before.before in
-    let k = e3.before in
-    let s = start k in
+    let called = c in
+    let e5 = called in
+    let e3 = e5 in
+    let k = e3 in
+    let s = start k.before.before.before.before.before.before.before.before in
     let e =
-    to_union (views s) (list s) (text s) s.args.roles s.args.role s.args.mask (length (old s)) (short (past-lengths (of-list k))) (few (of-list k)) _ (good_list k) (there e3)
-    (λ z. e5.before.before.if4.false z) (sym (left_is e5.before) ∙ e5.if5.false) in
-    (called.compose-union.ensures.0 ∙ sym e, union-out (views s) (list s) (text s) (old s) _ s.args.roles s.args.role s.args.mask e called.compose-union.ensures.1)
+    to_union (views s) (list s) (text s) s.args.roles s.args.role s.args.mask (length (old s)) (short (past-lengths (of-list k.before.before.before.before.before.before.before.before))) (few (of-list k.before.before.before.before.before.before.before.before)) _ (good_list k.before.before.before.before.before.before.before.before) (there e3.before.before.before.before.before.before.before)
+    (λ z. e5.if-mask-eq0.false z) (sym (left_is e5.before.before.before.before.before) ∙ e5.if-left_of-ne0.false) in
+    (called.compose_union.ensures.0 ∙ sym e, union-out (views s) (list s) (text s) (old s) _ s.args.roles s.args.role s.args.mask e called.compose_union.ensures.1)
 
 pub for_mask_spec : {M : Type 1} → statement M
 for_mask_spec =

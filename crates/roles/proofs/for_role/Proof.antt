@@ -146,11 +146,11 @@ module _ {M : Type 1} {𝓤 : Ura M} (𝓛 : Logic 𝓤) (mem : Memory → SProp
   abbrev to₁ : (MaskOf 𝓛 mem run).Ghost
   to₁ = (((κ₂, tt), (q₂, tt), tt, (s₂, (n, tt)), passed₁), tt)
 
-  asked₁ : ent 𝓤 (on_entry 𝓛 lookup.signature (κ₂, tt) (q₂, tt) (s₂, (n, tt)) passed₁) ((MaskOf 𝓛 mem run).pre to₁)
+  asked₁ : ent 𝓤 (on_entry 𝓛 lookup.signature (κ₂, tt) (q₂, tt) (s₂, (n, tt)) passed₁) ((MaskOf 𝓛 mem run).requires to₁)
   asked₁ = qed 𝓛 ((‵ (flft κ₂ q₂) ⊛ ‵ ftrue) ∷ ‵ (owns (ShrSlice (named 0) κ₂ T.the_row ∷ usize ∷ []) (s₂, (n, tt)) passed₁) ∷ []) ∵ join ! $ frame ! $ done !
 
   -- what is lent gives what it asks, and the rest is kept
-  apart₁ : ent 𝓤 (on_entry 𝓛 role.signature κs qs a vals) (sep 𝓤 ((MaskOf 𝓛 mem run).pre to₁) (sem 𝓛 Kept))
+  apart₁ : ent 𝓤 (on_entry 𝓛 role.signature κs qs a vals) (sep 𝓤 ((MaskOf 𝓛 mem run).requires to₁) (sem 𝓛 Kept))
   apart₁ =
       qed 𝓛 (tokens ∷ ‵ (owns (ShrSlice (named 0) κ₀ u8 ∷ ShrSlice (named 1) κ₁ u8 ∷ ShrSlice (named 2) κ₂ T.the_row ∷ u32 ∷ ShrSlice (named 3) κ₃ u8 ∷ MutSlice (named 4) κ₄ u32 ∷ []) a vals) ∷ []) ∵
       move ! (1 ∷ []) $ fsplit ! $ use1 𝓛 (‵ O₀ ⊛ ‵ O₀) ((shr_slice_copy 𝓛 (named 0) κ₀ u8).twice s₀ (v₀ ∷ [])) $ split ! $
@@ -162,7 +162,7 @@ module _ {M : Type 1} {𝓤 : Ura M} (𝓛 : Logic 𝓤) (mem : Memory → SProp
       move ! (10 ∷ []) $ split ! $ move ! (1 ∷ []) $ split ! $ move ! (1 ∷ []) $ split ! $ move ! (1 ∷ []) $ split ! $ move ! (1 ∷ []) $ split ! $
       -- [token 4; true; tokens 3, 2, 1, 0; what the output owns; true; what each shared slice owns]
       nothing ! $ owned ! usize (Is usize) (uint_Makes 𝓛 w64) n _ (refl, omega (arith, n-fits)) $ fjoin ! $ move ! (11 ∷ 0 ∷ []) $ fjoin ! $
-      move ! (4 ∷ 2 ∷ []) $ join ! $ use2 𝓛 (raw ((MaskOf 𝓛 mem run).pre to₁)) asked₁ $
+      move ! (4 ∷ 2 ∷ []) $ join ! $ use2 𝓛 (raw ((MaskOf 𝓛 mem run).requires to₁)) asked₁ $
       -- [what is asked; tokens 4, 3, 1, 0; what the output owns; true; what each shared slice owns, that of the roles once]
       move ! (7 ∷ 6 ∷ []) $ fjoin ! $ move ! (8 ∷ 0 ∷ []) $ fjoin ! $ move ! (8 ∷ 0 ∷ []) $ fjoin ! $ move ! (9 ∷ 0 ∷ []) $ fjoin ! $
       move ! (9 ∷ 0 ∷ []) $ fjoin ! $ move ! (8 ∷ 0 ∷ []) $ fjoin ! $ move ! (7 ∷ 0 ∷ []) $ fjoin ! $ move ! (6 ∷ 0 ∷ []) $ fjoin ! $
@@ -196,11 +196,11 @@ module _ {M : Type 1} {𝓤 : Ura M} (𝓛 : Logic 𝓤) (mem : Memory → SProp
     abbrev Ensured : Answer → List ℕ → Type 0
     Ensured r zs = (told r ≡ mask_answer s₀.now s₁.now (length s₂.now) n m s₃.now (length ys)) × (zs ≡ mask_out s₀.now s₁.now (length s₂.now) n m s₃.now ys)
 
-    asked₂ : ent 𝓤 (on_entry 𝓛 core.signature κs₂ qs₂ args₂ passed₂) ((ForMask 𝓛 mem run).pre to₂)
+    asked₂ : ent 𝓤 (on_entry 𝓛 core.signature κs₂ qs₂ args₂ passed₂) ((ForMask 𝓛 mem run).requires to₂)
     asked₂ = qed 𝓛 (tokens₂ ∷ ‵ (owns (ShrSlice (named 0) κ₀ u8 ∷ ShrSlice (named 1) κ₁ u8 ∷ usize ∷ u32 ∷ u32 ∷ ShrSlice (named 2) κ₃ u8 ∷ MutSlice (named 3) κ₄ u32 ∷ []) args₂ passed₂) ∷ []) ∵ join ! $ frame ! $ done !
 
     -- what was kept gives what it asks
-    apart₂ : ent 𝓤 (⋆ 𝓛 (‵ (u32.own_val m (w ∷ [])) ∷ ‵ Kept ∷ [])) (sep 𝓤 ((ForMask 𝓛 mem run).pre to₂) (sem 𝓛 Owned))
+    apart₂ : ent 𝓤 (⋆ 𝓛 (‵ (u32.own_val m (w ∷ [])) ∷ ‵ Kept ∷ [])) (sep 𝓤 ((ForMask 𝓛 mem run).requires to₂) (sem 𝓛 Owned))
     apart₂ =
         qed 𝓛 (‵ (u32.own_val m (w ∷ [])) ∷ ‵ Kept ∷ []) ∵
         move ! (1 ∷ []) $ fsplit ! $ move ! (1 ∷ []) $ fsplit ! $ move ! (1 ∷ []) $ fsplit ! $ move ! (1 ∷ []) $ fsplit ! $ move ! (1 ∷ []) $ fsplit ! $ move ! (1 ∷ []) $ fsplit ! $ move ! (1 ∷ []) $ fsplit ! $ move ! (1 ∷ []) $ fsplit ! $
@@ -208,7 +208,7 @@ module _ {M : Type 1} {𝓤 : Ura M} (𝓛 : Logic 𝓤) (mem : Memory → SProp
         nothing ! $ move ! (6 ∷ 0 ∷ []) $ join ! $ move ! (6 ∷ 0 ∷ []) $ join ! $ move ! (6 ∷ 0 ∷ []) $ join ! $ move ! (6 ∷ 0 ∷ []) $ join ! $
         nothing ! $ move ! (6 ∷ 0 ∷ []) $ fjoin ! $ move ! (5 ∷ 0 ∷ []) $ fjoin ! $ move ! (5 ∷ 0 ∷ []) $ fjoin ! $
         owned ! u32 (Is u32) (uint_Makes 𝓛 w32) n _ (refl, n-fits) $ fjoin ! $ owned ! usize (Is usize) (uint_Makes 𝓛 w64) (length s₂.now) _ (refl, count_fits) $ fjoin ! $
-        move ! (4 ∷ 0 ∷ []) $ fjoin ! $ move ! (2 ∷ 0 ∷ []) $ fjoin ! $ move ! (1 ∷ 0 ∷ []) $ use2 𝓛 (raw ((ForMask 𝓛 mem run).pre to₂)) asked₂ $ frame ! $ done !
+        move ! (4 ∷ 0 ∷ []) $ fjoin ! $ move ! (2 ∷ 0 ∷ []) $ fjoin ! $ move ! (1 ∷ 0 ∷ []) $ use2 𝓛 (raw ((ForMask 𝓛 mem run).requires to₂)) asked₂ $ frame ! $ done !
 
     -- what `for_mask` ensures is what is to be shown, by the mask that was found
     shown : (r : Answer) (zs : List ℕ) → m ≡ get_or (masks s₂.now) n 0 → Ensured r zs
@@ -249,7 +249,7 @@ module _ {M : Type 1} {𝓤 : Ura M} (𝓛 : Logic 𝓤) (mem : Memory → SProp
         pass1 ! (init ! 8 refl ((mut_slice_Lawful 𝓛 (named 4) κ₄ u32).typed x (v₄ ∷ []) p₄).0) $ pass0 ! $
         -- [_10; …; _9; …; _1; …; room for _0; …; what is lent]
         assigns ! (un ! (load ! (from ! (stop !)) (look ! 12 refl)) (record { fits = omega (arith, n-fits) })) (from ! (stop !)) (init ! 4 refl (tt, record { fits = omega (arith, n-fits) })) $
-        move ! (22 ∷ []) $ use1 𝓛 (raw ((MaskOf 𝓛 mem run).pre to₁) ⊛ ‵ Kept) apart₁ $ split ! $
+        move ! (22 ∷ []) $ use1 𝓛 (raw ((MaskOf 𝓛 mem run).requires to₁) ⊛ ‵ Kept) apart₁ $ split ! $
         calls_at ! fm (MaskOf 𝓛 mem run) known₁ to₁ (and_then ! (load ! (from ! (stop !)) (look ! 16 refl)) (and_then ! (load ! (from ! (stop !)) (look ! 6 refl)) (no_more !))) (λ w.
         use1 𝓛 (later (some (λ (m : ℕ). ((‵ (flft κ₂ q₂) ⊛ ‵ ftrue) ⊛ ‵ (u32.own_val m (w ∷ []))) ⊛ raw (ensured 𝓛 lookup.ended (lookup.clauses 𝓛 mem run) (κ₂, tt) (s₂, (n, tt)) tt m)))) (id⊢ 𝓤 _) $ await ! tt $ pick ! (λ m.
         split ! $ move ! (1 ∷ []) $ use1 𝓛 (raw (fact 𝓤 (m ≡ get_or (masks s₂.now) n 0))) (found m) $ heard ! (m ≡ get_or (masks s₂.now) n 0) (λ f. split ! $ move ! (1 ∷ []) $
@@ -259,7 +259,7 @@ module _ {M : Type 1} {𝓤 : Ura M} (𝓛 : Logic 𝓤) (mem : Memory → SProp
         assigns ! (of_opd ! (load ! (from ! (fld ! refl (stop !))) (look_in ! 17 (sub ! 1 refl (whole !))))) (from ! (stop !)) (store ! 7 refl (tt, record { fits = count_fits })) $
         assigns ! (addr ! (from ! (fld ! refl (hop ! (look_in ! 11 (sub ! 0 refl (whole !))) (stop !))))) (from ! (stop !)) (init ! 5 refl (tt, tt)) $
         assigns ! (agg ! (and_then ! (load ! (from ! (stop !)) (look ! 5 refl)) (and_then ! (load ! (from ! (fld ! refl (stop !))) (look_in ! 11 (sub ! 1 refl (whole !)))) (no_more !)))) (from ! (stop !)) (init ! 3 refl (tt, (tt, (record { fits = p₄.0.1.0 }, tt)))) $
-        move ! (0 ∷ 2 ∷ []) $ use2 𝓛 (raw ((ForMask 𝓛 mem run).pre (to₂ m w)) ⊛ ‵ Owned) (apart₂ m w) $ split ! $
+        move ! (0 ∷ 2 ∷ []) $ use2 𝓛 (raw ((ForMask 𝓛 mem run).requires (to₂ m w)) ⊛ ‵ Owned) (apart₂ m w) $ split ! $
         -- [what is asked; what the shared slices own; token 2; _10; …]
         calls_at ! fm (ForMask 𝓛 mem run) known₂ (to₂ m w) (and_then ! (load ! (from ! (stop !)) (look ! 21 refl)) (and_then ! (load ! (from ! (stop !)) (look ! 19 refl)) (and_then ! (load ! (from ! (stop !)) (look ! 7 refl)) (and_then ! (load ! (from ! (stop !)) (look ! 15 refl)) (and_then ! (load ! (from ! (stop !)) (look ! 9 refl)) (and_then ! (load ! (from ! (stop !)) (look ! 13 refl)) (and_then ! (load ! (from ! (stop !)) (look ! 3 refl)) (no_more !)))))))) (λ u.
         use1 𝓛 (later (some (λ (r : Answer). (tokens₂ m w ⊛ ‵ ((E.the_row).own_val r (u ∷ []))) ⊛ raw (ensured 𝓛 core.ended (core.clauses 𝓛 mem run) (κs₂ m w) (args₂ m w) tt r)))) (id⊢ 𝓤 _) $ await ! tt $ pick ! (λ r.

@@ -6,26 +6,26 @@ use Rattle.paper.specs.Roles.{beyond}
 use Rattle.roles.proofs.left_of.Statement.{statement}
 use Rattle.roles.proofs.left_of.Tie as tie
 
-abbrev invariant-loop : tie.invariant-loop
+abbrev invariant-loop : tie.invariant-loop-taken
 invariant-loop mask views left₀ taken₀ left taken = (taken ≤ views) × ((rest : ℕ) → taken + rest ≡ views → beyond mask views ≡ beyond left rest)
 
-abbrev decreases-loop : tie.decreases-loop
+abbrev decreases-loop : tie.decreases-loop-taken
 decreases-loop mask views left₀ taken₀ left taken = views - taken
 
-loop-holds : tie.Need-loop-init invariant-loop decreases-loop
+loop-holds : tie.Need-loop-taken-init invariant-loop decreases-loop
 loop-holds c = (omega arith, λ rest e. ap (beyond _) (let all : c.args.views ≡ rest = omega (arith, e) in all))
 
-add-taken : tie.Need-overflow-add-taken invariant-loop decreases-loop
+add-taken : tie.Need-overflow_add-taken invariant-loop decreases-loop
 add-taken c = omega arith
 
-loop-less : tie.Need-loop-smaller invariant-loop decreases-loop
+loop-less : tie.Need-loop-taken-smaller invariant-loop decreases-loop
 loop-less c = omega arith
 
-loop-again : tie.Need-loop-preserved invariant-loop decreases-loop
-loop-again c = let l = c.before.loop in (omega arith, λ rest e. l.invariant.1 (suc rest) (omega (arith, e)))
+loop-again : tie.Need-loop-taken-preserved invariant-loop decreases-loop
+loop-again c = let l = c.loop-taken in (omega arith, λ rest e. l.invariant.1 (suc rest) (omega (arith, e)))
 
 returns : tie.Need-returns invariant-loop decreases-loop
-returns c = let l = c.before.loop in sym (l.invariant.1 0 (omega (arith, l.invariant.0)))
+returns c = let l = c.loop-taken in sym (l.invariant.1 0 (omega (arith, l.invariant.0)))
 
 pub left_of_spec : {M : Type 1} → statement M
 left_of_spec = tie.close (tie.spec invariant-loop decreases-loop loop-holds add-taken loop-less loop-again returns)

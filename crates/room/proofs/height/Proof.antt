@@ -20,39 +20,37 @@ abbrev query : tie.Start → List ℕ
 query start = start.args.query.now
 
 -- Past line 1 the items are few.
-abbrev begun : tie.Else1 → tie.Start
+abbrev begun : tie.Else-query-gt-ITEM_LIMIT → tie.Start
 begun c = c.before.before
-
-few : (c : tie.Else1) → length (query (begun c)) ≤ item_limit
-few c = omega (arith, c.if1.false)
+few : (c : tie.Else-query-gt-ITEM_LIMIT) → length (query (begun c)) ≤ item_limit
+few c = omega (arith, c.if-query-gt-ITEM_LIMIT.false)
 
 -- Past line 6 they are a query.
-abbrev past-1 : tie.After-shaped → tie.Else1
-past-1 c = c.before.before.before
+abbrev past-1 : tie.In-Query → tie.Else-query-gt-ITEM_LIMIT
+past-1 c = c.before.before
+is_query : (c : tie.In-Query) → (q : Query) × (decode (query (begun (past-1 c))) ≡ some q) × (c.in-Query.height ≡ height q)
+is_query c = shaped_some _ _ _ _ (sym c.in-Query.is ∙ c.measure-shaped.ensures)
 
-is_query : (c : tie.After-shaped) → (q : Query) × (decode (query (begun (past-1 c))) ≡ some q) × (c.shaped.given.0.1.0 ≡ height q)
-is_query c = shaped_some _ _ _ _ (sym c.shaped.given.1 ∙ c.before.before.measure.ensures)
+returns : tie.Need-returns-then-query-gt-ITEM_LIMIT
+returns c = too_long_lem height (query c.before.before) c.if-query-gt-ITEM_LIMIT.true
 
-returns : tie.Need-returns
-returns c = too_long_lem height (query c.before.before) c.if1.true
-
-measure-requires : tie.Need-measure-requires
+measure-requires : tie.Need-measure-shaped-requires
 measure-requires c κs = search rules
 
-enum-known-shaped : tie.Need-enum-known-shaped
+enum-known-shaped : tie.Need-enum_known-shaped
 enum-known-shaped c = search rules
 
-enum_told : tie.Need-enum-told
+enum_told : tie.Need-enum_told-1
 enum_told c = search rules
 
-returns-2 : tie.Need-returns-2
+returns-2 : tie.Need-returns-in_default
 returns-2 c =
-    let examined = c.before.before in
-    no_query height _ (few examined.before) (shaped_none _ (sym c.enum_told.given.1 ∙ examined.measure.ensures))
+    let examined = c in
+    no_query height _ (few examined.before.before) (shaped_none _ (sym c.in_default.is ∙ examined.measure-shaped.ensures))
 
-returns-3 : tie.Need-returns-3
+returns-3 : tie.Need-returns
 returns-3 c =
-    let known = c.before in
+    let known = c in
     let q = is_query known in
     ap value q.2 ∙ measured height _ (few (past-1 known)) q.0 q.1
 

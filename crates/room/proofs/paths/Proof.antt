@@ -21,48 +21,46 @@ abbrev query : tie.Start → List ℕ
 query start = start.args.query.now
 
 -- Past line 1 the items are few.
-abbrev begun : tie.Else1 → tie.Start
+abbrev begun : tie.Else-query-gt-ITEM_LIMIT → tie.Start
 begun c = c.before.before
-
-few : (c : tie.Else1) → length (query (begun c)) ≤ item_limit
-few c = omega (arith, c.if1.false)
+few : (c : tie.Else-query-gt-ITEM_LIMIT) → length (query (begun c)) ≤ item_limit
+few c = omega (arith, c.if-query-gt-ITEM_LIMIT.false)
 
 -- Past line 6 they are a query.
-abbrev past-1 : tie.After-enum-told2 → tie.Else1
-past-1 c = c.before.before.before
-
-is_query : (c : tie.After-enum-told2) → (q : Query) × (decode (query (begun (past-1 c))) ≡ some q)
+abbrev past-1 : tie.In_default → tie.Else-query-gt-ITEM_LIMIT
+past-1 c = c.before.before
+is_query : (c : tie.In_default) → (q : Query) × (decode (query (begun (past-1 c))) ≡ some q)
 is_query c =
-    let q = shaped_some _ _ _ _ (sym c.enum-told2.given.1 ∙ c.before.before.measure.ensures) in
+    let q = shaped_some _ _ _ _ (sym c.in_default.is ∙ c.measure.ensures) in
     (q.0, q.1)
 
-returns : tie.Need-returns
-returns c = too_long_lem path_count (query c.before.before) c.if1.true
+returns : tie.Need-returns-then-query-gt-ITEM_LIMIT
+returns c = too_long_lem path_count (query c.before.before) c.if-query-gt-ITEM_LIMIT.true
 
 measure-requires : tie.Need-measure-requires
 measure-requires c κs = search rules
 
-enum_told : tie.Need-enum-told
+enum_told : tie.Need-enum_told-1
 enum_told c = search rules
 
-returns-2 : tie.Need-returns-2
+returns-2 : tie.Need-returns-in-Malformed
 returns-2 c =
-    let examined = c.before.before in
-    no_query path_count _ (few examined.before) (shaped_none _ (sym c.enum_told.given.1 ∙ examined.measure.ensures))
+    let examined = c in
+    no_query path_count _ (few examined.before.before) (shaped_none _ (sym c.in-Malformed.is ∙ examined.measure.ensures))
 
-enum-told-2 : tie.Need-enum-told-2
+enum-told-2 : tie.Need-enum_told-in_default
 enum-told-2 c = search rules
 
-count-paths-requires : tie.Need-count-paths-requires
+count-paths-requires : tie.Need-count_paths-requires
 count-paths-requires c κs =
     let q = is_query c in
     (record { query = q.0; decodes = q.1 }, few (past-1 c))
 
-returns-3 : tie.Need-returns-3
+returns-3 : tie.Need-returns
 returns-3 c =
-    let known = c.before in
-    let q = is_query known in
-    ap value (c.count-paths.ensures ∙ ap paths_got q.1) ∙ measured path_count _ (few (past-1 known)) q.0 q.1
+    let known = c in
+    let q = is_query known.before in
+    ap value (c.count_paths.ensures ∙ ap paths_got q.1) ∙ measured path_count _ (few (past-1 known.before)) q.0 q.1
 
 pub paths_spec : {M : Type 1} → statement M
 paths_spec = tie.close (tie.spec returns measure-requires enum_told returns-2 enum-told-2 count-paths-requires returns-3)

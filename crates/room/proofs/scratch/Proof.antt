@@ -11,32 +11,31 @@ use Rattle.room.proofs.scratch.Statement.{statement}
 use Rattle.room.proofs.scratch.Tie as tie
 
 -- The five tests are line 1.
-abbrev start_of : tie.After-outside5 → tie.Start
+abbrev start_of : tie.After-outside-5 → tie.Start
 start_of c = c.before.before.before.before.before
-
-abbrev Line-1 : tie.After-outside5 → Bool
+abbrev Line-1 : tie.After-outside-5 → Bool
 Line-1 c =
     let a = (start_of c).args in
     Wrong a.nodes a.outer-height a.outer-paths a.inner-height a.inner-paths
 
-abbrev tested : tie.After-outside5 → Bool
+abbrev tested : tie.After-outside-5 → Bool
 tested c =
-    c.before.before.before.before.outside.result || c.before.before.before.outside2.result || c.before.before.outside3.result ||
-    c.before.outside4.result || c.outside5.result
+    c.outside.result || c.outside-2.result || c.outside-3.result ||
+    c.outside-4.result || c.outside-5.result
 
-line_1 : (c : tie.After-outside5) → tested c ≡ Line-1 c
+line_1 : (c : tie.After-outside-5) → tested c ≡ Line-1 c
 line_1 c =
     ap₂ ◌||◌
     (ap₂ ◌||◌
-    (ap₂ ◌||◌ (ap₂ ◌||◌ c.before.before.before.before.outside.ensures c.before.before.before.outside2.ensures) c.before.before.outside3.ensures)
-    c.before.outside4.ensures)
-    c.outside5.ensures
+    (ap₂ ◌||◌ (ap₂ ◌||◌ c.outside.ensures c.outside-2.ensures) c.outside-3.ensures)
+    c.outside-4.ensures)
+    c.outside-5.ensures
 
 -- Past it every number is within its limit.
-right : (c : tie.Else1) → Line-1 c.before ≡ false
-right c = sym (line_1 c.before) ∙ c.if1.false
+right : (c : tie.Else-wrong) → Line-1 c.before ≡ false
+right c = sym (line_1 c.before) ∙ c.if-wrong.false
 
-few : (c : tie.Else1) → let a = (start_of c.before).args in Inside a.nodes a.outer-height a.outer-paths a.inner-height a.inner-paths
+few : (c : tie.Else-wrong) → let a = (start_of c.before).args in Inside a.nodes a.outer-height a.outer-paths a.inner-height a.inner-paths
 few c = all_inside _ _ _ _ _ (right c)
 
 -- What is computed is the number of the definition.
@@ -59,31 +58,31 @@ outside-requires-4 c κs = search rules
 outside-requires-5 : tie.Need-outside-requires-5
 outside-requires-5 c κs = search rules
 
-returns : tie.Need-returns
-returns c = wrong_number _ _ _ _ _ (sym (line_1 c.before) ∙ c.if1.true)
+returns : tie.Need-returns-then-wrong
+returns c = wrong_number _ _ _ _ _ (sym (line_1 c.before) ∙ c.if-wrong.true)
 
 larger-requires : tie.Need-larger-requires
 larger-requires c κs = search rules
 
-add-bound : tie.Need-overflow-add-bound
+add-bound : tie.Need-overflow_add-bound
 add-bound c = omega (arith, (few c.before).outer_low, (few c.before).inner_low, (few c.before).paths_few, c.larger.ensures)
 
-add-bound-2 : tie.Need-overflow-add-bound-2
+add-bound-2 : tie.Need-overflow_add-bound-2
 add-bound-2 c = omega (arith, (few c.before).outer_low, (few c.before).inner_low, (few c.before).paths_few, c.larger.ensures)
 
-add-bound-3 : tie.Need-overflow-add-bound-3
+add-bound-3 : tie.Need-overflow_add-bound-3
 add-bound-3 c = omega (arith, (few c.before).outer_low, (few c.before).inner_low, (few c.before).paths_few, c.larger.ensures)
 
-mul-t16 : tie.Need-overflow-mul-t16
+mul-t16 : tie.Need-overflow_mul-result
 mul-t16 c = omega (arith, (few c.before).nodes_few)
 
-add-t18 : tie.Need-overflow-add-t18
+add-t18 : tie.Need-overflow_add-result
 add-t18 c = omega (arith, (few c.before).outer_low, (few c.before).inner_low, (few c.before).paths_few, c.larger.ensures)
 
-mul-t17 : tie.Need-overflow-mul-t17
+mul-t17 : tie.Need-overflow_mul-result-2
 mul-t17 c = omega (arith, bytes c, bytes_few _ _ _ _ _ (few c.before))
 
-returns-2 : tie.Need-returns-2
+returns-2 : tie.Need-returns
 returns-2 c = ap value (bytes c) ∙ lends _ _ _ _ _ (right c.before)
 
 pub scratch_spec : {M : Type 1} → statement M

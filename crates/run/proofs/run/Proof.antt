@@ -15,72 +15,67 @@ use Rattle.run.proofs.run.Statement.{statement}
 use Rattle.run.proofs.run.Tie as tie
 
 -- Of what is lent nothing is examined yet.
-abbrev begun-of : tie.After-slice-known2 → tie.Start
+abbrev begun-of : tie.After-slice_known-2-1 → tie.Start
 begun-of c = c.before.before.before.before.before.before
-
 -- It is judged,
-abbrev lent_of : tie.After-judge → tie.After-slice-known2
+abbrev lent_of : tie.After-judge-said → tie.After-slice_known-2-1
 lent_of c = c.before
-
 -- and good.
-abbrev judged-of : tie.After-said → tie.After-judge
-judged-of c = c.before.before
-
+abbrev judged-of : tie.In-Value → tie.After-judge-said
+judged-of c = c.before
 -- What the query keeps is marked,
-abbrev good_of : tie.After-keep → tie.After-said
-good_of c = c.before.before.before.before
-
+abbrev good_of : tie.After-keep → tie.In-Value
+good_of c = c.before.before.before
 -- and counted.
 abbrev kept_of : tie.After-count → tie.After-keep
-kept_of c = c.before.before.before.before.before.before
-
-judge-requires : tie.Need-judge-requires
+kept_of c = c.before.before.before.before.before
+judge-requires : tie.Need-judge-said-requires
 judge-requires c κs = search rules
 
-enum-known-said : tie.Need-enum-known-said
+enum-known-said : tie.Need-enum_known-said
 enum-known-said c = search rules
 
-returns : tie.Need-returns
+returns : tie.Need-returns-in_default
 returns c =
     let start = begun-of (lent_of c.before) in
     let a = start.args in
     let t = table_of a.parent.now a.kind.now in
-    let said = c.before.judge in (
-      refused_answer a.query.now t a.given.now a.marks.now a.scratch.now said.result c.match.keys2 said.ensures,
+    let said = c.judge-said in (
+      refused_answer a.query.now t a.given.now a.marks.now a.scratch.now said.result c.in-Value.in-Value-own.keys2 said.ensures,
       (
-        refused_marks a.query.now t a.given.now a.marks.now a.scratch.now said.result c.match.keys2 said.ensures,
-        refused_scratch a.query.now t a.given.now a.marks.now a.scratch.now said.result c.match.keys2 said.ensures,
+        refused_marks a.query.now t a.given.now a.marks.now a.scratch.now said.result c.in-Value.in-Value-own.keys2 said.ensures,
+        refused_scratch a.query.now t a.given.now a.marks.now a.scratch.now said.result c.in-Value.in-Value-own.keys2 said.ensures,
       ),
     )
 
-slice-relend-prefix-keep : tie.Need-slice-relend-prefix-keep
+slice-relend-prefix-keep : tie.Need-slice_bounds-keep-end
 slice-relend-prefix-keep c =
+    let judged = judged-of c.before in
+    let start = begun-of (lent_of judged) in
+    let a = start.args in
+    let t = table_of a.parent.now a.kind.now in
+    let needed = c.in-Value.needed in
+    let agreed = accepted a.query.now t a.given.now (length a.marks.now) (length a.scratch.now) needed (sym judged.judge-said.ensures ∙ ap told c.in-Value.is) in
+    agreed.room_enough
+
+slice-aggregate-keep : tie.Need-slice_bounds-keep-end-2
+slice-aggregate-keep c =
     let judged = judged-of c.before.before in
     let start = begun-of (lent_of judged) in
     let a = start.args in
     let t = table_of a.parent.now a.kind.now in
-    let needed = c.before.before.said.given.0.0 in
-    let agreed = accepted a.query.now t a.given.now (length a.marks.now) (length a.scratch.now) needed (sym judged.judge.ensures ∙ ap told c.before.before.said.given.1) in
-    agreed.room_enough
-
-slice-aggregate-keep : tie.Need-slice-aggregate-keep
-slice-aggregate-keep c =
-    let judged = judged-of c.before.before.before in
-    let start = begun-of (lent_of judged) in
-    let a = start.args in
-    let t = table_of a.parent.now a.kind.now in
-    let needed = c.before.before.before.said.given.0.0 in
-    let agreed = accepted a.query.now t a.given.now (length a.marks.now) (length a.scratch.now) needed (sym judged.judge.ensures ∙ ap told c.before.before.before.said.given.1) in
+    let needed = c.in-Value.needed in
+    let agreed = accepted a.query.now t a.given.now (length a.marks.now) (length a.scratch.now) needed (sym judged.judge-said.ensures ∙ ap told c.in-Value.is) in
     sym (length-take-le needed a.scratch.now agreed.room_enough)
 
 keep-requires : tie.Need-keep-requires
 keep-requires c κs =
-    let judged = judged-of c.before.before.before in
+    let judged = judged-of c.before.before in
     let start = begun-of (lent_of judged) in
     let a = start.args in
     let t = table_of a.parent.now a.kind.now in
-    let needed = c.before.before.before.said.given.0.0 in
-    let agreed = accepted a.query.now t a.given.now (length a.marks.now) (length a.scratch.now) needed (sym judged.judge.ensures ∙ ap told c.before.before.before.said.given.1) in (
+    let needed = c.in-Value.needed in
+    let agreed = accepted a.query.now t a.given.now (length a.marks.now) (length a.scratch.now) needed (sym judged.judge-said.ensures ∙ ap told c.in-Value.is) in (
       searchable a.query.now a.parent.now a.kind.now a.given.now (length a.marks.now) a.scratch.now needed agreed,
       (
         agreed.agree.marks_all,
@@ -90,21 +85,21 @@ keep-requires c κs =
 
 count-requires : tie.Need-count-requires
 count-requires c κs =
-    let good = good_of c.before.before.before.before.before in
+    let good = good_of c.before.before.before.before in
     let judged = judged-of good in
     let a = (begun-of (lent_of judged)).args in
     let t = table_of a.parent.now a.kind.now in
-    let needed = good.said.given.0.0 in
-    let agreed = accepted a.query.now t a.given.now (length a.marks.now) (length a.scratch.now) needed (sym judged.judge.ensures ∙ ap told good.said.given.1) in
-    omega (arith, c.before.before.before.before.before.keep.auto.1.1.1.1.0, agreed.agree.marks_all, agreed.agree.nodes_few)
+    let needed = good.in-Value.needed in
+    let agreed = accepted a.query.now t a.given.now (length a.marks.now) (length a.scratch.now) needed (sym judged.judge-said.ensures ∙ ap told good.in-Value.is) in
+    omega (arith, c.keep.auto.1.1.1.1.0, agreed.agree.marks_all, agreed.agree.nodes_few)
 
-same_length : tie.Need-same-length
+same_length : tie.Need-shape_of-marks
 same_length c = search rules
 
-same-length-2 : tie.Need-same-length-2
+same-length-2 : tie.Need-shape_of-scratch
 same-length-2 c = search rules
 
-returns-2 : tie.Need-returns-2
+returns-2 : tie.Need-returns
 returns-2 c =
     let kept-place = kept_of c in
     let good = good_of kept-place in
@@ -112,8 +107,8 @@ returns-2 c =
     let start = begun-of (lent_of judged) in
     let a = start.args in
     let t = table_of a.parent.now a.kind.now in
-    let needed = good.said.given.0.0 in
-    let agreed = accepted a.query.now t a.given.now (length a.marks.now) (length a.scratch.now) needed (sym judged.judge.ensures ∙ ap told good.said.given.1) in
+    let needed = good.in-Value.needed in
+    let agreed = accepted a.query.now t a.given.now (length a.marks.now) (length a.scratch.now) needed (sym judged.judge-said.ensures ∙ ap told good.in-Value.is) in
     let spread = kept-place.keep in
     let marks1 = spread.last.1.1.1.1.0 in
     let same : marks1 ≡ kept t a.given.now agreed.query_is = spread.ensures.0 agreed.query_is agreed.decodes in

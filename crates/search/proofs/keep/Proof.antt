@@ -16,11 +16,11 @@ use Rattle.search.proofs.Keeping.{up_to, marks_up_to, up_to_none, up_to_more, up
 use Rattle.search.proofs.keep.Statement.{statement}
 use Rattle.search.proofs.keep.Tie as tie
 
-abbrev invariant-loop : tie.invariant-loop
+abbrev invariant-loop : tie.invariant-loop-k
 invariant-loop items parent kind given marks₀ stand₀ k₀ marks stand k =
     (length marks ≡ length parent) × (length stand ≡ length stand₀) × (k ≤ length parent) × ((q : Query) → decode items ≡ some q → marks ≡ marks_up_to (table_of parent kind) given q (length parent) k)
 
-abbrev decreases-loop : tie.decreases-loop
+abbrev decreases-loop : tie.decreases-loop-k
 decreases-loop items parent kind given marks₀ stand₀ k₀ marks stand k = length parent - k
 
 abbrev Start : Type 0
@@ -28,115 +28,109 @@ Start = tie.Start invariant-loop decreases-loop
 
 -- The marks are cleared.
 abbrev Cleared : Type 0
-Cleared = tie.After-slice-known3 invariant-loop decreases-loop
+Cleared = tie.After-slice_known-3-1 invariant-loop decreases-loop
 
 abbrev begun : Cleared → Start
 begun c = c.before.before.before.before.before.before.before.before.before.before
-
 -- The nodes before this one are decided.
 abbrev Turn : Type 0
-Turn = tie.At-loop invariant-loop decreases-loop
+Turn = tie.At-loop-k invariant-loop decreases-loop
 
 abbrev cleared : Turn → Cleared
 cleared c = c.before
-
 -- There is one more.
 abbrev Inside : Type 0
-Inside = tie.In-loop invariant-loop decreases-loop
+Inside = tie.In-loop-k invariant-loop decreases-loop
 
 abbrev turn : Inside → Turn
 turn c = c.before
-
 -- Whether the query selects it is known.
 abbrev Decided : Type 0
 Decided = tie.After-selected invariant-loop decreases-loop
 
 abbrev inside : Decided → Inside
 inside c = c.before.before
-
 -- It is selected.
 abbrev Chosen : Type 0
-Chosen = tie.Then1 invariant-loop decreases-loop
+Chosen = tie.Then-selected invariant-loop decreases-loop
 
 abbrev chosen : Chosen → Decided
 chosen c = c.before.before.before
-
 -- What it keeps is marked.
 abbrev Marked : Type 0
-Marked = tie.Joined1 invariant-loop decreases-loop
+Marked = tie.Joined-selected invariant-loop decreases-loop
 
 abbrev decided : Marked → Decided
 decided c = c.before.before.before
-
 clear-requires : tie.Need-clear-requires invariant-loop decreases-loop
 clear-requires c κs = search rules
 
-loop-holds : tie.Need-loop-init invariant-loop decreases-loop
+loop-holds : tie.Need-loop-k-init invariant-loop decreases-loop
 loop-holds c =
     let start = begun c in
     let a = start.args in
-    let v = c.before.before.clear in (
-      v.auto.0 ∙ start.pre.1.0,
+    let v = c.clear in (
+      v.auto.0 ∙ start.requires.1.0,
       refl,
       omega arith,
-      λ q e. v.ensures ∙ ap (λ (n : ℕ). column n (λ i. 0)) start.pre.1.0 ∙ up_to_none (table_of a.parent.now a.kind.now) a.given.now q (length a.parent.now),
+      λ q e. v.ensures ∙ ap (λ (n : ℕ). column n (λ i. 0)) start.requires.1.0 ∙ up_to_none (table_of a.parent.now a.kind.now) a.given.now q (length a.parent.now),
     )
 
 selected-requires : tie.Need-selected-requires invariant-loop decreases-loop
 selected-requires c κs =
     let pre = (begun (cleared (turn c.before))).requires in
-    let l = (turn c.before).loop in
-    (pre.0, (c.before.loop-test.true, omega (arith, l.inv.1, pre.1.1), pre.1.2, pre.1.3))
+    let l = (turn c.before).loop-k in
+    (pre.0, (c.loop-k-test.true, omega (arith, l.invariant.1, pre.1.1), pre.1.2, pre.1.3))
 
 spread-requires : tie.Need-spread-requires invariant-loop decreases-loop
 spread-requires c κs =
     let pre = (begun (cleared (turn (inside (chosen c.before))))).requires in
-    (pre.0.tree, (inside (chosen c.before)).loop-test.taken, pre.0.marks_all, (turn (inside (chosen c.before))).loop.inv.0)
+    (pre.0.tree, (inside (chosen c.before)).loop-k-test.true, pre.0.marks_all, (turn (inside (chosen c.before))).loop-k.invariant.0)
 
-add-k : tie.Need-overflow-add-k invariant-loop decreases-loop
-add-k c = omega (arith, (inside (decided c)).loop-test.taken, (begun (cleared (turn (inside (decided c))))).requires.0.few)
+add-k : tie.Need-overflow_add-k invariant-loop decreases-loop
+add-k c = omega (arith, (inside (decided c)).loop-k-test.true, (begun (cleared (turn (inside (decided c))))).requires.0.few)
 
-loop-less : tie.Need-loop-smaller invariant-loop decreases-loop
-loop-less c = omega (arith, (inside (decided c)).loop-test.taken)
+loop-less : tie.Need-loop-k-smaller invariant-loop decreases-loop
+loop-less c = omega (arith, (inside (decided c)).loop-k-test.true)
 
-loop-again : tie.Need-loop-preserved invariant-loop decreases-loop
+loop-again : tie.Need-loop-k-preserved invariant-loop decreases-loop
 loop-again c =
     let start = begun (cleared (turn (inside (decided c)))) in
     let a = start.args in
     let t = table_of a.parent.now a.kind.now in
     let m = a.given.now in
     let n = length a.parent.now in
-    let l = (turn (inside (decided c))).loop in
+    let l = (turn (inside (decided c))).loop-k in
     let s = (decided c).selected in
-    let stays = s.kept.1.1.1.1.1.0 ∙ l.inv.1 in
+    let stays = s.kept.1.1.1.1.1.0 ∙ l.invariant.1 in
     ⊎_elim
     (λ w. (
-      ap length w.5 ∙ w.2.kept.1.1.1.0 ∙ l.inv.0,
+      ap length w.5 ∙ w.2.kept.1.1.1.0 ∙ l.invariant.0,
       stays,
-      omega (arith, (inside (decided c)).loop-test.taken),
-      λ q e. w.5 ∙ w.2.ensures a.kind.now (up_to t m q l.k) (l.inv.3 q e) ∙ up_to_more t m q n l.k (sym (s.ensures q e) ∙ w.0.taken),
+      omega (arith, (inside (decided c)).loop-k-test.true),
+      λ q e. w.5 ∙ w.2.ensures a.kind.now (up_to t m q l.k) (l.invariant.3 q e) ∙ up_to_more t m q n l.k (sym (s.ensures q e) ∙ w.0.taken),
     ))
     (λ w. (
-      ap length w.1 ∙ l.inv.0,
+      ap length w.1 ∙ l.invariant.0,
       stays,
-      omega (arith, (inside (decided c)).loop-test.taken),
-      λ q e. w.1 ∙ l.inv.3 q e ∙ up_to_same t m q n l.k (sym (s.ensures q e) ∙ w.0.left),
+      omega (arith, (inside (decided c)).loop-k-test.true),
+      λ q e. w.1 ∙ l.invariant.3 q e ∙ up_to_same t m q n l.k (sym (s.ensures q e) ∙ w.0.left),
     ))
-    c.if1.branch
+    c.if-selected.branch
 
-same_length : tie.Need-same-length invariant-loop decreases-loop
-same_length c = c.before.loop.invariant.0 ∙ sym (begun (cleared c.before)).requires.1.0
+same_length : tie.Need-shape_of-marks invariant-loop decreases-loop
+same_length c = c.loop-k.invariant.0 ∙ sym (begun (cleared c.before)).requires.1.0
 
-same-length-2 : tie.Need-same-length-2 invariant-loop decreases-loop
-same-length-2 c = c.before.loop.invariant.1
+same-length-2 : tie.Need-shape_of-stand invariant-loop decreases-loop
+same-length-2 c = c.loop-k.invariant.1
 
 returns : tie.Need-returns invariant-loop decreases-loop
 returns c =
     let a = (begun (cleared c.before)).args in
     let t = table_of a.parent.now a.kind.now in
-    let l = c.before.loop in
+    let l = c.loop-k in
     λ q e.
-    l.invariant.3 q e ∙ ap (marks_up_to t a.given.now q (length a.parent.now)) (let z : l.k ≡ length a.parent.now = omega (arith, l.invariant.2, c.loop-test.false) in z) ∙ up_to_all t a.given.now q
+    l.invariant.3 q e ∙ ap (marks_up_to t a.given.now q (length a.parent.now)) (let z : l.k ≡ length a.parent.now = omega (arith, l.invariant.2, c.loop-k-test.false) in z) ∙ up_to_all t a.given.now q
 
 pub keep_spec : {M : Type 1} → statement M
 keep_spec =

@@ -19,10 +19,10 @@ use Rattle.search.proofs.Selecting.{PathsLeft, NextPath, paths_begin, next-path,
 use Rattle.search.proofs.selected.Statement.{statement}
 use Rattle.search.proofs.selected.Tie as tie
 
-abbrev invariant-loop : tie.invariant-loop
+abbrev invariant-loop : tie.invariant-loop-place
 invariant-loop items parent kind given wanted stand₀ place₀ stand place = (length stand ≡ length stand₀) × PathsLeft (table_of parent kind) given items wanted place
 
-abbrev decreases-loop : tie.decreases-loop
+abbrev decreases-loop : tie.decreases-loop-place
 decreases-loop items parent kind given wanted stand₀ place₀ stand place = length items - place
 
 -- What is lent.
@@ -42,120 +42,117 @@ abbrev room : Start → ℕ
 room start = length start.args.stand.now
 
 -- The root's mark is read.
-abbrev begun : tie.After-shared-slice-known5 invariant-loop decreases-loop → Start
+abbrev begun : tie.After-shared_slice_known-5-1 invariant-loop decreases-loop → Start
 begun c = c.before.before.before.before.before.before
-
 -- The test of the loop, with the root marked.
 abbrev Turn : Type 0
-Turn = tie.At-loop invariant-loop decreases-loop
+Turn = tie.At-loop-place invariant-loop decreases-loop
 
 abbrev start_of : Turn → Start
 start_of c = begun c.before.before
 
 root : (c : Turn) → marked (marks (start_of c)) 0 ≡ true
-root c = eq-eqb _ 1 c.before.if1.false
+root c = eq-eqb _ 1 c.if-given-ne1.false
 
 -- The path that is read next.
 abbrev Read : Type 0
-Read = tie.After-owes invariant-loop decreases-loop
+Read = tie.After-owes-count invariant-loop decreases-loop
 
 abbrev turn : Read → Turn
 turn c = c.before.before.before
-
-next : (c : Read) → NextPath (items (start_of (turn c))) (turn c).loop.place (room (start_of (turn c))) (turn c).loop.invariant.1.ahead c.owes.result
+next : (c : Read) → NextPath (items (start_of (turn c))) (turn c).loop-place.place (room (start_of (turn c))) (turn c).loop-place.invariant.1.ahead c.owes-count.result
 next c =
-    let l = (turn c).loop in
+    let l = (turn c).loop-place in
     let start = start_of (turn c) in
-    next-path (table start) (marks start) (items start) start.args.wanted (room start) start.pre.1.1 start.pre.1.2 l.place l.inv.1 (omega (arith, c.before.before.loop-test.true))
-    (λ count p found. subst (NextPath (items start) l.place (room start) l.inv.1.ahead) (sym (c.owes.ensures.0 ∙ owes_steps _ count p)) found)
+    next-path (table start) (marks start) (items start) start.args.wanted (room start) start.requires.1.1 start.requires.1.2 l.place l.invariant.1 (omega (arith, c.loop-place-test.true))
+    (λ count p found. subst (NextPath (items start) l.place (room start) l.invariant.1.ahead) (sym (c.owes-count.ensures.0 ∙ owes_steps _ count p)) found)
 
 -- The path was tried, and did not lead to the node.
 abbrev Missed : Type 0
-Missed = tie.Else2 invariant-loop decreases-loop
+Missed = tie.Else-path invariant-loop decreases-loop
 
 abbrev tried : Missed → tie.After-path invariant-loop decreases-loop
 tried c = c.before.before.before
-
 abbrev read : Missed → Read
 read c = (tried c).before.before
 
-shared-slice-read-if1 : tie.Need-shared-slice-read-if1 invariant-loop decreases-loop
+shared-slice-read-if1 : tie.Need-bounds-given-0 invariant-loop decreases-loop
 shared-slice-read-if1 c = omega (arith, ((begun c).requires.0.tree []).rooted, (begun c).requires.0.marks_all)
 
-returns : tie.Need-returns invariant-loop decreases-loop
+returns : tie.Need-returns-then-given-ne1 invariant-loop decreases-loop
 returns c =
     let start = begun c.before in
-    λ q e. unrooted (table start) (marks start) (items start) start.args.wanted (ne_eqb _ 1 c.if1.true) q
+    λ q e. unrooted (table start) (marks start) (items start) start.args.wanted (ne_eqb _ 1 c.if-given-ne1.true) q
 
-loop-holds : tie.Need-loop-init invariant-loop decreases-loop
+loop-holds : tie.Need-loop-place-init invariant-loop decreases-loop
 loop-holds c =
     let start = begun c.before in
-    (refl, paths_begin (table start) (marks start) (items start) start.args.wanted start.pre.1.3)
+    (refl, paths_begin (table start) (marks start) (items start) start.args.wanted start.requires.1.3)
 
-mul-owes : tie.Need-overflow-mul-owes invariant-loop decreases-loop
+mul-owes : tie.Need-offset_bounds-items-place invariant-loop decreases-loop
 mul-owes c = omega (arith, (start_of c.before).well_formed.0.1)
 
-shared-slice-read-owes : tie.Need-shared-slice-read-owes invariant-loop decreases-loop
+shared-slice-read-owes : tie.Need-bounds-items-place invariant-loop decreases-loop
 shared-slice-read-owes c = omega arith
 
-owes-requires : tie.Need-owes-requires invariant-loop decreases-loop
+owes-requires : tie.Need-owes-count-requires invariant-loop decreases-loop
 owes-requires c κs = search rules
 
-add-path : tie.Need-overflow-add-path invariant-loop decreases-loop
-add-path c = omega (arith, c.before.before.loop-test.true, (start_of (turn c)).well_formed.0.1)
+add-path : tie.Need-overflow_add-place invariant-loop decreases-loop
+add-path c = omega (arith, c.loop-place-test.true, (start_of (turn c)).well_formed.0.1)
 
 path-requires : tie.Need-path-requires invariant-loop decreases-loop
 path-requires c κs =
-    let l = (turn c.before).loop in
+    let l = (turn c.before).loop-place in
     let start = start_of (turn c.before) in
-    let fits = subst (λ (r : ℕ). Fits (items start) (l.place + 1) r (take_steps (take_within bracket_limit) c.before.owes.result (drop (l.place + 1) (items start)))) (sym l.inv.0) (next c.before).steps in
-    (omega arith, (start.pre.0, ((start.pre.0.tree []).rooted, fits)))
+    let fits = subst (λ (r : ℕ). Fits (items start) (l.place + 1) r (take_steps (take_within bracket_limit) c.owes-count.result (drop (l.place + 1) (items start)))) (sym l.invariant.0) (next c.before).steps in
+    (omega arith, (start.requires.0, ((start.requires.0.tree []).rooted, fits)))
 
-same_length : tie.Need-same-length invariant-loop decreases-loop
-same_length c = c.before.before.before.path.auto.1.1.1.1.1.1.1.1.1.0 ∙ (turn c.before.before.before.before.before).loop.inv.0
+same_length : tie.Need-shape_of-stand-then-path invariant-loop decreases-loop
+same_length c = c.path.auto.1.1.1.1.1.1.1.1.1.0 ∙ (turn c.before.before.before.before.before).loop-place.invariant.0
 
-returns-2 : tie.Need-returns-2 invariant-loop decreases-loop
+returns-2 : tie.Need-returns-then-path invariant-loop decreases-loop
 returns-2 c =
-    let tried = c.before.before.before in
-    let read = tried.before.before in
-    let l = (turn read).loop in
-    let start = start_of (turn read) in
-    path_hit (table start) (marks start) (items start) start.args.wanted (room start) start.pre.1.1 start.pre.1.2 l.place l.inv.1 start.pre.1.0 read.owes.result (next read) tried.path.result tried.path.ensures
-    c.if2.true (root (turn read))
+    let tried = c in
+    let read = tried in
+    let l = (turn read.before.before).loop-place in
+    let start = start_of (turn read.before.before) in
+    path_hit (table start) (marks start) (items start) start.args.wanted (room start) start.requires.1.1 start.requires.1.2 l.place l.invariant.1 start.requires.1.0 read.owes-count.result (next read.before.before) tried.path.result tried.path.ensures
+    c.if-path.true (root (turn read.before.before))
 
-add-skip : tie.Need-overflow-add-skip invariant-loop decreases-loop
-add-skip c = omega (arith, (read c).before.before.loop-test.true, (start_of (turn (read c))).well_formed.0.1)
+add-skip : tie.Need-overflow_add-place-in-loop-place invariant-loop decreases-loop
+add-skip c = omega (arith, (read c).loop-place-test.true, (start_of (turn (read c))).well_formed.0.1)
 
-skip-requires : tie.Need-skip-requires invariant-loop decreases-loop
+skip-requires : tie.Need-skip-place-requires invariant-loop decreases-loop
 skip-requires c κs = let f = (next (read c)).steps in (f.few, f.inside, count_few _ _ _ bracket_limit _ f)
 
 -- Where the path ends, the others begin.
-ends : (c : tie.After-skip invariant-loop decreases-loop)
-    → Ends (items (start_of (turn (read c.before)))) ((turn (read c.before)).loop.place + 1) (take_steps (take_within bracket_limit) (read c.before).owes.result (drop ((turn (read c.before)).loop.place + 1) (items (start_of (turn (read c.before)))))) c.skip.result
-ends c = let f = (next (read c.before)).steps in skip_ends _ _ bracket_limit _ _ f.inside ((f.what, f.rest), f.reads) c.skip.ensures
+ends : (c : tie.After-skip-place invariant-loop decreases-loop)
+    → Ends (items (start_of (turn (read c.before)))) ((turn (read c.before)).loop-place.place + 1) (take_steps (take_within bracket_limit) (read c.before).owes-count.result (drop ((turn (read c.before)).loop-place.place + 1) (items (start_of (turn (read c.before)))))) c.skip-place.result
+ends c = let f = (next (read c.before)).steps in skip_ends _ _ bracket_limit _ _ f.inside ((f.what, f.rest), f.reads) c.skip-place.ensures
 
-loop-less : tie.Need-loop-smaller invariant-loop decreases-loop
+loop-less : tie.Need-loop-place-smaller invariant-loop decreases-loop
 loop-less c = omega (arith, (ends c).onward, (ends c).inside)
 
-loop-again : tie.Need-loop-preserved invariant-loop decreases-loop
+loop-again : tie.Need-loop-place-preserved invariant-loop decreases-loop
 loop-again c =
     let path = (tried c.before).path in
     let here = read c.before in
-    let l = (turn here).loop in
+    let l = (turn here).loop-place in
     let start = start_of (turn here) in (
-      path.kept.1.1.1.1.1.1.1.1.1.0 ∙ l.inv.0,
-      path_missed (table start) (marks start) (items start) start.args.wanted (room start) start.pre.1.1 start.pre.1.2 l.place l.inv.1 start.pre.1.0 here.owes.result (next here) path.result path.ensures
-          c.before.if2.false c.skip.result (ends c),
+      path.kept.1.1.1.1.1.1.1.1.1.0 ∙ l.invariant.0,
+      path_missed (table start) (marks start) (items start) start.args.wanted (room start) start.requires.1.1 start.requires.1.2 l.place l.invariant.1 start.requires.1.0 here.owes-count.result (next here) path.result path.ensures
+          c.if-path.false c.skip-place.result (ends c),
     )
 
-same-length-2 : tie.Need-same-length-2 invariant-loop decreases-loop
-same-length-2 c = c.before.loop.invariant.0
+same-length-2 : tie.Need-shape_of-stand invariant-loop decreases-loop
+same-length-2 c = c.loop-place.invariant.0
 
-returns-3 : tie.Need-returns-3 invariant-loop decreases-loop
+returns-3 : tie.Need-returns invariant-loop decreases-loop
 returns-3 c =
-    let l = c.before.loop in
+    let l = c.loop-place in
     let start = start_of c.before in
-    paths_over (table start) (marks start) (items start) start.args.wanted l.place (omega (arith, c.loop-test.false)) l.invariant.1 (root c.before)
+    paths_over (table start) (marks start) (items start) start.args.wanted l.place (omega (arith, c.loop-place-test.false)) l.invariant.1 (root c.before)
 
 pub selected_spec : {M : Type 1} → statement M
 selected_spec =

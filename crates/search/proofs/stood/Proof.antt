@@ -8,25 +8,25 @@ use borrow.Author.Rules.{rules}
 use Rattle.search.proofs.stood.Statement.{statement}
 use Rattle.search.proofs.stood.Tie as tie
 
-sub_wide : tie.Need-overflow-sub-wide
+sub_wide : tie.Need-overflow_sub-k
 sub_wide c = search rules
 
-mul_wide : tie.Need-overflow-mul-wide
+mul_wide : tie.Need-offset_bounds-stand-k
 mul_wide c = search rules
 
-shared-slice-read-wide : tie.Need-shared-slice-read-wide
+shared-slice-read-wide : tie.Need-bounds-stand-k
 shared-slice-read-wide c = search rules
 
 wide-requires : tie.Need-wide-requires
 wide-requires c κs = search rules
 
-returns : tie.Need-returns
+returns : tie.Need-returns-then-k-eq0
 returns c = search rules
 
-returns-2 : tie.Need-returns-2
+returns-2 : tie.Need-returns-else-k-eq0
 returns-2 c =
-    let s = c.before.before.before.before in
-    c.wide.ensures ∙ sym (last_stood s.args.node s.args.stand.now s.args.k (omega (arith, c.before.before.if1.false)) s.requires)
+    let s = c in
+    c.wide.ensures ∙ sym (last_stood s.args.node s.args.stand.now s.args.k (omega (arith, c.if-k-eq0.false)) s.requires)
 
 pub stood_spec : {M : Type 1} → statement M
 stood_spec =

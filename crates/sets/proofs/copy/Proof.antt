@@ -7,35 +7,35 @@ use Rattle.sets.proofs.Passes.{Passed, none_passed, one_passed, same_elements}
 use Rattle.sets.proofs.copy.Statement.{statement}
 use Rattle.sets.proofs.copy.Tie as tie
 
-abbrev invariant-loop : tie.invariant-loop
+abbrev invariant-loop : tie.invariant-loop-i
 invariant-loop from set₀ i₀ set i = Passed (λ k. get_or from k 0) set₀ set i
 
-abbrev decreases-loop : tie.decreases-loop
+abbrev decreases-loop : tie.decreases-loop-i
 decreases-loop from set₀ i₀ set i = length set₀ - i
 
-loop-holds : tie.Need-loop-init invariant-loop decreases-loop
+loop-holds : tie.Need-loop-i-init invariant-loop decreases-loop
 loop-holds c = none_passed
 
-shared-slice-read-set : tie.Need-shared-slice-read-set invariant-loop decreases-loop
+shared-slice-read-set : tie.Need-bounds-from-i invariant-loop decreases-loop
 shared-slice-read-set c = omega arith
 
-slice-write-set : tie.Need-slice-write-set invariant-loop decreases-loop
+slice-write-set : tie.Need-bounds-set-i invariant-loop decreases-loop
 slice-write-set c = omega arith
 
-add-i : tie.Need-overflow-add-i invariant-loop decreases-loop
+add-i : tie.Need-overflow_add-i invariant-loop decreases-loop
 add-i c = omega arith
 
-loop-less : tie.Need-loop-smaller invariant-loop decreases-loop
+loop-less : tie.Need-loop-i-smaller invariant-loop decreases-loop
 loop-less c = omega arith
 
-loop-again : tie.Need-loop-preserved invariant-loop decreases-loop
-loop-again c = one_passed c.before.before.loop.invariant (omega arith) refl
+loop-again : tie.Need-loop-i-preserved invariant-loop decreases-loop
+loop-again c = one_passed c.loop-i.invariant (omega arith) refl
 
-same_length : tie.Need-same-length invariant-loop decreases-loop
+same_length : tie.Need-shape_of-set invariant-loop decreases-loop
 same_length c = omega arith
 
 returns : tie.Need-returns invariant-loop decreases-loop
-returns c = same_elements c.before.loop.invariant (omega arith) c.before.before.args.from.now (omega arith) (λ k l. refl)
+returns c = same_elements c.loop-i.invariant (omega arith) c.args.from.now (omega arith) (λ k l. refl)
 
 pub copy_spec : {M : Type 1} → statement M
 copy_spec =

@@ -12,52 +12,52 @@ use Rattle.sets.proofs.Bits.{bit, bits_at, and_bits, byte_bit}
 use Rattle.sets.proofs.keep_equal.Statement.{statement}
 use Rattle.sets.proofs.keep_equal.Tie as tie
 
-abbrev invariant-loop : tie.invariant-loop
+abbrev invariant-loop : tie.invariant-loop-i
 invariant-loop kind wanted set₀ i₀ set i = Passed (λ k. bit_and (get_or set₀ k 0) (bool_byte (eqb (get_or kind k 0) wanted))) set₀ set i
 
-abbrev decreases-loop : tie.decreases-loop
+abbrev decreases-loop : tie.decreases-loop-i
 decreases-loop kind wanted set₀ i₀ set i = length set₀ - i
 
-loop-holds : tie.Need-loop-init invariant-loop decreases-loop
+loop-holds : tie.Need-loop-i-init invariant-loop decreases-loop
 loop-holds c = none_passed
 
-slice-read-set : tie.Need-slice-read-set invariant-loop decreases-loop
+slice-read-set : tie.Need-bounds-set-i invariant-loop decreases-loop
 slice-read-set c = omega arith
 
-mul-set : tie.Need-overflow-mul-set invariant-loop decreases-loop
+mul-set : tie.Need-offset_bounds-kind-i invariant-loop decreases-loop
 mul-set c = omega arith
 
-shared-slice-read-set : tie.Need-shared-slice-read-set invariant-loop decreases-loop
+shared-slice-read-set : tie.Need-bounds-kind-i invariant-loop decreases-loop
 shared-slice-read-set c = omega arith
 
-cast-set : tie.Need-overflow-cast-set invariant-loop decreases-loop
+cast-set : tie.Need-overflow_cast-set invariant-loop decreases-loop
 cast-set c = omega arith
 
-slice-write-set : tie.Need-slice-write-set invariant-loop decreases-loop
+slice-write-set : tie.Need-bounds-set-i-in-loop-i invariant-loop decreases-loop
 slice-write-set c = omega arith
 
-add-i : tie.Need-overflow-add-i invariant-loop decreases-loop
+add-i : tie.Need-overflow_add-i invariant-loop decreases-loop
 add-i c = omega arith
 
-loop-less : tie.Need-loop-smaller invariant-loop decreases-loop
+loop-less : tie.Need-loop-i-smaller invariant-loop decreases-loop
 loop-less c = omega arith
 
-loop-again : tie.Need-loop-preserved invariant-loop decreases-loop
+loop-again : tie.Need-loop-i-preserved invariant-loop decreases-loop
 loop-again c =
-    let a = c.before.before.before.before.args in
-    let p = c.before.before.before.loop.invariant in
-    let k = c.before.before.before.loop.i in
+    let a = c.args in
+    let p = c.loop-i.invariant in
+    let k = c.loop-i.i in
     one_passed p (omega arith) (ap (λ x. bit_and x (bool_byte (eqb (get_or a.kind.now k 0) a.wanted))) (p.left k (omega arith)))
 
-same_length : tie.Need-same-length invariant-loop decreases-loop
+same_length : tie.Need-shape_of-set invariant-loop decreases-loop
 same_length c = omega arith
 
 returns : tie.Need-returns invariant-loop decreases-loop
 returns c =
     λ f p.
-    let a = c.before.before.args in
+    let a = c.args in
     let n = length a.set.now in
-    all_passed c.before.loop.invariant (omega arith) (λ k. bit (f k && eqb (get_or a.kind.now k 0) a.wanted))
+    all_passed c.loop-i.invariant (omega arith) (λ k. bit (f k && eqb (get_or a.kind.now k 0) a.wanted))
     (λ k l. ap₂ bit_and (bits_at n f p k l) (byte_bit (eqb (get_or a.kind.now k 0) a.wanted)) ∙ and_bits (f k) (eqb (get_or a.kind.now k 0) a.wanted))
 
 pub keep_equal_spec : {M : Type 1} → statement M

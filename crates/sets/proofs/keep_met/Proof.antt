@@ -23,44 +23,44 @@ use Rattle.sets.proofs.keep_met.Tie as tie
 meets_kind : (t : Test) (kind n : ℕ) → n ≡ test_number t → (n ≡ 0 → ⊥) → (n ≡ test_number any_element → ⊥) → eqb kind n ≡ meets t kind
 meets_kind t kind n e a b = by_cases (ℕ_discrete n 1) (λ q. ap (eqb kind) q ∙ meets_text t kind (sym q ∙ e)) (λ q. meets_name t kind n e a q b)
 
-keep-at-least-requires : tie.Need-keep-at-least-requires
+keep-at-least-requires : tie.Need-keep_at_least-requires
 keep-at-least-requires c κs = search rules
 
-cast-keep-equal : tie.Need-overflow-cast-keep-equal
+cast-keep-equal : tie.Need-overflow_cast-test
 cast-keep-equal c = omega arith
 
-keep-equal-requires : tie.Need-keep-equal-requires
+keep-equal-requires : tie.Need-keep_equal-requires
 keep-equal-requires c κs = search rules
 
-returns : tie.Need-returns
+returns : tie.Need-returns-in-0
 returns c = λ t f g e s.
-    let d = c.before.before.before.args in
+    let d = c.args in
     let n : d.test ≡ 0 = omega arith in
     let kind : ℕ → ℕ = λ k. get_or d.kind.now k 0 in
     s ∙ bits_same (length d.set.now) f (λ k. f k && meets t (kind k)) (λ k l. sym (and_all (f k) (sym (meets_node t (kind k) (sym n ∙ e)))))
 
-same_length : tie.Need-same-length
+same_length : tie.Need-shape_of-set-in-258
 same_length c = search rules
 
-returns-2 : tie.Need-returns-2
+returns-2 : tie.Need-returns-in-258
 returns-2 c = λ t f g e s.
-    let d = c.before.before.before.before.before.before.before.args in
+    let d = c.args in
     let n : d.test ≡ test_number any_element = omega arith in
     let kind : ℕ → ℕ = λ k. get_or d.kind.now k 0 in
-    let kept : c.before.before.keep-at-least.new.1.1.0 ≡ bits (length d.set.now) (λ k. f k && leb element_kind (kind k)) = c.before.before.keep-at-least.ensures f s in
+    let kept : c.keep_at_least.new.1.1.0 ≡ bits (length d.set.now) (λ k. f k && leb element_kind (kind k)) = c.keep_at_least.ensures f s in
     kept
     ∙ bits_same (length d.set.now) (λ k. f k && leb element_kind (kind k)) (λ k. f k && meets t (kind k)) (λ k l. ap (λ x. f k && x) (meets_element t (kind k) g (sym n ∙ e)))
 
-same-length-2 : tie.Need-same-length-2
+same-length-2 : tie.Need-shape_of-set-in_default
 same-length-2 c = search rules
 
-returns-3 : tie.Need-returns-3
+returns-3 : tie.Need-returns-in_default
 returns-3 c = λ t f g e s.
-    let d = c.before.before.before.before.before.before.before.args in
-    let other = c.before.before.before.before.match.rest in
+    let d = c.args in
+    let other = c.in_default.in_default-own.rest in
     let kind : ℕ → ℕ = λ k. get_or d.kind.now k 0 in
     let whole : d.test % 65536 ≡ d.test = omega (arith, e, test_small t g) in
-    c.before.before.keep-equal.ensures f s
+    c.keep_equal.ensures f s
     ∙ bits_same (length d.set.now) (λ k. f k && eqb (kind k) (d.test % 65536)) (λ k. f k && meets t (kind k))
     (λ k l. ap (λ x. f k && x) (ap (eqb (kind k)) whole ∙ meets_kind t (kind k) d.test e other.0.1 other.1))
 

@@ -98,11 +98,11 @@ predicates_claims t = (expression_below t, expression.Post, larger-reads.Asked, 
 abbrev steps_claims : ℕ → steps-lts.Claims
 steps_claims t = (unpack-reads.Asked, unpack-reads.Learnt, own-depth-reads.Asked, own-depth-reads.Learnt, larger-reads.Asked, larger-reads.Learnt, predicates_below t, predicates.Post)
 
-abbrev expression_Inv_loop : expression-lts.invariant-loop
+abbrev expression_Inv_loop : expression-lts.invariant-loop-next
 expression_Inv_loop items at depth ors₀ ands₀ place₀ deep₀ high₀ guarded₀ term₀ ors ands place deep high guarded term =
     Turn depth items at place deep high guarded term ands ors
 
-abbrev expression_μ_loop : expression-lts.decreases-loop
+abbrev expression_μ_loop : expression-lts.decreases-loop-next
 expression_μ_loop items at depth ors₀ ands₀ place₀ deep₀ high₀ guarded₀ term₀ ors ands place deep high guarded term = length items - place
 
 abbrev Expression-start : ℕ → Type 0
@@ -110,259 +110,247 @@ Expression-start t = expression-lts.Start (expression_claims t) (expression_at t
 
 -- Of what is lent nothing is read yet.
 abbrev Expression-lent : ℕ → Type 0
-Expression-lent t = expression-lts.After-shared-slice-known (expression_claims t) (expression_at t) expression.Post expression_Inv_loop expression_μ_loop
+Expression-lent t = expression-lts.After-shared_slice_known-1 (expression_claims t) (expression_at t) expression.Post expression_Inv_loop expression_μ_loop
 
 abbrev expression_start : (t : ℕ) → Expression-lent t → Expression-start t
 expression_start t c = c.before
-
 -- An operand is to be walked over.
 abbrev Expression-turn : ℕ → Type 0
-Expression-turn t = expression-lts.At-loop (expression_claims t) (expression_at t) expression.Post expression_Inv_loop expression_μ_loop
+Expression-turn t = expression-lts.At-loop-next (expression_claims t) (expression_at t) expression.Post expression_Inv_loop expression_μ_loop
 
 abbrev expression_begun : (t : ℕ) → Expression-turn t → Expression-start t
 expression_begun t c = expression_start t c.before.before.before
 
 -- It is walked over,
 abbrev Expression-walked : ℕ → Type 0
-Expression-walked t = expression-lts.After-operand (expression_claims t) (expression_at t) expression.Post expression_Inv_loop expression_μ_loop
+Expression-walked t = expression-lts.After-operand-one (expression_claims t) (expression_at t) expression.Post expression_Inv_loop expression_μ_loop
 
 abbrev expression_turn : (t : ℕ) → Expression-walked t → Expression-turn t
 expression_turn t c = c.before
-
-expression_walks : (t : ℕ) (c : Expression-walked t) (r : Walked) → c.operand.result ≡ r
-    → let l = (expression_turn t c).loop in
+expression_walks : (t : ℕ) (c : Expression-walked t) (r : Walked) → c.operand-one.result ≡ r
+    → let l = (expression_turn t c).loop-next in
     let a = (expression_begun t (expression_turn t c)).args in
     Walks a.items.now l.place a.depth (take_operand (take_within a.depth) (drop l.place a.items.now)) nest_operand height_expr (open_in_operand a.depth) r
 expression_walks t c r e =
-    let l = (expression_turn t c).loop in
+    let l = (expression_turn t c).loop-next in
     let a = (expression_begun t (expression_turn t c)).args in
-    subst (Walks a.items.now l.place a.depth (take_operand (take_within a.depth) (drop l.place a.items.now)) nest_operand height_expr (open_in_operand a.depth)) e c.operand.ensures
+    subst (Walks a.items.now l.place a.depth (take_operand (take_within a.depth) (drop l.place a.items.now)) nest_operand height_expr (open_in_operand a.depth)) e c.operand-one.ensures
 
 -- and is one;
 abbrev Expression-one : ℕ → Type 0
-Expression-one t = expression-lts.After-one (expression_claims t) (expression_at t) expression.Post expression_Inv_loop expression_μ_loop
+Expression-one t = expression-lts.In-Done (expression_claims t) (expression_at t) expression.Post expression_Inv_loop expression_μ_loop
 
 abbrev expression_walked : (t : ℕ) → Expression-one t → Expression-walked t
-expression_walked t c = c.before.before
-
+expression_walked t c = c.before
 -- its nesting and its guards are taken in,
 abbrev Expression-measured : ℕ → Type 0
-Expression-measured t = expression-lts.After-larger2 (expression_claims t) (expression_at t) expression.Post expression_Inv_loop expression_μ_loop
+Expression-measured t = expression-lts.After-larger-guarded (expression_claims t) (expression_at t) expression.Post expression_Inv_loop expression_μ_loop
 
 abbrev expression_one : (t : ℕ) → Expression-measured t → Expression-one t
-expression_one t c = c.before.before.before
-
+expression_one t c = c.before.before
 -- and its height.
 abbrev Expression-joined : ℕ → Type 0
-Expression-joined t = expression-lts.After-joined (expression_claims t) (expression_at t) expression.Post expression_Inv_loop expression_μ_loop
+Expression-joined t = expression-lts.After-joined-term (expression_claims t) (expression_at t) expression.Post expression_Inv_loop expression_μ_loop
 
 abbrev expression_measured : (t : ℕ) → Expression-joined t → Expression-measured t
 expression_measured t c = c.before
-
 -- The term is taken in.
 abbrev Expression-term : ℕ → Type 0
-Expression-term t = expression-lts.After-joined2 (expression_claims t) (expression_at t) expression.Post expression_Inv_loop expression_μ_loop
+Expression-term t = expression-lts.After-joined-high (expression_claims t) (expression_at t) expression.Post expression_Inv_loop expression_μ_loop
 
 abbrev expression_joined : (t : ℕ) → Expression-term t → Expression-joined t
 expression_joined t c = c.before.before
-
-expression_run_of_requires : (t : ℕ) → expression-lts.Need-run-of-requires (expression_claims t) (expression_at t) expression.Post expression_Inv_loop expression_μ_loop
+expression_run_of_requires : (t : ℕ) → expression-lts.Need-run_of-ors-requires (expression_claims t) (expression_at t) expression.Post expression_Inv_loop expression_μ_loop
 expression_run_of_requires t c κs = search rules
 
-expression_add_run_of : (t : ℕ) → expression-lts.Need-overflow-add-run-of (expression_claims t) (expression_at t) expression.Post expression_Inv_loop expression_μ_loop
-expression_add_run_of t c = omega (arith, c.run_of.ensures.1, (expression_start t c.before).good.0.1)
+expression_add_run_of : (t : ℕ) → expression-lts.Need-overflow_add-at (expression_claims t) (expression_at t) expression.Post expression_Inv_loop expression_μ_loop
+expression_add_run_of t c = omega (arith, c.run_of-ors.ensures.1, (expression_start t c.before).well_formed.0.1)
 
-expression_run_of_requires_2 : (t : ℕ) → expression-lts.Need-run-of-requires-2 (expression_claims t) (expression_at t) expression.Post expression_Inv_loop expression_μ_loop
+expression_run_of_requires_2 : (t : ℕ) → expression-lts.Need-run_of-ands-requires (expression_claims t) (expression_at t) expression.Post expression_Inv_loop expression_μ_loop
 expression_run_of_requires_2 t c κs = search rules
 
-expression_add_place : (t : ℕ) → expression-lts.Need-overflow-add-place (expression_claims t) (expression_at t) expression.Post expression_Inv_loop expression_μ_loop
-expression_add_place t c = omega (arith, c.run-of2.ensures.1, (expression_start t c.before.before).good.0.1)
+expression_add_place : (t : ℕ) → expression-lts.Need-overflow_add-place (expression_claims t) (expression_at t) expression.Post expression_Inv_loop expression_μ_loop
+expression_add_place t c = omega (arith, c.run_of-ands.ensures.1, (expression_start t c.before.before).well_formed.0.1)
 
-expression_add_place_2 : (t : ℕ) → expression-lts.Need-overflow-add-place-2 (expression_claims t) (expression_at t) expression.Post expression_Inv_loop expression_μ_loop
-expression_add_place_2 t c = omega (arith, c.run-of2.ensures.1, (expression_start t c.before.before).good.0.1)
+expression_add_place_2 : (t : ℕ) → expression-lts.Need-overflow_add-place-2 (expression_claims t) (expression_at t) expression.Post expression_Inv_loop expression_μ_loop
+expression_add_place_2 t c = omega (arith, c.run_of-ands.ensures.1, (expression_start t c.before.before).well_formed.0.1)
 
-expression_loop_holds : (t : ℕ) → expression-lts.Need-loop-init (expression_claims t) (expression_at t) expression.Post expression_Inv_loop expression_μ_loop
+expression_loop_holds : (t : ℕ) → expression-lts.Need-loop-next-init (expression_claims t) (expression_at t) expression.Post expression_Inv_loop expression_μ_loop
 expression_loop_holds t c =
     let a = (expression_start t c.before.before).args in
-    turn_start a.depth a.items.now a.at c.before.run_of.result c.run-of2.result c.before.run_of.ensures.0 c.run-of2.ensures.0 c.before.run_of.ensures.1 c.run-of2.ensures.1
+    turn_start a.depth a.items.now a.at c.run_of-ors.result c.run_of-ands.result c.run_of-ors.ensures.0 c.run_of-ands.ensures.0 c.run_of-ors.ensures.1 c.run_of-ands.ensures.1
 
-expression_operand_requires : (t : ℕ) → expression-lts.Need-operand-requires (expression_claims t) (expression_at t) expression.Post expression_Inv_loop expression_μ_loop
+expression_operand_requires : (t : ℕ) → expression-lts.Need-operand-one-requires (expression_claims t) (expression_at t) expression.Post expression_Inv_loop expression_μ_loop
 expression_operand_requires t c κs =
     let begun = expression_begun t c in
-    let i = c.loop.invariant in (omega (arith, begun.pre.0, i.past), (i.inner.inside, begun.pre.1.1))
+    let i = c.loop-next.invariant in (omega (arith, begun.requires.0, i.past), (i.inner.inside, begun.requires.1.1))
 
-expression_enum_known_one : (t : ℕ) → expression-lts.Need-enum-known-one (expression_claims t) (expression_at t) expression.Post expression_Inv_loop expression_μ_loop
+expression_enum_known_one : (t : ℕ) → expression-lts.Need-enum_known-one (expression_claims t) (expression_at t) expression.Post expression_Inv_loop expression_μ_loop
 expression_enum_known_one t c = search rules
 
-expression_enum_told : (t : ℕ) → expression-lts.Need-enum-told (expression_claims t) (expression_at t) expression.Post expression_Inv_loop expression_μ_loop
+expression_enum_told : (t : ℕ) → expression-lts.Need-enum_told-1 (expression_claims t) (expression_at t) expression.Post expression_Inv_loop expression_μ_loop
 expression_enum_told t c = search rules
 
-expression_returns : (t : ℕ) → expression-lts.Need-returns (expression_claims t) (expression_at t) expression.Post expression_Inv_loop expression_μ_loop
+expression_returns : (t : ℕ) → expression-lts.Need-returns-in_default (expression_claims t) (expression_at t) expression.Post expression_Inv_loop expression_μ_loop
 expression_returns t c =
-    let l = (expression_turn t c.before.before).loop in
-    turn_stuck l.inv (expression_walks t c.before.before _ c.enum_told.given.1)
+    let l = (expression_turn t c.before).loop-next in
+    turn_stuck l.invariant (expression_walks t c.before.before _ c.in_default.is)
 
-expression_larger_requires : (t : ℕ) → expression-lts.Need-larger-requires (expression_claims t) (expression_at t) expression.Post expression_Inv_loop expression_μ_loop
+expression_larger_requires : (t : ℕ) → expression-lts.Need-larger-deep-requires (expression_claims t) (expression_at t) expression.Post expression_Inv_loop expression_μ_loop
 expression_larger_requires t c κs = search rules
 
-expression_larger_requires_2 : (t : ℕ) → expression-lts.Need-larger-requires-2 (expression_claims t) (expression_at t) expression.Post expression_Inv_loop expression_μ_loop
+expression_larger_requires_2 : (t : ℕ) → expression-lts.Need-larger-guarded-requires (expression_claims t) (expression_at t) expression.Post expression_Inv_loop expression_μ_loop
 expression_larger_requires_2 t c κs = search rules
 
-expression_joined_requires : (t : ℕ) → expression-lts.Need-joined-requires (expression_claims t) (expression_at t) expression.Post expression_Inv_loop expression_μ_loop
+expression_joined_requires : (t : ℕ) → expression-lts.Need-joined-term-requires (expression_claims t) (expression_at t) expression.Post expression_Inv_loop expression_μ_loop
 expression_joined_requires t c κs =
     let one = expression_one t c in
     let walked = expression_walked t one in
     let turn = expression_turn t walked in
-    let i = turn.loop.inv in
-    let w = expression_walks t walked _ one.one.given.1 in
-    let long = (expression_begun t turn).good.0.1 in (omega (arith, long, i.inner.low, i.inner.inside), omega (arith, long, w.low, w.inside))
+    let i = turn.loop-next.invariant in
+    let w = expression_walks t walked _ one.in-Done.is in
+    let long = (expression_begun t turn).well_formed.0.1 in (omega (arith, long, i.inner.low, i.inner.inside), omega (arith, long, w.low, w.inside))
 
-expression_sub_ands : (t : ℕ) → expression-lts.Need-overflow-sub-ands (expression_claims t) (expression_at t) expression.Post expression_Inv_loop expression_μ_loop
-expression_sub_ands t c = omega (arith, c.if1.true)
+expression_sub_ands : (t : ℕ) → expression-lts.Need-overflow_sub-ands (expression_claims t) (expression_at t) expression.Post expression_Inv_loop expression_μ_loop
+expression_sub_ands t c = omega (arith, c.if-ands-gt0.true)
 
-expression_loop_less : (t : ℕ) → expression-lts.Need-loop-smaller (expression_claims t) (expression_at t) expression.Post expression_Inv_loop expression_μ_loop
+expression_loop_less : (t : ℕ) → expression-lts.Need-loop-next-smaller-then-ands-gt0 (expression_claims t) (expression_at t) expression.Post expression_Inv_loop expression_μ_loop
 expression_loop_less t c =
     let measured = expression_measured t c.before in
     let one = expression_one t measured in
     let walked = expression_walked t one in
-    let l = (expression_turn t walked).loop in
-    let w = expression_walks t walked _ one.one.given.1 in
-    omega (arith, turn_onward l.inv w measured.before.larger.ensures measured.larger2.ensures c.before.joined.ensures, w.inside)
+    let l = (expression_turn t walked).loop-next in
+    let w = expression_walks t walked _ one.in-Done.is in
+    omega (arith, turn_onward l.invariant w measured.larger-deep.ensures measured.larger-guarded.ensures c.joined-term.ensures, w.inside)
 
-expression_loop_again : (t : ℕ) → expression-lts.Need-loop-preserved (expression_claims t) (expression_at t) expression.Post expression_Inv_loop expression_μ_loop
+expression_loop_again : (t : ℕ) → expression-lts.Need-loop-next-preserved-then-ands-gt0 (expression_claims t) (expression_at t) expression.Post expression_Inv_loop expression_μ_loop
 expression_loop_again t c =
     let measured = expression_measured t c.before in
     let one = expression_one t measured in
     let walked = expression_walked t one in
-    let l = (expression_turn t walked).loop in
-    let w = expression_walks t walked _ one.one.given.1 in
-    turn_and l.inv w measured.before.larger.ensures measured.larger2.ensures c.before.joined.ensures c.if1.true
+    let l = (expression_turn t walked).loop-next in
+    let w = expression_walks t walked _ one.in-Done.is in
+    turn_and l.invariant w measured.larger-deep.ensures measured.larger-guarded.ensures c.joined-term.ensures c.if-ands-gt0.true
 
-expression_joined_requires_2 : (t : ℕ) → expression-lts.Need-joined-requires-2 (expression_claims t) (expression_at t) expression.Post expression_Inv_loop expression_μ_loop
+expression_joined_requires_2 : (t : ℕ) → expression-lts.Need-joined-high-requires (expression_claims t) (expression_at t) expression.Post expression_Inv_loop expression_μ_loop
 expression_joined_requires_2 t c κs =
     let measured = expression_measured t c.before in
     let one = expression_one t measured in
     let walked = expression_walked t one in
     let turn = expression_turn t walked in
-    let l = turn.loop in
-    let w = expression_walks t walked _ one.one.given.1 in
-    let long = (expression_begun t turn).good.0.1 in (omega (arith, long, l.inv.outer.low, l.inv.inner.onward, l.inv.inner.inside), omega (arith, long, term_low l.inv w measured.before.larger.ensures measured.larger2.ensures c.before.joined.ensures, w.inside))
+    let l = turn.loop-next in
+    let w = expression_walks t walked _ one.in-Done.is in
+    let long = (expression_begun t turn).well_formed.0.1 in (omega (arith, long, l.invariant.outer.low, l.invariant.inner.onward, l.invariant.inner.inside), omega (arith, long, term_low l.invariant w measured.larger-deep.ensures measured.larger-guarded.ensures c.joined-term.ensures, w.inside))
 
-expression_returns_2 : (t : ℕ) → expression-lts.Need-returns-2 (expression_claims t) (expression_at t) expression.Post expression_Inv_loop expression_μ_loop
+expression_returns_2 : (t : ℕ) → expression-lts.Need-returns-then-ors-eq0 (expression_claims t) (expression_at t) expression.Post expression_Inv_loop expression_μ_loop
 expression_returns_2 t c =
     let joined = expression_joined t c.before in
     let measured = expression_measured t joined in
     let one = expression_one t measured in
     let walked = expression_walked t one in
-    let l = (expression_turn t walked).loop in
-    let w = expression_walks t walked _ one.one.given.1 in
-    turn_done l.inv w measured.before.larger.ensures measured.larger2.ensures joined.joined.ensures c.before.before.if1.false c.before.joined2.ensures (omega (arith, c.if2.true))
+    let l = (expression_turn t walked).loop-next in
+    let w = expression_walks t walked _ one.in-Done.is in
+    turn_done l.invariant w measured.larger-deep.ensures measured.larger-guarded.ensures joined.joined-term.ensures c.if-ands-gt0.false c.joined-high.ensures (omega (arith, c.if-ors-eq0.true))
 
-expression_sub_ors : (t : ℕ) → expression-lts.Need-overflow-sub-ors (expression_claims t) (expression_at t) expression.Post expression_Inv_loop expression_μ_loop
-expression_sub_ors t c = omega (arith, c.if2.false)
+expression_sub_ors : (t : ℕ) → expression-lts.Need-overflow_sub-ors (expression_claims t) (expression_at t) expression.Post expression_Inv_loop expression_μ_loop
+expression_sub_ors t c = omega (arith, c.if-ors-eq0.false)
 
-expression_run_of_requires_3 : (t : ℕ) → expression-lts.Need-run-of-requires-3 (expression_claims t) (expression_at t) expression.Post expression_Inv_loop expression_μ_loop
+expression_run_of_requires_3 : (t : ℕ) → expression-lts.Need-run_of-ands-requires-else-ands-gt0 (expression_claims t) (expression_at t) expression.Post expression_Inv_loop expression_μ_loop
 expression_run_of_requires_3 t c κs =
     let one = expression_one t (expression_measured t (expression_joined t c.before)) in
-    let w = expression_walks t (expression_walked t one) _ one.one.given.1 in
+    let w = expression_walks t (expression_walked t one) _ one.in-Done.is in
     w.inside
 
-expression_add_place_3 : (t : ℕ) → expression-lts.Need-overflow-add-place-3 (expression_claims t) (expression_at t) expression.Post expression_Inv_loop expression_μ_loop
-expression_add_place_3 t c = omega (arith, c.run-of3.ensures.1, (expression_begun t (expression_turn t (expression_walked t (expression_one t (expression_measured t (expression_joined t c.before.before)))))).good.0.1)
+expression_add_place_3 : (t : ℕ) → expression-lts.Need-overflow_add-place-else-ands-gt0 (expression_claims t) (expression_at t) expression.Post expression_Inv_loop expression_μ_loop
+expression_add_place_3 t c = omega (arith, c.run_of-ands-else-ands-gt0.ensures.1, (expression_begun t (expression_turn t (expression_walked t (expression_one t (expression_measured t (expression_joined t c.before.before)))))).well_formed.0.1)
 
-expression_loop_less_2 : (t : ℕ) → expression-lts.Need-loop-smaller-2 (expression_claims t) (expression_at t) expression.Post expression_Inv_loop expression_μ_loop
+expression_loop_less_2 : (t : ℕ) → expression-lts.Need-loop-next-smaller (expression_claims t) (expression_at t) expression.Post expression_Inv_loop expression_μ_loop
 expression_loop_less_2 t c =
     let joined = expression_joined t c.before.before in
     let measured = expression_measured t joined in
     let one = expression_one t measured in
     let walked = expression_walked t one in
-    let l = (expression_turn t walked).loop in
-    let w = expression_walks t walked _ one.one.given.1 in
-    omega (arith, turn_onward l.inv w measured.before.larger.ensures measured.larger2.ensures joined.joined.ensures, c.run-of3.ensures.1, w.inside)
+    let l = (expression_turn t walked).loop-next in
+    let w = expression_walks t walked _ one.in-Done.is in
+    omega (arith, turn_onward l.invariant w measured.larger-deep.ensures measured.larger-guarded.ensures joined.joined-term.ensures, c.run_of-ands-else-ands-gt0.ensures.1, w.inside)
 
-expression_loop_again_2 : (t : ℕ) → expression-lts.Need-loop-preserved-2 (expression_claims t) (expression_at t) expression.Post expression_Inv_loop expression_μ_loop
+expression_loop_again_2 : (t : ℕ) → expression-lts.Need-loop-next-preserved (expression_claims t) (expression_at t) expression.Post expression_Inv_loop expression_μ_loop
 expression_loop_again_2 t c =
     let joined = expression_joined t c.before.before in
     let measured = expression_measured t joined in
     let one = expression_one t measured in
     let walked = expression_walked t one in
-    let l = (expression_turn t walked).loop in
-    let w = expression_walks t walked _ one.one.given.1 in
-    turn_or l.inv w measured.before.larger.ensures measured.larger2.ensures joined.joined.ensures c.before.before.before.if1.false c.before.before.joined2.ensures (omega (arith, c.before.if2.false)) c.run-of3.ensures.0 c.run-of3.ensures.1
+    let l = (expression_turn t walked).loop-next in
+    let w = expression_walks t walked _ one.in-Done.is in
+    turn_or l.invariant w measured.larger-deep.ensures measured.larger-guarded.ensures joined.joined-term.ensures c.if-ands-gt0.false c.joined-high.ensures (omega (arith, c.if-ors-eq0.false)) c.run_of-ands-else-ands-gt0.ensures.0 c.run_of-ands-else-ands-gt0.ensures.1
 
 abbrev Operand-start : ℕ → Type 0
 Operand-start t = operand-lts.Start (operand_claims t) (operand_at t) operand.Post
 
 -- An item is there,
 abbrev Operand-there : ℕ → Type 0
-Operand-there t = operand-lts.Else1 (operand_claims t) (operand_at t) operand.Post
+Operand-there t = operand-lts.Else-items-at (operand_claims t) (operand_at t) operand.Post
 
 abbrev operand_start : (t : ℕ) → Operand-there t → Operand-start t
 operand_start t c = c.before.before
-
 -- and says what follows:
 abbrev Operand-unpacked : ℕ → Type 0
-Operand-unpacked t = operand-lts.After-unpack (operand_claims t) (operand_at t) operand.Post
+Operand-unpacked t = operand-lts.After-unpack-item (operand_claims t) (operand_at t) operand.Post
 
 abbrev operand_there : (t : ℕ) → Operand-unpacked t → Operand-there t
 operand_there t c = c.before.before
-
 -- a path,
 abbrev Operand-path : ℕ → Type 0
-Operand-path t = operand-lts.After-item (operand_claims t) (operand_at t) operand.Post
+Operand-path t = operand-lts.In-Path (operand_claims t) (operand_at t) operand.Post
 
 abbrev operand_unpacked : (t : ℕ) → Operand-path t → Operand-unpacked t
-operand_unpacked t c = c.before.before
-
+operand_unpacked t c = c.before
 -- of which the steps are walked over;
 abbrev Operand-walked : ℕ → Type 0
 Operand-walked t = operand-lts.After-steps (operand_claims t) (operand_at t) operand.Post
 
 abbrev operand_path : (t : ℕ) → Operand-walked t → Operand-path t
-operand_path t c = c.before.before.before
-
+operand_path t c = c.before.before
 -- what has a bracket, and one may be opened;
 abbrev Operand-bracket : ℕ → Type 0
-Operand-bracket t = operand-lts.Else3 (operand_claims t) (operand_at t) operand.Post
+Operand-bracket t = operand-lts.Else-depth-eq0 (operand_claims t) (operand_at t) operand.Post
 
 abbrev operand_no_path : (t : ℕ) → Operand-bracket t → Operand-unpacked t
 operand_no_path t c = c.before.before
-
 -- `not` among them.
 abbrev Operand-denied : ℕ → Type 0
-Operand-denied t = operand-lts.After-enum-told (operand_claims t) (operand_at t) operand.Post
+Operand-denied t = operand-lts.In-Not (operand_claims t) (operand_at t) operand.Post
 
 abbrev operand_bracket : (t : ℕ) → Operand-denied t → Operand-bracket t
-operand_bracket t c = c.before.before
-
-operand_returns : (t : ℕ) → operand-lts.Need-returns (operand_claims t) (operand_at t) operand.Post
+operand_bracket t c = c.before
+operand_returns : (t : ℕ) → operand-lts.Need-returns-then-items-at (operand_claims t) (operand_at t) operand.Post
 operand_returns t c =
-    let a = c.before.before.args in
-    operand_past (take_within a.depth) a.items.now a.at c.if1.true
+    let a = c.args in
+    operand_past (take_within a.depth) a.items.now a.at c.if-items-at.true
 
-operand_mul_unpack : (t : ℕ) → operand-lts.Need-overflow-mul-unpack (operand_claims t) (operand_at t) operand.Post
+operand_mul_unpack : (t : ℕ) → operand-lts.Need-offset_bounds-items-at (operand_claims t) (operand_at t) operand.Post
 operand_mul_unpack t c = search rules
 
-operand_shared_slice_read_unpack : (t : ℕ) → operand-lts.Need-shared-slice-read-unpack (operand_claims t) (operand_at t) operand.Post
+operand_shared_slice_read_unpack : (t : ℕ) → operand-lts.Need-bounds-items-at (operand_claims t) (operand_at t) operand.Post
 operand_shared_slice_read_unpack t c = search rules
 
-operand_unpack_requires : (t : ℕ) → operand-lts.Need-unpack-requires (operand_claims t) (operand_at t) operand.Post
+operand_unpack_requires : (t : ℕ) → operand-lts.Need-unpack-item-requires (operand_claims t) (operand_at t) operand.Post
 operand_unpack_requires t c κs = search rules
 
-operand_enum_known_item : (t : ℕ) → operand-lts.Need-enum-known-item (operand_claims t) (operand_at t) operand.Post
+operand_enum_known_item : (t : ℕ) → operand-lts.Need-enum_known-item (operand_claims t) (operand_at t) operand.Post
 operand_enum_known_item t c = search rules
 
-operand_returns_2 : (t : ℕ) → operand-lts.Need-returns-2 (operand_claims t) (operand_at t) operand.Post
+operand_returns_2 : (t : ℕ) → operand-lts.Need-returns-then-count-eq0 (operand_claims t) (operand_at t) operand.Post
 operand_returns_2 t c =
-    let unpacked = operand_unpacked t c.before.before in
+    let unpacked = operand_unpacked t c.before in
     let there = operand_there t unpacked in
     let a = (operand_start t there).args in
-    let u = unpacked.unpack in
+    let u = unpacked.unpack-item in
     let w = get_or a.items.now a.at 0 in
-    let s = said w _ (sym c.before.before.item.given.1 ∙ u.ensures) in
-    walk_none a.items.now a.at a.depth there.if1.left a.depth (operand_bare (take_within a.depth) w _ (subst (λ (n : ℕ). path_at w ≡ some n) c.if2.true s))
+    let s = said w _ (sym c.in-Path.is ∙ u.ensures) in
+    walk_none a.items.now a.at a.depth there.if-items-at.false a.depth (operand_bare (take_within a.depth) w _ (subst (λ (n : ℕ). path_at w ≡ some n) c.if-count-eq0.true s))
 
-operand_add_steps : (t : ℕ) → operand-lts.Need-overflow-add-steps (operand_claims t) (operand_at t) operand.Post
+operand_add_steps : (t : ℕ) → operand-lts.Need-overflow_add-at (operand_claims t) (operand_at t) operand.Post
 operand_add_steps t c = search rules
 
 operand_steps_requires : (t : ℕ) → operand-lts.Need-steps-requires (operand_claims t) (operand_at t) operand.Post
@@ -371,29 +359,29 @@ operand_steps_requires t c κs = search rules
 operand_raised_requires : (t : ℕ) → operand-lts.Need-raised-requires (operand_claims t) (operand_at t) operand.Post
 operand_raised_requires t c κs =
     let start = operand_start t (operand_there t (operand_unpacked t (operand_path t c))) in
-    (small _ _ _ _ _ _ _ c.steps.result start.pre.1.1 start.good.0.1 c.steps.ensures, omega arith, omega arith)
+    (small _ _ _ _ _ _ _ c.steps.result start.requires.1.1 start.well_formed.0.1 c.steps.ensures, omega arith, omega arith)
 
-operand_returns_3 : (t : ℕ) → operand-lts.Need-returns-3 (operand_claims t) (operand_at t) operand.Post
+operand_returns_3 : (t : ℕ) → operand-lts.Need-returns-in-Path (operand_claims t) (operand_at t) operand.Post
 operand_returns_3 t c =
     let path = operand_path t c.before in
     let unpacked = operand_unpacked t path in
     let there = operand_there t unpacked in
     let a = (operand_start t there).args in
-    let u = unpacked.unpack in
+    let u = unpacked.unpack-item in
     let w = get_or a.items.now a.at 0 in
-    let s = said w _ (sym path.item.given.1 ∙ u.ensures) in
+    let s = said w _ (sym path.in-Path.is ∙ u.ensures) in
     rw c.raised.ensures
-    (walk_path a.items.now a.at a.depth there.if1.left _ s (omega (arith, c.before.before.if2.false)) c.before.steps.result c.before.steps.ensures)
+    (walk_path a.items.now a.at a.depth there.if-items-at.false _ s (omega (arith, c.if-count-eq0.false)) c.steps.result c.steps.ensures)
 
-operand_returns_4 : (t : ℕ) → operand-lts.Need-returns-4 (operand_claims t) (operand_at t) operand.Post
+operand_returns_4 : (t : ℕ) → operand-lts.Need-returns-then-depth-eq0 (operand_claims t) (operand_at t) operand.Post
 operand_returns_4 t c =
-    let a = c.before.before.before.before.before.before.args in
-    let u = c.before.before.unpack in
+    let a = c.args in
+    let u = c.unpack-item in
     let w = get_or a.items.now a.at 0 in
-    walk_none a.items.now a.at a.depth c.before.before.before.before.if1.false a.depth
-    (rw c.if3.true (operand_deep w u.result _ (said w u.result u.ensures) c.before.match.keys2))
+    walk_none a.items.now a.at a.depth c.if-items-at.false a.depth
+    (rw c.if-depth-eq0.true (operand_deep w u.result _ (said w u.result u.ensures) c.in-Path.in-Path-own.keys2))
 
-operand_sub_expression : (t : ℕ) → operand-lts.Need-overflow-sub-expression (operand_claims t) (operand_at t) operand.Post
+operand_sub_expression : (t : ℕ) → operand-lts.Need-overflow_sub-depth (operand_claims t) (operand_at t) operand.Post
 operand_sub_expression t c = search rules
 
 operand_expression_requires : (t : ℕ) → operand-lts.Need-expression-requires (operand_claims t) (operand_at t) operand.Post
@@ -402,73 +390,73 @@ operand_expression_requires t c κs =
     let there = operand_there t no_path in
     let start = operand_start t there in
     let a = start.args in
-    let u = no_path.unpack in
-    let o = operator_item (get_or a.items.now a.at 0) u.result (said _ u.result u.ensures) c.match2.keys1 in
-    let p = start.pre in (omega (arith, p.0, there.if1.left, operators_there a.items.now a.at a.depth there.if1.left o), (p.1.0, omega (arith, p.1.1)))
+    let u = no_path.unpack-item in
+    let o = operator_item (get_or a.items.now a.at 0) u.result (said _ u.result u.ensures) c.in-And.in-And-own.keys1 in
+    let p = start.requires in (omega (arith, p.0, there.if-items-at.false, operators_there a.items.now a.at a.depth there.if-items-at.false o), (p.1.0, omega (arith, p.1.1)))
 
-operand_raised_requires_2 : (t : ℕ) → operand-lts.Need-raised-requires-2 (operand_claims t) (operand_at t) operand.Post
+operand_raised_requires_2 : (t : ℕ) → operand-lts.Need-raised-requires-in-And (operand_claims t) (operand_at t) operand.Post
 operand_raised_requires_2 t c κs =
     let start = operand_start t (operand_there t (operand_no_path t c.before.before)) in
-    (small _ _ _ _ _ _ _ c.expression.result (omega (arith, start.pre.1)) start.good.0.1 c.expression.ensures, omega arith, omega arith)
+    (small _ _ _ _ _ _ _ c.expression.result (omega (arith, start.requires.1)) start.well_formed.0.1 c.expression.ensures, omega arith, omega arith)
 
-operand_enum_told : (t : ℕ) → operand-lts.Need-enum-told (operand_claims t) (operand_at t) operand.Post
+operand_enum_told : (t : ℕ) → operand-lts.Need-enum_told-1 (operand_claims t) (operand_at t) operand.Post
 operand_enum_told t c = search rules
 
-operand_add_expression : (t : ℕ) → operand-lts.Need-overflow-add-expression (operand_claims t) (operand_at t) operand.Post
+operand_add_expression : (t : ℕ) → operand-lts.Need-overflow_add-at-in-Not (operand_claims t) (operand_at t) operand.Post
 operand_add_expression t c = search rules
 
-operand_sub_expression_2 : (t : ℕ) → operand-lts.Need-overflow-sub-expression-2 (operand_claims t) (operand_at t) operand.Post
+operand_sub_expression_2 : (t : ℕ) → operand-lts.Need-overflow_sub-depth-in-Not (operand_claims t) (operand_at t) operand.Post
 operand_sub_expression_2 t c = search rules
 
-operand_expression_requires_2 : (t : ℕ) → operand-lts.Need-expression-requires-2 (operand_claims t) (operand_at t) operand.Post
+operand_expression_requires_2 : (t : ℕ) → operand-lts.Need-expression-requires-in-Not (operand_claims t) (operand_at t) operand.Post
 operand_expression_requires_2 t c κs =
     let there = operand_there t (operand_no_path t (operand_bracket t c)) in
-    let p = (operand_start t there).pre in (omega (arith, p.0, there.if1.left), (omega (arith, there.if1.left), omega (arith, p.1.1)))
+    let p = (operand_start t there).requires in (omega (arith, p.0, there.if-items-at.false), (omega (arith, there.if-items-at.false), omega (arith, p.1.1)))
 
-operand_raised_requires_3 : (t : ℕ) → operand-lts.Need-raised-requires-3 (operand_claims t) (operand_at t) operand.Post
+operand_raised_requires_3 : (t : ℕ) → operand-lts.Need-raised-requires-in-Not (operand_claims t) (operand_at t) operand.Post
 operand_raised_requires_3 t c κs =
     let start = operand_start t (operand_there t (operand_no_path t (operand_bracket t c.before))) in
-    (small _ _ _ _ _ _ _ c.expression2.result (omega (arith, start.pre.1)) start.good.0.1 c.expression2.ensures, omega arith, omega arith)
+    (small _ _ _ _ _ _ _ c.expression-in-Not.result (omega (arith, start.requires.1)) start.well_formed.0.1 c.expression-in-Not.ensures, omega arith, omega arith)
 
-operand_returns_5 : (t : ℕ) → operand-lts.Need-returns-5 (operand_claims t) (operand_at t) operand.Post
+operand_returns_5 : (t : ℕ) → operand-lts.Need-returns-in-And (operand_claims t) (operand_at t) operand.Post
 operand_returns_5 t c =
     let no_path = operand_no_path t c.before.before.before in
     let there = operand_there t no_path in
     let start = operand_start t there in
     let a = start.args in
-    let u = no_path.unpack in
-    let o = operator_item (get_or a.items.now a.at 0) u.result (said _ u.result u.ensures) c.before.before.match2.keys1 in
-    rw c.raised2.ensures
-    (opens_joined a.items.now a.at a.depth there.if1.left c.before.before.before.if3.false start.pre.1.1 c.before.expression.result o c.before.expression.ensures)
+    let u = no_path.unpack-item in
+    let o = operator_item (get_or a.items.now a.at 0) u.result (said _ u.result u.ensures) c.in-And.in-And-own.keys1 in
+    rw c.raised-in-And.ensures
+    (opens_joined a.items.now a.at a.depth there.if-items-at.false c.if-depth-eq0.false start.requires.1.1 c.expression.result o c.expression.ensures)
 
-operand_returns_6 : (t : ℕ) → operand-lts.Need-returns-6 (operand_claims t) (operand_at t) operand.Post
+operand_returns_6 : (t : ℕ) → operand-lts.Need-returns-in-Not (operand_claims t) (operand_at t) operand.Post
 operand_returns_6 t c =
     let bracket = operand_bracket t c.before.before in
     let no_path = operand_no_path t bracket in
     let there = operand_there t no_path in
     let start = operand_start t there in
     let a = start.args in
-    let u = no_path.unpack in
+    let u = no_path.unpack-item in
     let w = get_or a.items.now a.at 0 in
-    let s = said w _ (sym c.before.before.enum_told.given.1 ∙ u.ensures) in
-    rw c.raised3.ensures
-    (opens_not a.items.now a.at a.depth there.if1.left bracket.if3.left start.pre.1.1 c.before.expression2.result s c.before.expression2.ensures)
+    let s = said w _ (sym c.in-Not.is ∙ u.ensures) in
+    rw c.raised-in-Not.ensures
+    (opens_not a.items.now a.at a.depth there.if-items-at.false bracket.if-depth-eq0.false start.requires.1.1 c.expression-in-Not.result s c.expression-in-Not.ensures)
 
-operand_returns_7 : (t : ℕ) → operand-lts.Need-returns-7 (operand_claims t) (operand_at t) operand.Post
+operand_returns_7 : (t : ℕ) → operand-lts.Need-returns-in_default-item (operand_claims t) (operand_at t) operand.Post
 operand_returns_7 t c =
     let no_path = operand_no_path t c.before in
     let there = operand_there t no_path in
     let a = (operand_start t there).args in
-    let u = no_path.unpack in
+    let u = no_path.unpack-item in
     let w = get_or a.items.now a.at 0 in
-    walk_none a.items.now a.at a.depth there.if1.left a.depth
-    (operand_rest (take_within a.depth) w u.result _ (said w u.result u.ensures) c.before.before.match.keys2 c.match2.keys3)
+    walk_none a.items.now a.at a.depth there.if-items-at.false a.depth
+    (operand_rest (take_within a.depth) w u.result _ (said w u.result u.ensures) c.in-Path.in-Path-own.keys2 c.in-And.in-And-own.keys3)
 
-abbrev predicates_Inv_loop : predicates-lts.invariant-loop
+abbrev predicates_Inv_loop : predicates-lts.invariant-loop-owed
 predicates_Inv_loop items at count depth place₀ deep₀ high₀ guarded₀ owed₀ place deep high guarded owed =
     Row (pred_rows depth) items at depth (take_preds (take_within depth) count (drop at items)) place deep high guarded owed
 
-abbrev predicates_μ_loop : predicates-lts.decreases-loop
+abbrev predicates_μ_loop : predicates-lts.decreases-loop-owed
 predicates_μ_loop items at count depth place₀ deep₀ high₀ guarded₀ owed₀ place deep high guarded owed = owed
 
 abbrev Predicates-start : ℕ → Type 0
@@ -476,118 +464,112 @@ Predicates-start t = predicates-lts.Start (predicates_claims t) (predicates_at t
 
 -- Of what is lent nothing is read yet.
 abbrev Predicates-lent : ℕ → Type 0
-Predicates-lent t = predicates-lts.After-shared-slice-known (predicates_claims t) (predicates_at t) predicates.Post predicates_Inv_loop predicates_μ_loop
+Predicates-lent t = predicates-lts.After-shared_slice_known-1 (predicates_claims t) (predicates_at t) predicates.Post predicates_Inv_loop predicates_μ_loop
 
 abbrev predicates_start : (t : ℕ) → Predicates-lent t → Predicates-start t
 predicates_start t c = c.before
-
 -- So many predicates are owed,
 abbrev Predicates-turn : ℕ → Type 0
-Predicates-turn t = predicates-lts.At-loop (predicates_claims t) (predicates_at t) predicates.Post predicates_Inv_loop predicates_μ_loop
+Predicates-turn t = predicates-lts.At-loop-owed (predicates_claims t) (predicates_at t) predicates.Post predicates_Inv_loop predicates_μ_loop
 
 abbrev predicates_begun : (t : ℕ) → Predicates-turn t → Predicates-start t
 predicates_begun t c = predicates_start t c.before
 
 -- one at least;
 abbrev Predicates-owed : ℕ → Type 0
-Predicates-owed t = predicates-lts.In-loop (predicates_claims t) (predicates_at t) predicates.Post predicates_Inv_loop predicates_μ_loop
+Predicates-owed t = predicates-lts.In-loop-owed (predicates_claims t) (predicates_at t) predicates.Post predicates_Inv_loop predicates_μ_loop
 
 abbrev predicates_turn : (t : ℕ) → Predicates-owed t → Predicates-turn t
 predicates_turn t c = c.before
-
 -- a bracket may be opened,
 abbrev Predicates-allowed : ℕ → Type 0
-Predicates-allowed t = predicates-lts.Else1 (predicates_claims t) (predicates_at t) predicates.Post predicates_Inv_loop predicates_μ_loop
+Predicates-allowed t = predicates-lts.Else-depth-eq0 (predicates_claims t) (predicates_at t) predicates.Post predicates_Inv_loop predicates_μ_loop
 
 abbrev predicates_owed : (t : ℕ) → Predicates-allowed t → Predicates-owed t
 predicates_owed t c = c.before
-
 -- its inside is walked over,
 abbrev Predicates-walked : ℕ → Type 0
-Predicates-walked t = predicates-lts.After-expression (predicates_claims t) (predicates_at t) predicates.Post predicates_Inv_loop predicates_μ_loop
+Predicates-walked t = predicates-lts.After-expression-more (predicates_claims t) (predicates_at t) predicates.Post predicates_Inv_loop predicates_μ_loop
 
 abbrev predicates_allowed : (t : ℕ) → Predicates-walked t → Predicates-allowed t
 predicates_allowed t c = c.before
-
-predicates_walks : (t : ℕ) (c : Predicates-walked t) (r : Walked) → c.expression.result ≡ r
+predicates_walks : (t : ℕ) (c : Predicates-walked t) (r : Walked) → c.expression-more.result ≡ r
     → let turn = predicates_turn t (predicates_owed t (predicates_allowed t c)) in
     let a = (predicates_begun t turn).args in
-    Walks a.items.now turn.loop.place (a.depth - 1) (take_expr (take_within (a.depth - 1)) (drop turn.loop.place a.items.now)) nest_expr height_expr (open_in_expr (a.depth - 1)) r
+    Walks a.items.now turn.loop-owed.place (a.depth - 1) (take_expr (take_within (a.depth - 1)) (drop turn.loop-owed.place a.items.now)) nest_expr height_expr (open_in_expr (a.depth - 1)) r
 predicates_walks t c r e =
     let turn = predicates_turn t (predicates_owed t (predicates_allowed t c)) in
     let a = (predicates_begun t turn).args in
-    subst (Walks a.items.now turn.loop.place (a.depth - 1) (take_expr (take_within (a.depth - 1)) (drop turn.loop.place a.items.now)) nest_expr height_expr (open_in_expr (a.depth - 1))) e c.expression.ensures
+    subst (Walks a.items.now turn.loop-owed.place (a.depth - 1) (take_expr (take_within (a.depth - 1)) (drop turn.loop-owed.place a.items.now)) nest_expr height_expr (open_in_expr (a.depth - 1))) e c.expression-more.ensures
 
 -- and is an expression,
 abbrev Predicates-one : ℕ → Type 0
-Predicates-one t = predicates-lts.After-more (predicates_claims t) (predicates_at t) predicates.Post predicates_Inv_loop predicates_μ_loop
+Predicates-one t = predicates-lts.In-Done (predicates_claims t) (predicates_at t) predicates.Post predicates_Inv_loop predicates_μ_loop
 
 abbrev predicates_walked : (t : ℕ) → Predicates-one t → Predicates-walked t
-predicates_walked t c = c.before.before
-
+predicates_walked t c = c.before
 -- whose measures are taken in.
 abbrev Predicates-measured : ℕ → Type 0
-Predicates-measured t = predicates-lts.After-larger3 (predicates_claims t) (predicates_at t) predicates.Post predicates_Inv_loop predicates_μ_loop
+Predicates-measured t = predicates-lts.After-larger-guarded (predicates_claims t) (predicates_at t) predicates.Post predicates_Inv_loop predicates_μ_loop
 
 abbrev predicates_one : (t : ℕ) → Predicates-measured t → Predicates-one t
-predicates_one t c = c.before.before.before.before
-
-predicates_loop_holds : (t : ℕ) → predicates-lts.Need-loop-init (predicates_claims t) (predicates_at t) predicates.Post predicates_Inv_loop predicates_μ_loop
+predicates_one t c = c.before.before.before
+predicates_loop_holds : (t : ℕ) → predicates-lts.Need-loop-owed-init (predicates_claims t) (predicates_at t) predicates.Post predicates_Inv_loop predicates_μ_loop
 predicates_loop_holds t c =
     let start = predicates_start t c in
     let a = start.args in
-    row_start (pred_rows a.depth) a.items.now a.at a.depth a.count start.pre.1.0
+    row_start (pred_rows a.depth) a.items.now a.at a.depth a.count start.requires.1.0
 
-predicates_returns : (t : ℕ) → predicates-lts.Need-returns (predicates_claims t) (predicates_at t) predicates.Post predicates_Inv_loop predicates_μ_loop
+predicates_returns : (t : ℕ) → predicates-lts.Need-returns-then-depth-eq0 (predicates_claims t) (predicates_at t) predicates.Post predicates_Inv_loop predicates_μ_loop
 predicates_returns t c =
-    let a = c.before.before.before.before.args in
-    let l = c.before.before.loop in
-    row_stuck (pred_rows a.depth) _ _ _ _ l.place l.deep l.high l.guarded l.owed c.before.loop-test.true l.invariant (λ n. rw c.if1.true)
+    let a = c.args in
+    let l = c.loop-owed in
+    row_stuck (pred_rows a.depth) _ _ _ _ l.place l.deep l.high l.guarded l.owed c.loop-owed-test.true l.invariant (λ n. rw c.if-depth-eq0.true)
 
-predicates_sub_expression : (t : ℕ) → predicates-lts.Need-overflow-sub-expression (predicates_claims t) (predicates_at t) predicates.Post predicates_Inv_loop predicates_μ_loop
+predicates_sub_expression : (t : ℕ) → predicates-lts.Need-overflow_sub-depth (predicates_claims t) (predicates_at t) predicates.Post predicates_Inv_loop predicates_μ_loop
 predicates_sub_expression t c = search rules
 
-predicates_expression_requires : (t : ℕ) → predicates-lts.Need-expression-requires (predicates_claims t) (predicates_at t) predicates.Post predicates_Inv_loop predicates_μ_loop
+predicates_expression_requires : (t : ℕ) → predicates-lts.Need-expression-more-requires (predicates_claims t) (predicates_at t) predicates.Post predicates_Inv_loop predicates_μ_loop
 predicates_expression_requires t c κs = search rules
 
-predicates_enum_known_more : (t : ℕ) → predicates-lts.Need-enum-known-more (predicates_claims t) (predicates_at t) predicates.Post predicates_Inv_loop predicates_μ_loop
+predicates_enum_known_more : (t : ℕ) → predicates-lts.Need-enum_known-more (predicates_claims t) (predicates_at t) predicates.Post predicates_Inv_loop predicates_μ_loop
 predicates_enum_known_more t c = search rules
 
-predicates_enum_told : (t : ℕ) → predicates-lts.Need-enum-told (predicates_claims t) (predicates_at t) predicates.Post predicates_Inv_loop predicates_μ_loop
+predicates_enum_told : (t : ℕ) → predicates-lts.Need-enum_told-1 (predicates_claims t) (predicates_at t) predicates.Post predicates_Inv_loop predicates_μ_loop
 predicates_enum_told t c = search rules
 
-predicates_returns_2 : (t : ℕ) → predicates-lts.Need-returns-2 (predicates_claims t) (predicates_at t) predicates.Post predicates_Inv_loop predicates_μ_loop
+predicates_returns_2 : (t : ℕ) → predicates-lts.Need-returns-in_default (predicates_claims t) (predicates_at t) predicates.Post predicates_Inv_loop predicates_μ_loop
 predicates_returns_2 t c =
-    let allowed = predicates_allowed t c.before.before in
+    let allowed = predicates_allowed t c.before in
     let owed = predicates_owed t allowed in
     let turn = predicates_turn t owed in
     let a = (predicates_begun t turn).args in
-    let l = turn.loop in
-    row_stuck (pred_rows a.depth) _ _ _ _ l.place l.deep l.high l.guarded l.owed owed.loop-test.taken l.inv
-    (bad_pred_row a.depth a.items.now l.place allowed.if1.left (predicates_walks t c.before.before _ c.enum_told.given.1))
+    let l = turn.loop-owed in
+    row_stuck (pred_rows a.depth) _ _ _ _ l.place l.deep l.high l.guarded l.owed owed.loop-owed-test.true l.invariant
+    (bad_pred_row a.depth a.items.now l.place allowed.if-depth-eq0.false (predicates_walks t c.before.before _ c.in_default.is))
 
-predicates_add_larger : (t : ℕ) → predicates-lts.Need-overflow-add-larger (predicates_claims t) (predicates_at t) predicates.Post predicates_Inv_loop predicates_μ_loop
+predicates_add_larger : (t : ℕ) → predicates-lts.Need-overflow_add-nesting (predicates_claims t) (predicates_at t) predicates.Post predicates_Inv_loop predicates_μ_loop
 predicates_add_larger t c =
-    let walked = predicates_walked t c.before in
-    let w = predicates_walks t walked _ c.before.more.given.1 in
-    omega (arith, w.shallow, (predicates_begun t (predicates_turn t (predicates_owed t (predicates_allowed t walked)))).pre.1)
+    let walked = predicates_walked t c in
+    let w = predicates_walks t walked _ c.in-Done.is in
+    omega (arith, w.shallow, (predicates_begun t (predicates_turn t (predicates_owed t (predicates_allowed t walked)))).requires.1)
 
-predicates_larger_requires : (t : ℕ) → predicates-lts.Need-larger-requires (predicates_claims t) (predicates_at t) predicates.Post predicates_Inv_loop predicates_μ_loop
+predicates_larger_requires : (t : ℕ) → predicates-lts.Need-larger-deep-requires (predicates_claims t) (predicates_at t) predicates.Post predicates_Inv_loop predicates_μ_loop
 predicates_larger_requires t c κs = search rules
 
-predicates_larger_requires_2 : (t : ℕ) → predicates-lts.Need-larger-requires-2 (predicates_claims t) (predicates_at t) predicates.Post predicates_Inv_loop predicates_μ_loop
+predicates_larger_requires_2 : (t : ℕ) → predicates-lts.Need-larger-high-requires (predicates_claims t) (predicates_at t) predicates.Post predicates_Inv_loop predicates_μ_loop
 predicates_larger_requires_2 t c κs = search rules
 
-predicates_larger_requires_3 : (t : ℕ) → predicates-lts.Need-larger-requires-3 (predicates_claims t) (predicates_at t) predicates.Post predicates_Inv_loop predicates_μ_loop
+predicates_larger_requires_3 : (t : ℕ) → predicates-lts.Need-larger-guarded-requires (predicates_claims t) (predicates_at t) predicates.Post predicates_Inv_loop predicates_μ_loop
 predicates_larger_requires_3 t c κs = search rules
 
-predicates_sub_owed : (t : ℕ) → predicates-lts.Need-overflow-sub-owed (predicates_claims t) (predicates_at t) predicates.Post predicates_Inv_loop predicates_μ_loop
+predicates_sub_owed : (t : ℕ) → predicates-lts.Need-overflow_sub-owed (predicates_claims t) (predicates_at t) predicates.Post predicates_Inv_loop predicates_μ_loop
 predicates_sub_owed t c = search rules
 
-predicates_loop_less : (t : ℕ) → predicates-lts.Need-loop-smaller (predicates_claims t) (predicates_at t) predicates.Post predicates_Inv_loop predicates_μ_loop
+predicates_loop_less : (t : ℕ) → predicates-lts.Need-loop-owed-smaller (predicates_claims t) (predicates_at t) predicates.Post predicates_Inv_loop predicates_μ_loop
 predicates_loop_less t c = search rules
 
-predicates_loop_again : (t : ℕ) → predicates-lts.Need-loop-preserved (predicates_claims t) (predicates_at t) predicates.Post predicates_Inv_loop predicates_μ_loop
+predicates_loop_again : (t : ℕ) → predicates-lts.Need-loop-owed-preserved (predicates_claims t) (predicates_at t) predicates.Post predicates_Inv_loop predicates_μ_loop
 predicates_loop_again t c =
     let one = predicates_one t c in
     let walked = predicates_walked t one in
@@ -596,25 +578,25 @@ predicates_loop_again t c =
     let turn = predicates_turn t owed in
     let begun = predicates_begun t turn in
     let a = begun.args in
-    let l = turn.loop in
+    let l = turn.loop-owed in
     let m = one.more.given in
     let w = predicates_walks t walked _ m.1 in
     row_more (pred_rows a.depth) a.items.now a.at a.depth _ l.place l.deep l.high l.guarded l.owed m.0.0 (m.0.1.0 + 1) m.0.1.1.0 m.0.1.1.1.0 _ _ _ (pred w.what bare)
-    owed.loop-test.taken l.inv (pred_next a.depth a.items.now l.place w.what m.0.0 allowed.if1.left w.reads) w.onward w.inside
+    owed.loop-owed-test.true l.invariant (pred_next a.depth a.items.now l.place w.what m.0.0 allowed.if-depth-eq0.false w.reads) w.onward w.inside
     (omega (arith, w.nests)) (omega (arith, w.heights))
-    (omega (arith, w.guards ∙ ap (guard_depth_expr w.what) (less_opened a.depth allowed.if1.left begun.pre.1.1)))
-    (omega (arith, w.shallow, allowed.if1.left)) (omega (arith, w.low)) c.before.before.larger.ensures c.before.larger2.ensures c.larger3.ensures
+    (omega (arith, w.guards ∙ ap (guard_depth_expr w.what) (less_opened a.depth allowed.if-depth-eq0.false begun.requires.1.1)))
+    (omega (arith, w.shallow, allowed.if-depth-eq0.false)) (omega (arith, w.low)) c.larger-deep.ensures c.larger-high.ensures c.larger-guarded.ensures
 
-predicates_returns_3 : (t : ℕ) → predicates-lts.Need-returns-3 (predicates_claims t) (predicates_at t) predicates.Post predicates_Inv_loop predicates_μ_loop
+predicates_returns_3 : (t : ℕ) → predicates-lts.Need-returns (predicates_claims t) (predicates_at t) predicates.Post predicates_Inv_loop predicates_μ_loop
 predicates_returns_3 t c =
-    let l = c.before.loop in
-    row_done (pred_rows (predicates_begun t c.before).args.depth) _ _ _ _ l.place l.deep l.high l.guarded l.owed c.loop-test.false l.invariant
+    let l = c.loop-owed in
+    row_done (pred_rows (predicates_begun t c.before).args.depth) _ _ _ _ l.place l.deep l.high l.guarded l.owed c.loop-owed-test.false l.invariant
 
-abbrev steps_Inv_loop : steps-lts.invariant-loop
+abbrev steps_Inv_loop : steps-lts.invariant-loop-owed
 steps_Inv_loop items at count depth place₀ deep₀ high₀ guarded₀ owed₀ place deep high guarded owed =
     Row (step_rows depth) items at depth (take_steps (take_within depth) count (drop at items)) place deep high guarded owed
 
-abbrev steps_μ_loop : steps-lts.decreases-loop
+abbrev steps_μ_loop : steps-lts.decreases-loop-owed
 steps_μ_loop items at count depth place₀ deep₀ high₀ guarded₀ owed₀ place deep high guarded owed = owed
 
 abbrev Steps-start : ℕ → Type 0
@@ -622,171 +604,162 @@ Steps-start t = steps-lts.Start (steps_claims t) (steps_at t) steps.Post steps_I
 
 -- Of what is lent nothing is read yet.
 abbrev Steps-lent : ℕ → Type 0
-Steps-lent t = steps-lts.After-shared-slice-known (steps_claims t) (steps_at t) steps.Post steps_Inv_loop steps_μ_loop
+Steps-lent t = steps-lts.After-shared_slice_known-1 (steps_claims t) (steps_at t) steps.Post steps_Inv_loop steps_μ_loop
 
 abbrev steps_start : (t : ℕ) → Steps-lent t → Steps-start t
 steps_start t c = c.before
-
 -- So many steps are owed,
 abbrev Steps-turn : ℕ → Type 0
-Steps-turn t = steps-lts.At-loop (steps_claims t) (steps_at t) steps.Post steps_Inv_loop steps_μ_loop
+Steps-turn t = steps-lts.At-loop-owed (steps_claims t) (steps_at t) steps.Post steps_Inv_loop steps_μ_loop
 
 abbrev steps_begun : (t : ℕ) → Steps-turn t → Steps-start t
 steps_begun t c = steps_start t c.before
 
 -- one at least;
 abbrev Steps-owed : ℕ → Type 0
-Steps-owed t = steps-lts.In-loop (steps_claims t) (steps_at t) steps.Post steps_Inv_loop steps_μ_loop
+Steps-owed t = steps-lts.In-loop-owed (steps_claims t) (steps_at t) steps.Post steps_Inv_loop steps_μ_loop
 
 abbrev steps-turn : (t : ℕ) → Steps-owed t → Steps-turn t
 steps-turn t c = c.before
-
 -- an item is there,
 abbrev Steps-there : ℕ → Type 0
-Steps-there t = steps-lts.Else1 (steps_claims t) (steps_at t) steps.Post steps_Inv_loop steps_μ_loop
+Steps-there t = steps-lts.Else-items-place (steps_claims t) (steps_at t) steps.Post steps_Inv_loop steps_μ_loop
 
 abbrev steps_owed : (t : ℕ) → Steps-there t → Steps-owed t
 steps_owed t c = c.before
-
 -- it is read,
 abbrev Steps-unpacked : ℕ → Type 0
-Steps-unpacked t = steps-lts.After-unpack (steps_claims t) (steps_at t) steps.Post steps_Inv_loop steps_μ_loop
+Steps-unpacked t = steps-lts.After-unpack-item (steps_claims t) (steps_at t) steps.Post steps_Inv_loop steps_μ_loop
 
 abbrev steps_there : (t : ℕ) → Steps-unpacked t → Steps-there t
 steps_there t c = c.before.before
-
 -- and is a step's;
 abbrev Steps-step : ℕ → Type 0
-Steps-step t = steps-lts.After-item (steps_claims t) (steps_at t) steps.Post steps_Inv_loop steps_μ_loop
+Steps-step t = steps-lts.In-Step (steps_claims t) (steps_at t) steps.Post steps_Inv_loop steps_μ_loop
 
 abbrev steps_unpacked : (t : ℕ) → Steps-step t → Steps-unpacked t
-steps_unpacked t c = c.before.before
-
+steps_unpacked t c = c.before
 -- what the step itself brings is taken in,
 abbrev Steps-own : ℕ → Type 0
-Steps-own t = steps-lts.After-larger (steps_claims t) (steps_at t) steps.Post steps_Inv_loop steps_μ_loop
+Steps-own t = steps-lts.After-larger-guarded (steps_claims t) (steps_at t) steps.Post steps_Inv_loop steps_μ_loop
 
 abbrev steps_step : (t : ℕ) → Steps-own t → Steps-step t
-steps_step t c = c.before.before.before
-
+steps_step t c = c.before.before
 -- its predicates are walked over,
 abbrev Steps-walked : ℕ → Type 0
-Steps-walked t = steps-lts.After-predicates (steps_claims t) (steps_at t) steps.Post steps_Inv_loop steps_μ_loop
+Steps-walked t = steps-lts.After-predicates-more (steps_claims t) (steps_at t) steps.Post steps_Inv_loop steps_μ_loop
 
 abbrev steps_own : (t : ℕ) → Steps-walked t → Steps-own t
 steps_own t c = c.before
-
-steps_walks : (t : ℕ) (c : Steps-walked t) (r : Walked) → c.predicates.result ≡ r
+steps_walks : (t : ℕ) (c : Steps-walked t) (r : Walked) → c.predicates-more.result ≡ r
     → let step = steps_step t (steps_own t c) in
     let turn = steps-turn t (steps_owed t (steps_there t (steps_unpacked t step))) in
     let a = (steps_begun t turn).args in
-    Walks a.items.now (turn.loop.place + 1) a.depth (take_preds (take_within a.depth) step.item.given.0.0.count (drop (turn.loop.place + 1) a.items.now)) nest_preds height_preds (open_in_preds a.depth) r
+    Walks a.items.now (turn.loop-owed.place + 1) a.depth (take_preds (take_within a.depth) step.in-Step.step.count (drop (turn.loop-owed.place + 1) a.items.now)) nest_preds height_preds (open_in_preds a.depth) r
 steps_walks t c r e =
     let step = steps_step t (steps_own t c) in
     let turn = steps-turn t (steps_owed t (steps_there t (steps_unpacked t step))) in
     let a = (steps_begun t turn).args in
-    subst (Walks a.items.now (turn.loop.place + 1) a.depth (take_preds (take_within a.depth) step.item.given.0.0.count (drop (turn.loop.place + 1) a.items.now)) nest_preds height_preds (open_in_preds a.depth)) e c.predicates.ensures
+    subst (Walks a.items.now (turn.loop-owed.place + 1) a.depth (take_preds (take_within a.depth) step.in-Step.step.count (drop (turn.loop-owed.place + 1) a.items.now)) nest_preds height_preds (open_in_preds a.depth)) e c.predicates-more.ensures
 
 -- and are predicates,
 abbrev Steps-one : ℕ → Type 0
-Steps-one t = steps-lts.After-more (steps_claims t) (steps_at t) steps.Post steps_Inv_loop steps_μ_loop
+Steps-one t = steps-lts.In-Done (steps_claims t) (steps_at t) steps.Post steps_Inv_loop steps_μ_loop
 
 abbrev steps_walked : (t : ℕ) → Steps-one t → Steps-walked t
-steps_walked t c = c.before.before
-
+steps_walked t c = c.before
 -- whose measures are taken in.
 abbrev Steps-measured : ℕ → Type 0
-Steps-measured t = steps-lts.After-larger4 (steps_claims t) (steps_at t) steps.Post steps_Inv_loop steps_μ_loop
+Steps-measured t = steps-lts.After-larger-guarded-in-loop-owed (steps_claims t) (steps_at t) steps.Post steps_Inv_loop steps_μ_loop
 
 abbrev steps_one : (t : ℕ) → Steps-measured t → Steps-one t
-steps_one t c = c.before.before.before.before
-
-steps_loop_holds : (t : ℕ) → steps-lts.Need-loop-init (steps_claims t) (steps_at t) steps.Post steps_Inv_loop steps_μ_loop
+steps_one t c = c.before.before.before
+steps_loop_holds : (t : ℕ) → steps-lts.Need-loop-owed-init (steps_claims t) (steps_at t) steps.Post steps_Inv_loop steps_μ_loop
 steps_loop_holds t c =
     let start = steps_start t c in
     let a = start.args in
-    row_start (step_rows a.depth) a.items.now a.at a.depth a.count start.pre.1.0
+    row_start (step_rows a.depth) a.items.now a.at a.depth a.count start.requires.1.0
 
-steps_returns : (t : ℕ) → steps-lts.Need-returns (steps_claims t) (steps_at t) steps.Post steps_Inv_loop steps_μ_loop
+steps_returns : (t : ℕ) → steps-lts.Need-returns-then-items-place (steps_claims t) (steps_at t) steps.Post steps_Inv_loop steps_μ_loop
 steps_returns t c =
     let turn = steps-turn t c.before in
     let a = (steps_begun t turn).args in
-    let l = turn.loop in
-    row_stuck (step_rows a.depth) _ _ _ _ l.place l.deep l.high l.guarded l.owed c.before.loop-test.true l.inv (past_step_row a.depth a.items.now l.place c.if1.true)
+    let l = turn.loop-owed in
+    row_stuck (step_rows a.depth) _ _ _ _ l.place l.deep l.high l.guarded l.owed c.loop-owed-test.true l.invariant (past_step_row a.depth a.items.now l.place c.if-items-place.true)
 
-steps_mul_unpack : (t : ℕ) → steps-lts.Need-overflow-mul-unpack (steps_claims t) (steps_at t) steps.Post steps_Inv_loop steps_μ_loop
+steps_mul_unpack : (t : ℕ) → steps-lts.Need-offset_bounds-items-place (steps_claims t) (steps_at t) steps.Post steps_Inv_loop steps_μ_loop
 steps_mul_unpack t c = search rules
 
-steps_shared_slice_read_unpack : (t : ℕ) → steps-lts.Need-shared-slice-read-unpack (steps_claims t) (steps_at t) steps.Post steps_Inv_loop steps_μ_loop
+steps_shared_slice_read_unpack : (t : ℕ) → steps-lts.Need-bounds-items-place (steps_claims t) (steps_at t) steps.Post steps_Inv_loop steps_μ_loop
 steps_shared_slice_read_unpack t c = search rules
 
-steps_unpack_requires : (t : ℕ) → steps-lts.Need-unpack-requires (steps_claims t) (steps_at t) steps.Post steps_Inv_loop steps_μ_loop
+steps_unpack_requires : (t : ℕ) → steps-lts.Need-unpack-item-requires (steps_claims t) (steps_at t) steps.Post steps_Inv_loop steps_μ_loop
 steps_unpack_requires t c κs = search rules
 
-steps_enum_known_item : (t : ℕ) → steps-lts.Need-enum-known-item (steps_claims t) (steps_at t) steps.Post steps_Inv_loop steps_μ_loop
+steps_enum_known_item : (t : ℕ) → steps-lts.Need-enum_known-item (steps_claims t) (steps_at t) steps.Post steps_Inv_loop steps_μ_loop
 steps_enum_known_item t c = search rules
 
-steps_returns_2 : (t : ℕ) → steps-lts.Need-returns-2 (steps_claims t) (steps_at t) steps.Post steps_Inv_loop steps_μ_loop
+steps_returns_2 : (t : ℕ) → steps-lts.Need-returns-in_default (steps_claims t) (steps_at t) steps.Post steps_Inv_loop steps_μ_loop
 steps_returns_2 t c =
     let there = steps_there t c.before in
     let owed = steps_owed t there in
     let turn = steps-turn t owed in
     let a = (steps_begun t turn).args in
-    let l = turn.loop in
-    let u = c.before.unpack in
+    let l = turn.loop-owed in
+    let u = c.unpack-item in
     let w = get_or a.items.now l.place 0 in
-    row_stuck (step_rows a.depth) _ _ _ _ l.place l.deep l.high l.guarded l.owed owed.loop-test.taken l.inv
-    (no_step_row a.depth a.items.now l.place there.if1.left (not_step w u.result (said w u.result u.ensures) c.match.keys2))
+    row_stuck (step_rows a.depth) _ _ _ _ l.place l.deep l.high l.guarded l.owed owed.loop-owed-test.true l.invariant
+    (no_step_row a.depth a.items.now l.place there.if-items-place.false (not_step w u.result (said w u.result u.ensures) c.in-Step.in-Step-own.keys2))
 
-steps_own_depth_requires : (t : ℕ) → steps-lts.Need-own-depth-requires (steps_claims t) (steps_at t) steps.Post steps_Inv_loop steps_μ_loop
+steps_own_depth_requires : (t : ℕ) → steps-lts.Need-own_depth-requires (steps_claims t) (steps_at t) steps.Post steps_Inv_loop steps_μ_loop
 steps_own_depth_requires t c κs = search rules
 
-steps_larger_requires : (t : ℕ) → steps-lts.Need-larger-requires (steps_claims t) (steps_at t) steps.Post steps_Inv_loop steps_μ_loop
+steps_larger_requires : (t : ℕ) → steps-lts.Need-larger-guarded-requires (steps_claims t) (steps_at t) steps.Post steps_Inv_loop steps_μ_loop
 steps_larger_requires t c κs = search rules
 
-steps_add_predicates : (t : ℕ) → steps-lts.Need-overflow-add-predicates (steps_claims t) (steps_at t) steps.Post steps_Inv_loop steps_μ_loop
+steps_add_predicates : (t : ℕ) → steps-lts.Need-overflow_add-place (steps_claims t) (steps_at t) steps.Post steps_Inv_loop steps_μ_loop
 steps_add_predicates t c = search rules
 
-steps_predicates_requires : (t : ℕ) → steps-lts.Need-predicates-requires (steps_claims t) (steps_at t) steps.Post steps_Inv_loop steps_μ_loop
+steps_predicates_requires : (t : ℕ) → steps-lts.Need-predicates-more-requires (steps_claims t) (steps_at t) steps.Post steps_Inv_loop steps_μ_loop
 steps_predicates_requires t c κs = search rules
 
-steps_enum_known_more : (t : ℕ) → steps-lts.Need-enum-known-more (steps_claims t) (steps_at t) steps.Post steps_Inv_loop steps_μ_loop
+steps_enum_known_more : (t : ℕ) → steps-lts.Need-enum_known-more (steps_claims t) (steps_at t) steps.Post steps_Inv_loop steps_μ_loop
 steps_enum_known_more t c = search rules
 
-steps_enum_told : (t : ℕ) → steps-lts.Need-enum-told (steps_claims t) (steps_at t) steps.Post steps_Inv_loop steps_μ_loop
+steps_enum_told : (t : ℕ) → steps-lts.Need-enum_told-1 (steps_claims t) (steps_at t) steps.Post steps_Inv_loop steps_μ_loop
 steps_enum_told t c = search rules
 
-steps_returns_3 : (t : ℕ) → steps-lts.Need-returns-3 (steps_claims t) (steps_at t) steps.Post steps_Inv_loop steps_μ_loop
+steps_returns_3 : (t : ℕ) → steps-lts.Need-returns-in_default-more (steps_claims t) (steps_at t) steps.Post steps_Inv_loop steps_μ_loop
 steps_returns_3 t c =
-    let step-place = steps_step t (steps_own t c.before.before) in
+    let step-place = steps_step t (steps_own t c.before) in
     let unpacked = steps_unpacked t step-place in
     let there = steps_there t unpacked in
     let owed = steps_owed t there in
     let turn = steps-turn t owed in
     let a = (steps_begun t turn).args in
-    let l = turn.loop in
-    let u = unpacked.unpack in
+    let l = turn.loop-owed in
+    let u = unpacked.unpack-item in
     let w = get_or a.items.now l.place 0 in
-    let s = said w _ (sym step-place.item.given.1 ∙ u.ensures) in
-    row_stuck (step_rows a.depth) _ _ _ _ l.place l.deep l.high l.guarded l.owed owed.loop-test.taken l.inv
-    (bad_step_row a.depth a.items.now l.place s.0 _ there.if1.left s.1 (ap (λ x. x.count) s.2) (steps_walks t c.before.before _ c.enum_told.given.1))
+    let s = said w _ (sym step-place.in-Step.is ∙ u.ensures) in
+    row_stuck (step_rows a.depth) _ _ _ _ l.place l.deep l.high l.guarded l.owed owed.loop-owed-test.true l.invariant
+    (bad_step_row a.depth a.items.now l.place s.0 _ there.if-items-place.false s.1 (ap (λ x. x.count) s.2) (steps_walks t c.before.before _ c.in_default-more.is))
 
-steps_larger_requires_2 : (t : ℕ) → steps-lts.Need-larger-requires-2 (steps_claims t) (steps_at t) steps.Post steps_Inv_loop steps_μ_loop
+steps_larger_requires_2 : (t : ℕ) → steps-lts.Need-larger-deep-requires (steps_claims t) (steps_at t) steps.Post steps_Inv_loop steps_μ_loop
 steps_larger_requires_2 t c κs = search rules
 
-steps_larger_requires_3 : (t : ℕ) → steps-lts.Need-larger-requires-3 (steps_claims t) (steps_at t) steps.Post steps_Inv_loop steps_μ_loop
+steps_larger_requires_3 : (t : ℕ) → steps-lts.Need-larger-high-requires (steps_claims t) (steps_at t) steps.Post steps_Inv_loop steps_μ_loop
 steps_larger_requires_3 t c κs = search rules
 
-steps_larger_requires_4 : (t : ℕ) → steps-lts.Need-larger-requires-4 (steps_claims t) (steps_at t) steps.Post steps_Inv_loop steps_μ_loop
+steps_larger_requires_4 : (t : ℕ) → steps-lts.Need-larger-guarded-requires-in-loop-owed (steps_claims t) (steps_at t) steps.Post steps_Inv_loop steps_μ_loop
 steps_larger_requires_4 t c κs = search rules
 
-steps_sub_owed : (t : ℕ) → steps-lts.Need-overflow-sub-owed (steps_claims t) (steps_at t) steps.Post steps_Inv_loop steps_μ_loop
+steps_sub_owed : (t : ℕ) → steps-lts.Need-overflow_sub-owed (steps_claims t) (steps_at t) steps.Post steps_Inv_loop steps_μ_loop
 steps_sub_owed t c = search rules
 
-steps_loop_less : (t : ℕ) → steps-lts.Need-loop-smaller (steps_claims t) (steps_at t) steps.Post steps_Inv_loop steps_μ_loop
+steps_loop_less : (t : ℕ) → steps-lts.Need-loop-owed-smaller (steps_claims t) (steps_at t) steps.Post steps_Inv_loop steps_μ_loop
 steps_loop_less t c = search rules
 
-steps_loop_again : (t : ℕ) → steps-lts.Need-loop-preserved (steps_claims t) (steps_at t) steps.Post steps_Inv_loop steps_μ_loop
+steps_loop_again : (t : ℕ) → steps-lts.Need-loop-owed-preserved (steps_claims t) (steps_at t) steps.Post steps_Inv_loop steps_μ_loop
 steps_loop_again t c =
     let one = steps_one t c in
     let walked = steps_walked t one in
@@ -797,26 +770,26 @@ steps_loop_again t c =
     let owed = steps_owed t there in
     let turn = steps-turn t owed in
     let a = (steps_begun t turn).args in
-    let l = turn.loop in
-    let u = unpacked.unpack in
+    let l = turn.loop-owed in
+    let u = unpacked.unpack-item in
     let w = get_or a.items.now l.place 0 in
-    let s = said w _ (sym step-place.item.given.1 ∙ u.ensures) in
+    let s = said w _ (sym step-place.in-Step.is ∙ u.ensures) in
     let m = one.more.given in
     let p = steps_walks t walked _ m.1 in
-    let own = own-place.before.own-depth.result in
+    let own = own-place.own_depth.result in
     let own_is : own ≡ cond (guarded s.0.axis) (opened a.depth) 0 =
-    own-place.before.own-depth.ensures ∙
+    own-place.own_depth.ensures ∙
     ap (λ g. cond g (opened a.depth) 0) (sym (guarded-number s.0.axis _ (ap (λ x. x.axis) s.2))) in
     row_more (step_rows a.depth) a.items.now a.at a.depth _ l.place l.deep l.high l.guarded l.owed m.0.0 m.0.1.0 m.0.1.1.0 (max own m.0.1.1.1.0) _ _ _ (step s.0.axis s.0.test p.what stop)
-    owed.loop-test.taken l.inv
-    (step_row a.depth a.items.now l.place s.0 _ p.what m.0.0 there.if1.left s.1 (ap (λ x. x.count) s.2) p.reads) (omega (arith, p.onward)) p.inside
-    (omega (arith, p.nests)) (omega (arith, p.heights)) (omega (arith, own_is, p.guards)) p.shallow (omega (arith, p.low)) c.before.before.larger2.ensures c.before.larger3.ensures
-    (omega (arith, c.larger4.ensures, own-place.larger.ensures))
+    owed.loop-owed-test.true l.invariant
+    (step_row a.depth a.items.now l.place s.0 _ p.what m.0.0 there.if-items-place.false s.1 (ap (λ x. x.count) s.2) p.reads) (omega (arith, p.onward)) p.inside
+    (omega (arith, p.nests)) (omega (arith, p.heights)) (omega (arith, own_is, p.guards)) p.shallow (omega (arith, p.low)) c.larger-deep.ensures c.larger-high.ensures
+    (omega (arith, c.larger-guarded-in-loop-owed.ensures, own-place.larger-guarded.ensures))
 
-steps_returns_4 : (t : ℕ) → steps-lts.Need-returns-4 (steps_claims t) (steps_at t) steps.Post steps_Inv_loop steps_μ_loop
+steps_returns_4 : (t : ℕ) → steps-lts.Need-returns (steps_claims t) (steps_at t) steps.Post steps_Inv_loop steps_μ_loop
 steps_returns_4 t c =
-    let l = c.before.loop in
-    row_done (step_rows (steps_begun t c.before).args.depth) _ _ _ _ l.place l.deep l.high l.guarded l.owed c.loop-test.false l.invariant
+    let l = c.loop-owed in
+    row_done (step_rows (steps_begun t c.before).args.depth) _ _ _ _ l.place l.deep l.high l.guarded l.owed c.loop-owed-test.false l.invariant
 
 pub +expression-operand-predicates-steps-spec : {M : Type 1} → statement M
 +expression-operand-predicates-steps-spec =

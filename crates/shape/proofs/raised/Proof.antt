@@ -4,26 +4,26 @@ use borrow.Author.Rules.{rules}
 use Rattle.shape.proofs.raised.Statement.{statement}
 use Rattle.shape.proofs.raised.Tie as tie
 
-enum-known-walked : tie.Need-enum-known-walked
+enum-known-walked : tie.Need-enum_known-walked
 enum-known-walked c = search rules
 
-add-t9 : tie.Need-overflow-add-t9
+add-t9 : tie.Need-overflow_add-result
 add-t9 c =
-    let small = rw c.before.walked.given.1 at c.before.before.before.requires in
+    let small = rw c.in-Done.is at c.requires in
     omega (arith, small)
 
-add-t10 : tie.Need-overflow-add-t10
+add-t10 : tie.Need-overflow_add-result-in-Done
 add-t10 c =
-    let small = rw c.before.walked.given.1 at c.before.before.before.requires in
+    let small = rw c.in-Done.is at c.requires in
     omega (arith, small)
 
-enum_told : tie.Need-enum-told
+enum_told : tie.Need-enum_told-1
 enum_told c = search rules
 
-returns : tie.Need-returns
-returns c = rw c.before.walked.given.1
+returns : tie.Need-returns-in-Done
+returns c = rw c.in-Done.is
 
-returns-2 : tie.Need-returns-2
+returns-2 : tie.Need-returns-in-Malformed
 returns-2 c = search rules
 
 pub raised_spec : {M : Type 1} → statement M

@@ -12,48 +12,48 @@ use borrow.Author.Rules.{rules}
 use Rattle.sheet.proofs.put_refusals.Statement.{statement}
 use Rattle.sheet.proofs.put_refusals.Tie as tie
 
-abbrev invariant-loop : tie.invariant-loop
+abbrev invariant-loop : tie.invariant-loop-number
 invariant-loop refusals out₀ pen next₀ number₀ out next number =
     (number ≤ 1 + number_limit) × Puts (refused_lines number (at refusals)) pen out₀ out next × (next ≤ pen + number * line_room)
 
-abbrev decreases-loop : tie.decreases-loop
+abbrev decreases-loop : tie.decreases-loop-number
 decreases-loop refusals out₀ pen next₀ number₀ out next number = 1 + number_limit - number
 
-loop-holds : tie.Need-loop-init invariant-loop decreases-loop
+loop-holds : tie.Need-loop-number-init invariant-loop decreases-loop
 loop-holds c = (omega arith, puts_none _ _, omega arith)
 
-times-at-requires : tie.Need-times-at-requires invariant-loop decreases-loop
+times-at-requires : tie.Need-times_at-requires invariant-loop decreases-loop
 times-at-requires c κs = search rules
 
-put-refused-requires : tie.Need-put-refused-requires invariant-loop decreases-loop
+put-refused-requires : tie.Need-put_refused-next-requires invariant-loop decreases-loop
 put-refused-requires c κs = search rules
 
-add-number : tie.Need-overflow-add-number invariant-loop decreases-loop
+add-number : tie.Need-overflow_add-number invariant-loop decreases-loop
 add-number c = search rules
 
-loop-less : tie.Need-loop-smaller invariant-loop decreases-loop
+loop-less : tie.Need-loop-number-smaller invariant-loop decreases-loop
 loop-less c = search rules
 
-loop-again : tie.Need-loop-preserved invariant-loop decreases-loop
+loop-again : tie.Need-loop-number-preserved invariant-loop decreases-loop
 loop-again c =
-    let told = c.before.before in
-    let times = told.before in
-    let head = times.before.before.before in
-    let start = head.before.before.before in
-    let line = rw times.times-at.ensures at told.Put-refused.ensures.0 in (
+    let told = c in
+    let times = told in
+    let head = times in
+    let start = head in
+    let line = rw times.times_at.ensures at told.Put-refused.ensures.0 in (
       search rules,
-      rw (add-one head.loop.number) (puts_both head.loop.invariant.1 line),
-      omega (arith, told.Put-refused.ensures.1, head.loop.invariant.2),
+      rw (add-one head.loop-number.number) (puts_both head.loop-number.invariant.1 line),
+      omega (arith, told.Put-refused.ensures.1, head.loop-number.invariant.2),
     )
 
-same_length : tie.Need-same-length invariant-loop decreases-loop
-same_length c = puts_long c.before.loop.invariant.1
+same_length : tie.Need-shape_of-out invariant-loop decreases-loop
+same_length c = puts_long c.loop-number.invariant.1
 
 returns : tie.Need-returns invariant-loop decreases-loop
 returns c =
-    let head = c.before in
-    let all_passed : head.loop.number ≡ 1 + number_limit = omega (arith, c.loop-test.false, head.loop.invariant.0) in
-    (rw all_passed at head.loop.invariant.1, rw all_passed at head.loop.invariant.2)
+    let head = c in
+    let all_passed : head.loop-number.number ≡ 1 + number_limit = omega (arith, c.loop-number-test.false, head.loop-number.invariant.0) in
+    (rw all_passed at head.loop-number.invariant.1, rw all_passed at head.loop-number.invariant.2)
 
 pub put_refusals_spec : {M : Type 1} → statement M
 put_refusals_spec =

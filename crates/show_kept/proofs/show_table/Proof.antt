@@ -16,84 +16,79 @@ use borrow.Author.Rules.{rules}
 use Rattle.show_kept.proofs.show_table.Statement.{statement}
 use Rattle.show_kept.proofs.show_table.Tie as tie
 
-slice-aggregate-run-whole : tie.Need-slice-aggregate-run-whole
+slice-aggregate-run-whole : tie.Need-slice_bounds-run_whole-end
 slice-aggregate-run-whole c = search rules
 
-run-whole-requires : tie.Need-run-whole-requires
+run-whole-requires : tie.Need-run_whole-ran-requires
 run-whole-requires c κs = search rules
 
-enum-known-ran : tie.Need-enum-known-ran
+enum-known-ran : tie.Need-enum_known-ran
 enum-known-ran c = search rules
 
-slice-aggregate-put-refusal : tie.Need-slice-aggregate-put-refusal
-slice-aggregate-put-refusal c = search rules
-
-put-refusal-requires : tie.Need-put-refusal-requires
+put-refusal-requires : tie.Need-put_refusal-requires
 put-refusal-requires c κs = search rules
 
-same_length : tie.Need-same-length
+same_length : tie.Need-shape_of-marks-in_default
 same_length c = search rules
 
-same-length-2 : tie.Need-same-length-2
+same-length-2 : tie.Need-shape_of-out-in_default
 same-length-2 c = search rules
 
 -- The query is run: what is answered, and the marks that it leaves.
-abbrev start : tie.After-run-whole → tie.Start
+abbrev start : tie.After-run_whole-ran → tie.Start
 start c = c.before.before.before.before.before.before.before.before.before.before.before.before
-
-abbrev columns : tie.After-run-whole → Table
+abbrev columns : tie.After-run_whole-ran → Table
 columns c = table_of (start c).args.parent.now (start c).args.kind.now
 
-answered : (c : tie.After-run-whole) → told c.run-whole.result ≡ run_answer (start c).args.query.now (columns c) (all_marked (columns c)) (nodes (columns c)) scratch_lent
+answered : (c : tie.After-run_whole-ran) → told c.run_whole-ran.result ≡ run_answer (start c).args.query.now (columns c) (all_marked (columns c)) (nodes (columns c)) scratch_lent
 answered c =
-    c.run-whole.ensures.0
+    c.run_whole-ran.ensures.0
     ∙ ap₂ (run_answer (start c).args.query.now (columns c) (all_marked (columns c))) (start c).requires.1 (length-replicate {A = ℕ} scratch_lent 0)
 
-abbrev ran-at : tie.After-ran → tie.After-run-whole
-ran-at c = c.before.before.before.before.before
-
-accepted : (c : tie.After-ran) →
+abbrev ran-at : tie.In-Value → tie.After-run_whole-ran
+ran-at c = c.before.before.before.before
+accepted : (c : tie.In-Value) →
     let ran = ran-at c in
-    value c.ran.given.0.0 ≡ run_answer (start ran).args.query.now (columns ran) (all_marked (columns ran)) (nodes (columns ran)) scratch_lent
-accepted c = ap told (sym c.ran.given.1) ∙ answered (ran-at c)
+    value c.in-Value.kept ≡ run_answer (start ran).args.query.now (columns ran) (all_marked (columns ran)) (nodes (columns ran)) scratch_lent
+accepted c = ap told (sym c.in-Value.is) ∙ answered (ran-at c)
 
-marked : (c : tie.After-ran) →
+marked : (c : tie.In-Value) →
     let ran = ran-at c in
-    ran.run-whole.last.1.1.1.0 ≡ kept_got (columns ran) (all_marked (columns ran)) (decode (start ran).args.query.now)
+    ran.run_whole-ran.last.1.1.1.0 ≡ kept_got (columns ran) (all_marked (columns ran)) (decode (start ran).args.query.now)
 marked c =
     let ran = ran-at c in
-    marks_kept (start ran).args.query.now (columns ran) _ (start ran).args.marks.now _ c.ran.given.0.0 (ap told (sym c.ran.given.1) ∙ ran.run-whole.ensures.0) (start ran).pre.1
-    ran.run-whole.ensures.1.0
+    marks_kept (start ran).args.query.now (columns ran) _ (start ran).args.marks.now _ c.in-Value.kept (ap told (sym c.in-Value.is) ∙ ran.run_whole-ran.ensures.0) (start ran).requires.1
+    ran.run_whole-ran.ensures.1.0
 
-returns : tie.Need-returns
+returns : tie.Need-returns-in_default
 unfolding table_shows
 returns c =
-    let ran = c.before.before.before.before.before.before.before.before.before in
-    refused_part "run" _ _ (file_room + 1) _ _ _ (omega arith) ran.run-whole.result c.before.before.before.before.before.match.keys2 (answered ran) c.before.before.put-refusal.ensures
+    let ran = c in
+    refused_part "run" _ _ (file_room + 1) _ _ _ (omega arith) ran.run_whole-ran.result c.in-Value.in-Value-own.keys2 (answered ran.before.before.before.before.before.before.before.before.before.before) c.put_refusal.ensures
 
-same-length-3 : tie.Need-same-length-3
+same-length-3 : tie.Need-shape_of-marks-then-kept-eq0
 same-length-3 c = search rules
 
-returns-2 : tie.Need-returns-2
+returns-2 : tie.Need-returns-then-kept-eq0
 unfolding table_shows
-returns-2 c = run_nothing _ _ _ c.before.before.ran.given.0.0 (accepted c.before.before) (omega (arith, c.if1.true))
+returns-2 c = run_nothing _ _ _ c.in-Value.kept (accepted c.before) (omega (arith, c.if-kept-eq0.true))
 
-show-file-requires : tie.Need-show-file-requires
+show-file-requires : tie.Need-show_file-requires
 show-file-requires c κs = search rules
 
-same-length-4 : tie.Need-same-length-4
+same-length-4 : tie.Need-shape_of-marks
 same-length-4 c = search rules
 
-same-length-5 : tie.Need-same-length-5
+same-length-5 : tie.Need-shape_of-out
 same-length-5 c = search rules
 
-returns-3 : tie.Need-returns-3
+returns-3 : tie.Need-returns
 unfolding table_shows
 returns-3 c =
-    let shown = c.before.before in
-    let some = shown.before.before.before in
-    let said = some.before.before in
-    run_some _ _ _ _ (accepted said) _ _ some.if1.false (rw (marked said) at shown.show-file.ensures)
+    let shown = c in
+    let some = shown in
+    let said = some in
+    run_some _ _ _ _ (accepted said.before.before.before.before.before) _ _ some.if-kept-eq0.false (rw (marked said.before.before.before.before.before) at shown.show_file.ensures)
 
 pub show_table_spec : {M : Type 1} → statement M
 show_table_spec =
@@ -102,7 +97,6 @@ show_table_spec =
     slice-aggregate-run-whole
     run-whole-requires
     enum-known-ran
-    slice-aggregate-put-refusal
     put-refusal-requires
     same_length
     same-length-2

@@ -14,24 +14,23 @@ use Rattle.sideways.proofs.BehindPass.{behind_state, behind_start, behind_turn, 
 use Rattle.sideways.proofs.behind_siblings.Statement.{statement}
 use Rattle.sideways.proofs.behind_siblings.Tie as tie
 
-abbrev invariant-loop : tie.invariant-loop
+abbrev invariant-loop : tie.invariant-loop-younger
 invariant-loop parent set₀ younger₀ set younger = Telling behind_state parent set₀ set younger
 
-abbrev decreases-loop : tie.decreases-loop
+abbrev decreases-loop : tie.decreases-loop-younger
 decreases-loop parent set₀ younger₀ set younger = length parent - younger
 
 -- At the loop, and with all of a turn read.
 abbrev Turn : Type 0
-Turn = tie.At-loop invariant-loop decreases-loop
+Turn = tie.At-loop-younger invariant-loop decreases-loop
 
-abbrev turn-of : tie.After-slice-known2 invariant-loop decreases-loop → Turn
+abbrev turn-of : tie.After-slice_known-in-loop-younger-1 invariant-loop decreases-loop → Turn
 turn-of c = c.before.before.before.before
-
 -- The table is a tree.
 tree_of : (c : Turn) (kinds : List ℕ) → Tree (table_of c.before.args.parent.now kinds)
-tree_of c kinds = c.before.requires.1 kinds
+tree_of c kinds = c.requires.1 kinds
 
-loop-holds : tie.Need-loop-init invariant-loop decreases-loop
+loop-holds : tie.Need-loop-younger-init invariant-loop decreases-loop
 loop-holds c =
     let there = (c.requires.1 []).rooted in
     record {
@@ -41,61 +40,61 @@ loop-holds c =
       stands = λ kinds f e. e ∙ behind_start (table_of c.args.parent.now kinds) (c.requires.1 kinds) f;
     }
 
-mul-up : tie.Need-overflow-mul-up invariant-loop decreases-loop
+mul-up : tie.Need-offset_bounds-parent-younger invariant-loop decreases-loop
 mul-up c = omega arith
 
-shared-slice-read-up : tie.Need-shared-slice-read-up invariant-loop decreases-loop
+shared-slice-read-up : tie.Need-bounds-parent-younger invariant-loop decreases-loop
 shared-slice-read-up c = omega arith
 
-cast-up : tie.Need-overflow-cast-up invariant-loop decreases-loop
-cast-up c = omega (arith, c.shared-slice-known.given c.before.before.loop.younger)
+cast-up : tie.Need-overflow_cast-up invariant-loop decreases-loop
+cast-up c = omega (arith, c.shared_slice_known-1.given c.loop-younger.younger)
 
-slice-read-member : tie.Need-slice-read-member invariant-loop decreases-loop
+slice-read-member : tie.Need-bounds-set-younger invariant-loop decreases-loop
 slice-read-member c = omega arith
 
-slice-read-told : tie.Need-slice-read-told invariant-loop decreases-loop
-slice-read-told c = let down = (tree_of (turn-of c) []).falls (turn-of c).loop.younger (omega arith) (omega arith) in omega arith
+slice-read-told : tie.Need-bounds-set-up invariant-loop decreases-loop
+slice-read-told c = let down = (tree_of (turn-of c) []).falls (turn-of c).loop-younger.younger (omega arith) (omega arith) in omega arith
 
-slice-write-set : tie.Need-slice-write-set invariant-loop decreases-loop
+slice-write-set : tie.Need-bounds-set-younger-in-loop-younger invariant-loop decreases-loop
 slice-write-set c = omega arith
 
-mul-set : tie.Need-overflow-mul-set invariant-loop decreases-loop
+mul-set : tie.Need-overflow_mul-set invariant-loop decreases-loop
 mul-set c = omega arith
 
-slice-write-set-2 : tie.Need-slice-write-set-2 invariant-loop decreases-loop
-slice-write-set-2 c = let down = (tree_of (turn-of c) []).falls (turn-of c).loop.younger (omega arith) (omega arith) in simp length-set (omega arith)
+slice-write-set-2 : tie.Need-bounds-set-up-in-loop-younger invariant-loop decreases-loop
+slice-write-set-2 c = let down = (tree_of (turn-of c) []).falls (turn-of c).loop-younger.younger (omega arith) (omega arith) in simp length-set (omega arith)
 
-add-younger : tie.Need-overflow-add-younger invariant-loop decreases-loop
+add-younger : tie.Need-overflow_add-younger invariant-loop decreases-loop
 add-younger c = omega arith
 
-loop-less : tie.Need-loop-smaller invariant-loop decreases-loop
+loop-less : tie.Need-loop-younger-smaller invariant-loop decreases-loop
 loop-less c = omega arith
 
-loop-again : tie.Need-loop-preserved invariant-loop decreases-loop
+loop-again : tie.Need-loop-younger-preserved invariant-loop decreases-loop
 loop-again c =
     let turn = turn-of c in
-    let here = turn.loop in
+    let here = turn.loop-younger in
     record {
       least = omega arith;
       most = omega arith;
-      sizes = simp length-set here.inv.sizes;
-      stands = λ kinds f e. behind_turn (table_of turn.before.args.parent.now kinds) (tree_of turn kinds) f here.set here.younger (omega arith) (omega arith) (here.inv.stands kinds f e);
+      sizes = simp length-set here.invariant.sizes;
+      stands = λ kinds f e. behind_turn (table_of turn.args.parent.now kinds) (tree_of turn kinds) f here.set here.younger (omega arith) (omega arith) (here.invariant.stands kinds f e);
     }
 
-slice-write-set-3 : tie.Need-slice-write-set-3 invariant-loop decreases-loop
+slice-write-set-3 : tie.Need-bounds-set-0 invariant-loop decreases-loop
 slice-write-set-3 c = let there = (tree_of c.before []).rooted in omega arith
 
-same_length : tie.Need-same-length invariant-loop decreases-loop
+same_length : tie.Need-shape_of-set invariant-loop decreases-loop
 same_length c = simp length-set (omega arith)
 
 returns : tie.Need-returns invariant-loop decreases-loop
 returns c =
     λ kinds f.
-    let turn = c.before in
-    let t = table_of turn.before.args.parent.now kinds in
-    let bytes = turn.loop.set in
-    subst (λ n. turn.before.args.set.now ≡ bits n f → column n (λ k. get_or (set bytes 0 0) k 0 % 2) ≡ bits n (image t followingSibling f)) turn.before.requires.0
-    (λ e. behind_end t (tree_of turn kinds) f bytes turn.loop.younger (omega arith) (turn.loop.invariant.stands kinds f e))
+    let turn = c in
+    let t = table_of turn.args.parent.now kinds in
+    let bytes = turn.loop-younger.set in
+    subst (λ n. turn.args.set.now ≡ bits n f → column n (λ k. get_or (set bytes 0 0) k 0 % 2) ≡ bits n (image t followingSibling f)) turn.requires.0
+    (λ e. behind_end t (tree_of turn kinds) f bytes turn.loop-younger.younger (omega arith) (turn.loop-younger.invariant.stands kinds f e))
 
 pub behind_siblings_spec : {M : Type 1} → statement M
 behind_siblings_spec =

@@ -7,37 +7,37 @@ use Rattle.sets.proofs.Passes.{Passed, none_passed, one_passed, all_passed}
 use Rattle.sideways.proofs.first_bits.Statement.{statement}
 use Rattle.sideways.proofs.first_bits.Tie as tie
 
-abbrev invariant-loop : tie.invariant-loop
+abbrev invariant-loop : tie.invariant-loop-i
 invariant-loop set₀ i₀ set i = Passed (λ k. get_or set₀ k 0 % 2) set₀ set i
 
-abbrev decreases-loop : tie.decreases-loop
+abbrev decreases-loop : tie.decreases-loop-i
 decreases-loop set₀ i₀ set i = length set₀ - i
 
-loop-holds : tie.Need-loop-init invariant-loop decreases-loop
+loop-holds : tie.Need-loop-i-init invariant-loop decreases-loop
 loop-holds c = none_passed
 
-slice-read-set : tie.Need-slice-read-set invariant-loop decreases-loop
+slice-read-set : tie.Need-bounds-set-i invariant-loop decreases-loop
 slice-read-set c = omega arith
 
-slice-write-set : tie.Need-slice-write-set invariant-loop decreases-loop
+slice-write-set : tie.Need-bounds-set-i-in-loop-i invariant-loop decreases-loop
 slice-write-set c = omega arith
 
-add-i : tie.Need-overflow-add-i invariant-loop decreases-loop
+add-i : tie.Need-overflow_add-i invariant-loop decreases-loop
 add-i c = omega arith
 
-loop-less : tie.Need-loop-smaller invariant-loop decreases-loop
+loop-less : tie.Need-loop-i-smaller invariant-loop decreases-loop
 loop-less c = omega arith
 
-loop-again : tie.Need-loop-preserved invariant-loop decreases-loop
+loop-again : tie.Need-loop-i-preserved invariant-loop decreases-loop
 loop-again c =
-    let p = c.before.before.loop.invariant in
-    one_passed p (omega arith) (ap (λ x. x % 2) (p.left c.before.before.loop.i (omega arith)))
+    let p = c.loop-i.invariant in
+    one_passed p (omega arith) (ap (λ x. x % 2) (p.left c.loop-i.i (omega arith)))
 
-same_length : tie.Need-same-length invariant-loop decreases-loop
+same_length : tie.Need-shape_of-set invariant-loop decreases-loop
 same_length c = omega arith
 
 returns : tie.Need-returns invariant-loop decreases-loop
-returns c = all_passed c.before.loop.invariant (omega arith) (λ k. get_or c.before.before.args.set.now k 0 % 2) (λ k l. refl)
+returns c = all_passed c.loop-i.invariant (omega arith) (λ k. get_or c.args.set.now k 0 % 2) (λ k l. refl)
 
 pub first_bits_spec : {M : Type 1} → statement M
 first_bits_spec =

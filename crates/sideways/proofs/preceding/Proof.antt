@@ -14,20 +14,19 @@ above-requires c κs = search rules
 -- Past the first pass.
 abbrev start_of : tie.After-above → tie.Start
 start_of c = c.before.before.before.before
-
-passed-by-requires : tie.Need-passed-by-requires
+passed-by-requires : tie.Need-passed_by-requires
 passed-by-requires c κs = search rules
 
-same_length : tie.Need-same-length
+same_length : tie.Need-shape_of-set
 same_length c = search rules
 
 returns : tie.Need-returns
 returns c =
     λ kinds f e.
-    let first = c.before.before.before.before.before.before in
-    let start = start_of first in
+    let first = c in
+    let start = start_of first.before.before.before.before.before.before in
     let t = table_of start.args.parent.now kinds in
-    joined start.pre.0 (image t ancestorOrSelf f) (image t Axis.preceding f) (image t Axis.preceding f) (first.above.ensures kinds f e) (c.before.before.passed-by.ensures kinds f) refl
+    joined start.requires.0 (image t ancestorOrSelf f) (image t Axis.preceding f) (image t Axis.preceding f) (first.above.ensures kinds f e) (c.passed_by.ensures kinds f) refl
 
 pub preceding_spec : {M : Type 1} → statement M
 preceding_spec = tie.close (tie.spec above-requires passed-by-requires same_length returns)

@@ -6,20 +6,20 @@ use borrow.Author.Rules.{rules}
 use Rattle.slots.proofs.put.Statement.{statement}
 use Rattle.slots.proofs.put.Tie as tie
 
-mul-out : tie.Need-overflow-mul-out
+mul-out : tie.Need-offset_bounds-out-slot
 mul-out c = search rules
 
-slice-write-out : tie.Need-slice-write-out
+slice-write-out : tie.Need-bounds-out-slot
 slice-write-out c = search rules
 
-same_length : tie.Need-same-length
+same_length : tie.Need-shape_of-out
 same_length c = search rules
 
-returns : tie.Need-returns
-returns c = (put_there _ _ _ _ refl, λ few. absurd (omega (arith, few, c.if1.true)))
+returns : tie.Need-returns-then-slot-out
+returns c = (put_there _ _ _ _ refl, λ few. absurd (omega (arith, few, c.if-slot-out.true)))
 
-returns-2 : tie.Need-returns-2
-returns-2 c = (put_past _ _ _ c.if1.false, λ few. refl)
+returns-2 : tie.Need-returns-else-slot-out
+returns-2 c = (put_past _ _ _ c.if-slot-out.false, λ few. refl)
 
 pub put_spec : {M : Type 1} → statement M
 put_spec = tie.close (tie.spec mul-out slice-write-out same_length returns returns-2)

@@ -13,21 +13,21 @@ use Rattle.spread.proofs.restrict.Tie as tie
 keep-requires : tie.Need-keep-requires
 keep-requires c κs = search rules
 
-keep-met-requires : tie.Need-keep-met-requires
+keep-met-requires : tie.Need-keep_met-requires
 keep-met-requires c κs = search rules
 
-same_length : tie.Need-same-length
+same_length : tie.Need-shape_of-set
 same_length c = search rules
 
 returns : tie.Need-returns
 returns c =
     λ t f g e h.
-    let a = c.before.before.before.before.before.before.before.before.before.before.before.args in
-    let kept = c.before.before.before.before.before.before.keep in
+    let a = c.args in
+    let kept = c.keep in
     let marks = marked a.given.now in
     let same : length kept.new.1.0 ≡ length a.set.now = kept.auto.1.0 in
-    let once = kept.ensures f marks h c.before.before.before.before.before.before.before.before.before.before.before.requires.2 in
-    c.before.before.keep-met.ensures t (λ i. f i && marks i) g e (once ∙ ap (λ (n : ℕ). bits n (λ i. f i && marks i)) (sym same)) ∙
+    let once = kept.ensures f marks h c.requires.2 in
+    c.keep_met.ensures t (λ i. f i && marks i) g e (once ∙ ap (λ (n : ℕ). bits n (λ i. f i && marks i)) (sym same)) ∙
     ap (λ (n : ℕ). bits n (λ i. (f i && marks i) && meets t (get_or a.kind.now i 0))) same
 
 pub restrict_spec : {M : Type 1} → statement M

@@ -28,26 +28,26 @@ add-requires c κs = search rules
 keep-requires : tie.Need-keep-requires
 keep-requires c κs = search rules
 
-same_length : tie.Need-same-length
+same_length : tie.Need-shape_of-marks
 same_length c = search rules
 
-same-length-2 : tie.Need-same-length-2
+same-length-2 : tie.Need-shape_of-set
 same-length-2 c = search rules
 
 returns : tie.Need-returns
 returns c =
-    let start = c.before.before.before.before.before.before.before.before.before.before.before.before.before.before.before.before.before.before.before.before.before.before.before.before.before.before.before in
+    let start = c in
     let a = start.args in
     let n = length a.parent.now in
     let t = table_of a.parent.now a.kind.now in
     let m = a.given.now in
     let kinds = a.kind.now in
     let ready = start.requires.0 in
-    let copied = c.before.before.before.before.before.before.before.before.before.before.before.before.before.before.before.before.before.before.before.copy in
-    let down = c.before.before.before.before.before.before.before.before.before.before.before.before.before.before.before.along in
-    let up = c.before.before.before.before.before.before.before.before.before.before.before.along2 in
-    let added = c.before.before.before.before.before.before.add in
-    let kept = c.before.before.keep in
+    let copied = c.copy in
+    let down = c.along in
+    let up = c.along-2 in
+    let added = c.add in
+    let kept = c.keep in
     let at_n : (k : ℕ) → k ≡ n → (g : ℕ → Bool) → bits k g ≡ bits n g = λ k e g. ap (λ (j : ℕ). bits j g) e in
     let ls : length copied.new.1.0 ≡ n = copied.auto.1.0 ∙ start.requires.1.1 in
     let lm : length a.marks.now ≡ n = start.requires.1.0 in

@@ -10,37 +10,37 @@ use Rattle.paper.proofs.Tests.{and_true}
 use Rattle.table.proofs.all_marked.Statement.{statement}
 use Rattle.table.proofs.all_marked.Tie as tie
 
-abbrev invariant-loop : tie.invariant-loop
+abbrev invariant-loop : tie.invariant-loop-i
 invariant-loop marks all₀ i₀ all i = (i ≤ length marks) × (all ≡ true → (k : ℕ) → k < i → marked marks k ≡ true)
 
-abbrev decreases-loop : tie.decreases-loop
+abbrev decreases-loop : tie.decreases-loop-i
 decreases-loop marks all₀ i₀ all i = length marks - i
 
-loop-holds : tie.Need-loop-init invariant-loop decreases-loop
+loop-holds : tie.Need-loop-i-init invariant-loop decreases-loop
 loop-holds c = (omega arith, λ h k l. absurd (omega arith))
 
-shared-slice-read-all : tie.Need-shared-slice-read-all invariant-loop decreases-loop
+shared-slice-read-all : tie.Need-bounds-marks-i invariant-loop decreases-loop
 shared-slice-read-all c = omega arith
 
-add-i : tie.Need-overflow-add-i invariant-loop decreases-loop
+add-i : tie.Need-overflow_add-i invariant-loop decreases-loop
 add-i c = omega arith
 
-loop-less : tie.Need-loop-smaller invariant-loop decreases-loop
+loop-less : tie.Need-loop-i-smaller invariant-loop decreases-loop
 loop-less c = omega arith
 
-loop-again : tie.Need-loop-preserved invariant-loop decreases-loop
+loop-again : tie.Need-loop-i-preserved invariant-loop decreases-loop
 loop-again c =
-    let head = c.before.before in
-    let marks = head.before.args.marks.now in
-    let i = head.loop.i in (
+    let head = c in
+    let marks = head.args.marks.now in
+    let i = head.loop-i.i in (
       omega arith,
       λ h.
-          let both = and_true head.loop.all (marked marks i) h in
-          below_more (λ k. marked marks k ≡ true) i (head.loop.invariant.1 both.0) both.1,
+          let both = and_true head.loop-i.all (marked marks i) h in
+          below_more (λ k. marked marks k ≡ true) i (head.loop-i.invariant.1 both.0) both.1,
     )
 
 returns : tie.Need-returns invariant-loop decreases-loop
-returns c = λ h k l. c.before.loop.invariant.1 h k (omega arith)
+returns c = λ h k l. c.loop-i.invariant.1 h k (omega arith)
 
 pub all_marked_spec : {M : Type 1} → statement M
 all_marked_spec = tie.close (tie.spec invariant-loop decreases-loop loop-holds shared-slice-read-all add-i loop-less loop-again returns)

@@ -9,27 +9,27 @@ use Rattle.paper.specs.Document.{marked, good_mark}
 use Rattle.table.proofs.good_mark.Statement.{statement}
 use Rattle.table.proofs.good_mark.Tie as tie
 
-shared-slice-read-own : tie.Need-shared-slice-read-own
+shared-slice-read-own : tie.Need-bounds-marks-i
 shared-slice-read-own c = search rules
 
-mul_wide : tie.Need-overflow-mul-wide
+mul_wide : tie.Need-offset_bounds-parent-i
 mul_wide c = search rules
 
-shared-slice-read-wide : tie.Need-shared-slice-read-wide
+shared-slice-read-wide : tie.Need-bounds-parent-i
 shared-slice-read-wide c = search rules
 
-wide-requires : tie.Need-wide-requires
+wide-requires : tie.Need-wide-above-requires
 wide-requires c κs = search rules
 
-shared-slice-read-result : tie.Need-shared-slice-read-result
-shared-slice-read-result c = omega (arith, c.before.wide.ensures, c.before.before.before.before.before.before.requires)
+shared-slice-read-result : tie.Need-bounds-marks-above
+shared-slice-read-result c = omega (arith, c.wide-above.ensures, c.requires)
 
 returns : tie.Need-returns
 unfolding good_mark
 returns c =
-    let a = c.before.before.before.before.before.before.args in
+    let a = c.args in
     let marks = a.marks.now in
-    λ kinds. ap (λ k. eqb (get_or marks a.i 0) 0 || marked marks a.i && marked marks k) c.before.wide.ensures
+    λ kinds. ap (λ k. eqb (get_or marks a.i 0) 0 || marked marks a.i && marked marks k) c.wide-above.ensures
 
 pub good_mark_spec : {M : Type 1} → statement M
 good_mark_spec = tie.close (tie.spec shared-slice-read-own mul_wide shared-slice-read-wide wide-requires shared-slice-read-result returns)

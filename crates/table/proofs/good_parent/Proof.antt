@@ -14,69 +14,66 @@ use Rattle.table.proofs.good_parent.Statement.{statement}
 use Rattle.table.proofs.good_parent.Tie as tie
 
 -- Of what is lent nothing is read yet.
-abbrev begun-of : tie.After-shared-slice-known2 → tie.Start
+abbrev begun-of : tie.After-shared_slice_known-2-1 → tie.Start
 begun-of c = c.before.before
-
 -- The node's parent is read,
-abbrev lent_of : tie.After-wide → tie.After-shared-slice-known2
+abbrev lent_of : tie.After-wide-above → tie.After-shared_slice_known-2-1
 lent_of c = c.before.before
-
 -- and whether it stands above the node before is known.
-abbrev read_of : tie.After-is-over → tie.After-wide
+abbrev read_of : tie.After-is_over → tie.After-wide-above
 read_of c = c.before
-
 -- The parent, found over the node before, is a node of the table.
-low : (c : tie.Then1) → (read_of c.before).wide.result < length (begun-of (lent_of (read_of c.before))).args.kind.now
+low : (c : tie.Then-is_over) → (read_of c.before).wide-above.result < length (begun-of (lent_of (read_of c.before))).args.kind.now
 low c =
     let read = read_of c.before in
     let start = begun-of (lent_of read) in
     let i = start.args.i in
-    omega (arith, start.pre.0, way_low (table_of start.args.parent.now start.args.kind.now) i start.pre.1 (i - 1) read.wide.result (omega (arith, start.pre.0)) (sym (c.before.is-over.ensures start.args.kind.now) ∙ c.if1.true))
+    omega (arith, start.requires.0, way_low (table_of start.args.parent.now start.args.kind.now) i start.requires.1 (i - 1) read.wide-above.result (omega (arith, start.requires.0)) (sym (c.is_over.ensures start.args.kind.now) ∙ c.if-is_over.true))
 
-mul_wide : tie.Need-overflow-mul-wide
+mul_wide : tie.Need-offset_bounds-parent-i
 mul_wide c = search rules
 
-shared-slice-read-wide : tie.Need-shared-slice-read-wide
+shared-slice-read-wide : tie.Need-bounds-parent-i
 shared-slice-read-wide c = search rules
 
-wide-requires : tie.Need-wide-requires
+wide-requires : tie.Need-wide-above-requires
 wide-requires c κs = search rules
 
-sub-is-over : tie.Need-overflow-sub-is-over
+sub-is-over : tie.Need-overflow_sub-i
 sub-is-over c = search rules
 
-is-over-requires : tie.Need-is-over-requires
+is-over-requires : tie.Need-is_over-requires
 is-over-requires c κs =
     let start = begun-of (lent_of c) in
-    let e : start.args.i ≡ start.args.i - 1 + 1 = omega (arith, start.pre.0) in
-    subst (Falls start.args.parent.now) e start.pre.1
+    let e : start.args.i ≡ start.args.i - 1 + 1 = omega (arith, start.requires.0) in
+    subst (Falls start.args.parent.now) e start.requires.1
 
-mul-wide-2 : tie.Need-overflow-mul-wide-2
+mul-wide-2 : tie.Need-offset_bounds-kind-above
 mul-wide-2 c = omega (arith, low c)
 
-shared-slice-read-wide-2 : tie.Need-shared-slice-read-wide-2
+shared-slice-read-wide-2 : tie.Need-bounds-kind-above
 shared-slice-read-wide-2 c = low c.before
 
-wide-requires-2 : tie.Need-wide-requires-2
+wide-requires-2 : tie.Need-wide-requires
 wide-requires-2 c κs = search rules
 
-returns : tie.Need-returns
+returns : tie.Need-returns-then-is_over
 returns c =
     let read = read_of c.before.before.before in
     let start = begun-of (lent_of read) in
     let t = table_of start.args.parent.now start.args.kind.now in
     let i = start.args.i in
-    let above = read.wide.ensures in
-    let up : over t (i - 1) (parent_of t i) ≡ true = ap (over t (i - 1)) (sym above) ∙ sym (c.before.before.before.is-over.ensures start.args.kind.now) ∙ c.before.before.if1.true in
-    ap (λ x. not (eqb x 1)) (c.wide2.ensures ∙ ap (kind_of t) above) ∙ sym (ap (λ x. x && not (eqb (kind_of t (parent_of t i)) 1)) up)
+    let above = read.wide-above.ensures in
+    let up : over t (i - 1) (parent_of t i) ≡ true = ap (over t (i - 1)) (sym above) ∙ sym (c.is_over.ensures start.args.kind.now) ∙ c.if-is_over.true in
+    ap (λ x. not (eqb x 1)) (c.wide.ensures ∙ ap (kind_of t) above) ∙ sym (ap (λ x. x && not (eqb (kind_of t (parent_of t i)) 1)) up)
 
-returns-2 : tie.Need-returns-2
+returns-2 : tie.Need-returns-else-is_over
 returns-2 c =
     let read = read_of c.before in
     let start = begun-of (lent_of read) in
     let t = table_of start.args.parent.now start.args.kind.now in
     let i = start.args.i in
-    let up : over t (i - 1) (parent_of t i) ≡ false = ap (over t (i - 1)) (sym read.wide.ensures) ∙ sym (c.before.is-over.ensures start.args.kind.now) ∙ c.if1.false in
+    let up : over t (i - 1) (parent_of t i) ≡ false = ap (over t (i - 1)) (sym read.wide-above.ensures) ∙ sym (c.is_over.ensures start.args.kind.now) ∙ c.if-is_over.false in
     sym (ap (λ x. x && not (eqb (kind_of t (parent_of t i)) 1)) up)
 
 pub good_parent_spec : {M : Type 1} → statement M

@@ -15,10 +15,10 @@ use Rattle.table.proofs.Ways.{falls_good}
 use Rattle.table.proofs.table_fault.Statement.{statement}
 use Rattle.table.proofs.table_fault.Tie as tie
 
-abbrev invariant-loop : tie.invariant-loop
+abbrev invariant-loop : tie.invariant-loop-i
 invariant-loop parent kind i₀ i = (i ≤ length parent) × ((k : ℕ) → k < i → good_node (table_of parent kind) k ≡ true)
 
-abbrev decreases-loop : tie.decreases-loop
+abbrev decreases-loop : tie.decreases-loop-i
 decreases-loop parent kind i₀ i = length parent - i
 
 abbrev Start : Type 0
@@ -26,106 +26,100 @@ Start = tie.Start invariant-loop decreases-loop
 
 -- Of what is lent nothing is examined yet.
 abbrev Lent : Type 0
-Lent = tie.After-shared-slice-known2 invariant-loop decreases-loop
+Lent = tie.After-shared_slice_known-2-1 invariant-loop decreases-loop
 
 abbrev begun-of : Lent → Start
 begun-of c = c.before.before
-
 -- There are nodes.
 abbrev Some : Type 0
-Some = tie.Else1 invariant-loop decreases-loop
+Some = tie.Else-parent-eq0 invariant-loop decreases-loop
 
 abbrev lent_of : Some → Lent
 lent_of c = c.before
-
 -- A pass over all of them says no.
 abbrev Doubtful : Type 0
-Doubtful = tie.Else2 invariant-loop decreases-loop
+Doubtful = tie.Else-all_good invariant-loop decreases-loop
 
 abbrev some_of_lem : Doubtful → Some
 some_of_lem c = c.before.before
-
 -- The nodes before this one are good,
 abbrev Turn : Type 0
-Turn = tie.At-loop invariant-loop decreases-loop
+Turn = tie.At-loop-i invariant-loop decreases-loop
 
 abbrev doubtful_of : Turn → Doubtful
 doubtful_of c = c.before
-
 -- there is one more,
 abbrev Inside : Type 0
-Inside = tie.In-loop invariant-loop decreases-loop
+Inside = tie.In-loop-i invariant-loop decreases-loop
 
 abbrev turn-of : Inside → Turn
 turn-of c = c.before
-
 -- and it is judged.
 abbrev Judged : Type 0
-Judged = tie.After-good-node invariant-loop decreases-loop
+Judged = tie.After-good_node invariant-loop decreases-loop
 
 abbrev inside_of : Judged → Inside
 inside_of c = c.before
-
 -- The fault of a table that has nodes is its first bad node.
 of_nodes : (t : Table) → (nodes t ≡ 0 → ⊥) → table_fault t ≡ first_below (nodes t) (λ i. not (good_node t i))
 unfolding table_fault
 of_nodes t h = ap (λ b. cond b (some 0) (first_below (nodes t) (λ i. not (good_node t i)))) (ne_eqb (nodes t) 0 h)
 
-returns : tie.Need-returns invariant-loop decreases-loop
+returns : tie.Need-returns-then-parent-eq0 invariant-loop decreases-loop
 unfolding table_fault
 returns c =
     let start = begun-of c.before in
     let t = table_of start.args.parent.now start.args.kind.now in
-    sym (ap (λ b. cond b (some 0) (first_below (nodes t) (λ i. not (good_node t i)))) (eq-eqb (nodes t) 0 c.if1.true))
+    sym (ap (λ b. cond b (some 0) (first_below (nodes t) (λ i. not (good_node t i)))) (eq-eqb (nodes t) 0 c.if-parent-eq0.true))
 
-all-good-requires : tie.Need-all-good-requires invariant-loop decreases-loop
+all-good-requires : tie.Need-all_good-requires invariant-loop decreases-loop
 all-good-requires c κs = (omega arith, (begun-of (lent_of c)).requires)
 
-returns-2 : tie.Need-returns-2 invariant-loop decreases-loop
+returns-2 : tie.Need-returns-then-all_good invariant-loop decreases-loop
 returns-2 c =
     let start = begun-of (lent_of c.before.before) in
     let t = table_of start.args.parent.now start.args.kind.now in
-    sym (of_nodes t c.before.before.if1.false ∙ no_fault (nodes t) (good_node t) (c.before.all-good.ensures c.if2.true))
+    sym (of_nodes t c.if-parent-eq0.false ∙ no_fault (nodes t) (good_node t) (c.all_good.ensures c.if-all_good.true))
 
-loop-holds : tie.Need-loop-init invariant-loop decreases-loop
+loop-holds : tie.Need-loop-i-init invariant-loop decreases-loop
 loop-holds c = (omega arith, λ k l. absurd (omega arith))
 
-good-node-requires : tie.Need-good-node-requires invariant-loop decreases-loop
+good-node-requires : tie.Need-good_node-requires invariant-loop decreases-loop
 good-node-requires c κs =
     let turn = turn-of c in
     let start = begun-of (lent_of (some_of_lem (doubtful_of turn))) in
     let t = table_of start.args.parent.now start.args.kind.now in
-    ((omega arith, start.pre), falls_good t turn.loop.i (omega arith) turn.loop.inv.1)
+    ((omega arith, start.requires), falls_good t turn.loop-i.i (omega arith) turn.loop-i.invariant.1)
 
-add-i : tie.Need-overflow-add-i invariant-loop decreases-loop
+add-i : tie.Need-overflow_add-i invariant-loop decreases-loop
 add-i c = omega arith
 
-loop-less : tie.Need-loop-smaller invariant-loop decreases-loop
+loop-less : tie.Need-loop-i-smaller invariant-loop decreases-loop
 loop-less c = omega arith
 
-loop-again : tie.Need-loop-preserved invariant-loop decreases-loop
+loop-again : tie.Need-loop-i-preserved invariant-loop decreases-loop
 loop-again c =
     let turn = turn-of (inside_of c.before) in
     let start = begun-of (lent_of (some_of_lem (doubtful_of turn))) in
     let t = table_of start.args.parent.now start.args.kind.now in
-    (omega arith, below_more (λ k. good_node t k ≡ true) turn.loop.i turn.loop.inv.1 (sym c.before.good-node.ensures ∙ c.if3.true))
+    (omega arith, below_more (λ k. good_node t k ≡ true) turn.loop-i.i turn.loop-i.invariant.1 (sym c.good_node.ensures ∙ c.if-good_node.true))
 
-returns-3 : tie.Need-returns-3 invariant-loop decreases-loop
+returns-3 : tie.Need-returns-else-good_node invariant-loop decreases-loop
 returns-3 c =
     let turn = turn-of (inside_of c.before) in
     let start = begun-of (lent_of (some_of_lem (doubtful_of turn))) in
     let t = table_of start.args.parent.now start.args.kind.now in
     sym
     (of_nodes t (λ e. omega arith)
-    ∙ fault_at (nodes t) turn.loop.i (good_node t) (omega arith) turn.loop.inv.1 (sym c.before.good-node.ensures ∙ c.if3.false))
+    ∙ fault_at (nodes t) turn.loop-i.i (good_node t) (omega arith) turn.loop-i.invariant.1 (sym c.good_node.ensures ∙ c.if-good_node.false))
 
-returns-4 : tie.Need-returns-4 invariant-loop decreases-loop
+returns-4 : tie.Need-returns invariant-loop decreases-loop
 returns-4 c =
     let some-place = some_of_lem (doubtful_of c.before) in
     let start = begun-of (lent_of some-place) in
-    let head = c.before in
+    let head = c in
     let t = table_of start.args.parent.now start.args.kind.now in
-    sym (of_nodes t some-place.if1.left ∙ no_fault (nodes t) (good_node t) (λ k l. head.loop.invariant.1 k (omega arith)))
+    sym (of_nodes t some-place.if-parent-eq0.false ∙ no_fault (nodes t) (good_node t) (λ k l. head.loop-i.invariant.1 k (omega arith)))
 
 pub table_fault_spec : {M : Type 1} → statement M
 table_fault_spec =

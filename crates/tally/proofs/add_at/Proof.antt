@@ -5,37 +5,37 @@ use Rattle.tally.specs.Tallies.{sums, times}
 use Rattle.tally.proofs.add_at.Statement.{statement}
 use Rattle.tally.proofs.add_at.Tie as tie
 
-mul-wrapping-add-u32 : tie.Need-overflow-mul-wrapping-add-u32
+mul-wrapping-add-u32 : tie.Need-offset_bounds-column-v
 mul-wrapping-add-u32 c = search rules
 
-slice-read-wrapping-add-u32 : tie.Need-slice-read-wrapping-add-u32
+slice-read-wrapping-add-u32 : tie.Need-bounds-column-v
 slice-read-wrapping-add-u32 c = search rules
 
-wrapping-add-u32-requires : tie.Need-wrapping-add-u32-requires
+wrapping-add-u32-requires : tie.Need-wrapping_add_u32-requires
 wrapping-add-u32-requires c κs = search rules
 
-mul-column : tie.Need-overflow-mul-column
+mul-column : tie.Need-offset_bounds-column-v-then-v-column
 mul-column c = search rules
 
-slice-write-column : tie.Need-slice-write-column
+slice-write-column : tie.Need-bounds-column-v-then-v-column
 slice-write-column c = search rules
 
-same_length : tie.Need-same-length
+same_length : tie.Need-shape_of-column
 same_length c = search rules
 
 -- The numbers of the column fit their type.
-small : (c : tie.After-slice-known) → Small sums c.before.args.column.now
-small c = λ v l. omega (arith, c.slice-known.given v)
+small : (c : tie.After-slice_known-1) → Small sums c.before.args.column.now
+small c = λ v l. omega (arith, c.slice_known-1.given v)
 
-returns : tie.Need-returns
+returns : tie.Need-returns-then-v-column
 returns c =
-    let known = c.before.before.before in
-    grows_at _ known.before.args.column.now known.before.args.v _ (small known) c.before.before.if1.true c.wrapping-add-u32.ensures
+    let known = c in
+    grows_at _ known.args.column.now known.args.v _ (small known.before.before.before) c.if-v-column.true c.wrapping_add_u32.ensures
 
-returns-2 : tie.Need-returns-2
+returns-2 : tie.Need-returns-else-v-column
 returns-2 c =
-    let known = c.before in
-    grows_past _ known.before.args.column.now known.before.args.v (small known) c.if1.false
+    let known = c in
+    grows_past _ known.args.column.now known.args.v (small known.before) c.if-v-column.false
 
 pub add_at_spec : {M : Type 1} → statement M
 add_at_spec =

@@ -5,37 +5,37 @@ use Rattle.tally.specs.Tallies.{sums, times}
 use Rattle.tally.proofs.add_refusal.Statement.{statement}
 use Rattle.tally.proofs.add_refusal.Tie as tie
 
-mul-wrapping-add-u64 : tie.Need-overflow-mul-wrapping-add-u64
+mul-wrapping-add-u64 : tie.Need-offset_bounds-refusals-number
 mul-wrapping-add-u64 c = search rules
 
-slice-read-wrapping-add-u64 : tie.Need-slice-read-wrapping-add-u64
+slice-read-wrapping-add-u64 : tie.Need-bounds-refusals-number
 slice-read-wrapping-add-u64 c = search rules
 
-wrapping-add-u64-requires : tie.Need-wrapping-add-u64-requires
+wrapping-add-u64-requires : tie.Need-wrapping_add_u64-requires
 wrapping-add-u64-requires c κs = search rules
 
-mul-refusals : tie.Need-overflow-mul-refusals
+mul-refusals : tie.Need-offset_bounds-refusals-number-then-number-refusals
 mul-refusals c = search rules
 
-slice-write-refusals : tie.Need-slice-write-refusals
+slice-write-refusals : tie.Need-bounds-refusals-number-then-number-refusals
 slice-write-refusals c = search rules
 
-same_length : tie.Need-same-length
+same_length : tie.Need-shape_of-refusals
 same_length c = search rules
 
 -- The numbers of the column fit their type.
-small : (c : tie.After-slice-known) → Small times c.before.args.refusals.now
-small c = λ v l. omega (arith, c.slice-known.given v)
+small : (c : tie.After-slice_known-1) → Small times c.before.args.refusals.now
+small c = λ v l. omega (arith, c.slice_known-1.given v)
 
-returns : tie.Need-returns
+returns : tie.Need-returns-then-number-refusals
 returns c =
-    let known = c.before.before.before in
-    grows_at _ known.before.args.refusals.now known.before.args.number _ (small known) c.before.before.if1.true c.wrapping-add-u64.ensures
+    let known = c in
+    grows_at _ known.args.refusals.now known.args.number _ (small known.before.before.before) c.if-number-refusals.true c.wrapping_add_u64.ensures
 
-returns-2 : tie.Need-returns-2
+returns-2 : tie.Need-returns-else-number-refusals
 returns-2 c =
-    let known = c.before in
-    grows_past _ known.before.args.refusals.now known.before.args.number (small known) c.if1.false
+    let known = c in
+    grows_past _ known.args.refusals.now known.args.number (small known.before) c.if-number-refusals.false
 
 pub add_refusal_spec : {M : Type 1} → statement M
 add_refusal_spec =

@@ -8,20 +8,20 @@ use lib.Seq.{drop-cons}
 use Rattle.token.proofs.follows.Statement.{statement}
 use Rattle.token.proofs.follows.Tie as tie
 
-add-next : tie.Need-overflow-add-next
+add-next : tie.Need-overflow_add-next
 add-next c = search rules
 
-shared-slice-read-result : tie.Need-shared-slice-read-result
+shared-slice-read-result : tie.Need-bounds-text-next
 shared-slice-read-result c = search rules
 
-returns : tie.Need-returns
+returns : tie.Need-returns-then-next-text
 returns c =
-    let a = c.before.before.args in
+    let a = c.args in
     rw (add-one a.place, drop-cons a.text.now (suc a.place) 0 (omega arith))
 
-returns-2 : tie.Need-returns-2
+returns-2 : tie.Need-returns-else-next-text
 returns-2 c =
-    let a = c.before.args in
+    let a = c.args in
     rw (drop_of_length-le a.text.now {i = suc a.place} (omega arith))
 
 pub follows_spec : {M : Type 1} → statement M

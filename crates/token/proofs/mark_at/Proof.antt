@@ -16,16 +16,16 @@ use Rattle.token.specs.Taking.{token_of, width_of, finished, Longest}
 use Rattle.token.proofs.mark_at.Statement.{statement}
 use Rattle.token.proofs.mark_at.Tie as tie
 
-shared-slice-read-b : tie.Need-shared-slice-read-b
+shared-slice-read-b : tie.Need-bounds-text-place
 shared-slice-read-b c = search rules
 
 follows-requires : tie.Need-follows-requires
 follows-requires c κs = search rules
 
-follows-requires-2 : tie.Need-follows-requires-2
+follows-requires-2 : tie.Need-follows-requires-in-46
 follows-requires-2 c κs = search rules
 
-follows-requires-3 : tie.Need-follows-requires-3
+follows-requires-3 : tie.Need-follows-requires-in-58
 follows-requires-3 c κs = search rules
 
 -- A byte that stands twice is a token of two bytes.
@@ -45,62 +45,62 @@ single : (text : List ℕ) (place b : ℕ) (t : Token) → width_of t ≡ 1 → 
 single text place b t width wide goes_on inside here chosen =
     record { right = rw here chosen; wide = width ∙ sym wide; within = rw width (omega arith); goes_on = goes_on }
 
-returns : tie.Need-returns
+returns : tie.Need-returns-then-follows
 unfolding token_at
-returns c = double _ _ 47 Slashes refl refl refl c.before.before.match.keys1 (λ bs h. rw h) (sym c.before.follows.ensures ∙ c.if1.true)
+returns c = double _ _ 47 Slashes refl refl refl c.in-47.is (λ bs h. rw h) (sym c.follows.ensures ∙ c.if-follows.true)
 
-returns-2 : tie.Need-returns-2
+returns-2 : tie.Need-returns-else-follows
 unfolding token_at
-returns-2 c = single _ _ 47 Slash refl refl refl c.before.before.before.before.before.requires.0 c.before.before.match.keys1 (rw (sym c.before.follows.ensures ∙ c.if1.false))
+returns-2 c = single _ _ 47 Slash refl refl refl c.requires.0 c.in-47.is (rw (sym c.follows.ensures ∙ c.if-follows.false))
 
-returns-3 : tie.Need-returns-3
+returns-3 : tie.Need-returns-then-follows-2
 unfolding token_at
-returns-3 c = double _ _ 46 Dots refl refl refl c.before.before.match.keys2 (λ bs h. rw h) (sym c.before.follows2.ensures ∙ c.if2.true)
+returns-3 c = double _ _ 46 Dots refl refl refl c.in-46.is (λ bs h. rw h) (sym c.follows-in-46.ensures ∙ c.if-follows-2.true)
 
-returns-4 : tie.Need-returns-4
+returns-4 : tie.Need-returns-else-follows-2
 unfolding token_at
-returns-4 c = single _ _ 46 Dot refl refl refl c.before.before.before.before.before.requires.0 c.before.before.match.keys2 (rw (sym c.before.follows2.ensures ∙ c.if2.false))
+returns-4 c = single _ _ 46 Dot refl refl refl c.requires.0 c.in-46.is (rw (sym c.follows-in-46.ensures ∙ c.if-follows-2.false))
 
-returns-5 : tie.Need-returns-5
+returns-5 : tie.Need-returns-then-follows-3
 unfolding token_at
-returns-5 c = double _ _ 58 Colons refl refl refl c.before.before.match.keys3 (λ bs h. rw h) (sym c.before.follows3.ensures ∙ c.if3.true)
+returns-5 c = double _ _ 58 Colons refl refl refl c.in-58.is (λ bs h. rw h) (sym c.follows-in-58.ensures ∙ c.if-follows-3.true)
 
-returns-6 : tie.Need-returns-6
+returns-6 : tie.Need-returns-else-follows-3
 unfolding token_at
-returns-6 c = single _ _ 58 Stray refl refl refl c.before.before.before.before.before.requires.0 c.before.before.match.keys3 (rw (sym c.before.follows3.ensures ∙ c.if3.false))
+returns-6 c = single _ _ 58 Stray refl refl refl c.requires.0 c.in-58.is (rw (sym c.follows-in-58.ensures ∙ c.if-follows-3.false))
 
-returns-7 : tie.Need-returns-7
+returns-7 : tie.Need-returns-in-124
 unfolding token_at
-returns-7 c = single _ _ 124 Bar refl refl refl c.before.before.before.requires.0 c.match.keys4 refl
+returns-7 c = single _ _ 124 Bar refl refl refl c.requires.0 c.in-124.is refl
 
-returns-8 : tie.Need-returns-8
+returns-8 : tie.Need-returns-in-91
 unfolding token_at
-returns-8 c = single _ _ 91 OpenSquare refl refl refl c.before.before.before.requires.0 c.match.keys5 refl
+returns-8 c = single _ _ 91 OpenSquare refl refl refl c.requires.0 c.in-91.is refl
 
-returns-9 : tie.Need-returns-9
+returns-9 : tie.Need-returns-in-93
 unfolding token_at
-returns-9 c = single _ _ 93 CloseSquare refl refl refl c.before.before.before.requires.0 c.match.keys6 refl
+returns-9 c = single _ _ 93 CloseSquare refl refl refl c.requires.0 c.in-93.is refl
 
-returns-10 : tie.Need-returns-10
+returns-10 : tie.Need-returns-in-40
 unfolding token_at
-returns-10 c = single _ _ 40 OpenRound refl refl refl c.before.before.before.requires.0 c.match.keys7 refl
+returns-10 c = single _ _ 40 OpenRound refl refl refl c.requires.0 c.in-40.is refl
 
-returns-11 : tie.Need-returns-11
+returns-11 : tie.Need-returns-in-41
 unfolding token_at
-returns-11 c = single _ _ 41 CloseRound refl refl refl c.before.before.before.requires.0 c.match.keys8 refl
+returns-11 c = single _ _ 41 CloseRound refl refl refl c.requires.0 c.in-41.is refl
 
-returns-12 : tie.Need-returns-12
+returns-12 : tie.Need-returns-in-42
 unfolding token_at
-returns-12 c = single _ _ 42 Star refl refl refl c.before.before.before.requires.0 c.match.keys9 refl
+returns-12 c = single _ _ 42 Star refl refl refl c.requires.0 c.in-42.is refl
 
-returns-13 : tie.Need-returns-13
+returns-13 : tie.Need-returns-in_default
 unfolding token_at
 returns-13 c =
-    let n = c.match.rest in
-    let b = get_or c.before.before.before.args.text.now c.before.before.before.args.place 0 in
-    single _ _ b Stray refl refl refl c.before.before.before.requires.0 refl
+    let n = c.in_default.in_default-own.rest in
+    let b = get_or c.args.text.now c.args.place 0 in
+    single _ _ b Stray refl refl refl c.requires.0 refl
     (rw (
-      c.before.before.before.requires.1,
+      c.requires.1,
       ne_eqb b 47 n.0.0.0.0.0.0.0.0.1,
       ne_eqb b 46 n.0.0.0.0.0.0.0.1,
       ne_eqb b 58 n.0.0.0.0.0.0.1,

@@ -31,32 +31,32 @@ word_longest text place count inside starts e =
       goes_on = refl;
     }
 
-shared-slice-read-name-start : tie.Need-shared-slice-read-name-start
+shared-slice-read-name-start : tie.Need-bounds-text-place
 shared-slice-read-name-start c = search rules
 
-name-start-requires : tie.Need-name-start-requires
+name-start-requires : tie.Need-name_start-requires
 name-start-requires c κs = search rules
 
-add-run-end : tie.Need-overflow-add-run-end
+add-run-end : tie.Need-overflow_add-place
 add-run-end c = search rules
 
-run-end-requires : tie.Need-run-end-requires
+run-end-requires : tie.Need-run_end-requires
 run-end-requires c κs = search rules
 
-sub-t8 : tie.Need-overflow-sub-t8
+sub-t8 : tie.Need-overflow_sub-result
 sub-t8 c = search rules
 
-returns : tie.Need-returns
+returns : tie.Need-returns-then-name_start
 returns c =
-    let a = c.before.before.before.before.before.args in
+    let a = c.args in
     let e : c.run_end.result ≡ a.place + 1 + run_of name_part (drop (suc a.place) a.text.now) = c.run_end.ensures ∙ rw (add-one a.place) in
     word_longest a.text.now a.place (c.run_end.result - a.place) (omega arith)
-    (sym c.before.before.name-start.ensures ∙ c.before.if1.true) (omega arith)
+    (sym c.name_start.ensures ∙ c.if-name_start.true) (omega arith)
 
-mark-at-requires : tie.Need-mark-at-requires
-mark-at-requires c κs = (search rules, sym c.before.name-start.ensures ∙ c.if1.false)
+mark-at-requires : tie.Need-mark_at-requires
+mark-at-requires c κs = (search rules, sym c.name_start.ensures ∙ c.if-name_start.false)
 
-returns-2 : tie.Need-returns-2
+returns-2 : tie.Need-returns
 returns-2 c = search rules
 
 pub token_at_spec : {M : Type 1} → statement M

@@ -13,13 +13,13 @@ use Rattle.vertical.proofs.AbovePass.{above_state, above_start, above_turn, abov
 use Rattle.vertical.proofs.above.Statement.{statement}
 use Rattle.vertical.proofs.above.Tie as tie
 
-abbrev invariant-loop : tie.invariant-loop
+abbrev invariant-loop : tie.invariant-loop-giver
 invariant-loop parent set₀ giver₀ set giver = Moving above_state parent set₀ set giver
 
-abbrev decreases-loop : tie.decreases-loop
+abbrev decreases-loop : tie.decreases-loop-giver
 decreases-loop parent set₀ giver₀ set giver = giver
 
-loop-holds : tie.Need-loop-init invariant-loop decreases-loop
+loop-holds : tie.Need-loop-giver-init invariant-loop decreases-loop
 loop-holds c =
     let a = c.args in
     let there = (c.requires.1 []).rooted in
@@ -30,53 +30,53 @@ loop-holds c =
       stands = λ kinds f e. e ∙ above_start (table_of a.parent.now kinds) (c.requires.1 kinds) f (length a.set.now) (omega arith);
     }
 
-sub-giver : tie.Need-overflow-sub-giver invariant-loop decreases-loop
+sub-giver : tie.Need-overflow_sub-giver invariant-loop decreases-loop
 sub-giver c = omega arith
 
-mul-up : tie.Need-overflow-mul-up invariant-loop decreases-loop
+mul-up : tie.Need-offset_bounds-parent-giver invariant-loop decreases-loop
 mul-up c = omega arith
 
-shared-slice-read-up : tie.Need-shared-slice-read-up invariant-loop decreases-loop
+shared-slice-read-up : tie.Need-bounds-parent-giver invariant-loop decreases-loop
 shared-slice-read-up c = omega arith
 
-cast-up : tie.Need-overflow-cast-up invariant-loop decreases-loop
-cast-up c = omega (arith, c.shared-slice-known.given (c.before.before.loop.giver - 1))
+cast-up : tie.Need-overflow_cast-up invariant-loop decreases-loop
+cast-up c = omega (arith, c.shared_slice_known-1.given (c.loop-giver.giver - 1))
 
-slice-read-set : tie.Need-slice-read-set invariant-loop decreases-loop
-slice-read-set c = let down = (c.before.before.before.before.requires.1 []).falls (c.before.before.before.loop.giver - 1) (omega arith) (omega arith) in omega arith
+slice-read-set : tie.Need-bounds-set-up invariant-loop decreases-loop
+slice-read-set c = let down = (c.requires.1 []).falls (c.loop-giver.giver - 1) (omega arith) (omega arith) in omega arith
 
-slice-read-set-2 : tie.Need-slice-read-set-2 invariant-loop decreases-loop
+slice-read-set-2 : tie.Need-bounds-set-giver invariant-loop decreases-loop
 slice-read-set-2 c = omega arith
 
-slice-write-set : tie.Need-slice-write-set invariant-loop decreases-loop
-slice-write-set c = let down = (c.before.before.before.before.before.requires.1 []).falls (c.before.before.before.before.loop.giver - 1) (omega arith) (omega arith) in omega arith
+slice-write-set : tie.Need-bounds-set-up-in-loop-giver invariant-loop decreases-loop
+slice-write-set c = let down = (c.requires.1 []).falls (c.loop-giver.giver - 1) (omega arith) (omega arith) in omega arith
 
-loop-less : tie.Need-loop-smaller invariant-loop decreases-loop
+loop-less : tie.Need-loop-giver-smaller invariant-loop decreases-loop
 loop-less c = omega arith
 
-loop-again : tie.Need-loop-preserved invariant-loop decreases-loop
+loop-again : tie.Need-loop-giver-preserved invariant-loop decreases-loop
 loop-again c =
-    let a = c.before.before.before.before.before.args in
-    let here = c.before.before.before.before.loop in
+    let a = c.args in
+    let here = c.loop-giver in
     let p = here.invariant in
     record {
       least = omega arith;
       most = omega arith;
       sizes = simp length-set p.sizes;
-      stands = λ kinds f e. above_turn (table_of a.parent.now kinds) (c.before.before.before.before.before.requires.1 kinds) f here.set here.giver (omega arith) (omega arith) (p.stands kinds f e);
+      stands = λ kinds f e. above_turn (table_of a.parent.now kinds) (c.requires.1 kinds) f here.set here.giver (omega arith) (omega arith) (p.stands kinds f e);
     }
 
-same_length : tie.Need-same-length invariant-loop decreases-loop
+same_length : tie.Need-shape_of-set invariant-loop decreases-loop
 same_length c = omega arith
 
 returns : tie.Need-returns invariant-loop decreases-loop
 returns c =
     λ kinds f.
-    let a = c.before.before.args in
+    let a = c.args in
     let t = table_of a.parent.now kinds in
-    let w = c.before.before.requires.1 kinds in
-    let last = c.before.loop in
-    resized c.before.before.requires.0 f (image t ancestorOrSelf f) (λ e. last.invariant.stands kinds f e ∙ above_end t w f last.giver (omega arith))
+    let w = c.requires.1 kinds in
+    let last = c.loop-giver in
+    resized c.requires.0 f (image t ancestorOrSelf f) (λ e. last.invariant.stands kinds f e ∙ above_end t w f last.giver (omega arith))
 
 pub above_spec : {M : Type 1} → statement M
 above_spec =

@@ -14,21 +14,20 @@ above-requires c κs = search rules
 -- Past the first pass.
 abbrev start_of : tie.After-above → tie.Start
 start_of c = c.before.before.before.before
-
 parents-requires : tie.Need-parents-requires
 parents-requires c κs = search rules
 
-same_length : tie.Need-same-length
+same_length : tie.Need-shape_of-set
 same_length c = search rules
 
 returns : tie.Need-returns
 returns c =
     λ kinds f e.
-    let first = c.before.before.before.before.before.before in
-    let start = start_of first in
+    let first = c in
+    let start = start_of first.before.before.before.before.before.before in
     let t = table_of start.args.parent.now kinds in
-    joined start.pre.0 (image t ancestorOrSelf f) (image t Axis.parent (image t ancestorOrSelf f)) (image t ancestor f) (first.above.ensures kinds f e) (c.before.before.parents.ensures kinds (image t ancestorOrSelf f))
-    (ancestor_end t (start.pre.1 kinds) f)
+    joined start.requires.0 (image t ancestorOrSelf f) (image t Axis.parent (image t ancestorOrSelf f)) (image t ancestor f) (first.above.ensures kinds f e) (c.parents.ensures kinds (image t ancestorOrSelf f))
+    (ancestor_end t (start.requires.1 kinds) f)
 
 pub ancestors_spec : {M : Type 1} → statement M
 ancestors_spec = tie.close (tie.spec above-requires parents-requires same_length returns)

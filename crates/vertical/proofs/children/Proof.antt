@@ -13,13 +13,13 @@ use Rattle.vertical.proofs.ChildPass.{child_state, child_start, child_turn, chil
 use Rattle.vertical.proofs.children.Statement.{statement}
 use Rattle.vertical.proofs.children.Tie as tie
 
-abbrev invariant-loop : tie.invariant-loop
+abbrev invariant-loop : tie.invariant-loop-taker
 invariant-loop parent set₀ taker₀ set taker = Moving child_state parent set₀ set taker
 
-abbrev decreases-loop : tie.decreases-loop
+abbrev decreases-loop : tie.decreases-loop-taker
 decreases-loop parent set₀ taker₀ set taker = taker
 
-loop-holds : tie.Need-loop-init invariant-loop decreases-loop
+loop-holds : tie.Need-loop-taker-init invariant-loop decreases-loop
 loop-holds c =
     let a = c.args in
     let there = (c.requires.1 []).rooted in
@@ -30,53 +30,53 @@ loop-holds c =
       stands = λ kinds f e. e ∙ child_start (table_of a.parent.now kinds) (c.requires.1 kinds) f (length a.set.now) (omega arith);
     }
 
-sub-taker : tie.Need-overflow-sub-taker invariant-loop decreases-loop
+sub-taker : tie.Need-overflow_sub-taker invariant-loop decreases-loop
 sub-taker c = omega arith
 
-mul-set : tie.Need-overflow-mul-set invariant-loop decreases-loop
+mul-set : tie.Need-offset_bounds-parent-taker invariant-loop decreases-loop
 mul-set c = omega arith
 
-shared-slice-read-set : tie.Need-shared-slice-read-set invariant-loop decreases-loop
+shared-slice-read-set : tie.Need-bounds-parent-taker invariant-loop decreases-loop
 shared-slice-read-set c = omega arith
 
-cast-set : tie.Need-overflow-cast-set invariant-loop decreases-loop
-cast-set c = omega (arith, c.shared-slice-known.given (c.before.before.loop.taker - 1))
+cast-set : tie.Need-overflow_cast-set invariant-loop decreases-loop
+cast-set c = omega (arith, c.shared_slice_known-1.given (c.loop-taker.taker - 1))
 
-slice-read-set : tie.Need-slice-read-set invariant-loop decreases-loop
-slice-read-set c = let down = (c.before.before.before.before.requires.1 []).falls (c.before.before.before.loop.taker - 1) (omega arith) (omega arith) in omega arith
+slice-read-set : tie.Need-bounds-set-parent invariant-loop decreases-loop
+slice-read-set c = let down = (c.requires.1 []).falls (c.loop-taker.taker - 1) (omega arith) (omega arith) in omega arith
 
-slice-write-set : tie.Need-slice-write-set invariant-loop decreases-loop
+slice-write-set : tie.Need-bounds-set-taker invariant-loop decreases-loop
 slice-write-set c = omega arith
 
-loop-less : tie.Need-loop-smaller invariant-loop decreases-loop
+loop-less : tie.Need-loop-taker-smaller invariant-loop decreases-loop
 loop-less c = omega arith
 
-loop-again : tie.Need-loop-preserved invariant-loop decreases-loop
+loop-again : tie.Need-loop-taker-preserved invariant-loop decreases-loop
 loop-again c =
-    let a = c.before.before.before.before.args in
-    let here = c.before.before.before.loop in
+    let a = c.args in
+    let here = c.loop-taker in
     let p = here.invariant in
     record {
       least = omega arith;
       most = omega arith;
       sizes = simp length-set p.sizes;
-      stands = λ kinds f e. child_turn (table_of a.parent.now kinds) (c.before.before.before.before.requires.1 kinds) f here.set here.taker (omega arith) (omega arith) (p.stands kinds f e);
+      stands = λ kinds f e. child_turn (table_of a.parent.now kinds) (c.requires.1 kinds) f here.set here.taker (omega arith) (omega arith) (p.stands kinds f e);
     }
 
-slice-write-set-2 : tie.Need-slice-write-set-2 invariant-loop decreases-loop
+slice-write-set-2 : tie.Need-bounds-set-0 invariant-loop decreases-loop
 slice-write-set-2 c = omega arith
 
-same_length : tie.Need-same-length invariant-loop decreases-loop
+same_length : tie.Need-shape_of-set invariant-loop decreases-loop
 same_length c = simp length-set (omega arith)
 
 returns : tie.Need-returns invariant-loop decreases-loop
 returns c =
     λ kinds f.
-    let a = c.before.before.args in
+    let a = c.args in
     let t = table_of a.parent.now kinds in
-    let w = c.before.before.requires.1 kinds in
-    let last = c.before.loop in
-    resized c.before.before.requires.0 f (image t child f) (λ e. child_end t w f last.set last.taker (omega arith) (last.invariant.stands kinds f e))
+    let w = c.requires.1 kinds in
+    let last = c.loop-taker in
+    resized c.requires.0 f (image t child f) (λ e. child_end t w f last.set last.taker (omega arith) (last.invariant.stands kinds f e))
 
 pub children_spec : {M : Type 1} → statement M
 children_spec =

@@ -14,21 +14,20 @@ below-requires c κs = search rules
 -- Past the first pass.
 abbrev start_of : tie.After-below → tie.Start
 start_of c = c.before.before.before.before
-
 children-requires : tie.Need-children-requires
 children-requires c κs = search rules
 
-same_length : tie.Need-same-length
+same_length : tie.Need-shape_of-set
 same_length c = search rules
 
 returns : tie.Need-returns
 returns c =
     λ kinds f e.
-    let first = c.before.before.before.before.before.before in
-    let start = start_of first in
+    let first = c in
+    let start = start_of first.before.before.before.before.before.before in
     let t = table_of start.args.parent.now kinds in
-    joined start.pre.0 (image t descendantOrSelf f) (image t child (image t descendantOrSelf f)) (image t descendant f) (first.below.ensures kinds f e) (c.before.before.children.ensures kinds (image t descendantOrSelf f))
-    (descendant_end t (start.pre.1 kinds) f)
+    joined start.requires.0 (image t descendantOrSelf f) (image t child (image t descendantOrSelf f)) (image t descendant f) (first.below.ensures kinds f e) (c.children.ensures kinds (image t descendantOrSelf f))
+    (descendant_end t (start.requires.1 kinds) f)
 
 pub descendants_spec : {M : Type 1} → statement M
 descendants_spec = tie.close (tie.spec below-requires children-requires same_length returns)

@@ -15,16 +15,16 @@ use Rattle.vertical.proofs.ParentPass.{parent_state, parent_start, parent_turn, 
 use Rattle.vertical.proofs.parents.Statement.{statement}
 use Rattle.vertical.proofs.parents.Tie as tie
 
-abbrev invariant-loop : tie.invariant-loop
+abbrev invariant-loop : tie.invariant-loop-i
 invariant-loop parent set₀ i₀ set i = Moving parent_state parent set₀ set i
 
-abbrev decreases-loop : tie.decreases-loop
+abbrev decreases-loop : tie.decreases-loop-i
 decreases-loop parent set₀ i₀ set i = length parent - i
 
-slice-write-set : tie.Need-slice-write-set invariant-loop decreases-loop
+slice-write-set : tie.Need-bounds-set-0 invariant-loop decreases-loop
 slice-write-set c = let there = (c.requires.1 []).rooted in omega arith
 
-loop-holds : tie.Need-loop-init invariant-loop decreases-loop
+loop-holds : tie.Need-loop-i-init invariant-loop decreases-loop
 loop-holds c =
     let a = c.args in
     let there = (c.requires.1 []).rooted in
@@ -35,56 +35,56 @@ loop-holds c =
       stands = λ kinds f e. e ∙ parent_start (table_of a.parent.now kinds) (c.requires.1 kinds) f a.set.now (omega arith) e;
     }
 
-slice-read-member : tie.Need-slice-read-member invariant-loop decreases-loop
+slice-read-member : tie.Need-bounds-set-i invariant-loop decreases-loop
 slice-read-member c = omega arith
 
-mul-up : tie.Need-overflow-mul-up invariant-loop decreases-loop
+mul-up : tie.Need-offset_bounds-parent-i invariant-loop decreases-loop
 mul-up c = omega arith
 
-shared-slice-read-up : tie.Need-shared-slice-read-up invariant-loop decreases-loop
+shared-slice-read-up : tie.Need-bounds-parent-i invariant-loop decreases-loop
 shared-slice-read-up c = omega arith
 
-cast-up : tie.Need-overflow-cast-up invariant-loop decreases-loop
-cast-up c = omega (arith, c.shared-slice-known.given c.before.before.before.loop.i)
+cast-up : tie.Need-overflow_cast-up invariant-loop decreases-loop
+cast-up c = omega (arith, c.shared_slice_known-1.given c.loop-i.i)
 
-slice-write-set-2 : tie.Need-slice-write-set-2 invariant-loop decreases-loop
+slice-write-set-2 : tie.Need-bounds-set-i-in-loop-i invariant-loop decreases-loop
 slice-write-set-2 c = omega arith
 
-slice-read-set : tie.Need-slice-read-set invariant-loop decreases-loop
-slice-read-set c = let down = (c.before.before.before.before.before.requires.1 []).falls c.before.before.before.before.loop.i (omega arith) (omega arith) in simp length-set (omega arith)
+slice-read-set : tie.Need-bounds-set-up invariant-loop decreases-loop
+slice-read-set c = let down = (c.requires.1 []).falls c.loop-i.i (omega arith) (omega arith) in simp length-set (omega arith)
 
-slice-write-set-3 : tie.Need-slice-write-set-3 invariant-loop decreases-loop
-slice-write-set-3 c = let down = (c.before.before.before.before.before.requires.1 []).falls c.before.before.before.before.loop.i (omega arith) (omega arith) in simp length-set (omega arith)
+slice-write-set-3 : tie.Need-bounds-set-up-in-loop-i invariant-loop decreases-loop
+slice-write-set-3 c = let down = (c.requires.1 []).falls c.loop-i.i (omega arith) (omega arith) in simp length-set (omega arith)
 
-add-i : tie.Need-overflow-add-i invariant-loop decreases-loop
+add-i : tie.Need-overflow_add-i invariant-loop decreases-loop
 add-i c = omega arith
 
-loop-less : tie.Need-loop-smaller invariant-loop decreases-loop
+loop-less : tie.Need-loop-i-smaller invariant-loop decreases-loop
 loop-less c = omega arith
 
-loop-again : tie.Need-loop-preserved invariant-loop decreases-loop
+loop-again : tie.Need-loop-i-preserved invariant-loop decreases-loop
 loop-again c =
-    let a = c.before.before.before.before.before.args in
-    let here = c.before.before.before.before.loop in
+    let a = c.args in
+    let here = c.loop-i in
     let p = here.invariant in
     record {
       least = omega arith;
       most = omega arith;
       sizes = simp length-set p.sizes;
-      stands = λ kinds f e. parent_turn (table_of a.parent.now kinds) (c.before.before.before.before.before.requires.1 kinds) f here.set here.i (omega arith) (omega arith) (p.stands kinds f e);
+      stands = λ kinds f e. parent_turn (table_of a.parent.now kinds) (c.requires.1 kinds) f here.set here.i (omega arith) (omega arith) (p.stands kinds f e);
     }
 
-same_length : tie.Need-same-length invariant-loop decreases-loop
+same_length : tie.Need-shape_of-set invariant-loop decreases-loop
 same_length c = omega arith
 
 returns : tie.Need-returns invariant-loop decreases-loop
 returns c =
     λ kinds f.
-    let a = c.before.before.args in
+    let a = c.args in
     let t = table_of a.parent.now kinds in
-    let w = c.before.before.requires.1 kinds in
-    let last = c.before.loop in
-    resized c.before.before.requires.0 f (image t Axis.parent f) (λ e. last.invariant.stands kinds (λ k. not (eqb k 0) && f k) (parent_first t w f a.set.now e) ∙ parent_end t w f last.i (omega arith))
+    let w = c.requires.1 kinds in
+    let last = c.loop-i in
+    resized c.requires.0 f (image t Axis.parent f) (λ e. last.invariant.stands kinds (λ k. not (eqb k 0) && f k) (parent_first t w f a.set.now e) ∙ parent_end t w f last.i (omega arith))
 
 pub parents_spec : {M : Type 1} → statement M
 parents_spec =

@@ -15,29 +15,28 @@ abbrev old : tie.Start → List ℕ
 old s = s.args.union.now
 
 -- The view is named.
-abbrev begun : tie.Else1 → tie.Start
+abbrev begun : tie.Else-mask-eq0 → tie.Start
 begun c = c.before.before.before
+returns : tie.Need-returns-then-mask-eq0
+returns c = let start = c in join_none (items start.before.before.before) (old start.before.before.before) start.args.mask start.args.size c.if-mask-eq0.true
 
-returns : tie.Need-returns
-returns c = let start = c.before.before.before in join_none (items start) (old start) start.args.mask start.args.size c.if1.true
-
-add-end : tie.Need-overflow-add-end
+add-end : tie.Need-overflow_add-end
 add-end c = search rules
 
-returns-2 : tie.Need-returns-2
-returns-2 c = let start = begun c.before in join_over (items start) (old start) start.args.mask start.args.size c.before.if1.false (omega (arith, c.if2.true))
+returns-2 : tie.Need-returns-then-union-end
+returns-2 c = let start = begun c.before in join_over (items start) (old start) start.args.mask start.args.size c.if-mask-eq0.false (omega (arith, c.if-union-end.true))
 
-put-items-requires : tie.Need-put-items-requires
+put-items-requires : tie.Need-put_items-requires
 put-items-requires c κs = search rules
 
-same_length : tie.Need-same-length
+same_length : tie.Need-shape_of-union
 same_length c = search rules
 
-returns-3 : tie.Need-returns-3
+returns-3 : tie.Need-returns
 returns-3 c =
-    let last = c.before.before.before.before in
-    let start = begun last.before in
-    join_some (items start) (old start) start.args.mask start.args.size last.before.if1.false _ (omega (arith, last.if2.false)) c.before.before.put-items.ensures
+    let last = c in
+    let start = begun last.before.before.before.before.before in
+    join_some (items start) (old start) start.args.mask start.args.size last.if-mask-eq0.false _ (omega (arith, last.if-union-end.false)) c.put_items.ensures
 
 pub join_spec : {M : Type 1} → statement M
 join_spec = tie.close (tie.spec returns add-end returns-2 put-items-requires same_length returns-3)

@@ -26,40 +26,39 @@ long : (start : tie.Start) → length (chosen start) ≡ start.args.count
 long start = part_length (old start) start.args.from start.args.count (omega arith)
 
 -- After both are written.
-abbrev begun : tie.After-put-some-node → tie.Start
+abbrev begun : tie.After-put_some_node → tie.Start
 begun c = c.before.before.before.before
-
-wrote : (c : tie.After-put-some-node) → c.put-some-node.new.1.0 ≡ placed (last_items (chosen (begun c))) (begun c).args.at (old (begun c))
+wrote : (c : tie.After-put_some_node) → c.put_some_node.new.1.0 ≡ placed (last_items (chosen (begun c))) (begun c).args.at (old (begun c))
 wrote c =
     let start = begun c in
     let at = start.args.at in
     let head = packed (record { axis = axis_number descendantOrSelf; test = test_number anyNode; count = 1 }) in
-    then_chosen (some_node_items (axis_number ancestorOrSelf)) (head ∷ []) (old start) _ c.put-some-node.new.1.0 at (at + 1) start.args.from start.args.count
-    (ap (set (old start) at) c.before.before.pack-step.ensures ∙ placed_one (old start) at head (omega arith)) c.put-some-node.ensures.0 refl (omega arith) (omega arith)
+    then_chosen (some_node_items (axis_number ancestorOrSelf)) (head ∷ []) (old start) _ c.put_some_node.new.1.0 at (at + 1) start.args.from start.args.count
+    (ap (set (old start) at) c.pack_step.ensures ∙ placed_one (old start) at head (omega arith)) c.put_some_node.ensures.0 refl (omega arith) (omega arith)
 
-pack-step-requires : tie.Need-pack-step-requires
+pack-step-requires : tie.Need-pack_step-requires
 pack-step-requires c κs = search rules
 
-mul-out : tie.Need-overflow-mul-out
+mul-out : tie.Need-offset_bounds-out-at
 mul-out c = search rules
 
-slice-write-out : tie.Need-slice-write-out
+slice-write-out : tie.Need-bounds-out-at
 slice-write-out c = search rules
 
-add-put-some-node : tie.Need-overflow-add-put-some-node
+add-put-some-node : tie.Need-overflow_add-at
 add-put-some-node c = search rules
 
-put-some-node-requires : tie.Need-put-some-node-requires
+put-some-node-requires : tie.Need-put_some_node-requires
 put-some-node-requires c κs = (omega arith, omega arith, simp length-set (omega arith))
 
-same_length : tie.Need-same-length
+same_length : tie.Need-shape_of-out
 same_length c =
     let start = begun c.before.before in
     let len = long start in
     same_size (last_items (chosen start)) (old start) _ start.args.at (wrote c.before.before) (omega arith)
 
 returns : tie.Need-returns
-returns c = (wrote c.before.before, omega (arith, c.before.before.put-some-node.ensures.1))
+returns c = (wrote c.before.before, omega (arith, c.put_some_node.ensures.1))
 
 pub put_last_spec : {M : Type 1} → statement M
 put_last_spec =

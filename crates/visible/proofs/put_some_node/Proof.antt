@@ -24,51 +24,50 @@ chosen start = take start.args.count (drop start.args.from (old start))
 -- After all is written.
 abbrev begun : tie.After-copy → tie.Start
 begun c = c.before.before.before.before.before
-
 wrote : (c : tie.After-copy) → c.copy.new.0 ≡ placed (some_node_items (begun c).args.axis (chosen (begun c))) (begun c).args.at (old (begun c))
 wrote c =
     let start = begun c in
     let at = start.args.at in
     let step = packed (record { axis = start.args.axis; test = 0; count = 1 }) in
-    let path = c.before.before.before.pack-path in
-    let stepped = c.before.before.pack-step in
+    let path = c.pack_path in
+    let stepped = c.pack_step in
     then_chosen (λ x. x) (pack_path 1 ∷ step ∷ []) (old start) _ c.copy.new.0 at (at + 2) start.args.from start.args.count
     (two_put (old start) at path.result stepped.result (pack_path 1) step path.ensures stepped.ensures (omega arith)) c.copy.ensures refl (omega arith) (omega arith)
 
-pack-path-requires : tie.Need-pack-path-requires
+pack-path-requires : tie.Need-pack_path-requires
 pack-path-requires c κs = search rules
 
-mul-out : tie.Need-overflow-mul-out
+mul-out : tie.Need-offset_bounds-out-at
 mul-out c = search rules
 
-slice-write-out : tie.Need-slice-write-out
+slice-write-out : tie.Need-bounds-out-at
 slice-write-out c = search rules
 
-pack-step-requires : tie.Need-pack-step-requires
+pack-step-requires : tie.Need-pack_step-requires
 pack-step-requires c κs = search rules
 
-add-out : tie.Need-overflow-add-out
+add-out : tie.Need-overflow_add-out
 add-out c = search rules
 
-mul-out-2 : tie.Need-overflow-mul-out-2
+mul-out-2 : tie.Need-offset_bounds-out-at-2
 mul-out-2 c = search rules
 
-slice-write-out-2 : tie.Need-slice-write-out-2
+slice-write-out-2 : tie.Need-bounds-out-at-2
 slice-write-out-2 c = simp length-set (omega arith)
 
-add-copy : tie.Need-overflow-add-copy
+add-copy : tie.Need-overflow_add-at
 add-copy c = search rules
 
 copy-requires : tie.Need-copy-requires
 copy-requires c κs = (omega arith, simp length-set (omega arith))
 
-add-result : tie.Need-overflow-add-result
+add-result : tie.Need-overflow_add-result
 add-result c = search rules
 
-add-result-2 : tie.Need-overflow-add-result-2
+add-result-2 : tie.Need-overflow_add-result-2
 add-result-2 c = search rules
 
-same_length : tie.Need-same-length
+same_length : tie.Need-shape_of-out
 same_length c =
     let start = begun c.before.before in
     same_size (some_node_items start.args.axis (chosen start)) (old start) _ start.args.at (wrote c.before.before) (omega (arith, part_length (old start) start.args.from start.args.count (omega arith)))

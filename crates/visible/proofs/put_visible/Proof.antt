@@ -25,59 +25,57 @@ long : (start : tie.Start) → length (chosen start) ≡ start.args.count
 long start = part_length (old start) start.args.from start.args.count (omega arith)
 
 -- After the first half: `or`, and all below with S.
-abbrev begun : tie.After-put-some-node → tie.Start
+abbrev begun : tie.After-put_some_node-second → tie.Start
 begun c = c.before.before.before
-
-first : (c : tie.After-put-some-node) → c.put-some-node.new.1.0 ≡ placed (or_item ∷ some_node_items (axis_number descendantOrSelf) (chosen (begun c))) (begun c).args.at (old (begun c))
+first : (c : tie.After-put_some_node-second) → c.put_some_node-second.new.1.0 ≡ placed (or_item ∷ some_node_items (axis_number descendantOrSelf) (chosen (begun c))) (begun c).args.at (old (begun c))
 first c =
     let start = begun c in
     let at = start.args.at in
-    then_chosen (some_node_items (axis_number descendantOrSelf)) (or_item ∷ []) (old start) _ c.put-some-node.new.1.0 at (at + 1) start.args.from start.args.count (placed_one (old start) at or_item (omega arith)) c.put-some-node.ensures.0 refl
+    then_chosen (some_node_items (axis_number descendantOrSelf)) (or_item ∷ []) (old start) _ c.put_some_node-second.new.1.0 at (at + 1) start.args.from start.args.count (placed_one (old start) at or_item (omega arith)) c.put_some_node-second.ensures.0 refl
     (omega arith) (omega arith)
 
 -- After the second: all above with S.
-abbrev half : tie.After-put-some-node2 → tie.After-put-some-node
+abbrev half : tie.After-put_some_node → tie.After-put_some_node-second
 half c = c.before.before.before.before
-
-wrote : (c : tie.After-put-some-node2) → c.put-some-node2.new.1.0 ≡ placed (visible_items (chosen (begun (half c)))) (begun (half c)).args.at (old (begun (half c)))
+wrote : (c : tie.After-put_some_node) → c.put_some_node.new.1.0 ≡ placed (visible_items (chosen (begun (half c)))) (begun (half c)).args.at (old (begun (half c)))
 wrote c =
     let start = begun (half c) in
     let at = start.args.at in
     let len = long start in
-    let ends = (half c).put-some-node.ensures.1 in
-    then_chosen (some_node_items (axis_number ancestorOrSelf)) (or_item ∷ some_node_items (axis_number descendantOrSelf) (chosen start)) (old start) _ c.put-some-node2.new.1.0 at (half c).put-some-node.result start.args.from start.args.count (first (half c)) c.put-some-node2.ensures.0
+    let ends = (half c).put_some_node-second.ensures.1 in
+    then_chosen (some_node_items (axis_number ancestorOrSelf)) (or_item ∷ some_node_items (axis_number descendantOrSelf) (chosen start)) (old start) _ c.put_some_node.new.1.0 at (half c).put_some_node-second.result start.args.from start.args.count (first (half c)) c.put_some_node.ensures.0
     (omega arith) (omega arith) (omega arith)
 
-mul-out : tie.Need-overflow-mul-out
+mul-out : tie.Need-offset_bounds-out-at
 mul-out c = search rules
 
-slice-write-out : tie.Need-slice-write-out
+slice-write-out : tie.Need-bounds-out-at
 slice-write-out c = search rules
 
-add-put-some-node : tie.Need-overflow-add-put-some-node
+add-put-some-node : tie.Need-overflow_add-at
 add-put-some-node c = search rules
 
-put-some-node-requires : tie.Need-put-some-node-requires
+put-some-node-requires : tie.Need-put_some_node-second-requires
 put-some-node-requires c κs = (omega arith, omega arith, simp length-set (omega arith))
 
-put-some-node-requires-2 : tie.Need-put-some-node-requires-2
+put-some-node-requires-2 : tie.Need-put_some_node-requires
 put-some-node-requires-2 c κs =
-    let one = c.before.before.before in
-    let start = begun one in
+    let one = c in
+    let start = begun one.before.before.before in
     let len = long start in
-    (omega arith, omega (arith, one.put-some-node.ensures.1), omega (arith, same_size (or_item ∷ some_node_items (axis_number descendantOrSelf) (chosen start)) (old start) _ start.args.at (first one) (omega arith)))
+    (omega arith, omega (arith, one.put_some_node-second.ensures.1), omega (arith, same_size (or_item ∷ some_node_items (axis_number descendantOrSelf) (chosen start)) (old start) _ start.args.at (first one.before.before.before) (omega arith)))
 
-same_length : tie.Need-same-length
+same_length : tie.Need-shape_of-out
 same_length c =
-    let both = c.before.before in
-    let start = begun (half both) in
+    let both = c in
+    let start = begun (half both.before.before) in
     let len = long start in
-    same_size (visible_items (chosen start)) (old start) _ start.args.at (wrote both) (omega (arith, length-append (some_node_items (axis_number descendantOrSelf) (chosen start)) (some_node_items (axis_number ancestorOrSelf) (chosen start))))
+    same_size (visible_items (chosen start)) (old start) _ start.args.at (wrote both.before.before) (omega (arith, length-append (some_node_items (axis_number descendantOrSelf) (chosen start)) (some_node_items (axis_number ancestorOrSelf) (chosen start))))
 
 returns : tie.Need-returns
 returns c =
-    let both = c.before.before in
-    (wrote both, omega (arith, (half both).put-some-node.ensures.1, both.put-some-node2.ensures.1))
+    let both = c in
+    (wrote both.before.before, omega (arith, (half both.before.before).put_some_node-second.ensures.1, both.put_some_node.ensures.1))
 
 pub put_visible_spec : {M : Type 1} → statement M
 put_visible_spec =

@@ -8,25 +8,25 @@ use borrow.Author.Rules.{rules}
 use Rattle.whole.proofs.run_whole.Statement.{statement}
 use Rattle.whole.proofs.run_whole.Tie as tie
 
-array-share-prefix-given : tie.Need-array-share-prefix-given
+array-share-prefix-given : tie.Need-slice_bounds-given-end
 array-share-prefix-given c = search rules
 
-slice-aggregate-run : tie.Need-slice-aggregate-run
+slice-aggregate-run : tie.Need-slice_bounds-run-end
 slice-aggregate-run c = sym (length-take-le _ _ (search rules))
 
 run-requires : tie.Need-run-requires
 run-requires c κs = search rules
 
-same_length : tie.Need-same-length
+same_length : tie.Need-shape_of-marks
 same_length c = search rules
 
-same-length-2 : tie.Need-same-length-2
+same-length-2 : tie.Need-shape_of-scratch
 same-length-2 c = search rules
 
 returns : tie.Need-returns
 returns c =
-    let ran = c.before.before.before.before in
-    let start = ran.before.before.before.before.before.before.before.before.before in
+    let ran = c in
+    let start = ran in
     rw (take_ones (length start.args.parent.now) node_limit start.requires) at ran.run.ensures
 
 pub run_whole_spec : {M : Type 1} → statement M

@@ -55,129 +55,125 @@ module _ (s : tie.Start) where
   Says = Ends text list parents kinds begins ends marks out
 
   table_bad : (place : ℕ) → some place ≡ table_fault lent → Says (refusal 7 place) out
-  table_bad = bad_table text list parents kinds begins ends marks out s.pre.1 s.pre.0.1
+  table_bad = bad_table text list parents kinds begins ends marks out s.requires.1 s.requires.0.1
 
   marks_bad : none ≡ table_fault lent → (place : ℕ) → some place ≡ marks_fault lent marks → Says (refusal 8 place) out
-  marks_bad = bad_marks text list parents kinds begins ends marks out s.pre.1 s.pre.0.1
+  marks_bad = bad_marks text list parents kinds begins ends marks out s.requires.1 s.requires.0.1
 
   none_marked : none ≡ table_fault lent → none ≡ marks_fault lent marks → false ≡ element_marked lent marks → Says (refusal 13 0) out
-  none_marked = no_element text list parents kinds begins ends marks out s.pre.1 s.pre.0.1
+  none_marked = no_element text list parents kinds begins ends marks out s.requires.1 s.requires.0.1
 
   text_other : none ≡ table_fault lent → none ≡ marks_fault lent marks → true ≡ element_marked lent marks → false ≡ reads_as text list lent begins ends
       → Says (refusal 14 0) out
-  text_other = other_text text list parents kinds begins ends marks out s.pre.1 s.pre.0.1
+  text_other = other_text text list parents kinds begins ends marks out s.requires.1 s.requires.0.1
 
   file_done : none ≡ table_fault lent → none ≡ marks_fault lent marks → true ≡ element_marked lent marks → true ≡ reads_as text list lent begins ends
       → (new : List ℕ) (said : Answer) → Filed (kept_xml text marks) out new said → Says said new
-  file_done sound closed some_element same new said = filed text list parents kinds begins ends marks out s.pre.1 s.pre.0.1 sound closed some_element same
+  file_done sound closed some_element same new said = filed text list parents kinds begins ends marks out s.requires.1 s.requires.0.1 sound closed some_element same
 
 -- Where the table was judged.
-abbrev begun : tie.After-table-fault → tie.Start
+abbrev begun : tie.After-table_fault → tie.Start
 begun c = c.before.before.before.before.before.before.before.before.before
-
 -- Past line 7 the table is good,
-abbrev past-7 : tie.After-enum-told → tie.Start
-past-7 c = begun c.before.before
+abbrev past-7 : tie.In_default → tie.Start
+past-7 c = begun c.before
 
-sound : (c : tie.After-enum-told) → none ≡ table_fault (lent (past-7 c))
-sound c = ap fault_of (sym c.enum_told.given.1) ∙ c.before.before.table-fault.ensures
+sound : (c : tie.In_default) → none ≡ table_fault (lent (past-7 c))
+sound c = ap fault_of (sym c.in_default.is) ∙ c.table_fault.ensures
 
 -- past line 8 the marks are,
-abbrev past-8 : tie.After-enum-told2 → tie.After-enum-told
-past-8 c = c.before.before.before
-
-closed : (c : tie.After-enum-told2) → none ≡ marks_fault (lent (past-7 (past-8 c))) (marks (past-7 (past-8 c)))
-closed c = ap fault_of (sym c.enum-told2.given.1) ∙ c.before.before.marks-fault.ensures (kinds (past-7 (past-8 c)))
+abbrev past-8 : tie.In_default-marks_fault → tie.In_default
+past-8 c = c.before.before
+closed : (c : tie.In_default-marks_fault) → none ≡ marks_fault (lent (past-7 (past-8 c))) (marks (past-7 (past-8 c)))
+closed c = ap fault_of (sym c.in_default-marks_fault.is) ∙ c.marks_fault.ensures (kinds (past-7 (past-8 c)))
 
 -- what is found of the elements is what the definition says,
-marked_is : (c : tie.After-element-marked) →
-    let s = past-7 (past-8 c.before) in c.element-marked.result ≡ element_marked (lent s) (marks s)
-marked_is c = let s = past-7 (past-8 c.before) in c.element-marked.ensures (parents s) (sym s.pre.1.kinds_long)
+marked_is : (c : tie.After-element_marked) →
+    let s = past-7 (past-8 c.before) in c.element_marked.result ≡ element_marked (lent s) (marks s)
+marked_is c = let s = past-7 (past-8 c.before) in c.element_marked.ensures (parents s) (sym s.requires.1.kinds_long)
 
 -- past line 13 an element is marked,
-abbrev past-13 : tie.Else1 → tie.After-enum-told2
+abbrev past-13 : tie.Else-not-element_marked → tie.In_default-marks_fault
 past-13 c = c.before.before
-
-some_element : (c : tie.Else1) → true ≡ element_marked (lent (past-7 (past-8 (past-13 c)))) (marks (past-7 (past-8 (past-13 c))))
-some_element c = sym (not-false _ c.if1.false) ∙ marked_is c.before
+some_element : (c : tie.Else-not-element_marked) → true ≡ element_marked (lent (past-7 (past-8 (past-13 c)))) (marks (past-7 (past-8 (past-13 c))))
+some_element c = sym (not-false _ c.if-not-element_marked.false-raw) ∙ marked_is c.before
 
 -- and past line 14 the text is what the columns say.
-abbrev past-14 : tie.Else2 → tie.Else1
+abbrev past-14 : tie.Else-not-reads_as → tie.Else-not-element_marked
 past-14 c = c.before.before
-
-same_text : (c : tie.Else2) →
+same_text : (c : tie.Else-not-reads_as) →
     let s = past-7 (past-8 (past-13 (past-14 c))) in true ≡ reads_as (text s) (list s) (lent s) (begins s) (ends s)
-same_text c = sym (not-false _ c.if2.false) ∙ c.before.reads_as.ensures
+same_text c = sym (not-false _ c.if-not-reads_as.false-raw) ∙ c.reads_as.ensures
 
-table-fault-requires : tie.Need-table-fault-requires
-table-fault-requires c κs = c.before.before.before.before.before.before.before.before.requires.1.kinds_long
+table-fault-requires : tie.Need-table_fault-requires
+table-fault-requires c κs = c.requires.1.kinds_long
 
-enum-known-i : tie.Need-enum-known-i
+enum-known-i : tie.Need-enum_known-i
 enum-known-i c = search rules
 
-returns : tie.Need-returns
+returns : tie.Need-returns-in-At
 returns c =
-    let judged = c.before.before.before in
-    table_bad (begun judged) _ (ap fault_of (sym c.before.i.given.1) ∙ judged.table-fault.ensures)
+    let judged = c in
+    table_bad (begun judged.before) _ (ap fault_of (sym c.in-At.is) ∙ judged.table_fault.ensures)
 
-enum_told : tie.Need-enum-told
+enum_told : tie.Need-enum_told-1
 enum_told c = search rules
 
-marks-fault-requires : tie.Need-marks-fault-requires
-marks-fault-requires c κs = let s = past-7 c in (s.pre.1.marks_long, inside (parents s) (kinds s) (sym (sound c)))
+marks-fault-requires : tie.Need-marks_fault-requires
+marks-fault-requires c κs = let s = past-7 c in (s.requires.1.marks_long, inside (parents s) (kinds s) (sym (sound c)))
 
-enum-known-i-2 : tie.Need-enum-known-i-2
+enum-known-i-2 : tie.Need-enum_known-i-in-At-marks_fault
 enum-known-i-2 c = search rules
 
-returns-2 : tie.Need-returns-2
+returns-2 : tie.Need-returns-in-At-marks_fault
 returns-2 c =
-    let judged = c.before.before.before in
-    let good = judged.before in
-    marks_bad (past-7 good) (sound good) _ (ap fault_of (sym c.before.i2.given.1) ∙ judged.marks-fault.ensures (kinds (past-7 good)))
+    let judged = c in
+    let good = judged in
+    marks_bad (past-7 good.before.before) (sound good.before.before) _ (ap fault_of (sym c.in-At-marks_fault.is) ∙ judged.marks_fault.ensures (kinds (past-7 good.before.before)))
 
-enum-told-2 : tie.Need-enum-told-2
+enum-told-2 : tie.Need-enum_told-in_default-marks_fault
 enum-told-2 c = search rules
 
-element-marked-requires : tie.Need-element-marked-requires
+element-marked-requires : tie.Need-element_marked-requires
 element-marked-requires c κs = let right = (past-7 (past-8 c)).requires.1 in right.marks_long ∙ sym right.kinds_long
 
-returns-3 : tie.Need-returns-3
+returns-3 : tie.Need-returns-then-not-element_marked
 returns-3 c =
-    let good = c.before.before in
-    none_marked (past-7 (past-8 good)) (sound (past-8 good)) (closed good) (sym (not-true _ c.if1.true) ∙ marked_is c.before)
+    let good = c in
+    none_marked (past-7 (past-8 good.before.before)) (sound (past-8 good.before.before)) (closed good.before.before) (sym (not-true _ c.if-not-element_marked.true-raw) ∙ marked_is c.before)
 
-reads-as-requires : tie.Need-reads-as-requires
+reads-as-requires : tie.Need-reads_as-requires
 reads-as-requires c κs =
     let s = past-7 (past-8 (past-13 c)) in
-    let right = s.pre.1 in
-    (s.pre.0, ((right.text_short, right.list_short, right.few), (right.kinds_long, right.begins_long, right.ends_long)))
+    let right = s.requires.1 in
+    (s.requires.0, ((right.text_short, right.list_short, right.few), (right.kinds_long, right.begins_long, right.ends_long)))
 
-returns-4 : tie.Need-returns-4
+returns-4 : tie.Need-returns-then-not-reads_as
 returns-4 c =
-    let element = c.before.before in
-    let good = past-13 element in
-    text_other (past-7 (past-8 good)) (sound (past-8 good)) (closed good) (some_element element) (sym (not-true _ c.if2.true) ∙ c.before.reads_as.ensures)
+    let element = c in
+    let good = past-13 element.before.before in
+    text_other (past-7 (past-8 good)) (sound (past-8 good)) (closed good) (some_element element.before.before) (sym (not-true _ c.if-not-reads_as.true-raw) ∙ c.reads_as.ensures)
 
 file-requires : tie.Need-file-requires
 file-requires c κs =
-    let other = c.before in
-    let good = past-13 (past-14 other) in
+    let other = c in
+    let good = past-13 (past-14 other.before) in
     let s = past-7 (past-8 good) in
-    let right = s.pre.1 in
+    let right = s.requires.1 in
     walk_lent (text s) (list s) (parents s) (kinds s) (begins s) (ends s) (marks s)
-    (reads (text s) (list s) (lent s) (begins s) (ends s) right.kinds_long right.begins_long right.ends_long (sym (same_text other)))
+    (reads (text s) (list s) (lent s) (begins s) (ends s) right.kinds_long right.begins_long right.ends_long (sym (same_text other.before)))
     (sym (closed good)) right.marks_long right.text_short
 
-same_length : tie.Need-same-length
+same_length : tie.Need-shape_of-out
 same_length c = search rules
 
-returns-5 : tie.Need-returns-5
+returns-5 : tie.Need-returns
 returns-5 c =
-    let wrote = c.before.before in
-    let other = wrote.before.before in
-    let element = past-14 other in
+    let wrote = c in
+    let other = wrote in
+    let element = past-14 other.before.before.before.before in
     let good = past-13 element in
-    file_done (past-7 (past-8 good)) (sound (past-8 good)) (closed good) (some_element element) (same_text other) _ _ wrote.file.ensures
+    file_done (past-7 (past-8 good)) (sound (past-8 good)) (closed good) (some_element element) (same_text other.before.before.before.before) _ _ wrote.file.ensures
 
 pub judge_spec : {M : Type 1} → statement M
 judge_spec =

@@ -12,59 +12,57 @@ use Rattle.write_xml.proofs.write_xml.Statement.{statement}
 use Rattle.write_xml.proofs.write_xml.Tie as tie
 
 -- Past line 1 the lengths are right.
-abbrev begun : tie.Else1 → tie.Start
+abbrev begun : tie.Else-text-list → tie.Start
 begun c = c.before.before.before.before.before.before.before.before.before
-
-right : (c : tie.Else1) →
+right : (c : tie.Else-text-list) →
     let a = (begun c).args in
     Lengths a.text.now a.list.now a.parent.now a.kind.now a.begin.now a.end.now a.marks.now
-right c = lengths _ _ _ _ _ _ _ c.if1.false
+right c = lengths _ _ _ _ _ _ _ c.if-text-list.false
 
 -- The list is good.
-abbrev past-1 : tie.After-count → tie.Else1
-past-1 c = c.before.before.before.before
+abbrev past-1 : tie.In-Good → tie.Else-text-list
+past-1 c = c.before.before.before
+indexed : (c : tie.In-Good) → Indexed (begun (past-1 c)).args.list.now c.before.before.index.new.1.0 c.in-Good.count
+indexed c = c.index.ensures.good _ c.in-Good.is
 
-indexed : (c : tie.After-count) → Indexed (begun (past-1 c)).args.list.now c.before.before.index.new.1.0 c.count.given.0.0
-indexed c = c.before.before.index.ensures.good _ c.count.given.1
+named : (c : tie.In-Good) → names_fault (begun (past-1 c)).args.list.now ≡ none
+named c = sym c.index.ensures.fault ∙ ap fault_of c.in-Good.is
 
-named : (c : tie.After-count) → names_fault (begun (past-1 c)).args.list.now ≡ none
-named c = sym c.before.before.index.ensures.fault ∙ ap fault_of c.count.given.1
-
-returns : tie.Need-returns
+returns : tie.Need-returns-then-text-list
 returns c =
-    let a = c.before.before.before.before.before.before.before.before.before.args in
-    too_long_lem a.text.now a.list.now a.parent.now a.kind.now a.begin.now a.end.now a.marks.now a.out.now c.if1.true
+    let a = c.args in
+    too_long_lem a.text.now a.list.now a.parent.now a.kind.now a.begin.now a.end.now a.marks.now a.out.now c.if-text-list.true
 
 index-requires : tie.Need-index-requires
 index-requires c κs = ((right c.before).list_short, refl)
 
-enum-known-start : tie.Need-enum-known-start
+enum-known-start : tie.Need-enum_known-start
 enum-known-start c = search rules
 
-enum-known-count : tie.Need-enum-known-count
+enum-known-count : tie.Need-enum_known-count
 enum-known-count c = search rules
 
 link-requires : tie.Need-link-requires
-link-requires c κs = (indexed c.before.before.before, refl)
+link-requires c κs = (indexed c.before.before, refl)
 
 judge-requires : tie.Need-judge-requires
 judge-requires c κs =
-    let linked = c.before.before.before in
-    let good = linked.before.before.before.before in
-    ((record { indexed = indexed good; chained = linked.link.ensures }, named good), right (past-1 good))
+    let linked = c in
+    let good = linked in
+    ((record { indexed = indexed good.before.before.before.before.before.before; chained = linked.link.ensures }, named good.before.before.before.before.before.before), right (past-1 good.before.before.before.before.before.before))
 
-returns-2 : tie.Need-returns-2
+returns-2 : tie.Need-returns-in-Bad
 returns-2 c =
-    let first = c.before.before.before.before.before in
-    let a = (begun first).args in
-    let fault = sym (ap fault_of c.before.start.given.1) ∙ c.before.before.before.index.ensures.fault in
-    bad_list a.text.now a.list.now a.parent.now a.kind.now a.begin.now a.end.now a.marks.now a.out.now _ first.if1.false (sym fault)
+    let first = c in
+    let a = (begun first.before.before.before).args in
+    let fault = sym (ap fault_of c.in-Bad.is) ∙ c.index.ensures.fault in
+    bad_list a.text.now a.list.now a.parent.now a.kind.now a.begin.now a.end.now a.marks.now a.out.now _ first.if-text-list.false (sym fault)
 
-same_length : tie.Need-same-length
+same_length : tie.Need-shape_of-out
 same_length c = search rules
 
-returns-3 : tie.Need-returns-3
-returns-3 c = c.before.before.judge.ensures
+returns-3 : tie.Need-returns-in-Good
+returns-3 c = c.judge.ensures
 
 pub write_xml_spec : {M : Type 1} → statement M
 write_xml_spec =

@@ -15,36 +15,34 @@ inside : (s : tie.Start) → s.args.at < length s.args.text.now
 inside s = omega (arith, s.requires.0)
 
 -- The tag is read past its `</`.
-abbrev sought : tie.After-known-told → tie.After-end-tag
-sought c = c.before.before.before
-
-abbrev begun : tie.After-end-tag → tie.Start
+abbrev sought : tie.In-At → tie.After-end_tag-ended
+sought c = c.before
+abbrev begun : tie.After-end_tag-ended → tie.Start
 begun c = c.before.before
+end_read : (c : tie.In-At) → let s = begun (sought c) in Ends s.args.text.now (s.args.at + 2) s.args.inner (At c.before.in-At.next)
+end_read c = let s = begun (sought c) in subst (Ends s.args.text.now (s.args.at + 2) s.args.inner) c.in-At.is (sought c).end_tag-ended.ensures
 
-end_read : (c : tie.After-known-told) → let s = begun (sought c) in Ends s.args.text.now (s.args.at + 2) s.args.inner (At c.before.ended.given.0.0)
-end_read c = let s = begun (sought c) in subst (Ends s.args.text.now (s.args.at + 2) s.args.inner) c.before.ended.given.1 (sought c).end-tag.ensures
-
-add-end-tag : tie.Need-overflow-add-end-tag
+add-end-tag : tie.Need-overflow_add-at
 add-end-tag c = search rules
 
-end-tag-requires : tie.Need-end-tag-requires
+end-tag-requires : tie.Need-end_tag-ended-requires
 end-tag-requires c κs = search rules
 
-enum-known-ended : tie.Need-enum-known-ended
+enum-known-ended : tie.Need-enum_known-ended
 enum-known-ended c = search rules
 
 refused-requires : tie.Need-refused-requires
 refused-requires c κs = search rules
 
-returns : tie.Need-returns
+returns : tie.Need-returns-in_default
 returns c =
-    let stuck = c.before in
-    let tag = stuck.before in
-    let s = begun tag in
-    end_refused _ _ _ (inside s) s.pre.1 s.pre.4 s.pre.0 s.pre.2 _ refl tag.end-tag.result _ stuck.match.keys2 tag.end-tag.ensures c.refused.ensures
+    let stuck = c in
+    let tag = stuck in
+    let s = begun tag.before.before in
+    end_refused _ _ _ (inside s) s.requires.1 s.requires.4 s.requires.0 s.requires.2 _ refl tag.end_tag-ended.result _ stuck.in-At.in-At-own.keys2 tag.end_tag-ended.ensures c.refused.ensures
 
-returns-2 : tie.Need-returns-2
-returns-2 c = let s = begun (sought c) in takes_end _ _ _ (inside s) s.pre.1 s.pre.4 s.pre.0 s.pre.2 _ refl _ (end_read c)
+returns-2 : tie.Need-returns
+returns-2 c = let s = begun (sought c) in takes_end _ _ _ (inside s) s.requires.1 s.requires.4 s.requires.0 s.requires.2 _ refl _ (end_read c)
 
 pub end_piece_spec : {M : Type 1} → statement M
 end_piece_spec =

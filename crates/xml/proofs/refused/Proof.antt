@@ -5,23 +5,23 @@ use Rattle.xml.specs.Pieces.{refused_piece}
 use Rattle.xml.proofs.refused.Statement.{statement}
 use Rattle.xml.proofs.refused.Tie as tie
 
-enum-known-reach : tie.Need-enum-known-reach
+enum-known-reach : tie.Need-enum_known-reach
 enum-known-reach c = search rules
 
-enum-known-reach-2 : tie.Need-enum-known-reach-2
+enum-known-reach-2 : tie.Need-enum_known-reach-in-Wrong-1
 enum-known-reach-2 c = search rules
 
-enum-known-reach-3 : tie.Need-enum-known-reach-3
+enum-known-reach-3 : tie.Need-enum_known-reach-in-LeftOut-1
 enum-known-reach-3 c = search rules
 
-returns : tie.Need-returns
-returns c = ap refused_piece (sym c.before.reach.given.1)
+returns : tie.Need-returns-in-At
+returns c = ap refused_piece (sym c.in-At.is)
 
-returns-2 : tie.Need-returns-2
-returns-2 c = ap refused_piece (sym c.before.reach2.given.1)
+returns-2 : tie.Need-returns-in-Wrong
+returns-2 c = ap refused_piece (sym c.in-Wrong.is)
 
-returns-3 : tie.Need-returns-3
-returns-3 c = ap refused_piece (sym c.before.reach3.given.1)
+returns-3 : tie.Need-returns-in-LeftOut
+returns-3 c = ap refused_piece (sym c.in-LeftOut.is)
 
 pub refused_spec : {M : Type 1} → statement M
 refused_spec =

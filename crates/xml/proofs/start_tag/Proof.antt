@@ -21,45 +21,44 @@ no_part_there : (text : List ℕ) (from nameEnd to : ℕ) → nameEnd ≡ from +
 no_part_there text from nameEnd to e f inside = ap (λ n. name_part (get_or text n 0)) (sym f) ∙ stops_run name_part text from nameEnd e (omega arith)
 
 -- The first byte stands in the text, and it is known whether it begins a name.
-abbrev within : tie.After-name-start → tie.Else1
+abbrev within : tie.After-name_start → tie.Else-text-at
 within c = c.before.before
-
-abbrev begun : tie.After-name-start → tie.Start
+abbrev begun : tie.After-name_start → tie.Start
 begun c = (within c).before.before
 
-abbrev first : tie.After-name-start → ℕ
+abbrev first : tie.After-name_start → ℕ
 first c = get_or (begun c).args.text.now (begun c).args.at 0
 
-no_name : (c : tie.Then2) → name_start (first c.before) ≡ false
-no_name c = sym c.before.name-start.ensures ∙ not-true _ c.if2.true
+no_name : (c : tie.Then-not-name_start) → name_start (first c.before) ≡ false
+no_name c = sym c.name_start.ensures ∙ not-true _ c.if-not-name_start.true-raw
 
-a_name : (c : tie.Else2) → name_start (first c.before) ≡ true
-a_name c = sym c.before.name-start.ensures ∙ not-false _ c.if2.false
+a_name : (c : tie.Else-not-name_start) → name_start (first c.before) ≡ true
+a_name c = sym c.name_start.ensures ∙ not-false _ c.if-not-name_start.false-raw
 
 -- The name ends within the text.
-abbrev start_of : tie.After-run-end → tie.Start
+abbrev start_of : tie.After-run_end-name_end → tie.Start
 start_of c = begun c.before.before
 
-name_within : (c : tie.After-run-end) → c.run_end.result ≤ length (start_of c).args.text.now
-name_within c = run_inside name_part (start_of c).args.text.now ((start_of c).args.at + 1) c.run_end.result c.run_end.ensures (omega arith)
+name_within : (c : tie.After-run_end-name_end) → c.run_end-name_end.result ≤ length (start_of c).args.text.now
+name_within c = run_inside name_part (start_of c).args.text.now ((start_of c).args.at + 1) c.run_end-name_end.result c.run_end-name_end.ensures (omega arith)
 
-returns : tie.Need-returns
-returns c = start_cut _ _ c.if1.true c.before.before.requires
+returns : tie.Need-returns-then-text-at
+returns c = start_cut _ _ c.if-text-at.true c.requires
 
-shared-slice-read-b : tie.Need-shared-slice-read-b
+shared-slice-read-b : tie.Need-bounds-text-at
 shared-slice-read-b c = search rules
 
-name-start-requires : tie.Need-name-start-requires
+name-start-requires : tie.Need-name_start-requires
 name-start-requires c κs = search rules
 
-xml-start-requires : tie.Need-xml-start-requires
+xml-start-requires : tie.Need-xml_start-requires
 xml-start-requires c κs = search rules
 
-returns-2 : tie.Need-returns-2
+returns-2 : tie.Need-returns-then-xml_start
 returns-2 c =
-    let told = c.before in
-    let other = told.before in
-    start_foreign _ _ (within other.before).if1.false (no_name other) (sym told.xml-start.ensures ∙ c.if3.true)
+    let told = c in
+    let other = told in
+    start_foreign _ _ (within other.before.before.before).if-text-at.false (no_name other.before.before) (sym told.xml_start.ensures ∙ c.if-xml_start.true)
 
 refuse-requires : tie.Need-refuse-requires
 refuse-requires c κs = search rules
@@ -67,41 +66,41 @@ refuse-requires c κs = search rules
 refused-requires : tie.Need-refused-requires
 refused-requires c κs = search rules
 
-returns-3 : tie.Need-returns-3
+returns-3 : tie.Need-returns-then-not-name_start
 returns-3 c =
-    let refusal = c.before in
-    let no_start = refusal.before in
-    let told = no_start.before in
-    let other = told.before in
-    start_refused _ _ (within other.before).if1.false _ (no_name other) (sym told.xml-start.ensures ∙ no_start.if3.false) (c.refused.ensures ∙ ap refused_piece refusal.refuse.ensures)
+    let refusal = c in
+    let no_start = refusal in
+    let told = no_start in
+    let other = told in
+    start_refused _ _ (within other.before.before.before.before.before).if-text-at.false _ (no_name other.before.before.before.before) (sym told.xml_start.ensures ∙ no_start.if-xml_start.false) (c.refused.ensures ∙ ap refused_piece refusal.refuse.ensures)
 
-add-run-end : tie.Need-overflow-add-run-end
+add-run-end : tie.Need-overflow_add-at
 add-run-end c = search rules
 
-run-end-requires : tie.Need-run-end-requires
+run-end-requires : tie.Need-run_end-name_end-requires
 run-end-requires c κs = search rules
 
 skip-requires : tie.Need-skip-requires
 skip-requires c κs = name_within c
 
-tag-end-requires : tie.Need-tag-end-requires
+tag-end-requires : tie.Need-tag_end-requires
 tag-end-requires c κs =
-    let named = c.before in
-    let text = (start_of named).args.text.now in
-    let name-end = named.run_end.result in (
-      run_inside white text name-end c.skip.result c.skip.ensures (name_within named),
+    let named = c in
+    let text = (start_of named.before).args.text.now in
+    let name-end = named.run_end-name_end.result in (
+      run_inside white text name-end c.skip.result c.skip.ensures (name_within named.before),
       omega (arith, c.skip.ensures),
       λ inside. record {
         no_space = stops_run white text name-end c.skip.result c.skip.ensures inside;
-        no_part = λ e. no_part_there text ((start_of named).args.at + 1) name-end c.skip.result named.run_end.ensures e inside;
+        no_part = λ e. no_part_there text ((start_of named.before).args.at + 1) name-end c.skip.result named.run_end-name_end.ensures e inside;
       },
     )
 
-returns-4 : tie.Need-returns-4
+returns-4 : tie.Need-returns
 returns-4 c =
-    let skipped = c.before in
-    let named = skipped.before in
-    start_names _ _ (within named.before.before).if1.false _ _ _ (a_name named.before) named.run_end.ensures skipped.skip.ensures c.tag-end.ensures
+    let skipped = c in
+    let named = skipped in
+    start_names _ _ (within named.before.before.before.before).if-text-at.false _ _ _ (a_name named.before.before.before) named.run_end-name_end.ensures skipped.skip.ensures c.tag_end.ensures
 
 pub start_tag_spec : {M : Type 1} → statement M
 start_tag_spec =

@@ -9,53 +9,51 @@ use Rattle.xml.proofs.tag_end.Statement.{statement}
 use Rattle.xml.proofs.tag_end.Tie as tie
 
 -- A byte stands past the name and white space.
-abbrev begun : tie.After-shared-slice-known2 → tie.Start
+abbrev begun : tie.After-shared_slice_known-2-1 → tie.Start
 begun c = c.before.before.before
+inside : (c : tie.After-shared_slice_known-2-1) → (begun c).args.at < length (begun c).args.text.now
+inside c = c.if-text-at.false
 
-inside : (c : tie.After-shared-slice-known2) → (begun c).args.at < length (begun c).args.text.now
-inside c = c.before.if1.false
-
-past_name : (c : tie.After-shared-slice-known2) → let s = begun c in Past s.args.text.now s.args.name-end s.args.at
+past_name : (c : tie.After-shared_slice_known-2-1) → let s = begun c in Past s.args.text.now s.args.name_end s.args.at
 past_name c = (begun c).requires.2 (inside c)
 
 -- It is neither `>` nor `/`.
-abbrev no_end : tie.After-foreign → tie.Else3
+abbrev no_end : tie.After-foreign → tie.Else-b-eq47
 no_end c = c.before
-
-abbrev at_other : tie.After-foreign → tie.After-shared-slice-known2
+abbrev at_other : tie.After-foreign → tie.After-shared_slice_known-2-1
 at_other c = (no_end c).before.before
 
-returns : tie.Need-returns
-returns c = tag_cut _ _ _ c.if1.true c.before.before.requires.0
+returns : tie.Need-returns-then-text-at
+returns c = tag_cut _ _ _ c.if-text-at.true c.requires.0
 
-shared-slice-read-b : tie.Need-shared-slice-read-b
+shared-slice-read-b : tie.Need-bounds-text-at
 shared-slice-read-b c = search rules
 
-add-t9 : tie.Need-overflow-add-t9
+add-t9 : tie.Need-overflow_add-result
 add-t9 c = search rules
 
-returns-2 : tie.Need-returns-2
-returns-2 c = let b = c.before in tag_closes _ _ _ (inside b) (past_name b) (begun b).requires.1 _ c.if2.true refl
+returns-2 : tie.Need-returns-then-b-eq62
+returns-2 c = let b = c in tag_closes _ _ _ (inside b.before) (past_name b.before) (begun b.before).requires.1 _ c.if-b-eq62.true refl
 
-add-empty-end : tie.Need-overflow-add-empty-end
+add-empty-end : tie.Need-overflow_add-at
 add-empty-end c = search rules
 
-empty-end-requires : tie.Need-empty-end-requires
+empty-end-requires : tie.Need-empty_end-requires
 empty-end-requires c κs = search rules
 
-returns-3 : tie.Need-returns-3
+returns-3 : tie.Need-returns-then-b-eq47
 returns-3 c =
-    let slash = c.before in
-    let b = slash.before.before in
-    tag_empties _ _ _ (inside b) (past_name b) (begun b).requires.1 _ slash.if3.true c.empty-end.ensures
+    let slash = c in
+    let b = slash in
+    tag_empties _ _ _ (inside b.before.before.before) (past_name b.before.before.before) (begun b.before.before.before).requires.1 _ slash.if-b-eq47.true c.empty_end.ensures
 
 foreign-requires : tie.Need-foreign-requires
 foreign-requires c κs = search rules
 
-returns-4 : tie.Need-returns-4
+returns-4 : tie.Need-returns-then-foreign
 returns-4 c =
     let b = at_other c.before in
-    tag_foreign _ _ _ (inside b) (past_name b) (begun b).pre.1 (sym c.before.foreign.ensures ∙ c.if4.true)
+    tag_foreign _ _ _ (inside b) (past_name b) (begun b).requires.1 (sym c.foreign.ensures ∙ c.if-foreign.true)
 
 refuse-requires : tie.Need-refuse-requires
 refuse-requires c κs = search rules
@@ -63,13 +61,13 @@ refuse-requires c κs = search rules
 refused-requires : tie.Need-refused-requires
 refused-requires c κs = search rules
 
-returns-5 : tie.Need-returns-5
+returns-5 : tie.Need-returns
 returns-5 c =
-    let refusal = c.before in
-    let other = refusal.before in
-    let b = at_other other.before in
-    let unended = no_end other.before in
-    tag_refused _ _ _ (inside b) (past_name b) (begun b).pre.1 _ (sym other.before.foreign.ensures ∙ other.if4.false) unended.before.if2.left unended.if3.left
+    let refusal = c in
+    let other = refusal in
+    let b = at_other other.before.before.before in
+    let unended = no_end other.before.before.before in
+    tag_refused _ _ _ (inside b) (past_name b) (begun b).requires.1 _ (sym other.foreign.ensures ∙ other.if-foreign.false) unended.if-b-eq62.false unended.if-b-eq47.false
     (c.refused.ensures ∙ ap refused_piece refusal.refuse.ensures)
 
 pub tag_end_spec : {M : Type 1} → statement M

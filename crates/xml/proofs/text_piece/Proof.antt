@@ -8,31 +8,30 @@ use Rattle.xml.proofs.text_piece.Statement.{statement}
 use Rattle.xml.proofs.text_piece.Tie as tie
 
 -- The run is read.
-abbrev sought : tie.After-known-told → tie.After-run
-sought c = c.before.before.before
-
-abbrev begun : tie.After-known-told → tie.Start
+abbrev sought : tie.In-At → tie.After-run-ended
+sought c = c.before
+abbrev begun : tie.In-At → tie.Start
 begun c = (sought c).before.before
 
-run_read : (c : tie.After-known-told) → let s = begun c in Runs s.args.text.now s.args.at (At c.before.ended.given.0.0)
-run_read c = let s = begun c in subst (Runs s.args.text.now s.args.at) c.before.ended.given.1 (sought c).run.ensures
+run_read : (c : tie.In-At) → let s = begun c in Runs s.args.text.now s.args.at (At c.before.in-At.next)
+run_read c = let s = begun c in subst (Runs s.args.text.now s.args.at) c.in-At.is (sought c).run-ended.ensures
 
-run-requires : tie.Need-run-requires
+run-requires : tie.Need-run-ended-requires
 run-requires c κs = search rules
 
-enum-known-ended : tie.Need-enum-known-ended
+enum-known-ended : tie.Need-enum_known-ended
 enum-known-ended c = search rules
 
 refused-requires : tie.Need-refused-requires
 refused-requires c κs = search rules
 
-returns : tie.Need-returns
+returns : tie.Need-returns-in_default
 returns c =
-    let stuck = c.before in
-    let ran = stuck.before in
-    λ inner. text_refused _ _ inner ran.run.result _ stuck.match.keys2 ran.run.ensures c.refused.ensures
+    let stuck = c in
+    let ran = stuck in
+    λ inner. text_refused _ _ inner ran.run-ended.result _ stuck.in-At.in-At-own.keys2 ran.run-ended.ensures c.refused.ensures
 
-returns-2 : tie.Need-returns-2
+returns-2 : tie.Need-returns
 returns-2 c = λ inner. takes_text _ _ inner _ (run_read c)
 
 pub text_piece_spec : {M : Type 1} → statement M

@@ -4,14 +4,14 @@ use borrow.Author.Rules.{rules}
 use Rattle.xml.proofs.xml_part.Statement.{statement}
 use Rattle.xml.proofs.xml_part.Tie as tie
 
-name-part-requires : tie.Need-name-part-requires
+name-part-requires : tie.Need-name_part-requires
 name-part-requires c κs = search rules
 
-xml-start-requires : tie.Need-xml-start-requires
+xml-start-requires : tie.Need-xml_start-requires
 xml-start-requires c κs = search rules
 
 returns : tie.Need-returns
-returns c = rw (c.before.name-part.ensures, c.xml-start.ensures)
+returns c = rw (c.name_part.ensures, c.xml_start.ensures)
 
 pub xml_part_spec : {M : Type 1} → statement M
 xml_part_spec = tie.close (tie.spec name-part-requires xml-start-requires returns)

@@ -14,32 +14,32 @@ use Rattle.xml_bytes.proofs.markup.Tie as tie
 abbrev text : tie.Start → List ℕ
 text s = s.args.text.now
 
-returns : tie.Need-returns
-returns c = let s = c.before.before in rw (drop_of_length-le (text s) {i = s.args.at} c.if1.true)
+returns : tie.Need-returns-then-text-at
+returns c = let s = c in rw (drop_of_length-le (text s.before.before) {i = s.args.at} c.if-text-at.true)
 
-add-next : tie.Need-overflow-add-next
+add-next : tie.Need-overflow_add-next
 add-next c = search rules
 
-returns-2 : tie.Need-returns-2
+returns-2 : tie.Need-returns-then-text-next
 returns-2 c =
-    let s = c.before.before.before in
+    let s = c in
     let at = s.args.at in
-    rw (drop-cons (text s) at 0 (omega arith), drop_of_length-le (text s) {i = suc at} (omega arith)) (sym (alone_opens (get_or (text s) at 0)))
+    rw (drop-cons (text s.before.before.before) at 0 (omega arith), drop_of_length-le (text s.before.before.before) {i = suc at} (omega arith)) (sym (alone_opens (get_or (text s.before.before.before) at 0)))
 
-shared-slice-read-opens : tie.Need-shared-slice-read-opens
+shared-slice-read-opens : tie.Need-bounds-text-at
 shared-slice-read-opens c = search rules
 
-shared-slice-read-opens-2 : tie.Need-shared-slice-read-opens-2
+shared-slice-read-opens-2 : tie.Need-bounds-text-next
 shared-slice-read-opens-2 c = search rules
 
 opens-requires : tie.Need-opens-requires
 opens-requires c κs = search rules
 
-returns-3 : tie.Need-returns-3
+returns-3 : tie.Need-returns
 returns-3 c =
-    let s = c.before.before.before.before.before.before in
+    let s = c in
     let at = s.args.at in
-    rw (drop-cons (text s) at 0 (omega arith), drop-cons (text s) (suc at) 0 (omega arith)) (rw (add-one at) at c.opens.ensures)
+    rw (drop-cons (text s.before.before.before.before.before.before) at 0 (omega arith), drop-cons (text s.before.before.before.before.before.before) (suc at) 0 (omega arith)) (rw (add-one at) at c.opens.ensures)
 
 pub markup_spec : {M : Type 1} → statement M
 markup_spec =

@@ -8,11 +8,11 @@ use Rattle.xml_bytes.proofs.refuse.Tie as tie
 markup-requires : tie.Need-markup-requires
 markup-requires c κs = search rules
 
-returns : tie.Need-returns
-returns c = ap (λ b. refusal_at b c.before.before.before.args.at) (sym c.if1.true ∙ c.before.markup.ensures)
+returns : tie.Need-returns-then-markup
+returns c = ap (λ b. refusal_at b c.args.at) (sym c.if-markup.true ∙ c.markup.ensures)
 
-returns-2 : tie.Need-returns-2
-returns-2 c = ap (λ b. refusal_at b c.before.before.before.args.at) (sym c.if1.false ∙ c.before.markup.ensures)
+returns-2 : tie.Need-returns-else-markup
+returns-2 c = ap (λ b. refusal_at b c.args.at) (sym c.if-markup.false ∙ c.markup.ensures)
 
 pub refuse_spec : {M : Type 1} → statement M
 refuse_spec = tie.close (tie.spec markup-requires returns returns-2)

@@ -7,23 +7,23 @@ use Rattle.xml_lines.proofs.Naming.{name_there}
 use Rattle.xml_lines.proofs.find_name.Statement.{statement}
 use Rattle.xml_lines.proofs.find_name.Tie as tie
 
-add-find : tie.Need-overflow-add-find
+add-find : tie.Need-overflow_add-begin
 add-find c = search rules
 
-add-find-2 : tie.Need-overflow-add-find-2
+add-find-2 : tie.Need-overflow_add-begin-2
 add-find-2 c = search rules
 
-sub-find : tie.Need-overflow-sub-find
+sub-find : tie.Need-overflow_sub-name_end
 sub-find c = search rules
 
 find-requires : tie.Need-find-requires
 find-requires c κs =
-    let start = c.before.before in
+    let start = c in
     (start.requires.0.indexed, (start.requires.0.chained, (omega (arith, start.requires.1), omega (arith, start.requires.1))))
 
 returns : tie.Need-returns
 returns c =
-    let start = c.before.before.before in
+    let start = c in
     c.find.ensures ∙ ap (number_of (names_of start.args.list.now)) (name_there _ _ _ start.requires.1)
 
 pub find_name_spec : {M : Type 1} → statement M

@@ -8,23 +8,23 @@ use borrow.Author.Rules.{rules}
 use mathlib.Core.Path.{sym, ◌∙◌, ap}
 use native.Mathlib.Omega.{arith}
 
-returns : tie.Need-returns
-returns c = λ look rows name up end e b. stays_first look rows _ _ b (λ z. omega (arith, c.if1.true))
+returns : tie.Need-returns-then-before-ne0
+returns c = λ look rows name up end e b. stays_first look rows _ _ b (λ z. omega (arith, c.if-before-ne0.true))
 
-enum_told : tie.Need-enum-told
+enum_told : tie.Need-enum_told-1
 enum_told c = search rules
 
-enum-told-2 : tie.Need-enum-told-2
+enum-told-2 : tie.Need-enum_told-in-Nothing
 enum-told-2 c = search rules
 
-add-result : tie.Need-overflow-add-result
+add-result : tie.Need-overflow_add-result
 add-result c = search rules
 
-returns-2 : tie.Need-returns-2
-returns-2 c = λ look rows name up end e b. has-name look rows name _ _ b up end _ (omega (arith, c.before.before.if1.false)) (sym (ap found_at c.enum_told.given.1) ∙ e)
+returns-2 : tie.Need-returns-in-At
+returns-2 c = λ look rows name up end e b. has-name look rows name _ _ b up end _ (omega (arith, c.if-before-ne0.false)) (sym (ap found_at c.in-At.is) ∙ e)
 
-returns-3 : tie.Need-returns-3
-returns-3 c = λ look rows name up end e b. lacks_name look rows name _ _ b up end (omega (arith, c.before.before.if1.false)) (sym (ap found_at c.enum-told2.given.1) ∙ e)
+returns-3 : tie.Need-returns-in-Nothing
+returns-3 c = λ look rows name up end e b. lacks_name look rows name _ _ b up end (omega (arith, c.if-before-ne0.false)) (sym (ap found_at c.in-Nothing.is) ∙ e)
 
 pub first_unnamed_spec : {M : Type 1} → statement M
 first_unnamed_spec =

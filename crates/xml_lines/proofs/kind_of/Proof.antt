@@ -10,25 +10,25 @@ use mathlib.Core.Path.{◌≡◌, sym, ◌∙◌, ap}
 use native.Mathlib.Omega.{arith}
 
 -- The name's number is small.
-small : (c : tie.After-found) → c.found.given.0.0 < names_limit
-small c = c.before.before.requires _ (ap found_at c.found.given.1)
+small : (c : tie.In-At) → c.in-At.v < names_limit
+small c = c.requires _ (ap found_at c.in-At.is)
 
-enum-known-found : tie.Need-enum-known-found
+enum-known-found : tie.Need-enum_known-found
 enum-known-found c = search rules
 
 narrow-requires : tie.Need-narrow-requires
-narrow-requires c κs = omega (arith, small c.before)
+narrow-requires c κs = omega (arith, small c)
 
-add-result : tie.Need-overflow-add-result
-add-result c = omega (arith, small c.before.before, c.narrow.ensures)
+add-result : tie.Need-overflow_add-result
+add-result c = omega (arith, small c.before, c.narrow.ensures)
 
-enum_told : tie.Need-enum-told
+enum_told : tie.Need-enum_told-1
 enum_told c = search rules
 
-returns : tie.Need-returns
-returns c = ap (λ n. 2 + n) c.narrow.ensures ∙ ap name_kind (sym (ap found_at c.before.before.found.given.1))
+returns : tie.Need-returns-in-At
+returns c = ap (λ n. 2 + n) c.narrow.ensures ∙ ap name_kind (sym (ap found_at c.in-At.is))
 
-returns-2 : tie.Need-returns-2
+returns-2 : tie.Need-returns-in-Nothing
 returns-2 c = search rules
 
 pub kind_of_spec : {M : Type 1} → statement M

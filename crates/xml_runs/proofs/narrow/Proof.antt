@@ -14,28 +14,26 @@ use Rattle.xml_runs.proofs.narrow.Tie as tie
 abbrev First : tie.Start → Reach → Type 0
 First s r = Reads s.args.text.now s.args.at (from s.args.low s.args.high ∷ []) r
 
-abbrev begun : tie.After-within → tie.Start
+abbrev begun : tie.After-within-one → tie.Start
 begun c = c.before.before
+abbrev sought : tie.In-At → tie.After-within-one
+sought c = c.before
+first_read : (c : tie.In-At) → First (begun (sought c)) (At c.before.in-At.next)
+first_read c = subst (First (begun (sought c))) c.in-At.is (sought c).within-one.ensures
 
-abbrev sought : tie.After-known-told → tie.After-within
-sought c = c.before.before.before
-
-first_read : (c : tie.After-known-told) → First (begun (sought c)) (At c.before.one.given.0.0)
-first_read c = subst (First (begun (sought c))) c.before.one.given.1 (sought c).within.ensures
-
-within-requires : tie.Need-within-requires
+within-requires : tie.Need-within-one-requires
 within-requires c κs = search rules
 
-enum-known-one : tie.Need-enum-known-one
+enum-known-one : tie.Need-enum_known-one
 enum-known-one c = search rules
 
-returns : tie.Need-returns
-returns c = let w = c.before in row_stuck _ _ _ w.within.result c.match.keys2 w.within.ensures _
+returns : tie.Need-returns-in_default
+returns c = let w = c in row_stuck _ _ _ w.within-one.result c.in-At.in-At-own.keys2 w.within-one.ensures _
 
 tails-requires : tie.Need-tails-requires
-tails-requires c κs = let s = begun (sought c) in (reads_bounds _ _ (from s.args.low s.args.high ∷ []) _ s.pre (first_read c)).1
+tails-requires c κs = let s = begun (sought c) in (reads_bounds _ _ (from s.args.low s.args.high ∷ []) _ s.requires (first_read c)).1
 
-returns-2 : tie.Need-returns-2
+returns-2 : tie.Need-returns
 returns-2 c =
     let s = begun (sought c.before) in
     record { comes = c.tails.ensures.comes ∙ sym (row_next _ _ _ _ (first_read c.before) (tailing s.args.count)) }

@@ -11,7 +11,7 @@ plain-requires c κs = search rules
 
 returns : tie.Need-returns
 returns c =
-    let b = c.before.args.b in
+    let b = c.args.b in
     ap (λ (t : Bool). t && not (eqb b 60) && not (eqb b 38) && not (eqb b 62) && not (eqb b 93)) c.plain.ensures
 
 pub ordinary_spec : {M : Type 1} → statement M

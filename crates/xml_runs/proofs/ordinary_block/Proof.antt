@@ -10,47 +10,47 @@ use Rattle.xml_bytes.proofs.Blocks.{Fit, fit_none, fit_more, fit_all}
 use Rattle.xml_runs.proofs.ordinary_block.Statement.{statement}
 use Rattle.xml_runs.proofs.ordinary_block.Tie as tie
 
-abbrev invariant-loop : tie.invariant-loop
+abbrev invariant-loop : tie.invariant-loop-i
 invariant-loop text at stop₀ i₀ stop i = (i ≤ block) × Fit (ordinary_from text at) i stop
 
-abbrev decreases-loop : tie.decreases-loop
+abbrev decreases-loop : tie.decreases-loop-i
 decreases-loop text at stop₀ i₀ stop i = block - i
 
-loop-holds : tie.Need-loop-init invariant-loop decreases-loop
+loop-holds : tie.Need-loop-i-init invariant-loop decreases-loop
 loop-holds c = (omega arith, fit_none _)
 
-cast-ordinary : tie.Need-overflow-cast-ordinary invariant-loop decreases-loop
+cast-ordinary : tie.Need-overflow_cast-i invariant-loop decreases-loop
 cast-ordinary c = omega arith
 
-add-ordinary : tie.Need-overflow-add-ordinary invariant-loop decreases-loop
-add-ordinary c = omega (arith, c.before.before.before.requires, c.before.before.before.well_formed)
+add-ordinary : tie.Need-overflow_add-at invariant-loop decreases-loop
+add-ordinary c = omega (arith, c.requires, c.well_formed)
 
-shared-slice-read-ordinary : tie.Need-shared-slice-read-ordinary invariant-loop decreases-loop
-shared-slice-read-ordinary c = omega (arith, c.before.before.before.before.requires)
+shared-slice-read-ordinary : tie.Need-bounds-text-at invariant-loop decreases-loop
+shared-slice-read-ordinary c = omega (arith, c.requires)
 
 ordinary-requires : tie.Need-ordinary-requires invariant-loop decreases-loop
 ordinary-requires c κs = search rules
 
-sooner-requires : tie.Need-sooner-requires invariant-loop decreases-loop
+sooner-requires : tie.Need-sooner-stop-requires invariant-loop decreases-loop
 sooner-requires c κs = omega arith
 
-add-i : tie.Need-overflow-add-i invariant-loop decreases-loop
+add-i : tie.Need-overflow_add-i invariant-loop decreases-loop
 add-i c = omega arith
 
-loop-less : tie.Need-loop-smaller invariant-loop decreases-loop
+loop-less : tie.Need-loop-i-smaller invariant-loop decreases-loop
 loop-less c = omega arith
 
-loop-again : tie.Need-loop-preserved invariant-loop decreases-loop
+loop-again : tie.Need-loop-i-preserved invariant-loop decreases-loop
 loop-again c =
-    let head = c.before.before.before.before in
-    let turn : Sooner head.loop.stop head.loop.i (ordinary_from head.before.before.args.text.now head.before.before.args.at head.loop.i) c.sooner.result = subst (λ t. Sooner head.loop.stop head.loop.i t c.sooner.result) c.before.ordinary.ensures c.sooner.ensures in
-    (omega arith, fit_more _ _ _ _ head.loop.invariant.1 turn)
+    let head = c in
+    let turn : Sooner head.loop-i.stop head.loop-i.i (ordinary_from head.args.text.now head.args.at head.loop-i.i) c.sooner-stop.result = subst (λ t. Sooner head.loop-i.stop head.loop-i.i t c.sooner-stop.result) c.ordinary.ensures c.sooner-stop.ensures in
+    (omega arith, fit_more _ _ _ _ head.loop-i.invariant.1 turn)
 
-cast-result : tie.Need-overflow-cast-result invariant-loop decreases-loop
-cast-result c = omega (arith, c.before.loop.invariant.1.most)
+cast-result : tie.Need-overflow_cast-result invariant-loop decreases-loop
+cast-result c = omega (arith, c.loop-i.invariant.1.most)
 
 returns : tie.Need-returns invariant-loop decreases-loop
-returns c = (c.before.loop.invariant.1.most, fit_all _ _ _ (omega arith) c.before.loop.invariant.1)
+returns c = (c.loop-i.invariant.1.most, fit_all _ _ _ (omega arith) c.loop-i.invariant.1)
 
 pub ordinary_block_spec : {M : Type 1} → statement M
 ordinary_block_spec =

@@ -20,30 +20,30 @@ one_way : (t : Bool) → ways (cond t (some (tail done)) none) none ≡ cond t (
 one_way true = refl
 one_way false = refl
 
-returns : tie.Need-returns
-returns c = cross_ends _ _ past_ef _ (omega arith) c.before.before.requires
+returns : tie.Need-returns-then-text-at
+returns c = cross_ends _ _ past_ef _ (omega arith) c.requires
 
-shared-slice-read-if2 : tie.Need-shared-slice-read-if2
+shared-slice-read-if2 : tie.Need-bounds-text-at
 shared-slice-read-if2 c = search rules
 
-add-within : tie.Need-overflow-add-within
+add-within : tie.Need-overflow_add-at
 add-within c = search rules
 
 within-requires : tie.Need-within-requires
 within-requires c κs = search rules
 
-returns-2 : tie.Need-returns-2
+returns-2 : tie.Need-returns-then-text-at-2
 returns-2 c =
-    byte_on _ _ (omega arith) past_ef 191 _ c.before.if2.true refl (one (from 128 189) done) refl refl (cross_row _ _ (from 128 189) [] _ (range_calm 128 189 (omega arith)) tt (omega arith) c.within.ensures)
+    byte_on _ _ (omega arith) past_ef 191 _ c.if-text-at-2.true refl (one (from 128 189) done) refl refl (cross_row _ _ (from 128 189) [] _ (range_calm 128 189 (omega arith)) tt (omega arith) c.within.ensures)
 
 narrow-requires : tie.Need-narrow-requires
 narrow-requires c κs = search rules
 
-returns-3 : tie.Need-returns-3
+returns-3 : tie.Need-returns
 returns-3 c =
-    let s = c.before.before.before.before.before in
+    let s = c in
     let b = get_or s.args.text.now s.args.at 0 in
-    pattern_same _ _ (omega arith) past_ef (one (from 128 190) (tail done)) _ _ (rw (ne_eqb 191 b (λ e. c.before.if2.false (sym e))) (one_way (from 128 190 b))) (cross_row _ _ (from 128 190) (tailing 1) _ (range_calm 128 190 (omega arith)) (tails_calm 1) (omega arith) c.narrow.ensures)
+    pattern_same _ _ (omega arith) past_ef (one (from 128 190) (tail done)) _ _ (rw (ne_eqb 191 b (λ e. c.if-text-at-2.false (sym e))) (one_way (from 128 190 b))) (cross_row _ _ (from 128 190) (tailing 1) _ (range_calm 128 190 (omega arith)) (tails_calm 1) (omega arith) c.narrow.ensures)
 
 pub past_ef_spec : {M : Type 1} → statement M
 past_ef_spec =

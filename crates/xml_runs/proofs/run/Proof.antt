@@ -19,69 +19,67 @@ use Rattle.xml_runs.proofs.run.Tie as tie
 crossed : (r : Reach) (text : List ℕ) (at to : ℕ) (k : ℕ × ℕ) → r ≡ At to → Crosses text at (λ b. run b k.0) (λ b. run b k.1) r → Crosses text at (λ b. run b k.0) (λ b. run b k.1) (At to)
 crossed r text at to k e h = subst (Crosses text at (λ b. run b k.0) (λ b. run b k.1)) e h
 
-abbrev invariant-loop : tie.invariant-loop
+abbrev invariant-loop : tie.invariant-loop-at
 invariant-loop text begin at₀ squares₀ at squares = Running text begin at squares
 
-abbrev decreases-loop : tie.decreases-loop
+abbrev decreases-loop : tie.decreases-loop-at
 decreases-loop text begin at₀ squares₀ at squares = length text - at
 
 -- Past ordinary bytes reading stands in the run still.
 abbrev Past : Type 0
-Past = tie.After-squares-past invariant-loop decreases-loop
+Past = tie.After-squares_past-squares invariant-loop decreases-loop
 
-passed : (c : Past) → Running c.before.before.before.before.before.args.text.now c.before.before.before.before.before.args.begin c.before.ordinary-end.result c.squares-past.result
-passed c = ordinary_past _ _ _ _ _ _ c.before.ordinary-end.ensures c.squares-past.ensures c.before.before.before.loop.invariant
+passed : (c : Past) → Running c.before.before.before.before.before.args.text.now c.before.before.before.before.before.args.begin c.before.ordinary_end-past.result c.squares_past-squares.result
+passed c = ordinary_past _ _ _ _ _ _ c.ordinary_end-past.ensures c.squares_past-squares.ensures c.loop-at.invariant
 
 -- From the byte that is looked at, and from the end of a turn, back to it.
-abbrev looked : tie.Else2 invariant-loop decreases-loop → Past
+abbrev looked : tie.Else-b-eq60 invariant-loop decreases-loop → Past
 looked c = c.before.before.before
+abbrev turned : tie.After-squares_after-squares invariant-loop decreases-loop → tie.After-character-one invariant-loop decreases-loop
+turned c = c.before.before
+loop-holds : tie.Need-loop-at-init invariant-loop decreases-loop
+loop-holds c = run_begins _ _ c.requires.0 c.requires.1
 
-abbrev turned : tie.After-squares-after invariant-loop decreases-loop → tie.After-character invariant-loop decreases-loop
-turned c = c.before.before.before.before
+ordinary-end-requires : tie.Need-ordinary_end-past-requires invariant-loop decreases-loop
+ordinary-end-requires c κs = c.loop-at-test.true
 
-loop-holds : tie.Need-loop-init invariant-loop decreases-loop
-loop-holds c = run_begins _ _ c.before.requires.0 c.before.requires.1
-
-ordinary-end-requires : tie.Need-ordinary-end-requires invariant-loop decreases-loop
-ordinary-end-requires c κs = c.loop-test.true
-
-squares-past-requires : tie.Need-squares-past-requires invariant-loop decreases-loop
+squares-past-requires : tie.Need-squares_past-squares-requires invariant-loop decreases-loop
 squares-past-requires c κs = search rules
 
-returns : tie.Need-returns invariant-loop decreases-loop
+returns : tie.Need-returns-then-text-past invariant-loop decreases-loop
 returns c = run_cut _ _ _ _ (omega arith) (passed c.before)
 
-shared-slice-read-b : tie.Need-shared-slice-read-b invariant-loop decreases-loop
+shared-slice-read-b : tie.Need-bounds-text-past invariant-loop decreases-loop
 shared-slice-read-b c = omega arith
 
-returns-2 : tie.Need-returns-2 invariant-loop decreases-loop
-returns-2 c = run_ends_lem _ _ _ _ c.before.before.before.before.before.before.before.before.requires.1 (omega (arith, c.before.before.if1.false)) c.if2.true (passed c.before.before.before)
+returns-2 : tie.Need-returns-then-b-eq60 invariant-loop decreases-loop
+returns-2 c = run_ends_lem _ _ _ _ c.requires.1 (omega (arith, c.if-text-past.false)) c.if-b-eq60.true (passed c.before.before.before)
 
-character-requires : tie.Need-character-requires invariant-loop decreases-loop
-character-requires c κs = (omega (arith, c.before.before.if1.false), c.if2.false)
+character-requires : tie.Need-character-one-requires invariant-loop decreases-loop
+character-requires c κs = (omega (arith, c.if-text-past.false), c.if-b-eq60.false)
 
-enum-known-one : tie.Need-enum-known-one invariant-loop decreases-loop
+enum-known-one : tie.Need-enum_known-one invariant-loop decreases-loop
 enum-known-one c = search rules
 
-returns-3 : tie.Need-returns-3 invariant-loop decreases-loop
-returns-3 c = run_refused _ _ _ _ _ c.before.character.result (passed (looked c.before.before)) c.match.keys2 c.before.character.ensures
+returns-3 : tie.Need-returns-in_default invariant-loop decreases-loop
+returns-3 c = run_refused _ _ _ _ _ c.character-one.result (passed (looked c.before.before)) c.in-At.in-At-own.keys2 c.character-one.ensures
 
-squares-after-requires : tie.Need-squares-after-requires invariant-loop decreases-loop
+squares-after-requires : tie.Need-squares_after-squares-requires invariant-loop decreases-loop
 squares-after-requires c κs = search rules
 
-loop-less : tie.Need-loop-smaller invariant-loop decreases-loop
+loop-less : tie.Need-loop-at-smaller invariant-loop decreases-loop
 loop-less c =
     let one = turned c in
-    let to = (crossed one.character.result _ _ _ _ c.before.before.one.given.1 one.character.ensures).bounds in
-    omega (arith, to, (looked one.before).before.ordinary-end.ensures.least)
+    let to = (crossed one.character-one.result _ _ _ _ c.in-At.is one.character-one.ensures).bounds in
+    omega (arith, to, (looked one.before).ordinary_end-past.ensures.least)
 
-loop-again : tie.Need-loop-preserved invariant-loop decreases-loop
+loop-again : tie.Need-loop-at-preserved invariant-loop decreases-loop
 loop-again c =
     let one = turned c in
-    run_more _ _ _ _ _ _ (passed (looked one.before)) (rw c.squares-after.ensures (crossed one.character.result _ _ _ _ c.before.before.one.given.1 one.character.ensures))
+    run_more _ _ _ _ _ _ (passed (looked one.before)) (rw c.squares_after-squares.ensures (crossed one.character-one.result _ _ _ _ c.in-At.is one.character-one.ensures))
 
-returns-4 : tie.Need-returns-4 invariant-loop decreases-loop
-returns-4 c = run_cut _ _ _ _ (omega arith) c.before.loop.invariant
+returns-4 : tie.Need-returns invariant-loop decreases-loop
+returns-4 c = run_cut _ _ _ _ (omega arith) c.loop-at.invariant
 
 pub run_spec : {M : Type 1} → statement M
 run_spec =

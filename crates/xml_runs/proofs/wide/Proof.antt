@@ -45,102 +45,99 @@ narrows : (s : tie.Start) (low high n : ℕ) (r : Reach) → 60 < low → s.args
 narrows s low high n r high-enough l h = cross_row (text s) (s.args.at + 1) (from low high) (tailing n) r (range_calm low high high-enough) (tails_calm n) l h
 
 -- The way back from the choice by the byte, and from the bytes that are in no range below.
-abbrev begun : tie.After-shared-slice-known2 → tie.Start
+abbrev begun : tie.After-shared_slice_known-2-1 → tie.Start
 begun c = c.before.before
-
-abbrev others : tie.Else1 → tie.At-match-rest
+abbrev others : tie.Else-b-lt194-1 → tie.In_default-1
 others c = c.before
-
-abbrev from-194 : tie.Else1 → tie.Start
+abbrev from-194 : tie.Else-b-lt194-1 → tie.Start
 from-194 c = begun (others c).before
 
-abbrev from-225 : tie.Else2 → tie.Else1
+abbrev from-225 : tie.Else-b-lt224-1 → tie.Else-b-lt194-1
 from-225 c = c.before
-
-abbrev from-241 : tie.Else3 → tie.Else1
+abbrev from-241 : tie.Else-b-lt237-1 → tie.Else-b-lt194-1
 from-241 c = from-225 c.before
 
-shared-slice-read-b : tie.Need-shared-slice-read-b
+shared-slice-read-b : tie.Need-bounds-text-at
 shared-slice-read-b c = search rules
 
-add-next : tie.Need-overflow-add-next
+add-next : tie.Need-overflow_add-next
 add-next c = search rules
 
 narrow-requires : tie.Need-narrow-requires
 narrow-requires c κs = search rules
 
-narrow-requires-2 : tie.Need-narrow-requires-2
+narrow-requires-2 : tie.Need-narrow-requires-in-237
 narrow-requires-2 c κs = search rules
 
 tails-requires : tie.Need-tails-requires
 tails-requires c κs = search rules
 
-past-ef-requires : tie.Need-past-ef-requires
+past-ef-requires : tie.Need-past_ef-requires
 past-ef-requires c κs = search rules
 
-narrow-requires-3 : tie.Need-narrow-requires-3
+narrow-requires-3 : tie.Need-narrow-requires-in-240
 narrow-requires-3 c κs = search rules
 
-narrow-requires-4 : tie.Need-narrow-requires-4
+narrow-requires-4 : tie.Need-narrow-requires-in-244
 narrow-requires-4 c κs = search rules
 
-tails-requires-2 : tie.Need-tails-requires-2
+tails-requires-2 : tie.Need-tails-requires-in-194-to-223
 tails-requires-2 c κs = search rules
 
-tails-requires-3 : tie.Need-tails-requires-3
+tails-requires-3 : tie.Need-tails-requires-in-225-to-236
 tails-requires-3 c κs = search rules
 
-tails-requires-4 : tie.Need-tails-requires-4
+tails-requires-4 : tie.Need-tails-requires-in-241-to-243
 tails-requires-4 c κs = search rules
 
-returns : tie.Need-returns
-returns c = leads (begun c.before.before) _ _ (ap (after wide) c.before.match.keys1) refl (narrows (begun c.before.before) 160 191 1 _ (omega arith) (omega arith) c.narrow.ensures)
+returns : tie.Need-returns-in-224
+returns c = leads (begun c.before.before) _ _ (ap (after wide) c.in-224.is) refl (narrows (begun c.before.before) 160 191 1 _ (omega arith) (omega arith) c.narrow.ensures)
 
-returns-2 : tie.Need-returns-2
-returns-2 c = leads (begun c.before.before) _ _ (ap (after wide) c.before.match.keys2) refl (narrows (begun c.before.before) 128 159 1 _ (omega arith) (omega arith) c.narrow2.ensures)
+returns-2 : tie.Need-returns-in-237
+returns-2 c = leads (begun c.before.before) _ _ (ap (after wide) c.in-237.is) refl (narrows (begun c.before.before) 128 159 1 _ (omega arith) (omega arith) c.narrow-in-237.ensures)
 
-returns-3 : tie.Need-returns-3
-returns-3 c = leads (begun c.before.before) _ _ (ap (after wide) c.before.match.keys3) refl (tails_on (begun c.before.before) 1 _ (omega arith) c.tails.ensures)
+returns-3 : tie.Need-returns-in-238
+returns-3 c = leads (begun c.before.before) _ _ (ap (after wide) c.in-238.is) refl (tails_on (begun c.before.before) 1 _ (omega arith) c.tails.ensures)
 
-returns-4 : tie.Need-returns-4
-returns-4 c = leads (begun c.before.before) _ _ (ap (after wide) c.before.match.keys4) refl c.past-ef.ensures
+returns-4 : tie.Need-returns-in-239
+returns-4 c = leads (begun c.before.before) _ _ (ap (after wide) c.in-239.is) refl c.past_ef.ensures
 
-returns-5 : tie.Need-returns-5
-returns-5 c = leads (begun c.before.before) _ _ (ap (after wide) c.before.match.keys5) refl (narrows (begun c.before.before) 144 191 2 _ (omega arith) (omega arith) c.narrow3.ensures)
+returns-5 : tie.Need-returns-in-240
+returns-5 c = leads (begun c.before.before) _ _ (ap (after wide) c.in-240.is) refl (narrows (begun c.before.before) 144 191 2 _ (omega arith) (omega arith) c.narrow-in-240.ensures)
 
-returns-6 : tie.Need-returns-6
-returns-6 c = leads (begun c.before.before) _ _ (ap (after wide) c.before.match.keys6) refl (narrows (begun c.before.before) 128 143 2 _ (omega arith) (omega arith) c.narrow4.ensures)
+returns-6 : tie.Need-returns-in-244
+returns-6 c = leads (begun c.before.before) _ _ (ap (after wide) c.in-244.is) refl (narrows (begun c.before.before) 128 143 2 _ (omega arith) (omega arith) c.narrow-in-244.ensures)
 
-returns-7 : tie.Need-returns-7
+returns-7 : tie.Need-returns-in-194-to-223
 returns-7 c =
     let s = from-194 c.before.before in
-    leads s _ _ (wide_two (here s) (omega arith) (omega arith)) refl (tails_on s 0 _ (omega arith) c.tails2.ensures)
+    leads s _ _ (wide_two (here s) (omega arith) (omega arith)) refl (tails_on s 0 _ (omega arith) c.tails-in-194-to-223.ensures)
 
-returns-8 : tie.Need-returns-8
+returns-8 : tie.Need-returns-in-225-to-236
 returns-8 c =
     let e = from-225 c.before.before in
     let s = from-194 e in
-    leads s _ _ (wide_three (here s) (past 224 (here s) (omega arith) (others e).match.rest.0.0.0.0.0.1) (omega arith)) refl (tails_on s 1 _ (omega arith) c.tails3.ensures)
+    leads s _ _ (wide_three (here s) (past 224 (here s) (omega arith) (others e).in_default.in_default-own.rest.0.0.0.0.0.1) (omega arith)) refl (tails_on s 1 _ (omega arith) c.tails-in-225-to-236.ensures)
 
-returns-9 : tie.Need-returns-9
+returns-9 : tie.Need-returns-in-241-to-243
 returns-9 c =
     let e = from-241 c.before.before in
     let s = from-194 e in
-    let n = (others e).match.rest in
+    let n = (others e).in_default.in_default-own.rest in
     let p237 = past 237 (here s) (omega arith) n.0.0.0.0.1 in
     let p238 = past 238 (here s) p237 n.0.0.0.1 in
     let p239 = past 239 (here s) p238 n.0.0.1 in
     let p240 = past 240 (here s) p239 n.0.1 in
-    leads s _ _ (wide_four (here s) p240 (omega arith)) refl (tails_on s 2 _ (omega arith) c.tails4.ensures)
+    leads s _ _ (wide_four (here s) p240 (omega arith)) refl (tails_on s 2 _ (omega arith) c.tails-in-241-to-243.ensures)
 
-returns-10 : tie.Need-returns-10
-returns-10 c = let s = begun c.before.before in leads_nowhere s (wide_low (here s) (omega arith))
+returns-10 : tie.Need-returns-in_default
+returns-10 c = let s = begun c.before in leads_nowhere s (wide_low (here s) (omega arith))
 
-returns-11 : tie.Need-returns-11
+returns-11 : tie.Need-returns-in_default-2
 returns-11 c =
     let e = from-241 c.before in
     let s = from-194 e in
-    leads_nowhere s (wide_high (here s) (past 244 (here s) (omega arith) (others e).match.rest.1))
+    leads_nowhere s (wide_high (here s) (past 244 (here s) (omega arith) (others e).in_default.in_default-own.rest.1))
 
 pub wide_spec : {M : Type 1} → statement M
 wide_spec =

@@ -45,16 +45,16 @@ goes_on_lem text from place width t s inside g e =
       advances = λ _. omega arith;
     }
 
-skip-requires : tie.Need-skip-requires
+skip-requires : tie.Need-skip-place-requires
 skip-requires c κs = search rules
 
-returns : tie.Need-returns
+returns : tie.Need-returns-then-text-place
 returns c =
-    let text = c.before.before.before.args.text.now in
-    let s = c.before.skip in
-    let passed = skips text c.before.before.before.args.self.at s.result (omega arith) s.ensures in
+    let text = c.args.text.now in
+    let s = c.skip-place in
+    let passed = skips text c.args.self.at s.result (omega arith) s.ensures in
     record {
-      first = passed.same ∙ ap (tokens_from 0 s.result) (drop_of_length-le text {i = s.result} c.if1.true);
+      first = passed.same ∙ ap (tokens_from 0 s.result) (drop_of_length-le text {i = s.result} c.if-text-place.true);
       least = passed.least;
       past = sym (add-zero s.result);
       within = passed.most;
@@ -62,20 +62,20 @@ returns c =
       advances = λ h. absurd (false≢true (sym h));
     }
 
-token-at-requires : tie.Need-token-at-requires
+token-at-requires : tie.Need-token_at-token-requires
 token-at-requires c κs = search rules
 
 width-requires : tie.Need-width-requires
 width-requires c κs = search rules
 
-add-end : tie.Need-overflow-add-end
+add-end : tie.Need-overflow_add-end
 add-end c = search rules
 
-returns-2 : tie.Need-returns-2
+returns-2 : tie.Need-returns
 returns-2 c =
-    let a = c.before.before.before.before.before.args in
-    let s = c.before.before.before.skip in
-    goes_on_lem a.text.now a.self.at s.result c.width.result c.before.token-at.result (skips a.text.now a.self.at s.result (omega arith) s.ensures) (omega arith) c.before.token-at.ensures c.width.ensures
+    let a = c.args in
+    let s = c.skip-place in
+    goes_on_lem a.text.now a.self.at s.result c.width.result c.token_at-token.result (skips a.text.now a.self.at s.result (omega arith) s.ensures) (omega arith) c.token_at-token.ensures c.width.ensures
 
 pub take_spec : {M : Type 1} → statement M
 take_spec =

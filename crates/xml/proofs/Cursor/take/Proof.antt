@@ -20,73 +20,71 @@ place s = s.args.self.at
 -- A `<` stands at the cursor,
 abbrev begun : tie.After-markup → tie.Start
 begun c = c.before.before.before.before.before
-
 inside : (c : tie.After-markup) → place (begun c) < length (text (begun c))
-inside c = c.before.before.before.if1.false
+inside c = c.if-text-at.false
 
 tag : (c : tie.After-markup) → get_or (text (begun c)) (place (begun c)) 0 ≡ 60
-tag c = c.before.if2.false
+tag c = c.if-text-at-ne60.false
 
 -- which opens nothing that is left out.
-opens_nothing : (c : tie.Else3) → let s = begun c.before in left_out_anywhere (drop (place s) (text s)) ≡ false
-opens_nothing c = sym c.before.markup.ensures ∙ c.if3.false
+opens_nothing : (c : tie.Else-markup) → let s = begun c.before in left_out_anywhere (drop (place s) (text s)) ≡ false
+opens_nothing c = sym c.markup.ensures ∙ c.if-markup.false
 
 -- A byte stands behind it.
-abbrev past-mark : tie.After-shared-slice-known3 → tie.Else3
+abbrev past-mark : tie.After-shared_slice_known-3-1 → tie.Else-markup
 past-mark c = c.before.before
+returns : tie.Need-returns-then-text-at
+returns c = takes_cut _ _ _ c.if-text-at.true c.requires.0
 
-returns : tie.Need-returns
-returns c = takes_cut _ _ _ c.if1.true c.before.before.requires.0
-
-shared-slice-read-if2 : tie.Need-shared-slice-read-if2
+shared-slice-read-if2 : tie.Need-bounds-text-at
 shared-slice-read-if2 c = search rules
 
-text-piece-requires : tie.Need-text-piece-requires
+text-piece-requires : tie.Need-text_piece-requires
 text-piece-requires c κs = search rules
 
-returns-2 : tie.Need-returns-2
-returns-2 c = let s = c.before.before.before.before.before in c.text-piece.ensures s.args.inner
+returns-2 : tie.Need-returns-then-text-at-ne60
+returns-2 c = let s = c in c.text_piece.ensures s.args.inner
 
 markup-requires : tie.Need-markup-requires
 markup-requires c κs = search rules
 
-returns-3 : tie.Need-returns-3
-returns-3 c = let m = c.before in takes_left_out _ _ _ (inside m) (sym m.markup.ensures ∙ c.if3.true)
+returns-3 : tie.Need-returns-then-markup
+returns-3 c = let m = c in takes_left_out _ _ _ (inside m.before) (sym m.markup.ensures ∙ c.if-markup.true)
 
-add-next : tie.Need-overflow-add-next
+add-next : tie.Need-overflow_add-next
 add-next c = search rules
 
-returns-4 : tie.Need-returns-4
-returns-4 c = let m = c.before.before in takes_mark _ _ _ (inside m) (tag m) (opens_nothing c.before) _ refl c.if4.true
+returns-4 : tie.Need-returns-then-text-next
+returns-4 c = let m = c in takes_mark _ _ _ (inside m.before.before) (tag m.before.before) (opens_nothing c.before) _ refl c.if-text-next.true
 
-shared-slice-read-if5 : tie.Need-shared-slice-read-if5
+shared-slice-read-if5 : tie.Need-bounds-text-next
 shared-slice-read-if5 c = search rules
 
-end-piece-requires : tie.Need-end-piece-requires
+end-piece-requires : tie.Need-end_piece-requires
 end-piece-requires c κs =
-    let behind = c.before in
-    let unopened = past-mark behind in
+    let behind = c in
+    let unopened = past-mark behind.before in
     let s = begun unopened.before in
     let next : place s + 1 ≡ suc (place s) = omega arith in (
-      subst (λ n. n < length (text s)) next behind.before.if4.false,
+      subst (λ n. n < length (text s)) next behind.if-text-next.false,
       tag unopened.before,
-      subst (λ n. get_or (text s) n 0 ≡ 47) next c.if5.true,
-      s.pre.1,
+      subst (λ n. get_or (text s) n 0 ≡ 47) next c.if-text-next-eq47.true,
+      s.requires.1,
       opens_nothing unopened,
     )
 
-returns-5 : tie.Need-returns-5
+returns-5 : tie.Need-returns-then-text-next-eq47
 returns-5 c = search rules
 
-start-tag-requires : tie.Need-start-tag-requires
+start-tag-requires : tie.Need-start_tag-requires
 start-tag-requires c κs = search rules
 
-returns-6 : tie.Need-returns-6
+returns-6 : tie.Need-returns
 returns-6 c =
-    let no_slash = c.before in
-    let unopened = past-mark no_slash.before in
+    let no_slash = c in
+    let unopened = past-mark no_slash.before.before in
     let m = unopened.before in
-    takes_tag _ _ _ (inside m) (tag m) (opens_nothing unopened) _ _ refl no_slash.if5.false c.start-tag.ensures
+    takes_tag _ _ _ (inside m) (tag m) (opens_nothing unopened) _ _ refl no_slash.if-text-next-eq47.false c.start_tag.ensures
 
 pub take_spec : {M : Type 1} → statement M
 take_spec =
