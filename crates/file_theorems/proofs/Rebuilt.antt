@@ -135,7 +135,7 @@ record Going (k at : ℕ) (bs rest : List ℕ) (shape : Nodes) (content : Parts)
 
 pub record Back (whole : List ℕ) (nodes : Nodes) : Type 0 where
   pub begins : (at : ℕ) (rest : List ℕ) → Again true at (as_xml whole 0 nodes ++ rest) rest (joined true nodes) (escaped_runs (parts_of whole nodes))
-  goes_on_lem : (k at : ℕ) (rest : List ℕ) → (atoms : List Atom) × Going k at (as_xml whole k nodes ++ rest) rest (joined false nodes) (parts_of whole nodes) atoms
+  goes_on : (k at : ℕ) (rest : List ℕ) → (atoms : List Atom) × Going k at (as_xml whole k nodes ++ rest) rest (joined false nodes) (parts_of whole nodes) atoms
 
 -- An element before the bytes behind it.
 pub element_bytes : (whole name : List ℕ) (k begin end : ℕ) (inside more : Nodes) (rest : List ℕ)
@@ -245,7 +245,7 @@ pub back : (whole : List ℕ) (nodes : Nodes) → Sound whole nodes → Back who
 back whole nothing s =
     record {
       begins = λ at rest. record { past = at; nodes = nothing; row = row_ends; alike = alike_nothing; parts = λ file f. refl };
-      goes_on_lem =
+      goes_on =
           λ k at rest.
           run-stops Parts.end k at (λ ws. refl) (λ ws. refl) (record { past = at; nodes = nothing; row = row_ends; alike = alike_nothing; parts = λ file f. refl });
     }
@@ -254,7 +254,7 @@ back whole (element name begin end inside rest) s =
     let m = back whole rest s.2 in
     record {
       begins = λ at after. element_again true true 0 begin end s.0 i m at after;
-      goes_on_lem =
+      goes_on =
           λ k at after.
           run-stops (Parts.tag name (parts_of whole inside) (parts_of whole rest)) k at (λ ws. refl) (λ ws. refl) (element_again false false k begin end s.0 i m at after);
     }
@@ -268,7 +268,7 @@ back whole (chars begin end rest) s =
           let (y, ys, p) = some_put s.0.says 0 in
           subst (λ (l : List ℕ). Again true at l after (chars begin end (joined false rest)) (escaped_runs content)) (sym (text_bytes whole 0 begin end rest after))
           (text_begins begin end p (λ mid. m.goes_on (squares_past 0 ws) mid after) at);
-      goes_on_lem =
+      goes_on =
           λ k at after.
           let (y, ys, p) = some_put s.0.says k in
           let (zs, g) = text_going p (λ mid. m.goes_on (squares_past k ws) mid after) at in

@@ -119,8 +119,8 @@ parts_runs {begin = begin} {front = front} {fs = fs} n (name_goes_on {b = b} {bs
     here : name_part b ≡ true → step n (state (inName begin front) fs) b ≡ some (state (inName begin (front ++ (b ∷ []))) fs)
     here h = rw h
 
-name_runs {ℓ} : {C : Type ℓ} {at to : ℕ} {name : List ℕ} {m : Mode} {t : State} (n : ℕ) → Tag m t → NameIn at name name to []
-    → ((begin : ℕ) (fs : List Frame) → Runs n t name (state (inName begin name) fs) → C) → C
+name_runs {ℓ} : {C : Type ℓ} {at to : ℕ} {bs name : List ℕ} {m : Mode} {t : State} (n : ℕ) → Tag m t → NameIn at bs name to []
+    → ((begin : ℕ) (fs : List Frame) → Runs n t bs (state (inName begin bs) fs) → C) → C
 name_runs n g (name-starts {b = b} h p) k = tag-enters g (λ begin fs e. k begin fs (onto (e n b h) (parts_runs (suc n) p)))
 
 white_runs : {set : ℕ → Bool} {at to : ℕ} {bs : List ℕ} (s : State) → ((n b : ℕ) → set b ≡ true → step n s b ≡ some s) → (n : ℕ) → ManyIn set at bs to [] → Runs n s bs s

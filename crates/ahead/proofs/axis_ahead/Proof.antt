@@ -12,7 +12,7 @@ enum-known-token : tie.Need-enum_known-token
 enum-known-token c = search rules
 
 returns : tie.Need-returns-in_default
-returns c = unnamed _ _ (none_letters _ _ _ c.take-taken.ensures c.in-Word.in-Word-own.keys2)
+returns c = unnamed _ _ (none_letters _ _ _ c.take-taken.ensures c.in_default.in_default-own.keys2)
 
 mark-requires : tie.Need-mark-colons-requires
 mark-requires c κs = search rules

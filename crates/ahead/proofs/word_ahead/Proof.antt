@@ -12,7 +12,7 @@ enum-known-token : tie.Need-enum_known-token
 enum-known-token c = search rules
 
 returns : tie.Need-returns-in_default
-returns c = (rw (none_letters _ _ _ c.take-taken.ensures c.in-Word.in-Word-own.keys2) (no_same c.args.word.now c.requires.1), taken_at _ _ _ c.take-taken.ensures)
+returns c = (rw (none_letters _ _ _ c.take-taken.ensures c.in_default.in_default-own.keys2) (no_same c.args.word.now c.requires.1), taken_at _ _ _ c.take-taken.ensures)
 
 same-word-requires : tie.Need-same_word-requires
 same-word-requires c κs = word_inside _ _ _ c.take-taken.ensures _ c.in-Word.is

@@ -22,7 +22,7 @@ refused-requires c κs = omega (arith, number_small c.args.answer, c.number_of_l
 returns : tie.Need-returns-in_default
 returns c =
     let counted = c in
-    refusal_code counted.args.answer _ _ _ counted.in-Value.in-Value-own.keys2 counted.number_of_lem.ensures c.place_of-place.ensures c.refused.ensures
+    refusal_code counted.args.answer _ _ _ counted.in_default.in_default-own.keys2 counted.number_of_lem.ensures c.place_of-place.ensures c.refused.ensures
 
 returns-2 : tie.Need-returns
 returns-2 c = value_code _ _ _ (ap told c.in-Value.is) refl

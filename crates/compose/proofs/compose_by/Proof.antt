@@ -40,7 +40,7 @@ shallow start =
 abbrev begun : tie.After-larger → tie.Start
 begun c = c.before.before.before.before.before
 deep : (c : tie.After-larger-nesting)
-    → c.larger-nesting.result ≡ max (begun c.before).args.outer_nesting ((begun c.before).args.outer_guards + 2 + c.before.larger.result)
+    → c.larger-nesting.result ≡ max (begun c.before).args.outer_nesting ((begun c.before).args.outer_guards + 2 + c.larger.result)
 deep c = omega (arith, c.larger-nesting.ensures)
 
 -- With the items counted only line 10 is left.
@@ -55,7 +55,7 @@ left c g o =
     let nested = (past-9 c).before in
     let start = start_of c in
     ending (outer start) (inner start) (says start) (length (old start)) _ _ _ start.requires.1 start.requires.3 g o start.requires.2 nested.larger.result nested.larger-nesting.result
-    nested.larger.ensures (deep nested.before) (omega (arith, (past-9 c).if-nesting-gt-BRACKET_LIMIT.false)) c.selected_size-count.result c.composed_size-size.result c.selected_size-count.ensures.0 (c.composed_size-size.ensures g)
+    nested.larger.ensures (deep nested) (omega (arith, (past-9 c).if-nesting-gt-BRACKET_LIMIT.false)) c.selected_size-count.result c.composed_size-size.result c.selected_size-count.ensures.0 (c.composed_size-size.ensures g)
 
 add-guard-nesting : tie.Need-overflow_add-guard_nesting
 add-guard-nesting c = omega (arith, shallow c.before.before.before.before)
@@ -102,7 +102,7 @@ returns-3 : tie.Need-returns-then-size-gt-ITEM_LIMIT
 returns-3 c =
     let sized = c in
     let start = start_of sized.before.before in
-    λ g o. refused (composed_by g.decides) (outer start) (inner start) (old start) 10 _ ((left sized g o).over_long c.if-out-size.false c.if-size-gt-ITEM_LIMIT.true)
+    λ g o. refused (composed_by g.decides) (outer start) (inner start) (old start) 10 _ ((left sized.before.before g o).over_long c.if-out-size.false c.if-size-gt-ITEM_LIMIT.true)
 
 put-composed-requires : tie.Need-put_composed-requires
 put-composed-requires c κs =
@@ -128,7 +128,7 @@ returns-4 c =
     let sized = fits in
     let start = start_of sized.before.before.before.before.before.before in
     λ g o.
-    accepted (composed_by g.decides) (outer start) (inner start) (old start) put.put_composed.new.1.1.1.0 _ ((left sized g o).fits fits.if-out-size.false fits.if-size-gt-ITEM_LIMIT.false) (put.put_composed.ensures g)
+    accepted (composed_by g.decides) (outer start) (inner start) (old start) put.put_composed.new.out _ ((left sized.before.before.before.before.before.before g o).fits fits.if-out-size.false fits.if-size-gt-ITEM_LIMIT.false) (put.put_composed.ensures g)
 
 pub compose_by_spec : {M : Type 1} → statement M
 compose_by_spec =

@@ -22,7 +22,7 @@ outer start = start.args.outer.now
 abbrev begun : tie.After-mark_query → tie.Start
 begun c = c.before.before.before.before.before
 abbrev copy : tie.After-mark_query → List ℕ
-copy c = c.mark_query.new.1.0
+copy c = c.mark_query.new.marks
 
 abbrev says : tie.After-mark_query → List ℕ
 says c = take (length (outer (begun c))) (copy c)

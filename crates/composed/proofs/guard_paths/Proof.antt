@@ -51,7 +51,7 @@ Found = tie.After-skip-next invariant-loop decreases-loop
 abbrev turn : Found → Turn
 turn c = c.before.before.before.before
 guards : (c : Found) (g : Said (begun (turn c)))
-    → Guards g.decides (outer (begun (turn c))) (says (begun (turn c))) (old (begun (turn c))) (turn c).loop-place.out (begun (turn c)).args.from (begun (turn c)).args.count (turn c).loop-place.place (turn c).loop-place.at c.skip-next.result c.before.owes-steps.result
+    → Guards g.decides (outer (begun (turn c))) (says (begun (turn c))) (old (begun (turn c))) (turn c).loop-place.out (begun (turn c)).args.from (begun (turn c)).args.count (turn c).loop-place.place (turn c).loop-place.at c.skip-next.result c.owes-steps.result
 guards c g =
     let l = (turn c).loop-place in
     let start = begun (turn c) in
@@ -166,7 +166,7 @@ part-guard-steps-end-2 c = omega (arith, c.skip-next.ensures.1, many c.before.be
 guard-steps-requires : tie.Need-guard_steps-end-requires invariant-loop decreases-loop
 guard-steps-requires c κs =
     let one = c in
-    let path = guards one.before (lent one.before.before.before.before) in
+    let path = guards one.before.before.before.before (lent one.before.before.before.before) in
     steps_ask path one.pack_path.result one.pack_path.ensures (part one.before.before.before.before (outer (begun (turn one.before.before.before.before)))) (part one.before.before.before.before (says (begun (turn one.before.before.before.before)))) path.top.part (named path)
 
 put-last-requires : tie.Need-put_last-at-requires invariant-loop decreases-loop
@@ -174,7 +174,7 @@ put-last-requires c κs =
     let two = c in
     let one = packed two.before.before.before in
     let path = guards one.before (lent one.before) in
-    last_asks path one.pack_path.result one.pack_path.ensures (part one.before (outer (begun (turn one.before)))) (part one.before (says (begun (turn one.before)))) path.top.part (named path) two.guard_steps-end.new.1.0 two.guard_steps-end.result two.guard_steps-end.ensures.0 two.guard_steps-end.ensures.1
+    last_asks path one.pack_path.result one.pack_path.ensures (part one.before (outer (begun (turn one.before)))) (part one.before (says (begun (turn one.before)))) path.top.part (named path) two.guard_steps-end.new.out two.guard_steps-end.result two.guard_steps-end.ensures.0 two.guard_steps-end.ensures.1
 
 loop-less : tie.Need-loop-place-smaller invariant-loop decreases-loop
 loop-less c =
@@ -188,8 +188,8 @@ loop-again c =
     let one = packed two.before.before.before.before.before.before in
     λ g.
     let path = guards one.before g in
-    path_done path one.pack_path.result one.pack_path.ensures (part one.before (outer (begun (turn one.before)))) (part one.before (says (begun (turn one.before)))) path.top.part (named path) two.guard_steps-end.new.1.0 two.guard_steps-end.result two.guard_steps-end.ensures.0 two.guard_steps-end.ensures.1
-    three.put_last-at.new.0 three.put_last-at.result three.put_last-at.ensures.0 three.put_last-at.ensures.1
+    path_done path one.pack_path.result one.pack_path.ensures (part one.before (outer (begun (turn one.before)))) (part one.before (says (begun (turn one.before)))) path.top.part (named path) two.guard_steps-end.new.out two.guard_steps-end.result two.guard_steps-end.ensures.0 two.guard_steps-end.ensures.1
+    three.put_last-at.new.out three.put_last-at.result three.put_last-at.ensures.0 three.put_last-at.ensures.1
 
 same_length : tie.Need-shape_of-out invariant-loop decreases-loop
 same_length c = (c.loop-place.invariant (begun c.before).requires.0).writes.size

@@ -52,7 +52,7 @@ fits start = omega (arith, least start, start.requires.5, start.requires.7)
 abbrev begun : tie.After-put_selected → tie.Start
 begun c = c.before.before.before.before.before.before
 abbrev mid : tie.After-put_selected → List ℕ
-mid c = c.put_selected.new.1.1.0
+mid c = c.put_selected.new.out
 
 same : (c : tie.After-put_selected) → length (mid c) ≡ length (old (begun c))
 same c =
@@ -101,7 +101,7 @@ returns c =
     let start = begun put.before.before.before.before.before.before in
     λ g.
     let parts = composed_parts (outer start) (inner start) (says start) g start.requires.2 in
-    whole_written (chosen start) (whole start g) (old start) (mid put.before.before.before.before.before.before) guarded.guard_paths.new.1.0 (from start) put.put_selected.ensures (omega (arith, start.requires.7))
+    whole_written (chosen start) (whole start g) (old start) (mid put.before.before.before.before.before.before) guarded.guard_paths.new.out (from start) put.put_selected.ensures (omega (arith, start.requires.7))
     (omega (arith, least start, start.requires.5, start.requires.6 g))
     (guarded.guard_paths.ensures g ∙ ap (λ (x : List ℕ). placed (each_got (guarded_path g.decides x) (decode (outer start))) 0 (mid put.before.before.before.before.before.before)) (there put.before.before.before.before.before.before) ∙ ap (λ (x : List ℕ). placed x 0 (mid put.before.before.before.before.before.before)) (sym parts))
 

@@ -32,7 +32,7 @@ begun c = c.before.before.before.before.before.before.before
 -- and it is a node's: the two kinds are read.
 abbrev read : tie.After-wide → tie.After-wide-n
 read c = c.before.before.before.before.before
-inside : (c : tie.Else-parent-n) → c.before.wide-n.result < nodes (ours (begun c.before))
+inside : (c : tie.Else-parent-n) → c.wide-n.result < nodes (ours (begun c.before))
 inside c = omega (arith, c.if-parent-n.false)
 
 -- The kinds are equal, and the row's place is judged.

@@ -31,7 +31,7 @@ same-length-2 c = search rules
 
 -- The run answers as the sheet's: there is a mark for each node.
 answered : (c : tie.After-run_all-ran) →
-    let start = c.before.before.before.before.before.before.before.before.before.before in
+    let start = c in
     let t = table_of start.args.parent.now start.args.kind.now in
     told c.run_all-ran.result ≡ run_answer start.args.view.now t (all_marked t) (nodes t) scratch_room
 answered c =
@@ -48,7 +48,7 @@ returns c =
     let view = start.args.view.now in
     let t = table_of start.args.parent.now start.args.kind.now in
     let knows = ran in
-    refusal_adds _ _ _ _ _ _ _ (table_refused view t ran.run_all-ran.result number.in-Value.in-Value-own.keys2 (answered ran.before.before.before.before.before.before.before.before)) (λ v l. omega (arith, knows.slice_known-2-1.given v)) (λ v l. omega (arith, knows.slice_known-3-1.given v)) (λ v l. omega (arith, knows.slice_known-4-1.given v)) (rw number.number_of_lem.ensures at added.add_refusal.ensures)
+    refusal_adds _ _ _ _ _ _ _ (table_refused view t ran.run_all-ran.result number.in_default.in_default-own.keys2 (answered ran.before.before.before.before.before.before.before.before)) (λ v l. omega (arith, knows.slice_known-2-1.given v)) (λ v l. omega (arith, knows.slice_known-3-1.given v)) (λ v l. omega (arith, knows.slice_known-4-1.given v)) (rw number.number_of_lem.ensures at added.add_refusal.ensures)
 
 add-nodes-requires : tie.Need-add_nodes-requires
 add-nodes-requires c κs = search rules
@@ -73,9 +73,9 @@ returns-2 c =
     let start = ran in
     let view = start.args.view.now in
     let t = table_of start.args.parent.now start.args.kind.now in
-    let given = seen.enum_told.given in
-    let accepted = ap told (sym given.1) ∙ answered ran.before.before.before.before.before.before.before.before.before.before.before.before.before in
-    let marks = marks_kept view t scratch_room start.args.marks.now ran.run_all-ran.new.1.1.1.0 _ (ap told (sym given.1) ∙ ran.run_all-ran.ensures.0) start.requires.2 ran.run_all-ran.ensures.1 in
+    let given = seen.in-Value in
+    let accepted = ap told (sym given.is) ∙ answered ran.before.before.before.before.before.before.before.before.before.before.before.before.before in
+    let marks = marks_kept view t scratch_room start.args.marks.now ran.run_all-ran.new.marks _ (ap told (sym given.is) ∙ ran.run_all-ran.ensures.0) start.requires.2 ran.run_all-ran.ensures.1 in
     shown_adds _ _ _ _ _ t _ _ _ _ (table_shown view t _ accepted) (λ n l. omega (arith, ran.slice_known-5-1.given n)) (rw (marks, start.requires.1) at told-nodes.add_nodes.ensures)
 
 pub add_marked_spec : {M : Type 1} → statement M

@@ -51,7 +51,7 @@ returns c =
     let start = read in
     let args = start.args in
     let knows = read in
-    refusal_adds _ _ _ _ _ _ _ (text_refused args.view.now args.list.now args.text.now read.read_xml-said.result number.in-Value.in-Value-own.keys2 read.read_xml-said.ensures.0) (λ v l. omega (arith, knows.slice_known-1.given v)) (λ v l. omega (arith, knows.slice_known-2-1.given v)) (λ v l. omega (arith, knows.slice_known-3-1.given v)) (rw number.number_of_lem.ensures at added.add_refusal.ensures)
+    refusal_adds _ _ _ _ _ _ _ (text_refused args.view.now args.list.now args.text.now read.read_xml-said.result number.in_default.in_default-own.keys2 read.read_xml-said.ensures.0) (λ v l. omega (arith, knows.slice_known-1.given v)) (λ v l. omega (arith, knows.slice_known-2-1.given v)) (λ v l. omega (arith, knows.slice_known-3-1.given v)) (rw number.number_of_lem.ensures at added.add_refusal.ensures)
 
 -- The text was read, and found to be wanted: the columns of parents and of kinds begin with its nodes.
 abbrev read : tie.In-Value → tie.After-read_xml-said
@@ -68,14 +68,14 @@ accepted c = ap told (sym c.in-Value.is) ∙ (read c).read_xml-said.ensures.0
 found : (c : tie.In-Value) → Taken (start c).args.text.now (start c).args.list.now (count c)
 found c = taken (start c).args.text.now (start c).args.list.now node_limit node_limit node_limit node_limit (count c) (sym (accepted c))
 
-parents : (c : tie.In-Value) → Gives (map parent_field (rows (start c).args.text.now)) (count c) node_limit (read c).read_xml-said.new.1.1.0
+parents : (c : tie.In-Value) → Gives (map parent_field (rows (start c).args.text.now)) (count c) node_limit (read c).read_xml-said.new.parent
 parents c =
     let text = (start c).args.text.now in
     let old : List ℕ = replicate node_limit 0 in
     column_left text (start c).args.list.now (count c) (found c) parent_field node_limit old _ (found c).few
     ((read c).read_xml-said.ensures.1.0 ∙ ap (λ a. read_xml_column parent_field text (told a) old) c.in-Value.is)
 
-kinds : (c : tie.In-Value) → Gives (map (kind_field (start c).args.list.now) (rows (start c).args.text.now)) (count c) node_limit (read c).read_xml-said.new.1.1.1.0
+kinds : (c : tie.In-Value) → Gives (map (kind_field (start c).args.list.now) (rows (start c).args.text.now)) (count c) node_limit (read c).read_xml-said.new.kind
 kinds c =
     let text = (start c).args.text.now in
     let list = (start c).args.list.now in

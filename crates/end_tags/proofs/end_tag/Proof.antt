@@ -13,7 +13,7 @@ sought c = c.before
 abbrev begun : tie.In-At → tie.Start
 begun c = (sought c).before.before
 
-name_read : (c : tie.In-At) → let s = begun c in Renames s.args.text.now s.args.at s.args.inner (At c.before.in-At.name_end)
+name_read : (c : tie.In-At) → let s = begun c in Renames s.args.text.now s.args.at s.args.inner (At c.in-At.name_end)
 name_read c = let s = begun c in subst (Renames s.args.text.now s.args.at s.args.inner) c.in-At.is (sought c).same_name-named.ensures
 
 -- Behind it and white space stands a byte.
@@ -26,7 +26,7 @@ enum-known-named : tie.Need-enum_known-named
 enum-known-named c = search rules
 
 returns : tie.Need-returns-in_default
-returns c = end_stuck _ _ _ c.same_name-named.result c.in-At.in-At-own.keys2 c.same_name-named.ensures
+returns c = end_stuck _ _ _ c.same_name-named.result c.in_default.in_default-own.keys2 c.same_name-named.ensures
 
 skip-requires : tie.Need-skip-place-requires
 skip-requires c κs = (name_read c).bounds.1

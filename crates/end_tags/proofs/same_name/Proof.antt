@@ -89,7 +89,7 @@ enum-known-one : tie.Need-enum_known-one invariant-loop decreases-loop
 enum-known-one c = search rules
 
 returns : tie.Need-returns-in_default invariant-loop decreases-loop
-returns c = let b = c in renaming_refused _ _ _ _ _ (turn (sought b.before)).loop-one.invariant (part (sought b.before)) b.byte-one.result c.in-At.in-At-own.keys2 b.byte-one.ensures
+returns c = let b = c in renaming_refused _ _ _ _ _ (turn (sought b.before)).loop-one.invariant (part (sought b.before)) b.byte-one.result c.in_default.in_default-own.keys2 b.byte-one.ensures
 
 add-letter-3 : tie.Need-overflow_add-letter-in-loop-one invariant-loop decreases-loop
 add-letter-3 c = omega (arith, letter_inside _ _ _ _ _ (found_in c).loop-one.invariant)
@@ -98,7 +98,7 @@ loop-less : tie.Need-loop-one-smaller invariant-loop decreases-loop
 loop-less c = omega (arith, letter_inside _ _ _ _ _ (found_in c).loop-one.invariant)
 
 -- The letter came again.
-letter_read : (c : tie.In-At invariant-loop decreases-loop) → let t = found_in c in Reads (text t) t.loop-one.place (eqb (letter t) ∷ []) (At c.before.in-At.next)
+letter_read : (c : tie.In-At invariant-loop decreases-loop) → let t = found_in c in Reads (text t) t.loop-one.place (eqb (letter t) ∷ []) (At c.in-At.next)
 letter_read c = let t = found_in c in subst (Reads (text t) t.loop-one.place (eqb (letter t) ∷ [])) c.in-At.is (found c).byte-one.ensures
 
 loop-again : tie.Need-loop-one-preserved invariant-loop decreases-loop

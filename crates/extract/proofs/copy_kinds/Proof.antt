@@ -18,7 +18,7 @@ abbrev decreases-loop : tie.decreases-loop-i
 decreases-loop kind marks out₀ n₀ i₀ out n i = length marks - i
 
 -- There is room for the value of a marked node.
-fits : (c : tie.Then-marks-i-eq1 invariant-loop decreases-loop) → c.before.before.before.loop-i.n < length c.before.before.before.before.args.out.now
+fits : (c : tie.Then-marks-i-eq1 invariant-loop decreases-loop) → c.loop-i.n < length c.args.out.now
 fits c =
     let head = c in
     let start = head in

@@ -91,7 +91,7 @@ returns-2 c =
     let start = begun-of (lent_of c.before) in
     let t = lent start in (
       c.answer-said.ensures,
-      refused t start.args.marks.now start.args.out_parent.now start.args.out_kind.now c.answer-said.result c.answer-said.ensures c.in-Value.in-Value-own.keys2,
+      refused t start.args.marks.now start.args.out_parent.now start.args.out_kind.now c.answer-said.result c.answer-said.ensures c.in_default.in_default-own.keys2,
     )
 
 pub extract_spec : {M : Type 1} → statement M

@@ -42,7 +42,7 @@ Sought = tie.After-wide-at invariant-loop decreases-loop
 abbrev turn-of : Sought → Turn
 turn-of c = c.before.before.before
 -- The new number of a marked node no greater than `from` is a place of what is written.
-inside : (c : tie.In-loop-at invariant-loop decreases-loop) → c.before.loop-at.new < length (begun-of (lent_of c.before)).args.out.now
+inside : (c : tie.In-loop-at invariant-loop decreases-loop) → c.loop-at.new < length (begun-of (lent_of c.before)).args.out.now
 inside c =
     let start = begun-of (lent_of c.before) in
     omega (arith, start.requires.1.0.room, rank_less start.args.marks.now c.loop-at.at (start.args.from + 1) (omega arith) c.loop-at.invariant.1)

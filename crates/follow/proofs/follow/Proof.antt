@@ -30,8 +30,8 @@ returns c =
     let a = c.args in
     let t = table_of a.parent.now a.kind.now in
     let said = c.judge-said in (
-      refused_answer a.query.now t a.given.now a.marks.now said.result c.in-Value.in-Value-own.keys2 said.ensures,
-      refused_marks a.query.now t a.given.now a.marks.now said.result c.in-Value.in-Value-own.keys2 said.ensures,
+      refused_answer a.query.now t a.given.now a.marks.now said.result c.in_default.in_default-own.keys2 said.ensures,
+      refused_marks a.query.now t a.given.now a.marks.now said.result c.in_default.in_default-own.keys2 said.ensures,
     )
 
 mark-kept-requires : tie.Need-mark_kept-requires

@@ -58,7 +58,7 @@ abbrev other : tie.In_default → tie.Start
 other c = begun c.before.before
 
 other_stays : (c : tie.In_default) → items (other c) ≡ (other c).args.w ∷ []
-other_stays c = no_step_guarded (chosen (other c)) (flag (other c)) _ _ c.unpack-said.ensures c.in-Step.in-Step-own.keys2
+other_stays c = no_step_guarded (chosen (other c)) (flag (other c)) _ _ c.unpack-said.ensures c.in_default.in_default-own.keys2
 
 -- A step is written with V.
 abbrev named_step : tie.In-Step → tie.Else-guards-eq0
@@ -75,7 +75,7 @@ room c = guarded_room (chosen (step_start c)) (flag (step_start c)) _ _ (same_it
 
 abbrev said : tie.After-guard_step → tie.In-Step
 said c = c.before.before
-wrote : (c : tie.After-guard_step) → c.guard_step.new.1.0 ≡ placed (items (step_start (said c))) (step_start (said c)).args.at (old (step_start (said c)))
+wrote : (c : tie.After-guard_step) → c.guard_step.new.out ≡ placed (items (step_start (said c))) (step_start (said c)).args.at (old (step_start (said c)))
 wrote c =
     let start = step_start (said c) in
     c.guard_step.ensures.0 ∙ ap (λ (x : List ℕ). placed x start.args.at (old start)) (sym (same_items (said c)))

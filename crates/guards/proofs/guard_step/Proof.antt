@@ -27,7 +27,7 @@ chosen start = take start.args.count (drop start.args.from (old start))
 abbrev begun : tie.After-put_visible → tie.Start
 begun c = c.before.before.before.before.before
 abbrev new : tie.After-put_visible → List ℕ
-new c = c.put_visible.new.0
+new c = c.put_visible.new.out
 
 wrote : (c : tie.After-put_visible) → new c ≡ placed (guarded_step (chosen (begun c)) (begun c).args.step) (begun c).args.at (old (begun c))
 wrote c =

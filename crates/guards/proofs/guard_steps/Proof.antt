@@ -32,7 +32,7 @@ Turn = tie.In-loop-place invariant-loop decreases-loop
 
 abbrev begun : Turn → Start
 begun c = c.before.before.before.before.before
-beside : (c : Turn) → c.before.loop-place.place < length (says (begun c))
+beside : (c : Turn) → c.loop-place.place < length (says (begun c))
 beside c = omega (arith, (begun c).requires.1, c.loop-place-test.true)
 
 loop-holds : tie.Need-loop-place-init invariant-loop decreases-loop
@@ -71,7 +71,7 @@ loop-again c =
     let turn = put in
     let start = begun turn.before.before.before.before.before.before in
     let l = turn.loop-place in
-    guarded_more (steps start) (says start) (old start) l.out put.guard_item-at.new.1.0 start.args.start l.place l.at put.guard_item-at.result start.args.from start.args.count
+    guarded_more (steps start) (says start) (old start) l.out put.guard_item-at.new.out start.args.start l.place l.at put.guard_item-at.result start.args.from start.args.count
     turn.loop-place-test.true l.invariant start.requires.2 start.requires.3 put.guard_item-at.ensures.0 put.guard_item-at.ensures.1
 
 same_length : tie.Need-shape_of-out invariant-loop decreases-loop

@@ -15,7 +15,7 @@ enum-known-item : tie.Need-enum_known-item
 enum-known-item c = search rules
 
 returns : tie.Need-returns-in_default
-returns c = no_step_counted _ _ c.unpack-item.ensures c.in-Step.in-Step-own.keys2
+returns c = no_step_counted _ _ c.unpack-item.ensures c.in_default.in_default-own.keys2
 
 guarded-requires : tie.Need-guarded-requires
 guarded-requires c κs = search rules

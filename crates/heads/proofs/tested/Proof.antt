@@ -30,9 +30,9 @@ enum-known-token c = search rules
 returns-2 : tie.Need-returns-in_default-token
 returns-2 c =
     let t = c.take-taken.ensures in
-    let star = not_star _ _ _ t c.in-Star.in-Star-own.keys2 in
-    let word = not_word_sees _ _ _ t c.in-Word.in-Word-own.keys2 in (
-      λ newer a e. tested_wrong newer _ _ _ _ a e _ star word (none_letters _ _ _ t c.in-Word.in-Word-own.keys2) (taken_at _ _ _ t),
+    let star = not_star _ _ _ t c.in_default.in_default-own.keys2 in
+    let word = not_word_sees _ _ _ t c.in_default-token.in_default-token-own.keys2 in (
+      λ newer a e. tested_wrong newer _ _ _ _ a e _ star word (none_letters _ _ _ t c.in_default-token.in_default-token-own.keys2) (taken_at _ _ _ t),
       wrong_made _ _ _ _ _ star word (taken_at _ _ _ t),
     )
 

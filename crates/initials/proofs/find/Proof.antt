@@ -71,7 +71,7 @@ long : (s : Start) → 0 < length (word s)
 long s = word_long _ _ _ s.requires.1.1.0 s.requires.1.1.1
 
 -- The word's first byte.
-byte : (c : tie.After-shared_slice_known-3-1 invariant-loop decreases-loop) → get_or c.before.before.before.args.text.now c.before.before.before.args.start 0 < bytes_count
+byte : (c : tie.After-shared_slice_known-3-1 invariant-loop decreases-loop) → get_or c.args.text.now c.args.start 0 < bytes_count
 byte c = omega (arith, c.shared_slice_known-2-1.given c.args.start)
 
 -- The name that is looked at.

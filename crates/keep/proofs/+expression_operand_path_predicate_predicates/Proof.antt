@@ -172,17 +172,17 @@ expression_enough t c =
 abbrev expression_mid : (t : ℕ) → expression-lts.After-operand-place (expression_claims t) (expression_at t) expression.Post expression_Inv_loop expression_μ_loop → List ℕ
 expression_mid t c =
     let turn = expression_turning t c in
-    put_mid (turn.loop-ands.base + turn.loop-ands.held) (length turn.loop-ands.sets - (turn.loop-ands.base + turn.loop-ands.held)) turn.loop-ands.sets c.operand-place.new.1.1.1.1.1.1.0
+    put_mid (turn.loop-ands.base + turn.loop-ands.held) (length turn.loop-ands.sets - (turn.loop-ands.base + turn.loop-ands.held)) turn.loop-ands.sets c.operand-place.new.sets
 
 abbrev expression_entries : (t : ℕ) → expression-lts.After-operand-place (expression_claims t) (expression_at t) expression.Post expression_Inv_loop expression_μ_loop → List ℕ
-expression_entries t c = c.operand-place.new.1.1.1.1.1.1.1.0
+expression_entries t c = c.operand-place.new.known
 
 -- They are as many.
 expression_back : (t : ℕ) (c : expression-lts.After-operand-place (expression_claims t) (expression_at t) expression.Post expression_Inv_loop expression_μ_loop) → length (expression_mid t c) ≡ length (expression_turning t c).loop-ands.sets
 expression_back t c =
     let turn = expression_turning t c in
     let l = turn.loop-ands in
-    length_stays (l.base + l.held) l.sets c.operand-place.new.1.1.1.1.1.1.0 (omega (arith, expression_enough t turn)) c.operand-place.auto.1.1.1.1.1.1.0
+    length_stays (l.base + l.held) l.sets c.operand-place.new.sets (omega (arith, expression_enough t turn)) c.operand-place.auto.1.1.1.1.1.1.0
 
 expression_entries_all : (t : ℕ) (c : expression-lts.After-operand-place (expression_claims t) (expression_at t) expression.Post expression_Inv_loop expression_μ_loop) → length (expression_entries t c) ≡ length (expression_turning t c).loop-ands.known
 expression_entries_all t c = c.operand-place.auto.1.1.1.1.1.1.1.0
@@ -202,13 +202,13 @@ expression_kept_back t c =
     let turn = expression_turning t c in
     let start = expression_begun t turn in
     let l = turn.loop-ands in
-    let part = c.operand-place.new.1.1.1.1.1.1.0 in
+    let part = c.operand-place.new.sets in
     let n = expression_all t start in
     kept_same (expression_entries t c) part (expression_mid t c)
     (sym (kept_back (length (expression_entries t c)) n (l.base + l.held) l.sets part (omega (arith, expression_room t c l.sets refl)) c.operand-place.auto.1.1.1.1.1.1.0)) c.operand-place.ensures.1
 
 expression_kept_narrow : (t : ℕ) (c : expression-lts.After-narrow (expression_claims t) (expression_at t) expression.Post expression_Inv_loop expression_μ_loop)
-    → expression_Kept t (expression_begun t (expression_turning t (expression_reading t c))) (expression_entries t (expression_reading t c)) c.narrow.new.0
+    → expression_Kept t (expression_begun t (expression_turning t (expression_reading t c))) (expression_entries t (expression_reading t c)) c.narrow.new.sets
 expression_kept_narrow t c =
     let read = expression_reading t c in
     let turn = expression_turning t read in
@@ -216,12 +216,12 @@ expression_kept_narrow t c =
     let n = expression_all t start in
     let entries = expression_entries t read in
     let mid = expression_mid t read in
-    kept_same entries mid c.narrow.new.0
-    (kept_end (length entries) n (turn.loop-ands.base + n) mid c.narrow.new.0 (omega (arith, expression_room t read mid (expression_back t read))) c.narrow.auto.0 c.narrow.ensures.behind)
+    kept_same entries mid c.narrow.new.sets
+    (kept_end (length entries) n (turn.loop-ands.base + n) mid c.narrow.new.sets (omega (arith, expression_room t read mid (expression_back t read))) c.narrow.auto.0 c.narrow.ensures.behind)
     (expression_kept_back t read)
 
 expression_kept_widen : (t : ℕ) (c : expression-lts.After-widen (expression_claims t) (expression_at t) expression.Post expression_Inv_loop expression_μ_loop)
-    → expression_Kept t (expression_begun t (expression_turning t (expression_reading t (expression_joining t c)))) (expression_entries t (expression_reading t (expression_joining t c))) c.widen.new.0
+    → expression_Kept t (expression_begun t (expression_turning t (expression_reading t (expression_joining t c)))) (expression_entries t (expression_reading t (expression_joining t c))) c.widen.new.sets
 expression_kept_widen t c =
     let joined = expression_joining t c in
     let read = expression_reading t joined in
@@ -229,9 +229,9 @@ expression_kept_widen t c =
     let start = expression_begun t turn in
     let n = expression_all t start in
     let entries = expression_entries t read in
-    let after = joined.narrow.last.0 in
-    kept_same entries after c.widen.new.0
-    (kept_end (length entries) n (0 + n) after c.widen.new.0 (omega (arith, expression_room t read after (joined.narrow.kept.0 ∙ expression_back t read))) c.widen.auto.0 c.widen.ensures.behind)
+    let after = joined.narrow.new.sets in
+    kept_same entries after c.widen.new.sets
+    (kept_end (length entries) n (0 + n) after c.widen.new.sets (omega (arith, expression_room t read after (joined.narrow.kept.0 ∙ expression_back t read))) c.widen.auto.0 c.widen.ensures.behind)
     (expression_kept_narrow t joined)
 
 expression_add_run_of : (t : ℕ) → expression-lts.Need-overflow_add-at (expression_claims t) (expression_at t) expression.Post expression_Inv_loop expression_μ_loop
@@ -283,8 +283,8 @@ expression_operand_requires t c κs =
           start.requires.1.1.0,
           (
             subst (λ (r : ℕ). Fits a.items.now l.place n r (take_operand (take_within a.depth) (drop l.place a.items.now)) height_expr)
-                (spare_part n k l.sets a.sets.now l.invariant.2 l.invariant.0 (omega (arith, expression_enough t turn))) (turn_fits l.invariant.1 _ start.requires.1.1.1.0),
-            kept_same l.known l.sets (take (length l.sets - k) (drop k l.sets)) (kept_part (length l.known) n k l.sets (omega (arith, expression_enough t turn))) l.invariant.3,
+                (spare_part n k l.sets a.sets.now l.invariant.2 l.invariant.0 (omega (arith, expression_enough t turn.before.before))) (turn_fits l.invariant.1 _ start.requires.1.1.1.0),
+            kept_same l.known l.sets (take (length l.sets - k) (drop k l.sets)) (kept_part (length l.known) n k l.sets (omega (arith, expression_enough t turn.before.before))) l.invariant.3,
           ),
         ),
       ),
@@ -295,7 +295,7 @@ expression_narrow_requires t c κs =
     let read = c in
     let turn = expression_turning t read.before.before.before.before.before in
     let l = turn.loop-ands in
-    λ z. omega (arith, expression_enough t turn, turn_held l.invariant.1 z, expression_back t read)
+    λ z. omega (arith, expression_enough t turn, turn_held l.invariant.1 z, expression_back t read.before.before.before.before.before)
 
 expression_sub_ands : (t : ℕ) → expression-lts.Need-overflow_sub-ands (expression_claims t) (expression_at t) expression.Post expression_Inv_loop expression_μ_loop
 expression_sub_ands t c = omega (arith, c.if-ands-gt0.true)
@@ -319,7 +319,7 @@ expression_loop_again t c =
       joined.narrow.auto.0 ∙ expression_back t read ∙ l.invariant.0,
       turn_and l.invariant.1 start.requires.1.1.0.tree.rooted (omega (arith, expression_enough t turn)) read.operand-place.ensures.0 refl joined.narrow.ensures c.if-ands-gt0.true,
       expression_entries_all t read ∙ l.invariant.2,
-      expression_kept_narrow t joined,
+      expression_kept_narrow t joined.before.before.before,
     )
 
 expression_widen_requires : (t : ℕ) → expression-lts.Need-widen-requires (expression_claims t) (expression_at t) expression.Post expression_Inv_loop expression_μ_loop
@@ -355,7 +355,7 @@ expression_returns t c =
     let start = expression_begun t turn in
     let l = turn.loop-ands in (
       turn_done l.invariant.1 start.requires.1.1.0.tree.rooted (omega (arith, expression_enough t turn)) read.operand-place.ensures.0 refl joined.narrow.ensures added.if-ands-gt0.false added.widen.ensures (omega (arith, c.if-ors-eq0.true)),
-      expression_kept_widen t added,
+      expression_kept_widen t added.before.before.before,
     )
 
 expression_sub_ors : (t : ℕ) → expression-lts.Need-overflow_sub-ors (expression_claims t) (expression_at t) expression.Post expression_Inv_loop expression_μ_loop
@@ -398,7 +398,7 @@ expression_loop_again_2 t c =
       added.widen.auto.0 ∙ joined.narrow.kept.0 ∙ expression_back t read ∙ l.invariant.0,
       turn_or l.invariant.1 start.requires.1.1.0.tree.rooted (omega (arith, expression_enough t turn)) read.operand-place.ensures.0 refl joined.narrow.ensures added.if-ands-gt0.false added.widen.ensures (omega (arith, c.if-ors-eq0.false)) c.run_of-ands-else-ands-gt0.ensures.0 c.run_of-ands-else-ands-gt0.ensures.1,
       expression_entries_all t read ∙ l.invariant.2,
-      expression_kept_widen t added,
+      expression_kept_widen t added.before.before.before.before,
     )
 
 -- The other needs of `expression` are found.
@@ -460,7 +460,7 @@ operand_sub_expression t c =
     let f = start.requires.1.1.1.0 in
     let u = c.unpack-item in
     let s = said (get_or a.items.now a.at 0) u.result u.ensures in
-    let deep = not_deep (table_of a.parent.now a.kind.now) a.given.now a.items.now a.at (length a.parent.now) _ a.depth f u.result s c.in-Path.in-Path-own.keys2 in
+    let deep = not_deep (table_of a.parent.now a.kind.now) a.given.now a.items.now a.at (length a.parent.now) _ a.depth f u.result s c.in_default.in_default-own.keys2 in
     omega (arith, deep)
 
 operand_expression_requires : (t : ℕ) → operand-lts.Need-expression-next-requires (operand_claims t) (operand_at t) operand.Post
@@ -470,7 +470,7 @@ operand_expression_requires t c κs =
     let f = start.requires.1.1.1.0 in
     let u = c.unpack-item in
     let s = said (get_or a.items.now a.at 0) u.result u.ensures in
-    let deep = not_deep (table_of a.parent.now a.kind.now) a.given.now a.items.now a.at (length a.parent.now) _ a.depth f u.result s c.in-Path.in-Path-own.keys2 in
+    let deep = not_deep (table_of a.parent.now a.kind.now) a.given.now a.items.now a.at (length a.parent.now) _ a.depth f u.result s c.in_default.in_default-own.keys2 in
     (omega (arith, operand_there a.items.now a.at _ _ a.depth f, start.requires.0), (omega (arith, start.requires.1.0), (start.requires.1.1.0, (opens_not (table_of a.parent.now a.kind.now) a.given.now a.items.now a.at (length a.parent.now) _ a.depth deep f (rw c.in-Not.is at s), start.requires.1.1.1.1))))
 
 -- All nodes.
@@ -479,22 +479,22 @@ operand_all t c = length c.args.parent.now
 
 -- There is room for a set before the sets kept, as many as they were, when the expression's have come back.
 operand_enough : (t : ℕ) (c : operand-lts.After-expression-next (operand_claims t) (operand_at t) operand.Post)
-    → operand_all t (operand_begun t c) ≤ spare (length c.expression-next.new.1.1.1.1.1.1.1.0) (operand_all t (operand_begun t c)) c.expression-next.new.1.1.1.1.1.1.0
+    → operand_all t (operand_begun t c) ≤ spare (length c.expression-next.new.known) (operand_all t (operand_begun t c)) c.expression-next.new.sets
 operand_enough t c =
-    let start = c.before.before.before.before.before.before.before.before.before.before.before.before.before.before in
+    let start = c in
     let a = start.args in
-    omega (arith, operand_room a.items.now a.at _ _ a.depth start.requires.1.1.1.0, spare_same (length a.parent.now) c.expression-next.new.1.1.1.1.1.1.0 a.sets.now c.expression-next.auto.1.1.1.1.1.1.1.0 c.expression-next.auto.1.1.1.1.1.1.0)
+    omega (arith, operand_room a.items.now a.at _ _ a.depth start.requires.1.1.1.0, spare_same (length a.parent.now) c.expression-next.new.sets a.sets.now c.expression-next.auto.1.1.1.1.1.1.1.0 c.expression-next.auto.1.1.1.1.1.1.0)
 
 operand_slice_relend_prefix_flip : (t : ℕ) → operand-lts.Need-slice_bounds-flip-end (operand_claims t) (operand_at t) operand.Post
 operand_slice_relend_prefix_flip t c =
     let answered = c in
-    omega (arith, operand_enough t answered)
+    omega (arith, operand_enough t answered.before.before.before.before)
 
 operand_slice_aggregate_flip : (t : ℕ) → operand-lts.Need-slice_bounds-flip-end-in-Not (operand_claims t) (operand_at t) operand.Post
 operand_slice_aggregate_flip t c =
     let answered = c in
     let start = c in
-    sym (length-take-le (length start.args.parent.now) _ (omega (arith, operand_enough t answered)))
+    sym (length-take-le (length start.args.parent.now) _ (omega (arith, operand_enough t answered.before.before.before.before.before)))
 
 operand_returns_2 : (t : ℕ) → operand-lts.Need-returns-in-Not (operand_claims t) (operand_at t) operand.Post
 operand_returns_2 t c =
@@ -504,18 +504,18 @@ operand_returns_2 t c =
     let f = start.requires.1.1.1.0 in
     let u = answered.unpack-item in
     let s = said (get_or a.items.now a.at 0) u.result u.ensures in
-    let deep = not_deep (table_of a.parent.now a.kind.now) a.given.now a.items.now a.at (length a.parent.now) _ a.depth f u.result s answered.in-Path.in-Path-own.keys2 in
+    let deep = not_deep (table_of a.parent.now a.kind.now) a.given.now a.items.now a.at (length a.parent.now) _ a.depth f u.result s answered.in_default.in_default-own.keys2 in
     let n = length a.parent.now in
     let worked = answered.expression-next in
     let sets = worked.new.1.1.1.1.1.1.0 in
     let entries = worked.new.1.1.1.1.1.1.1.0 in
     let flipped = c.flip in
-    let len : length (take n sets) ≡ n = length-take-le n sets (omega (arith, operand_enough t answered)) in (
+    let len : length (take n sets) ≡ n = length-take-le n sets (omega (arith, operand_enough t answered.before.before.before.before.before.before.before.before)) in (
       closes_not (table_of a.parent.now a.kind.now) a.given.now a.items.now a.at (length a.parent.now) _ a.depth deep f _ sets _ (rw answered.in-Not.is at s) worked.ensures.0
           (λ g p.
           front_back n (λ i. not (g i)) flipped.new.0 _
           (flipped.ensures g (p ∙ ap (λ (k : ℕ). bits k g) (sym len)) ∙ ap (λ (k : ℕ). bits k (λ i. not (g i))) len)),
-      kept_same entries sets (flipped.new.0 ++ drop n sets) (kept_front (length entries) n n sets flipped.new.0 (operand_enough t answered) (flipped.auto.0 ∙ len)) worked.ensures.1,
+      kept_same entries sets (flipped.new.0 ++ drop n sets) (kept_front (length entries) n n sets flipped.new.0 (operand_enough t answered.before.before.before.before.before.before.before.before) (flipped.auto.0 ∙ len)) worked.ensures.1,
     )
 
 operand_sub_expression_2 : (t : ℕ) → operand-lts.Need-overflow_sub-depth-2 (operand_claims t) (operand_at t) operand.Post
@@ -525,7 +525,7 @@ operand_sub_expression_2 t c =
     let f = start.requires.1.1.1.0 in
     let u = c.unpack-item in
     let s = said (get_or a.items.now a.at 0) u.result u.ensures in
-    let deep = not_deep (table_of a.parent.now a.kind.now) a.given.now a.items.now a.at (length a.parent.now) _ a.depth f u.result s c.in-Path.in-Path-own.keys2 in
+    let deep = not_deep (table_of a.parent.now a.kind.now) a.given.now a.items.now a.at (length a.parent.now) _ a.depth f u.result s c.in_default.in_default-own.keys2 in
     omega (arith, deep)
 
 operand_expression_requires_2 : (t : ℕ) → operand-lts.Need-expression-requires (operand_claims t) (operand_at t) operand.Post
@@ -535,8 +535,8 @@ operand_expression_requires_2 t c κs =
     let f = start.requires.1.1.1.0 in
     let u = c.unpack-item in
     let s = said (get_or a.items.now a.at 0) u.result u.ensures in
-    let deep = not_deep (table_of a.parent.now a.kind.now) a.given.now a.items.now a.at (length a.parent.now) _ a.depth f u.result s c.in-Path.in-Path-own.keys2 in
-    let joins = must_join a.items.now a.at _ _ a.depth f u.result s c.in-Path.in-Path-own.keys2 c.in-Not.in-Not-own.keys2 in
+    let deep = not_deep (table_of a.parent.now a.kind.now) a.given.now a.items.now a.at (length a.parent.now) _ a.depth f u.result s c.in_default.in_default-own.keys2 in
+    let joins = must_join a.items.now a.at _ _ a.depth f u.result s c.in_default.in_default-own.keys2 c.in_default-item.in_default-item-own.keys2 in
     let on = operand_there a.items.now a.at _ _ a.depth f in
     (omega (arith, on, operators_there a.items.now a.at a.depth on joins, start.requires.0), (omega (arith, start.requires.1.0), (start.requires.1.1.0, (opens_joined (table_of a.parent.now a.kind.now) a.given.now a.items.now a.at (length a.parent.now) _ a.depth deep f joins, start.requires.1.1.1.1))))
 
@@ -547,8 +547,8 @@ operand_returns_3 t c =
     let f = start.requires.1.1.1.0 in
     let u = c.unpack-item in
     let s = said (get_or a.items.now a.at 0) u.result u.ensures in
-    let deep = not_deep (table_of a.parent.now a.kind.now) a.given.now a.items.now a.at (length a.parent.now) _ a.depth f u.result s c.in-Path.in-Path-own.keys2 in
-    let joins = must_join a.items.now a.at _ _ a.depth f u.result s c.in-Path.in-Path-own.keys2 c.in-Not.in-Not-own.keys2 in
+    let deep = not_deep (table_of a.parent.now a.kind.now) a.given.now a.items.now a.at (length a.parent.now) _ a.depth f u.result s c.in_default.in_default-own.keys2 in
+    let joins = must_join a.items.now a.at _ _ a.depth f u.result s c.in_default.in_default-own.keys2 c.in_default-item.in_default-item-own.keys2 in
     (closes_joined (table_of a.parent.now a.kind.now) a.given.now a.items.now a.at (length a.parent.now) _ a.depth deep f _ _ joins c.expression.ensures.0, c.expression.ensures.1)
 
 -- The other needs of `operand` are found.
@@ -659,12 +659,12 @@ path_front t c = length-take-le _ c.args.sets.now (omega (arith, path_room t c))
 abbrev path_filled : (t : ℕ) → path-lts.After-fill (path_claims t) (path-at t) path.Post path_Inv_loop path_μ_loop → List ℕ
 path_filled t c =
     let start = path_begun t c in
-    c.fill.new.0 ++ drop (path_all t start) start.args.sets.now
+    c.fill.new.set ++ drop (path_all t start) start.args.sets.now
 
 path_filled_length : (t : ℕ) (c : path-lts.After-fill (path_claims t) (path-at t) path.Post path_Inv_loop path_μ_loop) → length (path_filled t c) ≡ length (path_begun t c).args.sets.now
 path_filled_length t c =
     let start = path_begun t c in
-    front_length (path_all t start) start.args.sets.now c.fill.new.0 (omega (arith, path_room t start)) c.fill.auto.0
+    front_length (path_all t start) start.args.sets.now c.fill.new.set (omega (arith, path_room t start)) c.fill.auto.0
 
 -- A turn has as many sets, and the same room.
 path_length : (t : ℕ) (c : path-lts.At-loop-left (path_claims t) (path-at t) path.Post path_Inv_loop path_μ_loop) → length c.loop-left.sets ≡ length (path_begun t (path_filling t c)).args.sets.now
@@ -690,7 +690,7 @@ path_restricted t c =
     let turn = path_turning t owed in
     let full = path_filling t turn in
     let start = path_begun t full in
-    c.restrict.new.1.1.1.0 ++ drop (path_all t start) turn.loop-left.sets
+    c.restrict.new.set ++ drop (path_all t start) turn.loop-left.sets
 
 path_restricted_length : (t : ℕ) (c : path-lts.After-restrict (path_claims t) (path-at t) path.Post path_Inv_loop path_μ_loop) → length (path_restricted t c) ≡ length (path_turning t (path_owing t (path_finding t (path_stepping t c)))).loop-left.sets
 path_restricted_length t c =
@@ -700,7 +700,7 @@ path_restricted_length t c =
     let turn = path_turning t owed in
     let full = path_filling t turn in
     let start = path_begun t full in
-    front_length (path_all t start) turn.loop-left.sets c.restrict.new.1.1.1.0 (omega (arith, path_enough t turn)) c.restrict.auto.1.1.1.0
+    front_length (path_all t start) turn.loop-left.sets c.restrict.new.set (omega (arith, path_enough t turn)) c.restrict.auto.1.1.1.0
 
 path_restricted_kept : (t : ℕ) (c : path-lts.After-restrict (path_claims t) (path-at t) path.Post path_Inv_loop path_μ_loop)
     → path_Kept t (path_begun t (path_filling t (path_turning t (path_owing t (path_finding t (path_stepping t c)))))) (path_turning t (path_owing t (path_finding t (path_stepping t c)))).loop-left.known (path_restricted t c)
@@ -714,14 +714,14 @@ path_restricted_kept t c =
     let n = path_all t start in
     let l = turn.loop-left in
     kept_same l.known l.sets (path_restricted t c)
-    (kept_front (length l.known) n n l.sets c.restrict.new.1.1.1.0 (path_enough t turn) (c.restrict.auto.1.1.1.0 ∙ path_turn_front t turn)) l.invariant.4
+    (kept_front (length l.known) n n l.sets c.restrict.new.set (path_enough t turn) (c.restrict.auto.1.1.1.0 ∙ path_turn_front t turn)) l.invariant.4
 
 -- The predicates have narrowed it.
 abbrev path_narrowed : (t : ℕ) → path-lts.After-predicates (path_claims t) (path-at t) path.Post path_Inv_loop path_μ_loop → List ℕ
-path_narrowed t c = c.predicates.new.1.1.1.1.1.1.1.0
+path_narrowed t c = c.predicates.new.sets
 
 abbrev path_entries : (t : ℕ) → path-lts.After-predicates (path_claims t) (path-at t) path.Post path_Inv_loop path_μ_loop → List ℕ
-path_entries t c = c.predicates.new.1.1.1.1.1.1.1.1.0
+path_entries t c = c.predicates.new.known
 
 path_narrowed_length : (t : ℕ) (c : path-lts.After-predicates (path_claims t) (path-at t) path.Post path_Inv_loop path_μ_loop) → length (path_narrowed t c) ≡ length (path_turning t (path_owing t (path_finding t (path_stepping t (path_testing t c))))).loop-left.sets
 path_narrowed_length t c =
@@ -745,12 +745,12 @@ path_narrowed_front t c = length-take-le _ (path_narrowed t c) (omega (arith, pa
 path_slice_relend_prefix_fill : (t : ℕ) → path-lts.Need-slice_bounds-fill-end (path_claims t) (path-at t) path.Post path_Inv_loop path_μ_loop
 path_slice_relend_prefix_fill t c =
     let start = c in
-    omega (arith, path_room t start)
+    omega (arith, path_room t start.before.before.before.before.before.before)
 
 path_slice_aggregate_fill : (t : ℕ) → path-lts.Need-slice_bounds-fill-end-2 (path_claims t) (path-at t) path.Post path_Inv_loop path_μ_loop
 path_slice_aggregate_fill t c =
     let start = c in
-    sym (path_front t start)
+    sym (path_front t start.before.before.before.before.before.before.before)
 
 path_look_first_requires : (t : ℕ) → path-lts.Need-look_first-places-requires (path_claims t) (path-at t) path.Post path_Inv_loop path_μ_loop
 path_look_first_requires t c κs =
@@ -857,8 +857,8 @@ path_predicates_requires t c κs =
           start.requires.1.1.0,
           (
             subst₂ (λ (k r : ℕ). Fits a.items.now (looked.result.place + 1) n r (take_preds (take_within a.depth) k (drop (looked.result.place + 1) a.items.now)) (λ ps. 1 + height_preds ps)) (sym count)
-                (sym (spare_same n (path_restricted t tested.before.before.before.before) a.sets.now l.invariant.3 (path_restricted_length t tested ∙ path_length t turn))) here.preds,
-            path_restricted_kept t tested,
+                (sym (spare_same n (path_restricted t tested.before.before.before.before) a.sets.now l.invariant.3 (path_restricted_length t tested.before.before.before.before ∙ path_length t turn))) here.preds,
+            path_restricted_kept t tested.before.before.before.before,
           ),
         ),
       ),
@@ -867,12 +867,12 @@ path_predicates_requires t c κs =
 path_slice_relend_prefix_along : (t : ℕ) → path-lts.Need-slice_bounds-along-end (path_claims t) (path-at t) path.Post path_Inv_loop path_μ_loop
 path_slice_relend_prefix_along t c =
     let met = c in
-    omega (arith, path_narrowed_enough t met)
+    omega (arith, path_narrowed_enough t met.before.before.before.before.before)
 
 path_slice_aggregate_along : (t : ℕ) → path-lts.Need-slice_bounds-along-end-in-loop-left (path_claims t) (path-at t) path.Post path_Inv_loop path_μ_loop
 path_slice_aggregate_along t c =
     let met = c in
-    sym (path_narrowed_front t met)
+    sym (path_narrowed_front t met.before.before.before.before.before.before)
 
 path_along_requires : (t : ℕ) → path-lts.Need-along-requires (path_claims t) (path-at t) path.Post path_Inv_loop path_μ_loop
 path_along_requires t c κs =
@@ -885,7 +885,7 @@ path_along_requires t c κs =
     let full = path_filling t turn in
     let start = path_begun t full in
     let w = start.requires.1.1.0.tree in
-    (sym (path_narrowed_front t met), λ kinds. record { rooted = w.rooted; root = w.root; falls = w.falls })
+    (sym (path_narrowed_front t met.before.before.before.before.before.before), λ kinds. record { rooted = w.rooted; root = w.root; falls = w.falls })
 
 path_loop_again : (t : ℕ) → path-lts.Need-loop-left-preserved (path_claims t) (path-at t) path.Post path_Inv_loop path_μ_loop
 path_loop_again t c =
@@ -909,13 +909,13 @@ path_loop_again t c =
     let moved = c.along in
     let said_step = stepped.step_at-step.ensures in
     let front = path_turn_front t turn in
-    let front2 = path_narrowed_front t met in
+    let front2 = path_narrowed_front t met.before.before.before.before.before.before.before.before.before in
     step-here a.items.now a.at n _ a.depth a.count start.requires.1.1.1.0 (l.left - 1) looked.result.place (omega (arith, l.invariant.1.fewer, owed.loop-left-test.true)) looked.ensures.1
     (λ on h p here.
     let same : said_step.0 ≡ h = some_inj (sym said_step.1 ∙ p) in
     let step_is = said_step.2 ∙ ap numbered same in
     let count : stepped.step_at-step.result.count ≡ h.count = ap (λ (x : Step). x.count) step_is in (
-      front_length n sets moved.new.1.1.0 (omega (arith, path_narrowed_enough t met)) moved.auto.1.1.0 ∙ path_narrowed_length t met ∙ l.invariant.0,
+      front_length n sets moved.new.1.1.0 (omega (arith, path_narrowed_enough t met.before.before.before.before.before.before.before.before.before)) moved.auto.1.1.0 ∙ path_narrowed_length t met.before.before.before.before.before.before.before.before.before ∙ l.invariant.0,
       path_back (table_of a.parent.now kinds) a.given.now a.items.now a.at n _ a.depth a.count start.requires.1.1.1.0 (l.left - 1) looked.result.place h l.sets restricted.last.1.1.1.0 (drop n l.sets) sets moved.new.1.1.0 _
           (omega (arith, l.invariant.1.fewer, owed.loop-left-test.true)) here
           (subst (λ (k : ℕ). PathSet (table_of a.parent.now kinds) a.given.now a.items.now a.at n a.depth a.count k l.sets) (let e : l.left ≡ suc (l.left - 1) = omega (arith, owed.loop-left-test.true) in e) l.invariant.1)
@@ -930,13 +930,13 @@ path_loop_again t c =
           ap (λ (k : ℕ). bits k (image (table_of a.parent.now kinds) (turned h.axis) g)) front2),
       looked.ensures.0,
       narrowed.auto.1.1.1.1.1.1.1.1.0 ∙ l.invariant.3,
-      kept_same entries sets (moved.new.1.1.0 ++ drop n sets) (kept_front (length entries) n n sets moved.new.1.1.0 (path_narrowed_enough t met) (moved.auto.1.1.0 ∙ front2)) narrowed.ensures.1,
+      kept_same entries sets (moved.new.1.1.0 ++ drop n sets) (kept_front (length entries) n n sets moved.new.1.1.0 (path_narrowed_enough t met.before.before.before.before.before.before.before.before.before) (moved.auto.1.1.0 ∙ front2)) narrowed.ensures.1,
     ))
 
 path_same_length : (t : ℕ) → path-lts.Need-shape_of-sets (path_claims t) (path-at t) path.Post path_Inv_loop path_μ_loop
 path_same_length t c =
     let turn = c in
-    path_length t turn
+    path_length t turn.before
 
 path_same_length_2 : (t : ℕ) → path-lts.Need-shape_of-known (path_claims t) (path-at t) path.Post path_Inv_loop path_μ_loop
 path_same_length_2 t c =
@@ -1024,7 +1024,7 @@ predicate_sub_from_2 t c = omega (arith, predicate_apart t c)
 predicate_copy_set_requires : (t : ℕ) → predicate-lts.Need-copy_set-requires (predicate_claims t) (predicate_at t) predicate.Post
 predicate_copy_set_requires t c κs =
     let there = c in
-    let h = predicate_apart t there in
+    let h = predicate_apart t there.before in
     (omega (arith, h), omega (arith, h), inr (omega (arith, h)))
 
 predicate_add_result : (t : ℕ) → predicate-lts.Need-overflow_add-result (predicate_claims t) (predicate_at t) predicate.Post
@@ -1047,7 +1047,7 @@ predicate_returns t c =
     let copied = c.copy_set in
     let kept = start.requires.1.1.1.1 in
     let stands = looked.find-slot.ensures there.if-slot-known.true in
-    let h = predicate_apart t there in
+    let h = predicate_apart t there.before.before.before.before.before in
     let from = length a.sets.now - n * (length known - slot) in
     let room : from + n ≤ length a.sets.now = omega (arith, h) in
     let place : from ≡ spare (length known) n a.sets.now + n * slot = omega (arith, h) in (
@@ -1064,7 +1064,7 @@ predicate_expression_requires t c κs =
 
 -- Worked out, as many sets come back, and as many entries.
 predicate_room_after : (t : ℕ) (c : predicate-lts.After-expression-next (predicate_claims t) (predicate_at t) predicate.Post)
-    → predicate_all t (predicate_begun t (predicate_looking_past t c)) + predicate_all t (predicate_begun t (predicate_looking_past t c)) * length c.expression-next.new.1.1.1.1.1.1.1.0 ≤ length c.expression-next.new.1.1.1.1.1.1.0
+    → predicate_all t (predicate_begun t (predicate_looking_past t c)) + predicate_all t (predicate_begun t (predicate_looking_past t c)) * length c.expression-next.new.known ≤ length c.expression-next.new.sets
 predicate_room_after t c =
     let looked = predicate_looking_past t c in
     let start = predicate_begun t looked in
@@ -1077,7 +1077,7 @@ predicate_few t c = omega (arith, c.expression-next.ensures.0.inside, c.expressi
 predicate_remember_requires : (t : ℕ) → predicate-lts.Need-remember-requires (predicate_claims t) (predicate_at t) predicate.Post
 predicate_remember_requires t c κs =
     let answered = c in
-    (predicate_room_after t answered, answered.expression-next.ensures.0.onward, predicate_few t answered)
+    (predicate_room_after t answered.before.before.before.before.before.before, answered.expression-next.ensures.0.onward, predicate_few t answered.before.before.before.before.before.before)
 
 predicate_returns_2 : (t : ℕ) → predicate-lts.Need-returns (predicate_claims t) (predicate_at t) predicate.Post
 predicate_returns_2 t c =
@@ -1087,9 +1087,9 @@ predicate_returns_2 t c =
     let worked = answered.expression-next in
     let v = worked.ensures.0 in
     let kept = c.remember in
-    let room = predicate_room_after t answered in (
+    let room = predicate_room_after t answered.before.before.before.before.before.before.before.before.before.before.before in (
       record { what = v.what; reads = v.reads; onward = v.onward; inside = v.inside; set = front_remembered room kept.auto.0 kept.ensures ∙ v.set },
-      kept_remembered room kept.auto.0 (worked_out start.args.depth (predicate_few t answered) v) worked.ensures.1 kept.ensures,
+      kept_remembered room kept.auto.0 (worked_out start.args.depth (predicate_few t answered.before.before.before.before.before.before.before.before.before.before.before) v) worked.ensures.1 kept.ensures,
     )
 
 -- The other needs of `predicate` are found.
@@ -1189,7 +1189,7 @@ predicates_predicate_requires t c κs =
     let a = start.args in
     let l = turn.loop-owed in
     let n = length a.parent.now in
-    let two = predicates_two t owed in
+    let two = predicates_two t owed.before.before in
     pred_fits (table_of a.parent.now a.kind.now) a.given.now a.items.now a.at n a.depth _ _ l.place l.owed _ l.sets owed.loop-owed-test.true start.requires.1.1.1.0 l.invariant.1
     (λ deep f fit. (
       omega (arith, l.invariant.1.onward, l.invariant.1.inside, start.requires.0),
@@ -1215,7 +1215,7 @@ predicates_keep_second_requires t c κs =
     let l = turn.loop-owed in
     let n = length start.args.parent.now in
     let two = predicates_two t owed in
-    omega (arith, two, length_stays n l.sets told.predicate-place.new.1.1.1.1.1.1.0 (omega (arith, two)) told.predicate-place.auto.1.1.1.1.1.1.0)
+    omega (arith, two, length_stays n l.sets told.predicate-place.new.sets (omega (arith, two)) told.predicate-place.auto.1.1.1.1.1.1.0)
 
 predicates_loop_again : (t : ℕ) → predicates-lts.Need-loop-owed-preserved (predicates_claims t) (predicates_at t) predicates.Post predicates_Inv_loop predicates_μ_loop
 predicates_loop_again t c =
@@ -1275,8 +1275,8 @@ predicates_sub_owed t c = search rules
 predicates_loop_less : (t : ℕ) → predicates-lts.Need-loop-owed-smaller (predicates_claims t) (predicates_at t) predicates.Post predicates_Inv_loop predicates_μ_loop
 predicates_loop_less t c = search rules
 
-pub +expression-operand-path-predicate-predicates-spec : {M : Type 1} → statement M
-+expression-operand-path-predicate-predicates-spec =
+pub +expression_operand_path_predicate_predicates_spec : {M : Type 1} → statement M
++expression_operand_path_predicate_predicates_spec =
     close μ-expression μ-operand μ-path μ-predicate μ-predicates (λ t. expression-lts.spec (expression_claims t)
     (expression_at t)
     expression.Post

@@ -67,10 +67,10 @@ front c = length-take-le (all (begun c)) c.loop-left.sets (omega (arith, room c)
 abbrev moving : tie.After-along invariant-loop decreases-loop → Turn
 moving c = c.before.before.before.before
 abbrev moved : tie.After-along invariant-loop decreases-loop → List ℕ
-moved c = c.along.new.1.1.0 ++ drop (all (begun (moving c))) (moving c).loop-left.sets
+moved c = c.along.new.set ++ drop (all (begun (moving c))) (moving c).loop-left.sets
 
 moved_length : (c : tie.After-along invariant-loop decreases-loop) → length (moved c) ≡ length (moving c).loop-left.sets
-moved_length c = front_length (all (begun (moving c))) (moving c).loop-left.sets c.along.new.1.1.0 (omega (arith, room (moving c))) c.along.auto.1.1.0
+moved_length c = front_length (all (begun (moving c))) (moving c).loop-left.sets c.along.new.set (omega (arith, room (moving c))) c.along.auto.1.1.0
 
 moved_room : (c : tie.After-along invariant-loop decreases-loop) → all (begun (moving c)) ≤ spare (length (moving c).loop-left.known) (all (begun (moving c))) (moved c)
 moved_room c = omega (arith, room (moving c), spare_same {slots = length (moving c).loop-left.known} (all (begun (moving c))) (moved c) (moving c).loop-left.sets refl (moved_length c))
@@ -83,7 +83,7 @@ moved_kept : (c : tie.After-along invariant-loop decreases-loop)
 moved_kept c =
     let turn = moving c in
     kept_same turn.loop-left.known turn.loop-left.sets (moved c)
-    (kept_front (length turn.loop-left.known) (all (begun turn)) (all (begun turn)) turn.loop-left.sets c.along.new.1.1.0 (room turn) (c.along.auto.1.1.0 ∙ front turn)) turn.loop-left.invariant.3
+    (kept_front (length turn.loop-left.known) (all (begun turn)) (all (begun turn)) turn.loop-left.sets c.along.new.set (room turn) (c.along.auto.1.1.0 ∙ front turn)) turn.loop-left.invariant.3
 
 -- Marks and test are applied to it.
 abbrev testing : tie.After-restrict invariant-loop decreases-loop → tie.After-along invariant-loop decreases-loop
@@ -92,18 +92,18 @@ abbrev tested-turn : tie.After-restrict invariant-loop decreases-loop → Turn
 tested-turn c = moving (testing c)
 
 abbrev tested : tie.After-restrict invariant-loop decreases-loop → List ℕ
-tested c = c.restrict.new.1.1.1.0 ++ drop (all (begun (tested-turn c))) (moved (testing c))
+tested c = c.restrict.new.set ++ drop (all (begun (tested-turn c))) (moved (testing c))
 
 tested_length : (c : tie.After-restrict invariant-loop decreases-loop) → length (tested c) ≡ length (begun (tested-turn c)).args.sets.now
 tested_length c =
-    front_length (all (begun (tested-turn c))) (moved (testing c)) c.restrict.new.1.1.1.0 (omega (arith, moved_room (testing c))) c.restrict.auto.1.1.1.0 ∙ moved_length (testing c) ∙ (tested-turn c).loop-left.invariant.0
+    front_length (all (begun (tested-turn c))) (moved (testing c)) c.restrict.new.set (omega (arith, moved_room (testing c))) c.restrict.auto.1.1.1.0 ∙ moved_length (testing c) ∙ (tested-turn c).loop-left.invariant.0
 
 tested_kept : (c : tie.After-restrict invariant-loop decreases-loop)
     → Kept (table (begun (tested-turn c))) (begun (tested-turn c)).args.given.now (begun (tested-turn c)).args.items.now (all (begun (tested-turn c))) (tested-turn c).loop-left.known (tested c)
 tested_kept c =
     let turn = tested-turn c in
     kept_same turn.loop-left.known (moved (testing c)) (tested c)
-    (kept_front (length turn.loop-left.known) (all (begun turn)) (all (begun turn)) (moved (testing c)) c.restrict.new.1.1.1.0 (moved_room (testing c)) (c.restrict.auto.1.1.1.0 ∙ moved_front (testing c))) (moved_kept (testing c))
+    (kept_front (length turn.loop-left.known) (all (begun turn)) (all (begun turn)) (moved (testing c)) c.restrict.new.set (moved_room (testing c)) (c.restrict.auto.1.1.1.0 ∙ moved_front (testing c))) (moved_kept (testing c))
 
 loop-holds : tie.Need-loop-left-init invariant-loop decreases-loop
 loop-holds c =

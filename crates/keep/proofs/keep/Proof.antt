@@ -50,7 +50,7 @@ select-requires c κs =
             few = runs.few;
             query = runs.query;
             decodes = runs.decodes;
-            room_for = omega (arith, runs.room_for, slots.slots_in-slots.ensures.1, ap (λ (k : ℕ). all start.before.before.before.before.before.before.before.before.before.before * k) (as_many slots (replicate {A = ℕ} 32 0) refl));
+            room_for = omega (arith, runs.room_for, slots.slots_in-slots.ensures.1, ap (λ (k : ℕ). all start.before.before.before.before.before.before.before.before.before.before * k) (as_many slots.before.before.before (replicate {A = ℕ} 32 0) refl));
           },
           none_kept 32 slots.slots_in-slots.result runs.few,
         ),
@@ -60,11 +60,11 @@ select-requires c κs =
 -- The nodes are selected.
 abbrev chosen-in : tie.After-select → tie.Start
 chosen-in c = c.before.before.before.before.before.before.before.before.before.before.before
-chosen_room : (c : tie.After-select) → all (chosen-in c) ≤ length c.select.new.1.1.1.1.1.0
+chosen_room : (c : tie.After-select) → all (chosen-in c) ≤ length c.select.new.sets
 chosen_room c = omega (arith, room (chosen-in c), c.select.auto.1.1.1.1.1.0)
 
-chosen_front : (c : tie.After-select) → length (take (all (chosen-in c)) c.select.new.1.1.1.1.1.0) ≡ all (chosen-in c)
-chosen_front c = length-take-le (all (chosen-in c)) c.select.new.1.1.1.1.1.0 (chosen_room c)
+chosen_front : (c : tie.After-select) → length (take (all (chosen-in c)) c.select.new.sets) ≡ all (chosen-in c)
+chosen_front c = length-take-le (all (chosen-in c)) c.select.new.sets (chosen_room c)
 
 slice-relend-prefix-spread : tie.Need-slice_bounds-spread-end
 slice-relend-prefix-spread c = chosen_room c.before.before.before.before.before.before
@@ -95,7 +95,7 @@ returns c =
     let start = chosen-in chosen.before.before.before.before.before.before.before.before.before.before.before.before.before.before.before.before in
     let a = start.args in
     let n = all start in
-    let sets = chosen.select.new.1.1.1.1.1.0 in
+    let sets = chosen.select.new.sets in
     let spreads = over.spread in
     let cleared = c.fill in
     let as_long : length (spreads.new.1.1.1.1.0 ++ drop n sets) ≡ length a.sets.now = front_length n sets spreads.new.1.1.1.1.0 (chosen_room chosen.before.before.before.before.before.before.before.before.before.before.before.before.before.before.before.before) spreads.auto.1.1.1.1.0 ∙ chosen.select.auto.1.1.1.1.1.0 in (

@@ -32,7 +32,7 @@ returns c =
     let start = c in
     let a = start.args in
     let two = c.if-held-gt0.true in
-    part_joined a.n a.base a.held ◌&&◌ a.sets.now c.keep_second.new.0 two (start.requires two) c.keep_second.ensures.0 c.keep_second.ensures.1
+    part_joined a.n a.base a.held ◌&&◌ a.sets.now c.keep_second.new.sets two (start.requires two) c.keep_second.ensures.0 c.keep_second.ensures.1
 
 returns-2 : tie.Need-returns-else-held-gt0
 returns-2 c = record { front = refl; behind = refl; first = λ z. refl; later = λ z. absurd (omega (arith, z, c.if-held-gt0.false)) }

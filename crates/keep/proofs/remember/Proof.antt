@@ -15,17 +15,17 @@ use Rattle.keep.proofs.remember.Tie as tie
 -- An entry is free.
 abbrev begun : tie.Else-slot-known → tie.Start
 begun c = c.before.before.before.before.before
-inside : (c : tie.Else-slot-known) → c.before.free-slot.result < length (begun c).args.known.now
+inside : (c : tie.Else-slot-known) → c.free-slot.result < length (begun c).args.known.now
 inside c = omega (arith, c.free-slot.ensures, c.if-slot-known.false)
 
 -- Its set and those behind it are kept in the bytes behind the first set.
 behind : (c : tie.Else-slot-known)
-    → ((begun c).args.n * (length (begun c).args.known.now - c.before.free-slot.result) + (begun c).args.n * c.before.free-slot.result ≡ (begun c).args.n * length (begun c).args.known.now) ×
-    ((begun c).args.n ≤ (begun c).args.n * (length (begun c).args.known.now - c.before.free-slot.result)) ×
+    → ((begun c).args.n * (length (begun c).args.known.now - c.free-slot.result) + (begun c).args.n * c.free-slot.result ≡ (begun c).args.n * length (begun c).args.known.now) ×
+    ((begun c).args.n ≤ (begun c).args.n * (length (begun c).args.known.now - c.free-slot.result)) ×
     ((begun c).args.n + (begun c).args.n * length (begun c).args.known.now ≤ length (begun c).args.sets.now)
 behind c = apart (begun c).args.n _ _ _ (inside c) (begun c).requires.0
 
-place : (c : tie.Else-slot-known) → spare (length (begun c).args.known.now) (begun c).args.n (begun c).args.sets.now + (begun c).args.n * c.before.free-slot.result ≡ length (begun c).args.sets.now - (begun c).args.n * (length (begun c).args.known.now - c.before.free-slot.result)
+place : (c : tie.Else-slot-known) → spare (length (begun c).args.known.now) (begun c).args.n (begun c).args.sets.now + (begun c).args.n * c.free-slot.result ≡ length (begun c).args.sets.now - (begun c).args.n * (length (begun c).args.known.now - c.free-slot.result)
 place c = omega (arith, behind c)
 
 sub-if1 : tie.Need-overflow_sub-next
@@ -85,7 +85,7 @@ returns-3 c =
       slot = free.free-slot.result;
       there = omega (arith, inside free.before.before.before.before);
       entries = refl;
-      copy = subst (λ (to : ℕ). Copied 0 to start.args.n start.args.sets.now c.copy_set.new.0) (sym (place free.before.before.before.before)) c.copy_set.ensures;
+      copy = subst (λ (to : ℕ). Copied 0 to start.args.n start.args.sets.now c.copy_set.new.sets) (sym (place free.before.before.before.before)) c.copy_set.ensures;
     })
 
 pub remember_spec : {M : Type 1} → statement M

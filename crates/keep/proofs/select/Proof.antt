@@ -83,19 +83,19 @@ next c =
 abbrev rooted-in : tie.After-start invariant-loop decreases-loop → tie.After-path_at-count invariant-loop decreases-loop
 rooted-in c = c.before.before
 abbrev rooted : tie.After-start invariant-loop decreases-loop → List ℕ
-rooted c = c.start.new.1.0 ++ drop (all (read-in (rooted-in c))) (read-in (rooted-in c)).loop-place.sets
+rooted c = c.start.new.set ++ drop (all (read-in (rooted-in c))) (read-in (rooted-in c)).loop-place.sets
 
 rooted_length : (c : tie.After-start invariant-loop decreases-loop) → length (rooted c) ≡ length (begun (read-in (rooted-in c))).args.sets.now
 rooted_length c =
     let turn = read-in (rooted-in c) in
-    front_length (all turn) turn.loop-place.sets c.start.new.1.0 (omega (arith, room turn)) c.start.auto.1.0 ∙ turn.loop-place.invariant.0
+    front_length (all turn) turn.loop-place.sets c.start.new.set (omega (arith, room turn)) c.start.auto.1.0 ∙ turn.loop-place.invariant.0
 
 rooted_kept : (c : tie.After-start invariant-loop decreases-loop)
     → Kept (table (begun (read-in (rooted-in c)))) (given (begun (read-in (rooted-in c)))) (items (begun (read-in (rooted-in c)))) (all (read-in (rooted-in c))) (read-in (rooted-in c)).loop-place.known (rooted c)
 rooted_kept c =
     let turn = read-in (rooted-in c) in
     kept_same turn.loop-place.known turn.loop-place.sets (rooted c)
-    (kept_front (length turn.loop-place.known) (all turn) (all turn) turn.loop-place.sets c.start.new.1.0 (room turn) (c.start.auto.1.0 ∙ front turn)) turn.loop-place.invariant.4
+    (kept_front (length turn.loop-place.known) (all turn) (all turn) turn.loop-place.sets c.start.new.set (room turn) (c.start.auto.1.0 ∙ front turn)) turn.loop-place.invariant.4
 
 -- It is moved along the path.
 abbrev moved_in : tie.After-forward-place invariant-loop decreases-loop → tie.After-start invariant-loop decreases-loop
@@ -104,7 +104,7 @@ abbrev moved-turn : tie.After-forward-place invariant-loop decreases-loop → Tu
 moved-turn c = read-in (rooted-in (moved_in c))
 
 abbrev moved : tie.After-forward-place invariant-loop decreases-loop → List ℕ
-moved c = c.forward-place.new.1.1.1.1.1.1.0
+moved c = c.forward-place.new.sets
 
 moved_length : (c : tie.After-forward-place invariant-loop decreases-loop) → length (moved c) ≡ length (begun (moved-turn c)).args.sets.now
 moved_length c = c.forward-place.auto.1.1.1.1.1.1.0 ∙ rooted_length (moved_in c)
@@ -192,7 +192,7 @@ loop-again c =
       moved_length gone.before.before.before.before.before.before.before.before,
       added.auto.1.0 ∙ l.invariant.1,
       path_added t (given start) (items start) (lent start) (runs start) l.place gone.forward-place.result _ l.marks l.sets (rooted root) (moved gone.before.before.before.before.before.before.before.before) added.new.1.0 l.invariant.2 (next (rooted-in root))
-          (front_back (nodes t) from_root root.start.last.1.0 _ (root.start.ensures ∙ ap (λ (k : ℕ). bits k from_root) (front turn)))
+          (front_back (nodes t) from_root root.start.new.set _ (root.start.ensures ∙ ap (λ (k : ℕ). bits k from_root) (front turn)))
           gone.forward-place.ensures.0
           (λ f g x y.
           added.ensures f g (x ∙ ap (λ (k : ℕ). bits k f) (sym l.invariant.1)) (y ∙ ap (λ (k : ℕ). bits k g) (sym l.invariant.1)) ∙ ap (λ (k : ℕ). bits k (λ i. f i || g i)) l.invariant.1)

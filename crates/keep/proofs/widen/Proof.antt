@@ -22,7 +22,7 @@ returns c =
       front = refl;
       behind =
           let e : 0 + a.n ≡ a.n = omega arith in
-          ap (λ (k : ℕ). drop k c.add_second.new.0) e ∙ c.add_second.ensures.1 ∙ ap (λ (k : ℕ). drop k a.sets.now) (sym e);
+          ap (λ (k : ℕ). drop k c.add_second.new.sets) e ∙ c.add_second.ensures.1 ∙ ap (λ (k : ℕ). drop k a.sets.now) (sym e);
       first = λ z. absurd (omega (arith, z, c.if-held-gt0.true));
       later = λ z f g p q.
           front_is a.n (λ i. f i || g i) _ _

@@ -36,7 +36,7 @@ loop-again c = let put = c in
     let test = put in
     let l = test.loop-place in
     let a = test.args in
-    (omega (arith, test.loop-place-test.true), ap length put.mark_item.ensures ∙ turn_length a.items.now l.place _ l.marks ∙ l.invariant.1, l.invariant.2 ∙ turns_more a.items.now l.place l.marks put.mark_item.new.1.1.0 test.loop-place-test.true put.mark_item.ensures)
+    (omega (arith, test.loop-place-test.true), ap length put.mark_item.ensures ∙ turn_length a.items.now l.place _ l.marks ∙ l.invariant.1, l.invariant.2 ∙ turns_more a.items.now l.place l.marks put.mark_item.new.marks test.loop-place-test.true put.mark_item.ensures)
 
 same_length : tie.Need-shape_of-marks invariant-loop decreases-loop
 same_length c = c.loop-place.invariant.1

@@ -78,7 +78,7 @@ same-length-3 : tie.Need-shape_of-marks-in_default
 same-length-3 c = search rules
 
 returns-3 : tie.Need-returns-in_default
-returns-3 c = turn_other _ _ _ _ _ c.unpack-said.ensures c.in-Path.in-Path-own.keys3
+returns-3 c = turn_other _ _ _ _ _ c.unpack-said.ensures c.in_default.in_default-own.keys3
 
 pub mark_item_spec : {M : Type 1} → statement M
 mark_item_spec =

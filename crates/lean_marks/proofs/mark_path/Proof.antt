@@ -37,24 +37,24 @@ same_length c = let put = c in
     let top = put in
     let passed = top in
     let a = passed.args in
-    ap length (path_top a.items.now a.marks.now passed.pass_on.new.0 put.tell.new.0 a.place a.w a.count a.last _ top.if-last-eq1.true passed.pass_on.ensures put.skip-next.ensures.0 put.tell.ensures) ∙ path_length a.items.now a.place a.w a.count a.last a.marks.now
+    ap length (path_top a.items.now a.marks.now passed.pass_on.new.marks put.tell.new.marks a.place a.w a.count a.last _ top.if-last-eq1.true passed.pass_on.ensures put.skip-next.ensures.0 put.tell.ensures) ∙ path_length a.items.now a.place a.w a.count a.last a.marks.now
 
 returns : tie.Need-returns-then-last-eq1
 returns c = let put = c in
     let top = put in
     let passed = top in
     let a = passed.args in
-    path_top a.items.now a.marks.now passed.pass_on.new.0 put.tell.new.0 a.place a.w a.count a.last _ top.if-last-eq1.true passed.pass_on.ensures put.skip-next.ensures.0 put.tell.ensures
+    path_top a.items.now a.marks.now passed.pass_on.new.marks put.tell.new.marks a.place a.w a.count a.last _ top.if-last-eq1.true passed.pass_on.ensures put.skip-next.ensures.0 put.tell.ensures
 
 same-length-2 : tie.Need-shape_of-marks-else-last-eq1
 same-length-2 c = let passed = c in
     let a = passed.args in
-    ap length (path_inner a.items.now a.marks.now passed.pass_on.new.0 a.place a.w a.count a.last c.if-last-eq1.false passed.pass_on.ensures) ∙ path_length a.items.now a.place a.w a.count a.last a.marks.now
+    ap length (path_inner a.items.now a.marks.now passed.pass_on.new.marks a.place a.w a.count a.last c.if-last-eq1.false passed.pass_on.ensures) ∙ path_length a.items.now a.place a.w a.count a.last a.marks.now
 
 returns-2 : tie.Need-returns-else-last-eq1
 returns-2 c = let passed = c in
     let a = passed.args in
-    path_inner a.items.now a.marks.now passed.pass_on.new.0 a.place a.w a.count a.last c.if-last-eq1.false passed.pass_on.ensures
+    path_inner a.items.now a.marks.now passed.pass_on.new.marks a.place a.w a.count a.last c.if-last-eq1.false passed.pass_on.ensures
 
 pub mark_path_spec : {M : Type 1} → statement M
 mark_path_spec =

@@ -26,7 +26,7 @@ fits start = omega (arith, long start, start.requires.1, length-set (marks start
 -- The turns are done.
 abbrev begun : tie.After-mark → tie.Start
 begun c = c.before.before.before.before
-part_length : (c : tie.After-mark) → length c.mark.new.1.0 ≡ length (take (length (items (begun c))) (set (marks (begun c)) 0 1))
+part_length : (c : tie.After-mark) → length c.mark.new.marks ≡ length (take (length (items (begun c))) (set (marks (begun c)) 0 1))
 part_length c = c.mark.auto.1.0
 
 slice-write-marks : tie.Need-bounds-marks-0
@@ -49,13 +49,13 @@ same_length : tie.Need-shape_of-marks
 same_length c =
     let done = c in
     let start = begun done.before.before in
-    length_front (set (marks start) 0 1) done.mark.new.1.0 (length (items start)) (part_length done.before.before) ∙ length-set (marks start) 0 1
+    length_front (set (marks start) 0 1) done.mark.new.marks (length (items start)) (part_length done.before.before) ∙ length-set (marks start) 0 1
 
 returns : tie.Need-returns
 returns c =
     let done = c in
     let start = begun done.before.before in
-    query_marked (items start) (marks start) done.mark.new.1.0 start.requires.0.query item_limit start.requires.0.decodes start.requires.1 start.requires.2 done.mark.ensures
+    query_marked (items start) (marks start) done.mark.new.marks start.requires.0.query item_limit start.requires.0.decodes start.requires.1 start.requires.2 done.mark.ensures
 
 pub mark_query_spec : {M : Type 1} → statement M
 mark_query_spec =

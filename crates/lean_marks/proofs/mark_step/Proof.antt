@@ -63,7 +63,7 @@ same_length c = let put = c in
     let skips = downs in
     let a = skips.args in
     ap length
-    (step_done a.items.now a.marks.now put.pass_on.new.0 a.place a.step skips.skip-next.result downs.down_at-down.result hides.may_hide-hidden.result packs.saying-axis.result packs.pack_step.result
+    (step_done a.items.now a.marks.now put.pass_on.new.marks a.place a.step skips.skip-next.result downs.down_at-down.result hides.may_hide-hidden.result packs.saying-axis.result packs.pack_step.result
     skips.skip-next.ensures.0 downs.down_at-down.ensures hides.may_hide-hidden.ensures packs.saying-axis.ensures packs.pack_step.ensures put.pass_on.ensures) ∙
     step_length a.items.now a.place a.step a.marks.now
 
@@ -74,7 +74,7 @@ returns c = let put = c in
     let downs = hides in
     let skips = downs in
     let a = skips.args in
-    step_done a.items.now a.marks.now put.pass_on.new.0 a.place a.step skips.skip-next.result downs.down_at-down.result hides.may_hide-hidden.result packs.saying-axis.result packs.pack_step.result
+    step_done a.items.now a.marks.now put.pass_on.new.marks a.place a.step skips.skip-next.result downs.down_at-down.result hides.may_hide-hidden.result packs.saying-axis.result packs.pack_step.result
     skips.skip-next.ensures.0 downs.down_at-down.ensures hides.may_hide-hidden.ensures packs.saying-axis.ensures packs.pack_step.ensures put.pass_on.ensures
 
 pub mark_step_spec : {M : Type 1} → statement M

@@ -42,7 +42,7 @@ returns-2 : tie.Need-returns
 returns-2 c = let put = c in
     let more = put in
     let a = more.args in
-    pass_some a.marks.now put.tell.new.0 a.next a.left _ a.loose a.last more.if-left-eq0.false (ap (λ n. (a.left - 1) * 4 + n + a.last) more.twice.ensures) put.tell.ensures
+    pass_some a.marks.now put.tell.new.marks a.next a.left _ a.loose a.last more.if-left-eq0.false (ap (λ n. (a.left - 1) * 4 + n + a.last) more.twice.ensures) put.tell.ensures
 
 pub pass_on_spec : {M : Type 1} → statement M
 pass_on_spec =

@@ -91,8 +91,8 @@ put_decimal_returns_2 t c =
     let few : n < 10 ^ 20 = omega arith in
     (puts, omega (arith, puts.moved, decimal_few 19 n few))
 
-pub +put-decimal-spec : {M : Type 1} → statement M
-+put-decimal-spec = close μ-put-decimal λ t. put-decimal-lts.spec (
+pub +put_decimal_spec : {M : Type 1} → statement M
++put_decimal_spec = close μ-put-decimal λ t. put-decimal-lts.spec (
   put-digit-reads.Asked,
   put-digit-reads.Learnt,
   put_decimal_below t,

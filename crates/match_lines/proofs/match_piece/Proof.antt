@@ -31,7 +31,7 @@ small s r e = let h = faced s r e in omega (arith, h.counts.nodes, h.counts.few,
 -- A START TAG.
 abbrev at-start : tie.In-Start → tie.Start
 at-start c = c.before.before.before.before.before.before.before
-start : (c : tie.In-Start) → let s = at-start c in Facing s.args.text.now s.args.list.now s.args.open.now (lent s) (Start c.before.in-Start.name_end c.before.in-Start.next) s.args.so_far
+start : (c : tie.In-Start) → let s = at-start c in Facing s.args.text.now s.args.list.now s.args.open.now (lent s) (Start c.in-Start.name_end c.in-Start.next) s.args.so_far
 start c = faced (at-start c) _ c.in-Start.is
 
 -- It is looked at, and its place is kept.
@@ -40,25 +40,25 @@ looked c = c.before.before
 -- AN EMPTY ELEMENT.
 abbrev at-empty : tie.In-Empty → tie.Start
 at-empty c = c.before.before.before.before.before.before.before
-empty : (c : tie.In-Empty) → let s = at-empty c in Facing s.args.text.now s.args.list.now s.args.open.now (lent s) (Empty c.before.in-Empty.name_end c.before.in-Empty.next) s.args.so_far
+empty : (c : tie.In-Empty) → let s = at-empty c in Facing s.args.text.now s.args.list.now s.args.open.now (lent s) (Empty c.in-Empty.name_end c.in-Empty.next) s.args.so_far
 empty c = faced (at-empty c) _ c.in-Empty.is
 
 -- AN END TAG.
 abbrev at-end : tie.In-End → tie.Start
 at-end c = c.before.before.before.before.before.before.before
-end : (c : tie.In-End) → let s = at-end c in Facing s.args.text.now s.args.list.now s.args.open.now (lent s) (End c.before.in-End.next) s.args.so_far
+end : (c : tie.In-End) → let s = at-end c in Facing s.args.text.now s.args.list.now s.args.open.now (lent s) (End c.in-End.next) s.args.so_far
 end c = faced (at-end c) _ c.in-End.is
 
 -- What the columns say of it.
 abbrev closed : tie.After-parent_of-up → tie.In-End
 closed c = c.before.before.before
-ended : (c : tie.After-parent_of-up) → let d = closed c in let s = at-end d in Tells c.before.says-ended-in-End.result (Has s.args.end.now s.args.so_far.inner d.before.in-End.next.at)
+ended : (c : tie.After-parent_of-up) → let d = closed c in let s = at-end d in Tells c.says-ended-in-End.result (Has s.args.end.now s.args.so_far.inner d.in-End.next.at)
 ended c = subst (λ k. Tells c.says-ended-in-End.result (Has (at-end (closed c)).args.end.now k (closed c).in-End.next.at)) c.wide.ensures c.says-ended-in-End.ensures
 
 -- A RUN OF CHARACTERS.
 abbrev at-text : tie.In-Text → tie.Start
 at-text c = c.before.before.before.before.before.before.before
-text : (c : tie.In-Text) → let s = at-text c in Facing s.args.text.now s.args.list.now s.args.open.now (lent s) (Text c.before.in-Text.next) s.args.so_far
+text : (c : tie.In-Text) → let s = at-text c in Facing s.args.text.now s.args.list.now s.args.open.now (lent s) (Text c.in-Text.next) s.args.so_far
 text c = faced (at-text c) _ c.in-Text.is
 
 enum-known-piece : tie.Need-enum_known-piece
@@ -74,22 +74,22 @@ kind-is-requires : tie.Need-kind_is-requires
 kind-is-requires c κs = let looks = c in λ v e. number_few _ _ _ _ v (at-start looks.before.before).requires.0.indexed (sym e ∙ looks.find_name-found.ensures)
 
 narrow-requires : tie.Need-narrow-requires
-narrow-requires c κs = let d = (looked c).before in let t = (start d.before).moves in omega (arith, t.1, t.0.inside, (at-start d.before).requires.1.0.0)
+narrow-requires c κs = let d = (looked c).before in let t = (start d).moves in omega (arith, t.1, t.0.inside, (at-start d).requires.1.0.0)
 
 mul-open : tie.Need-offset_bounds-open-depth
 mul-open c = search rules
 
 element-write-open : tie.Need-bounds-open-depth
-element-write-open c = let d = (looked c.before.before).before in start_room _ _ _ _ _ (at-start d.before).requires.1.0.1 _ _ (start d.before) (at-start d.before).requires.1.0.0
+element-write-open c = let d = (looked c.before.before).before in start_room _ _ _ _ _ (at-start d).requires.1.0.1 _ _ (start d) (at-start d).requires.1.0.0
 
 add-deeper : tie.Need-overflow_add-deeper
-add-deeper c = let d = (looked c.before.before).before in omega (arith, start_room _ _ _ _ _ (at-start d.before).requires.1.0.1 _ _ (start d.before) (at-start d.before).requires.1.0.0)
+add-deeper c = let d = (looked c.before.before).before in omega (arith, start_room _ _ _ _ _ (at-start d).requires.1.0.1 _ _ (start d) (at-start d).requires.1.0.0)
 
 add-nodes : tie.Need-overflow_add-nodes
-add-nodes c = let d = (looked c.before.before).before in omega (arith, small (at-start d.before) _ d.in-Start.is)
+add-nodes c = let d = (looked c.before.before).before in omega (arith, small (at-start d) _ d.in-Start.is)
 
 narrow-requires-2 : tie.Need-narrow-requires-in-Start
-narrow-requires-2 c κs = let d = (looked c.before.before).before in omega (arith, small (at-start d.before) _ d.in-Start.is)
+narrow-requires-2 c κs = let d = (looked c.before.before).before in omega (arith, small (at-start d) _ d.in-Start.is)
 
 enum-known-piece-2 : tie.Need-enum_known-piece-in-Empty-1
 enum-known-piece-2 c = search rules
@@ -184,10 +184,10 @@ returns-4 c =
     text_comes _ _ _ (lent s) _ s.requires.1.0.1 _ (text d.before.before.before.before.before) _ (tells_both _ _ (tells_both _ _ kind.begins_line-in-Text.ensures is-text) told.says-ended-in-Text.ensures)
 
 returns-5 : tie.Need-returns-in-Wrong
-returns-5 c = (record { number = 11; place = _; is = (faced c.before.before.before.before.before.before.before.before _ c.in-Wrong.is).moves }, tt)
+returns-5 c = (record { number = 11; place = _; is = (faced c.before.before.before.before.before.before.before _ c.in-Wrong.is).moves }, tt)
 
 returns-6 : tie.Need-returns-in-LeftOut
-returns-6 c = (record { number = 12; place = _; is = (faced c.before.before.before.before.before.before.before.before _ c.in-LeftOut.is).moves }, tt)
+returns-6 c = (record { number = 12; place = _; is = (faced c.before.before.before.before.before.before.before _ c.in-LeftOut.is).moves }, tt)
 
 pub match_piece_spec : {M : Type 1} → statement M
 match_piece_spec =

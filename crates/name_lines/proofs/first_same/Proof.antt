@@ -35,7 +35,7 @@ line-part-requires c κs =
 
 -- Where line v lies.
 room : (c : tie.After-line_part-line invariant-loop decreases-loop invariant-lines decreases-lines)
-    → c.line_part-line.result.start + c.line_part-line.result.len ≤ length c.before.before.before.before.before.args.list.now
+    → c.line_part-line.result.start + c.line_part-line.result.len ≤ length c.args.list.now
 room c = part_room c.requires c.lines.v c.lines-test.true c.line_part-line.result c.line_part-line.ensures
 
 add-v : tie.Need-overflow_add-v invariant-loop decreases-loop invariant-lines decreases-lines

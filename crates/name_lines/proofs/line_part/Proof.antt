@@ -30,7 +30,7 @@ wide-requires-2 : tie.Need-wide-next-requires
 wide-requires-2 c κs = search rules
 
 -- The number read second is the start of the next line.
-next_start : (c : tie.After-wide-next) → c.wide-next.result ≡ get_or c.before.before.before.before.args.starts.now (suc c.before.before.before.before.args.v) 0
+next_start : (c : tie.After-wide-next) → c.wide-next.result ≡ get_or c.args.starts.now (suc c.args.v) 0
 next_start c = c.wide-next.ensures ∙ rw (add-one)
 
 sub-t5 : tie.Need-overflow_sub-result

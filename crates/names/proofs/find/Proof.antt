@@ -29,7 +29,7 @@ first-same-requires c κs = search rules
 
 -- What was found is the word's number.
 number : (c : tie.After-first_same-v) →
-    let a = c.before.before.before.before.args in
+    let a = c.args in
     number_of (names_of a.list.now) (take a.len (drop a.start a.text.now)) ≡ when (ltb c.first_same-v.result a.count) c.first_same-v.result
 number c =
     let a = c.args in

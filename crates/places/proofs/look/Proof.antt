@@ -25,7 +25,7 @@ reach-requires c κs =
     λ h. (pre.0.0, pre.0.1, fewer_readable a.items.now a.at a.depth (a.to - a.to % 256) a.to (omega arith) pre.1)
 
 -- Where the last multiple of 256 steps ends,
-far : (c : tie.After-reach-far) → Ends c.before.before.args.items.now c.before.before.args.at (take_steps (take_within c.before.before.args.depth) (c.before.before.args.to - c.before.before.args.to % 256) (drop c.before.before.args.at c.before.before.args.items.now)) c.reach-far.result
+far : (c : tie.After-reach-far) → Ends c.args.items.now c.args.at (take_steps (take_within c.args.depth) (c.args.to - c.args.to % 256) (drop c.args.at c.args.items.now)) c.reach-far.result
 far c =
     let a = c.args in
     let from : ℕ → ℕ → Type 0 = λ k place. Ends a.items.now a.at (take_steps (take_within a.depth) k (drop a.at a.items.now)) place in
@@ -47,7 +47,7 @@ reach-requires-2 c κs =
     λ h. ((far c).inside, pre.0.1, further_readable a.items.now a.at a.depth (a.to - a.to % 256) (a.to % 256 - a.to % 16) (a.to - a.to % 16) c.reach-far.result (far c) fewer (omega arith))
 
 -- and the last multiple of 16.
-near : (c : tie.After-reach-near) → Ends c.before.before.before.args.items.now c.before.before.before.args.at (take_steps (take_within c.before.before.before.args.depth) (c.before.before.before.args.to - c.before.before.before.args.to % 16) (drop c.before.before.before.args.at c.before.before.before.args.items.now)) c.reach-near.result
+near : (c : tie.After-reach-near) → Ends c.args.items.now c.args.at (take_steps (take_within c.args.depth) (c.args.to - c.args.to % 16) (drop c.args.at c.args.items.now)) c.reach-near.result
 near c =
     let a = c.args in
     let pre = c.requires in

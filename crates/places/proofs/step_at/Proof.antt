@@ -24,7 +24,7 @@ returns c =
     let a = c.args in
     let w = get_or a.items.now a.place 0 in
     let u = c.unpack-item in
-    none-some (sym (not_step w u.result (said w u.result u.ensures) c.in-Step.in-Step-own.keys2) ∙ c.requires.1.1)
+    none-some (sym (not_step w u.result (said w u.result u.ensures) c.in_default.in_default-own.keys2) ∙ c.requires.1.1)
 
 returns-2 : tie.Need-returns
 returns-2 c =

@@ -99,7 +99,7 @@ first-unknown-requires c κs =
 -- What is known once the names have been looked at.
 ready : (c : tie.After-first_unknown-at) →
     let a = (begun-of (lent_of (short-of (indexed_of (listed_of (measured-of c)))))).args in
-    Ready a.query.now a.list.now (indexed_of (listed_of (measured-of c))).index-listed.new.1.0 (listed_of (measured-of c)).in-Good.count
+    Ready a.query.now a.list.now (indexed_of (listed_of (measured-of c))).index-listed.new.starts (listed_of (measured-of c)).in-Good.count
 ready c =
     let measured = measured-of c in
     let listed = listed_of measured in
@@ -127,7 +127,7 @@ returns-5 c =
     let indexed = indexed_of listed in
     let a = (begun-of (lent_of (short-of indexed))).args in
     refuses a.brief a.query.now a.list.now a.out.now 5 _
-    (unknown_name a.brief a.query.now a.list.now a.out.now indexed.index-listed.last.1.0 listed.in-Good.count (ready c.before) _ (c.first_unknown-at.ensures.0 ∙ ap (λ b. when b c.first_unknown-at.result) (lt-ltb _ _ c.if-at-query.true)))
+    (unknown_name a.brief a.query.now a.list.now a.out.now indexed.index-listed.new.starts listed.in-Good.count (ready c.before) _ (c.first_unknown-at.ensures.0 ∙ ap (λ b. when b c.first_unknown-at.result) (lt-ltb _ _ c.if-at-query.true)))
 
 slice-relend-prefix-paths : tie.Need-slice_bounds-paths-end
 slice-relend-prefix-paths c = search rules
@@ -141,13 +141,13 @@ paths-requires c κs =
     let listed = listed_of (measured-of looked) in
     let indexed = indexed_of listed in
     let a = (begun-of (lent_of (short-of indexed))).args in
-    can_print a.brief a.query.now a.list.now a.out.now indexed.index-listed.last.1.0 listed.in-Good.count (ready looked) (none_unknown c.before.before)
+    can_print a.brief a.query.now a.list.now a.out.now indexed.index-listed.new.starts listed.in-Good.count (ready looked) (none_unknown c.before.before)
 
 same_length : tie.Need-shape_of-out-then-out-needed
 same_length c = search rules
 
 -- Counting with no room leaves the slice as it was.
-untouched : (c : tie.After-paths-needed) → c.paths-needed.new.1.1.1.1.0 ++ drop 0 (begun-of (lent_of (short-of (indexed_of (listed_of (measured-of (looked-of (known_of c)))))))).args.out.now ≡ (begun-of (lent_of (short-of (indexed_of (listed_of (measured-of (looked-of (known_of c)))))))).args.out.now
+untouched : (c : tie.After-paths-needed) → c.paths-needed.new.out ++ drop 0 (begun-of (lent_of (short-of (indexed_of (listed_of (measured-of (looked-of (known_of c)))))))).args.out.now ≡ (begun-of (lent_of (short-of (indexed_of (listed_of (measured-of (looked-of (known_of c)))))))).args.out.now
 untouched c = ap (λ x. x ++ (begun-of (lent_of (short-of (indexed_of (listed_of (measured-of (looked-of (known_of c)))))))).args.out.now) (puts_nothing _ _ _ _ c.paths-needed.ensures)
 
 returns-6 : tie.Need-returns-then-out-needed
@@ -159,7 +159,7 @@ returns-6 c =
     let a = (begun-of (lent_of (short-of indexed))).args in
     let kept = untouched c.before.before.before in
     let short : length a.out.now < c.paths-needed.result = subst (λ x. length x < c.paths-needed.result) kept c.if-out-needed.true in
-    rw kept (refuses a.brief a.query.now a.list.now a.out.now 10 c.paths-needed.result (short_room a.brief a.query.now a.list.now a.out.now indexed.index-listed.last.1.0 listed.in-Good.count (ready looked) (none_unknown known) c.paths-needed.result c.paths-needed.ensures.moved short))
+    rw kept (refuses a.brief a.query.now a.list.now a.out.now 10 c.paths-needed.result (short_room a.brief a.query.now a.list.now a.out.now indexed.index-listed.new.starts listed.in-Good.count (ready looked) (none_unknown known) c.paths-needed.result c.paths-needed.ensures.moved short))
 
 paths-requires-2 : tie.Need-paths-requires
 paths-requires-2 c κs =
@@ -168,7 +168,7 @@ paths-requires-2 c κs =
     let listed = listed_of (measured-of looked) in
     let indexed = indexed_of listed in
     let a = (begun-of (lent_of (short-of indexed))).args in
-    can_print a.brief a.query.now a.list.now a.out.now indexed.index-listed.last.1.0 listed.in-Good.count (ready looked) (none_unknown known)
+    can_print a.brief a.query.now a.list.now a.out.now indexed.index-listed.new.starts listed.in-Good.count (ready looked) (none_unknown known)
 
 same-length-2 : tie.Need-shape_of-out
 same-length-2 c = search rules
@@ -184,7 +184,7 @@ returns-7 c =
     let a = (begun-of (lent_of (short-of indexed))).args in
     let kept = untouched counted in
     let room : counted.paths-needed.result ≤ length a.out.now = subst (λ x. counted.paths-needed.result ≤ length x) kept roomy.if-out-needed.false in
-    accepts a.brief a.query.now a.list.now a.out.now counted.paths-needed.result _ (value_told a.brief a.query.now a.list.now a.out.now indexed.index-listed.last.1.0 listed.in-Good.count (ready looked) (none_unknown known) counted.paths-needed.result counted.paths-needed.ensures.moved room)
+    accepts a.brief a.query.now a.list.now a.out.now counted.paths-needed.result _ (value_told a.brief a.query.now a.list.now a.out.now indexed.index-listed.new.starts listed.in-Good.count (ready looked) (none_unknown known) counted.paths-needed.result counted.paths-needed.ensures.moved room)
     (puts_written (text_got a.brief (names_of a.list.now) (decode a.query.now)) a.out.now _ _ (rw kept at c.paths.ensures) (omega (arith, counted.paths-needed.ensures.moved)))
 
 pub print_form_spec : {M : Type 1} → statement M

@@ -22,7 +22,7 @@ begun c = (past-space c).before.before
 abbrev space : tie.After-stands → Bool
 space c = ltb (begun c).args.at (past-space c).skip-place.result
 
-both : (c : tie.Then-at-place) → (space c.before ≡ true) × (c.before.stands.result ≡ true)
+both : (c : tie.Then-at-place) → (space c.before ≡ true) × (c.stands.result ≡ true)
 both c = and_true (space c.before) c.stands.result c.if-at-place.true
 
 one_fails : (c : tie.Else-at-place) → let s = begun c.before in (space c.before && begins 101 (drop (past-space c.before).skip-place.result s.args.text.now)) ≡ false

@@ -21,7 +21,7 @@ no_other c = sym c.other_encoding.ensures ∙ c.if-other_encoding.false
 -- UTF-8 is read.
 abbrev sought : tie.In-At → tie.After-utf_8-value
 sought c = c.before
-value_read : (c : tie.In-At) → let s = begun (sought c).before in Heads s.args.text.now s.args.at (utf8 s.args.closing) after_encoding (At c.before.in-At.next)
+value_read : (c : tie.In-At) → let s = begun (sought c).before in Heads s.args.text.now s.args.at (utf8 s.args.closing) after_encoding (At c.in-At.next)
 value_read c =
     let s = begun (sought c).before in
     subst (Heads s.args.text.now s.args.at (utf8 s.args.closing) after_encoding) c.in-At.is (sought c).utf_8-value.ensures
@@ -44,7 +44,7 @@ returns-2 : tie.Need-returns-in_default
 returns-2 c =
     let u = c in
     let s = begun u.before.before in
-    encoding_none _ _ s.args.closing s.requires.0 _ (no_other u.before.before) (heads_stuck _ _ (utf8 s.args.closing) after_encoding done u.utf_8-value.result c.in-At.in-At-own.keys2 u.utf_8-value.ensures)
+    encoding_none _ _ s.args.closing s.requires.0 _ (no_other u.before.before) (heads_stuck _ _ (utf8 s.args.closing) after_encoding done u.utf_8-value.result c.in_default.in_default-own.keys2 u.utf_8-value.ensures)
 
 after-encoding-requires : tie.Need-after_encoding-requires
 after-encoding-requires c κs = (value_read c).bounds.1

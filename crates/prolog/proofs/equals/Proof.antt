@@ -31,8 +31,8 @@ mark c p r h = byte_heads _ _ 61 r refl (inside c) h (many white p)
 
 abbrev sought : tie.In-At → tie.After-byte-mark
 sought c = c.before
-mark_read : (c : tie.In-At) → let b = (sought c).before in Reads (text b) b.skip.result (eqb 61 ∷ []) (At c.before.in-At.next)
-mark_read c = let b = (sought c).before in subst (Reads (text b.before) b.skip.result (eqb 61 ∷ [])) c.in-At.is (sought c).byte-mark.ensures
+mark_read : (c : tie.In-At) → let b = (sought c).before in Reads (text b) b.skip.result (eqb 61 ∷ []) (At c.in-At.next)
+mark_read c = let b = (sought c).before in subst (Reads (text b) b.skip.result (eqb 61 ∷ [])) c.in-At.is (sought c).byte-mark.ensures
 
 skip-requires : tie.Need-skip-requires
 skip-requires c κs = search rules
@@ -46,10 +46,10 @@ enum-known-mark c = search rules
 returns : tie.Need-returns-in_default
 returns c =
     let b = c in
-    λ p more plain. equals_stuck _ _ _ b.skip.ensures p b.byte-mark.result c.in-At.in-At-own.keys2 (mark b.before p b.byte-mark.result b.byte-mark.ensures)
+    λ p more plain. equals_stuck _ _ _ b.skip.ensures p b.byte-mark.result c.in_default.in_default-own.keys2 (mark b.before.before p b.byte-mark.result b.byte-mark.ensures)
 
 skip-requires-2 : tie.Need-skip-requires-2
-skip-requires-2 c κs = let b = (sought c).before in (reads_bounds _ _ _ _ (inside b.before) (mark_read c)).1
+skip-requires-2 c κs = let b = (sought c).before in (reads_bounds _ _ _ _ (inside b) (mark_read c)).1
 
 returns-2 : tie.Need-returns
 returns-2 c =

@@ -39,8 +39,8 @@ name_read c = subst (Name (begun (found_name c))) c.in-At.is (name_sought (found
 -- `=` is read.
 abbrev found-mark : tie.In-At-marked → tie.After-equals-marked
 found-mark c = c.before
-mark_read : (c : tie.In-At-marked) → let n = (found-mark c).before in Mark (begun (found_name n)) (name-end n) (At c.before.in-At-marked.place)
-mark_read c = let n = (found-mark c).before in subst (Mark (begun (found_name n.before)) (name-end n.before)) c.in-At-marked.is (found-mark c).equals-marked.ensures
+mark_read : (c : tie.In-At-marked) → let n = (found-mark c).before in Mark (begun (found_name n)) (name-end n) (At c.in-At-marked.place)
+mark_read c = let n = (found-mark c).before in subst (Mark (begun (found_name n)) (name-end n)) c.in-At-marked.is (found-mark c).equals-marked.ensures
 
 say-requires : tie.Need-say-named-requires
 say-requires c κs = search rules
@@ -49,7 +49,7 @@ enum-known-named : tie.Need-enum_known-named
 enum-known-named c = search rules
 
 returns : tie.Need-returns-in_default
-returns c = name_stuck _ _ (begun c.before).args.name.now c.say-named.result c.in-At.in-At-own.keys2 (name_sought c.before)
+returns c = name_stuck _ _ (begun c.before).args.name.now c.say-named.result c.in_default.in_default-own.keys2 (name_sought c.before)
 
 equals-requires : tie.Need-equals-marked-requires
 equals-requires c κs = (name_read c done).bounds.1
@@ -60,7 +60,7 @@ enum-known-marked c = search rules
 returns-2 : tie.Need-returns-in_default-marked
 returns-2 c =
     let n = c in
-    mark_stuck _ _ (begun (found_name n.before.before)).args.name.now _ (name_read n.before.before) c.equals-marked.result c.in-At-marked.in-At-marked-own.keys2 c.equals-marked.ensures
+    mark_stuck _ _ (begun (found_name n.before.before)).args.name.now _ (name_read n.before.before) c.equals-marked.result c.in_default-marked.in_default-marked-own.keys2 c.equals-marked.ensures
 
 quote-requires : tie.Need-quote-requires
 quote-requires c κs = (mark_read c (one white done) refl refl).bounds.1
@@ -68,7 +68,7 @@ quote-requires c κs = (mark_read c (one white done) refl refl).bounds.1
 returns-3 : tie.Need-returns
 returns-3 c =
     let n = (found-mark c.before).before in
-    name_quote _ _ (begun (found_name n.before)).args.name.now _ (name_read n.before) _ c.quote.result (mark_read c.before) c.quote.ensures
+    name_quote _ _ (begun (found_name n)).args.name.now _ (name_read n) _ c.quote.result (mark_read c.before) c.quote.ensures
 
 pub given_spec : {M : Type 1} → statement M
 given_spec =

@@ -28,7 +28,7 @@ declaring c = c.before.before
 abbrev sought : tie.In-At → tie.After-version-declaration
 sought c = c.before
 declaration_read : (c : tie.In-At) → let v = sought c in
-    Heads (text (declaring v).before) v.before.skip.result (say (ascii "version") (valued version_value)) done (At c.before.in-At.end)
+    Heads (text (declaring v).before) v.skip.result (say (ascii "version") (valued version_value)) done (At c.in-At.end)
 declaration_read c =
     let v = sought c in
     subst (Heads (text (declaring v).before) v.skip.result (say (ascii "version") (valued version_value)) done) c.in-At.is v.version-declaration.ensures
@@ -51,7 +51,7 @@ enum-known-declaration c = search rules
 returns : tie.Need-returns-in_default
 returns c =
     let v = c in
-    lead_stuck (text (declaring v.before).before) (is_declared (declaring v.before)) _ v.skip.ensures v.version-declaration.result c.in-At.in-At-own.keys2 v.version-declaration.ensures
+    lead_stuck (text (declaring v.before).before) (is_declared (declaring v.before)) _ v.skip.ensures v.version-declaration.result c.in_default.in_default-own.keys2 v.version-declaration.ensures
 
 land-requires : tie.Need-land-requires
 land-requires c κs = (declaration_read c).bounds.1

@@ -58,7 +58,7 @@ word_sought c = given_then _ _ named standalone_value _ _ _ (name_read c.before)
 
 abbrev found_word : tie.In-At-word → tie.After-yes_no-word
 found_word c = c.before
-word_read : (c : tie.In-At-word) → let w = found_word c in Read (start_word w) (quote-next w.before) (At c.before.in-At-word.end)
+word_read : (c : tie.In-At-word) → let w = found_word c in Read (start_word w) (quote-next w.before) (At c.in-At-word.end)
 word_read c = let w = found_word c in subst (Read (start_word w) (quote-next w.before)) c.in-At-word.is (word_sought w)
 
 -- The quote.
@@ -74,7 +74,7 @@ quote_sought c =
 
 abbrev found-quote : tie.In-At-closed → tie.After-byte-closed
 found-quote c = c.before
-quote_read : (c : tie.In-At-closed) → Read (start-quote (found-quote c)) declaration_end (At c.before.in-At-closed.next)
+quote_read : (c : tie.In-At-closed) → Read (start-quote (found-quote c)) declaration_end (At c.in-At-closed.next)
 quote_read c = subst (Read (start-quote (found-quote c)) declaration_end) c.in-At-closed.is (quote_sought (found-quote c))
 
 given-requires : tie.Need-given-behind-requires
@@ -84,7 +84,7 @@ enum-known-behind : tie.Need-enum_known-behind
 enum-known-behind c = search rules
 
 returns : tie.Need-returns-in_default
-returns c = given_stuck _ _ named standalone_value done c.given-behind.result c.in-At.in-At-own.keys2 c.given-behind.ensures
+returns c = given_stuck _ _ named standalone_value done c.given-behind.result c.in_default.in_default-own.keys2 c.given-behind.ensures
 
 yes-no-requires : tie.Need-yes_no-word-requires
 yes-no-requires c κs = (name_read c).bounds.1
@@ -93,7 +93,7 @@ enum-known-word : tie.Need-enum_known-word
 enum-known-word c = search rules
 
 returns-2 : tie.Need-returns-in_default-word
-returns-2 c = heads_stuck _ _ _ _ done c.yes_no-word.result c.in-At-word.in-At-word-own.keys2 (word_sought c.before)
+returns-2 c = heads_stuck _ _ _ _ done c.yes_no-word.result c.in_default-word.in_default-word-own.keys2 (word_sought c.before)
 
 sub-byte : tie.Need-overflow_sub-from
 sub-byte c = omega (arith, (name_read (found_word c).before).bounds.0)
@@ -108,7 +108,7 @@ enum-known-closed : tie.Need-enum_known-closed
 enum-known-closed c = search rules
 
 returns-3 : tie.Need-returns-in_default-closed
-returns-3 c = heads_stuck _ _ _ _ done c.byte-closed.result c.in-At-closed.in-At-closed-own.keys2 (quote_sought c.before)
+returns-3 c = heads_stuck _ _ _ _ done c.byte-closed.result c.in_default-closed.in_default-closed-own.keys2 (quote_sought c.before)
 
 declaration-end-requires : tie.Need-declaration_end-requires
 declaration-end-requires c κs = (quote_read c).bounds.1

@@ -47,7 +47,7 @@ u_sought c = letter_read (start-u c) (start-u c).args.at 117 c.any_case-u.result
 
 abbrev found-u : tie.In-At → tie.After-any_case-u
 found-u c = c.before
-u_read : (c : tie.In-At) → let s = start-u (found-u c) in Read s (past-u s) (At c.before.in-At.past_u)
+u_read : (c : tie.In-At) → let s = start-u (found-u c) in Read s (past-u s) (At c.in-At.past_u)
 u_read c = let s = start-u (found-u c) in subst (Read s (past-u s)) c.in-At.is (u_sought (found-u c))
 
 -- The `t`.
@@ -61,7 +61,7 @@ t_sought c =
 
 abbrev found-t : tie.In-At-t → tie.After-any_case-t
 found-t c = c.before
-t_read : (c : tie.In-At-t) → let s = start-t (found-t c) in Read s (past-t s) (At c.before.in-At-t.past_t)
+t_read : (c : tie.In-At-t) → let s = start-t (found-t c) in Read s (past-t s) (At c.in-At-t.past_t)
 t_read c = let s = start-t (found-t c) in subst (Read s (past-t s)) c.in-At-t.is (t_sought (found-t c))
 
 -- The `f`.
@@ -75,7 +75,7 @@ f_sought c =
 
 abbrev found-f : tie.In-At-f → tie.After-any_case-f
 found-f c = c.before
-f_read : (c : tie.In-At-f) → let s = start-f (found-f c) in Read s (past-f s) (At c.before.in-At-f.past_f)
+f_read : (c : tie.In-At-f) → let s = start-f (found-f c) in Read s (past-f s) (At c.in-At-f.past_f)
 f_read c = let s = start-f (found-f c) in subst (Read s (past-f s)) c.in-At-f.is (f_sought (found-f c))
 
 -- `-8`.
@@ -89,7 +89,7 @@ rest_sought c =
 
 abbrev found-8 : tie.In-At-rest → tie.After-say-rest
 found-8 c = c.before
-rest_read : (c : tie.In-At-rest) → let s = start-8 (found-8 c) in Read s (past-8 s) (At c.before.in-At-rest.end)
+rest_read : (c : tie.In-At-rest) → let s = start-8 (found-8 c) in Read s (past-8 s) (At c.in-At-rest.end)
 rest_read c = let s = start-8 (found-8 c) in subst (Read s (past-8 s)) c.in-At-rest.is (rest_sought (found-8 c))
 
 any-case-requires : tie.Need-any_case-u-requires
@@ -99,7 +99,7 @@ enum-known-u : tie.Need-enum_known-u
 enum-known-u c = search rules
 
 returns : tie.Need-returns-in_default
-returns c = heads_stuck _ _ _ _ after_encoding c.any_case-u.result c.in-At.in-At-own.keys2 (u_sought c.before)
+returns c = heads_stuck _ _ _ _ after_encoding c.any_case-u.result c.in_default.in_default-own.keys2 (u_sought c.before)
 
 any-case-requires-2 : tie.Need-any_case-t-requires
 any-case-requires-2 c κs = ((u_read c).bounds.1, omega arith, omega arith)
@@ -108,7 +108,7 @@ enum-known-t : tie.Need-enum_known-t
 enum-known-t c = search rules
 
 returns-2 : tie.Need-returns-in_default-t
-returns-2 c = heads_stuck _ _ _ _ after_encoding c.any_case-t.result c.in-At-t.in-At-t-own.keys2 (t_sought c.before)
+returns-2 c = heads_stuck _ _ _ _ after_encoding c.any_case-t.result c.in_default-t.in_default-t-own.keys2 (t_sought c.before)
 
 any-case-requires-3 : tie.Need-any_case-f-requires
 any-case-requires-3 c κs = ((t_read c).bounds.1, omega arith, omega arith)
@@ -117,7 +117,7 @@ enum-known-f : tie.Need-enum_known-f
 enum-known-f c = search rules
 
 returns-3 : tie.Need-returns-in_default-f
-returns-3 c = heads_stuck _ _ _ _ after_encoding c.any_case-f.result c.in-At-f.in-At-f-own.keys2 (f_sought c.before)
+returns-3 c = heads_stuck _ _ _ _ after_encoding c.any_case-f.result c.in_default-f.in_default-f-own.keys2 (f_sought c.before)
 
 say-requires : tie.Need-say-rest-requires
 say-requires c κs = (f_read c.before.before).bounds.1
@@ -126,7 +126,7 @@ enum-known-rest : tie.Need-enum_known-rest
 enum-known-rest c = search rules
 
 returns-4 : tie.Need-returns-in_default-rest
-returns-4 c = heads_stuck _ _ _ _ after_encoding c.say-rest.result c.in-At-rest.in-At-rest-own.keys2 (rest_sought c.before)
+returns-4 c = heads_stuck _ _ _ _ after_encoding c.say-rest.result c.in_default-rest.in_default-rest-own.keys2 (rest_sought c.before)
 
 byte-requires : tie.Need-byte-requires
 byte-requires c κs = (rest_read c).bounds.1

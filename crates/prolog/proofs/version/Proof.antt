@@ -39,7 +39,7 @@ enum-known-behind : tie.Need-enum_known-behind
 enum-known-behind c = search rules
 
 returns : tie.Need-returns-in_default
-returns c = given_stuck _ _ named version_value done c.given-behind.result c.in-At.in-At-own.keys2 c.given-behind.ensures
+returns c = given_stuck _ _ named version_value done c.given-behind.result c.in_default.in_default-own.keys2 c.given-behind.ensures
 
 sub-version-value : tie.Need-overflow_sub-from
 sub-version-value c = omega (arith, (name_read c).bounds.0)

@@ -25,7 +25,7 @@ one c = word_heads _ _ (ascii "1.") c.say-one.result refl (begun c).requires.0 c
 
 abbrev past_one : tie.In-At → tie.After-say-one
 past_one c = c.before
-one_read : (c : tie.In-At) → let s = begun (past_one c) in Read s (digits-next s) (At c.before.in-At.from)
+one_read : (c : tie.In-At) → let s = begun (past_one c) in Read s (digits-next s) (At c.in-At.from)
 one_read c = let s = begun (past_one c) in subst (Read s (digits-next s)) c.in-At.is (one (past_one c))
 
 -- The digits and the quote, behind which the rest of the declaration must come.
@@ -37,7 +37,7 @@ digits c = heads_then _ _ _ _ _ _ _ (one_read c.before) (c.number-digits.ensures
 
 abbrev past-digits : tie.In-At-digits → tie.After-number-digits
 past-digits c = c.before
-digits_read : (c : tie.In-At-digits) → Read (start_of (past-digits c)) after_version (At c.before.in-At-digits.next)
+digits_read : (c : tie.In-At-digits) → Read (start_of (past-digits c)) after_version (At c.in-At-digits.next)
 digits_read c = subst (Read (start_of (past-digits c)) after_version) c.in-At-digits.is (digits (past-digits c))
 
 say-requires : tie.Need-say-one-requires
@@ -47,7 +47,7 @@ enum-known-one : tie.Need-enum_known-one
 enum-known-one c = search rules
 
 returns : tie.Need-returns-in_default
-returns c = heads_stuck _ _ _ _ done c.say-one.result c.in-At.in-At-own.keys2 (one c.before)
+returns c = heads_stuck _ _ _ _ done c.say-one.result c.in_default.in_default-own.keys2 (one c.before)
 
 number-requires : tie.Need-number-digits-requires
 number-requires c κs = ((one_read c).bounds.1, (begun (past_one c)).requires.1)
@@ -56,7 +56,7 @@ enum-known-digits : tie.Need-enum_known-digits
 enum-known-digits c = search rules
 
 returns-2 : tie.Need-returns-in_default-digits
-returns-2 c = heads_stuck _ _ _ _ done c.number-digits.result c.in-At-digits.in-At-digits-own.keys2 (digits c.before)
+returns-2 c = heads_stuck _ _ _ _ done c.number-digits.result c.in_default-digits.in_default-digits-own.keys2 (digits c.before)
 
 after-version-requires : tie.Need-after_version-requires
 after-version-requires c κs = (digits_read c).bounds.1

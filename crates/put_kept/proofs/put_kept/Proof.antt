@@ -81,7 +81,7 @@ abbrev after : tie.After-close invariant-loop decreases-loop → tie.After-loop-
 after c = c.before.before
 done : (c : tie.After-slice_known-2-1 invariant-loop decreases-loop)
     → Puts (kept_xml (start (after (closing c)).before).args.text.now (start (after (closing c)).before).args.marks.now) (start (after (closing c)).before).args.pen
-    (start (after (closing c)).before).args.out.now (closing c).close.new.1.1.1.0 (closing c).close.result
+    (start (after (closing c)).before).args.out.now (closing c).close.new.out (closing c).close.result
 done c =
     let e = after (closing c) in
     let t = e.before in

@@ -359,7 +359,7 @@ operand_operator t c =
     let begun = operand_begun t other in
     let a = begun.args in
     let u = other.unpack-item in
-    operator_there a.items.now a.at a.depth begun.requires.1.1.1 u.result (said _ u.result u.ensures) c.in-Path.in-Path-own.keys2 c.in-Not.in-Not-own.keys2
+    operator_there a.items.now a.at a.depth begun.requires.1.1.1 u.result (said _ u.result u.ensures) c.in_default.in_default-own.keys2 c.in_default-item.in_default-item-own.keys2
 
 operand_mul_unpack : (t : ℕ) → operand-lts.Need-offset_bounds-items-at (operand_claims t) (operand_at t) operand.Post
 operand_mul_unpack t c =
@@ -730,7 +730,7 @@ steps_returns t c =
     let l = turn.loop-owed in
     let u = c.unpack-item in
     let w = get_or a.items.now l.place 0 in
-    none-some (sym (not_step w u.result (said w u.result u.ensures) c.in-Step.in-Step-own.keys2) ∙ (step-head a.depth a.items.now l.place l.owed (l.invariant.rest, l.invariant.left) owed.loop-owed-test.true l.invariant.takes).1)
+    none-some (sym (not_step w u.result (said w u.result u.ensures) c.in_default.in_default-own.keys2) ∙ (step-head a.depth a.items.now l.place l.owed (l.invariant.rest, l.invariant.left) owed.loop-owed-test.true l.invariant.takes).1)
 
 steps_put_head_requires : (t : ℕ) → steps-lts.Need-put_head-headed-requires (steps_claims t) (steps_at t) steps.Post steps_Inv_loop steps_μ_loop
 steps_put_head_requires t c κs =
@@ -876,8 +876,8 @@ steps_same_length_2 t c = puts_long c.loop-owed.invariant.puts
 steps_returns_2 : (t : ℕ) → steps-lts.Need-returns (steps_claims t) (steps_at t) steps.Post steps_Inv_loop steps_μ_loop
 steps_returns_2 t c = rest_done _ _ _ _ _ _ _ _ _ _ _ _ stop (λ ws. refl) refl c.loop-owed-test.false c.loop-owed.invariant
 
-pub +expression-operand-predicates-steps-spec : {M : Type 1} → statement M
-+expression-operand-predicates-steps-spec =
+pub +expression_operand_predicates_steps_spec : {M : Type 1} → statement M
++expression_operand_predicates_steps_spec =
     close μ-expression μ-operand μ-predicates μ-steps (λ t. expression-lts.spec (expression_claims t)
     (expression_at t)
     expression.Post

@@ -110,7 +110,7 @@ returns c =
     let l = turn.loop-place in
     let u = c.unpack-item in
     let w = get_or a.items.now l.place 0 in
-    absurd (path_there _ _ _ _ _ _ _ inside.loop-place-test.true l.invariant (not_path w u.result (said w u.result u.ensures) c.in-Path.in-Path-own.keys2))
+    absurd (path_there _ _ _ _ _ _ _ inside.loop-place-test.true l.invariant (not_path w u.result (said w u.result u.ensures) c.in_default.in_default-own.keys2))
 
 put-byte-requires : tie.Need-put_byte-opened-requires invariant-loop decreases-loop
 put-byte-requires c κs =

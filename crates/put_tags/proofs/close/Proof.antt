@@ -25,7 +25,7 @@ abbrev going : (t : Turn) → Closing (start t).args.text.now (start t).args.par
 going t = t.loop-inner.invariant (start t).requires.bytes (start t).requires.chain
 
 stands : (c : tie.In-loop-inner invariant-loop decreases-loop)
-    → Known (start c.before).args.text.now (start c.before).args.parent.now (start c.before).args.begin.now c.before.loop-inner.inner (start c.before).args.up (going c.before).rest
+    → Known (start c.before).args.text.now (start c.before).args.parent.now (start c.before).args.begin.now c.loop-inner.inner (start c.before).args.up (going c.before).rest
 stands c =
     known (start c.before).args.text.now (start c.before).args.parent.now (start c.before).args.begin.now (going c.before).left c.loop-inner-test.true
 

@@ -35,7 +35,7 @@ same-length-2 c = search rules
 returns-2 : tie.Need-returns-then-squares-ne2
 returns-2 c =
     let e = (allowed c).before in
-    let a = (angle e.before).args in
+    let a = (angle e).args in
     puts_as (as_it_is a.squares a.b e.if-b-ne62.false (λ two. omega (arith, two, (allowed c).if-squares-ne2.true))) c.put_byte-then-squares-ne2.ensures
 
 put-requires : tie.Need-put-requires
@@ -47,7 +47,7 @@ same-length-3 c = search rules
 returns-3 : tie.Need-returns
 returns-3 c =
     let e = (forbidden c).before in
-    let a = (angle e.before).args in
+    let a = (angle e).args in
     puts_as (as_reference a.squares a.b e.if-b-ne62.false (omega (arith, (forbidden c).if-squares-ne2.false))) c.put.ensures
 
 pub put_char_spec : {M : Type 1} → statement M

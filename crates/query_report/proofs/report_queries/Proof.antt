@@ -34,17 +34,17 @@ returns : tie.Need-returns-in_default
 unfolding queries_print_by
 returns c =
     let asked = c in
-    refused_part "compose" _ _ report_limit _ _ _ (omega arith) asked.compose_way-answer.result c.in-Value.in-Value-own.keys2 asked.compose_way-answer.ensures.0 c.put_refusal.ensures
+    refused_part "compose" _ _ report_limit _ _ _ (omega arith) asked.compose_way-answer.result c.in_default.in_default-own.keys2 asked.compose_way-answer.ensures.0 c.put_refusal.ensures
 
 -- The queries are composed, and the composition stands at the start of the room.
 says : (c : tie.In-Value) →
-    let start = c.before.before.before.before.before.before.before.before.before.before in
-    value c.before.in-Value.size ≡ way_answer start.args.lean start.args.outer.now start.args.inner.now item_limit
+    let start = c in
+    value c.in-Value.size ≡ way_answer start.args.lean start.args.outer.now start.args.inner.now item_limit
 says c = ap told (sym c.in-Value.is) ∙ c.compose_way-answer.ensures.0
 
 gives : (c : tie.In-Value) →
-    let start = c.before.before.before.before.before.before.before.before.before.before in
-    Gives (way_got start.args.lean (decode start.args.outer.now) (decode start.args.inner.now)) c.before.in-Value.size item_limit c.before.before.before.before.compose_way-answer.new.1.1.0
+    let start = c in
+    Gives (way_got start.args.lean (decode start.args.outer.now) (decode start.args.inner.now)) c.in-Value.size item_limit c.compose_way-answer.new.out
 gives c =
     let start = c in
     compose_gives c.in-Value.size (replicate item_limit 0) _ start.args.lean start.args.outer.now start.args.inner.now (says c) c.compose_way-answer.ensures.1

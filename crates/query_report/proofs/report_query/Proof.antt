@@ -35,17 +35,17 @@ returns : tie.Need-returns-in_default
 unfolding query_prints
 returns c =
     let asked = c in
-    refused_part "print" _ _ report_limit _ _ _ (omega arith) asked.print_long-answer.result c.in-Value.in-Value-own.keys2 asked.print_long-answer.ensures.0 c.put_refusal.ensures
+    refused_part "print" _ _ report_limit _ _ _ (omega arith) asked.print_long-answer.result c.in_default.in_default-own.keys2 asked.print_long-answer.ensures.0 c.put_refusal.ensures
 
 -- The query is printed, and its text stands at the start of the room.
 says : (c : tie.In-Value) →
-    let start = c.before.before.before.before.before.before.before.before.before in
-    value c.before.in-Value.count ≡ print_answer long_form start.args.query.now start.args.list.now text_limit
+    let start = c in
+    value c.in-Value.count ≡ print_answer long_form start.args.query.now start.args.list.now text_limit
 says c = ap told (sym c.in-Value.is) ∙ c.print_long-answer.ensures.0
 
 gives : (c : tie.In-Value) →
-    let start = c.before.before.before.before.before.before.before.before.before in
-    Gives (text_got long_form (names_of start.args.list.now) (decode start.args.query.now)) c.before.in-Value.count text_limit c.before.before.before.before.print_long-answer.new.1.1.0
+    let start = c in
+    Gives (text_got long_form (names_of start.args.list.now) (decode start.args.query.now)) c.in-Value.count text_limit c.print_long-answer.new.out
 gives c =
     let start = c in
     print_gives c.in-Value.count (replicate text_limit 0) _ long_form start.args.query.now start.args.list.now (says c) c.print_long-answer.ensures.1

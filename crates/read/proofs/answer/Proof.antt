@@ -32,8 +32,8 @@ same_length c = search rules
 
 returns : tie.Need-returns-in_default-syntax
 returns c = (
-  refused_told _ c.measure-syntax.result _ _ c.in-Done-syntax.in-Done-syntax-own.keys2 c.measure-syntax.ensures c.answer_of.ensures,
-  λ n e. refused_value c.measure-syntax.result _ c.in-Done-syntax.in-Done-syntax-own.keys2 c.answer_of.ensures n e,
+  refused_told _ c.measure-syntax.result _ _ c.in_default-syntax.in_default-syntax-own.keys2 c.measure-syntax.ensures c.answer_of.ensures,
+  λ n e. refused_value c.measure-syntax.result _ c.in_default-syntax.in_default-syntax-own.keys2 c.answer_of.ensures n e,
 )
 
 answer-of-requires-2 : tie.Need-answer_of-requires-in_default
@@ -45,16 +45,16 @@ same-length-2 c = search rules
 returns-2 : tie.Need-returns-in_default
 returns-2 c =
     let first = c.paths-whole in (
-      refused_told _ first.result _ _ c.in-Done.in-Done-own.keys2 (measured _ _ _ first.result first.ensures.0) c.answer_of-in_default.ensures ∙
+      refused_told _ first.result _ _ c.in_default.in_default-own.keys2 (measured _ _ _ first.result first.ensures.0) c.answer_of-in_default.ensures ∙
           goes_later _ _ _ (rw c.in-Done-syntax.is at c.measure-syntax.ensures),
-      λ n e. refused_value first.result _ c.in-Done.in-Done-own.keys2 c.answer_of-in_default.ensures n e,
+      λ n e. refused_value first.result _ c.in_default.in_default-own.keys2 c.answer_of-in_default.ensures n e,
     )
 
 -- The text was read with the list's names.
-whole : (c : tie.In-Done) → Whole c.before.before.before.before.before.before.before.before.before.before.args.few.now c.before.before.before.before.before.paths-whole.new.1.1.1.1.1.0 (read_text c.before.before.before.before.before.before.before.before.before.before.args.newer (look_of true c.before.before.before.before.before.before.before.before.before.before.args.list.now) c.before.before.before.before.before.before.before.before.before.before.args.text.now) c.before.in-Done.end
+whole : (c : tie.In-Done) → Whole c.args.few.now c.paths-whole.new.out (read_text c.args.newer (look_of true c.args.list.now) c.args.text.now) c.in-Done.end
 whole c = rw c.in-Done.is at c.paths-whole.ensures.0
 
-sized : (c : tie.In-Done) → Sized (read_text c.before.before.before.before.before.before.before.before.before.before.args.newer (look_of true c.before.before.before.before.before.before.before.before.before.before.args.list.now) c.before.before.before.before.before.before.before.before.before.before.args.text.now) c.before.in-Done.end
+sized : (c : tie.In-Done) → Sized (read_text c.args.newer (look_of true c.args.list.now) c.args.text.now) c.in-Done.end
 sized c = whole_sized _ _ _ _ (whole c)
 
 same-length-3 : tie.Need-shape_of-few-then-room-end
@@ -74,7 +74,7 @@ same-length-5 c = search rules
 
 returns-5 : tie.Need-returns
 returns-5 c =
-    let few = c.paths-whole.new.1.1.1.1.1.0 in
+    let few = c.paths-whole.new.out in
     let o = read_text c.args.newer (look_of true c.args.list.now) c.args.text.now in (
       enough_room _ _ _ (sized c.before.before) c.if-room-end.false c.if-end-gt-ITEM_LIMIT.false ∙ any_later _ _ _ _ _ (sized c.before.before),
       λ n e.

@@ -41,7 +41,7 @@ abbrev start : tie.After-answer-said → tie.Start
 start c = begun (past-1 (past-2 c))
 
 -- What the functions ask that read the text.
-ready : (c : tie.In-Good) → Ready (text (begun (past-1 c))) (list (begun (past-1 c))) c.before.before.index-listed.new.1.0 c.in-Good.count 0 bracket_limit
+ready : (c : tie.In-Good) → Ready (text (begun (past-1 c))) (list (begun (past-1 c))) c.index-listed.new.starts c.in-Good.count 0 bracket_limit
 ready c =
     record { short = (past-1 c).if-text-gt-TEXT_LIMIT.false; names = c.index-listed.ensures.good _ c.in-Good.is; inside = omega arith; shallow = omega arith }
 
@@ -126,7 +126,7 @@ returns-6 : tie.Need-returns-in_default
 returns-6 c =
     let answered = c in
     let s = start answered.before.before in
-    (said answered.before.before, kept (text s) (version s) (list s) (old s) answered.answer-said.result c.in-Value.in-Value-own.keys2 (said answered.before.before))
+    (said answered.before.before, kept (text s) (version s) (list s) (old s) answered.answer-said.result c.in_default.in_default-own.keys2 (said answered.before.before))
 
 pub read_spec : {M : Type 1} → statement M
 read_spec =

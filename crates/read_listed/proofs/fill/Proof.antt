@@ -23,7 +23,7 @@ judged c = c.before.before
 abbrev kept : tie.In-Value → Columns
 kept c = let last = (judged c).judge-judged.new in columns last.1.1.1.1.1.0 last.1.1.1.1.1.1.0 last.1.1.1.1.1.1.1.0 last.1.1.1.1.1.1.1.1.0
 
-valued : (c : tie.In-Value) → told c.before.before.answer-said.result ≡ value c.in-Value.n
+valued : (c : tie.In-Value) → told c.answer-said.result ≡ value c.in-Value.n
 valued c = ap told c.in-Value.is
 
 all : (c : tie.In-Value) → let s = begun (judged c).before in Accepted s.args.text.now s.args.list.now (kept c) (length s.args.parent.now) c.in-Value.n
@@ -104,7 +104,7 @@ returns-2 : tie.Need-returns-in_default
 returns-2 c =
     let said = c in
     let s = begun said.before.before.before in
-    (said.answer-said.ensures _ _ _ said.judge-judged.ensures, refused_exit s.args.text.now s.args.list.now (lent s) said.answer-said.result c.in-Value.in-Value-own.keys2)
+    (said.answer-said.ensures _ _ _ said.judge-judged.ensures, refused_exit s.args.text.now s.args.list.now (lent s) said.answer-said.result c.in_default.in_default-own.keys2)
 
 pub fill_spec : {M : Type 1} → statement M
 fill_spec =

@@ -11,7 +11,7 @@ enum-known-element : tie.Need-enum_known-element
 enum-known-element c = search rules
 
 returns : tie.Need-returns-in_default
-returns c = λ list cols h. ends_judges c.args.text.now list cols c.args.element c.in-On.in-On-own.keys2 h
+returns c = λ list cols h. ends_judges c.args.text.now list cols c.args.element c.in_default.in_default-own.keys2 h
 
 finish-requires : tie.Need-finish-requires
 finish-requires c κs = subst (Inside _) c.in-On.is c.requires

@@ -30,7 +30,7 @@ abbrev at-start : tie.In-Start → tie.Start
 at-start c = c.before.before.before
 start : (c : tie.In-Start) →
     let s = at-start c in
-    Facing s.args.text.now s.args.list.now s.args.open.now (lent s) (Start c.before.in-Start.name_end c.before.in-Start.next) s.args.so_far
+    Facing s.args.text.now s.args.list.now s.args.open.now (lent s) (Start c.in-Start.name_end c.in-Start.next) s.args.so_far
 start c = faced (at-start c) _ c.in-Start.is
 
 -- It ends within the text.
@@ -47,10 +47,10 @@ abbrev at-empty : tie.In-Empty → tie.Start
 at-empty c = c.before.before.before
 empty : (c : tie.In-Empty) →
     let s = at-empty c in
-    Facing s.args.text.now s.args.list.now s.args.open.now (lent s) (Empty c.before.in-Empty.name_end c.before.in-Empty.next) s.args.so_far
+    Facing s.args.text.now s.args.list.now s.args.open.now (lent s) (Empty c.in-Empty.name_end c.in-Empty.next) s.args.so_far
 empty c = faced (at-empty c) _ c.in-Empty.is
 
-empty_near : (c : tie.In-Empty) → ((at-empty c).args.so_far.at < 65536) × (c.before.in-Empty.next.at < 65536)
+empty_near : (c : tie.In-Empty) → ((at-empty c).args.so_far.at < 65536) × (c.in-Empty.next.at < 65536)
 empty_near c = let t = (empty c).moves in (omega (arith, t.1, t.0.inside, (at-empty c).requires.1.0), omega (arith, t.0.inside, (at-empty c).requires.1.0))
 
 abbrev looked2 : tie.After-kind_of-in-Empty → tie.After-first_unnamed-unnamed-in-Empty
@@ -60,7 +60,7 @@ abbrev at-end : tie.In-End → tie.Start
 at-end c = c.before.before.before
 end : (c : tie.In-End) →
     let s = at-end c in
-    Facing s.args.text.now s.args.list.now s.args.open.now (lent s) (End c.before.in-End.next) s.args.so_far
+    Facing s.args.text.now s.args.list.now s.args.open.now (lent s) (End c.in-End.next) s.args.so_far
 end c = faced (at-end c) _ c.in-End.is
 
 -- A RUN OF CHARACTERS.
@@ -68,7 +68,7 @@ abbrev at-text : tie.In-Text → tie.Start
 at-text c = c.before.before.before
 text : (c : tie.In-Text) →
     let s = at-text c in
-    Facing s.args.text.now s.args.list.now s.args.open.now (lent s) (Text c.before.in-Text.next) s.args.so_far
+    Facing s.args.text.now s.args.list.now s.args.open.now (lent s) (Text c.in-Text.next) s.args.so_far
 text c = faced (at-text c) _ c.in-Text.is
 
 enum-known-piece : tie.Need-enum_known-piece
@@ -93,16 +93,16 @@ kind-of-requires : tie.Need-kind_of-requires
 kind-of-requires c κs = let looks = looked c.before.before.before.before.before.before in λ v e. number_few _ _ _ _ v (at-start looks.before).requires.0.indexed (sym e ∙ looks.find_name-found.ensures)
 
 keep-line-requires : tie.Need-keep_line-requires
-keep-line-requires c κs = let d = (placed c).before.before.before in (omega (arith, start_near d.before.before.before), omega arith)
+keep-line-requires c κs = let d = (placed c).before.before.before in (omega (arith, start_near d), omega arith)
 
 add-deeper : tie.Need-overflow_add-deeper
-add-deeper c = let d = (placed c.before).before.before.before in omega (arith, start_room _ _ _ _ _ _ _ (start d.before.before.before) (at-start d.before.before.before).requires.1.0)
+add-deeper c = let d = (placed c.before).before.before.before in omega (arith, start_room _ _ _ _ _ _ _ (start d) (at-start d).requires.1.0)
 
 add-nodes : tie.Need-overflow_add-nodes
-add-nodes c = let d = (placed c.before).before.before.before in omega (arith, small (at-start d.before.before.before) _ d.in-Start.is)
+add-nodes c = let d = (placed c.before).before.before.before in omega (arith, small (at-start d) _ d.in-Start.is)
 
 narrow-requires-2 : tie.Need-narrow-requires-in-Start
-narrow-requires-2 c κs = let d = (placed c.before).before.before.before in omega (arith, small (at-start d.before.before.before) _ d.in-Start.is)
+narrow-requires-2 c κs = let d = (placed c.before).before.before.before in omega (arith, small (at-start d) _ d.in-Start.is)
 
 enum-known-piece-2 : tie.Need-enum_known-piece-in-Empty-1
 enum-known-piece-2 c = search rules
@@ -120,7 +120,7 @@ keep-line-requires-2 : tie.Need-keep_line-requires-in-Empty
 keep-line-requires-2 c κs = empty_near (looked2 c).before.before
 
 add-nodes-2 : tie.Need-overflow_add-nodes-in-Empty
-add-nodes-2 c = let d = (looked2 c.before).before.before in omega (arith, small (at-empty d.before.before) _ d.in-Empty.is)
+add-nodes-2 c = let d = (looked2 c.before).before.before in omega (arith, small (at-empty d) _ d.in-Empty.is)
 
 enum-known-piece-3 : tie.Need-enum_known-piece-in-End-1
 enum-known-piece-3 c = search rules
@@ -178,10 +178,10 @@ returns-4 c =
     text_comes _ _ _ (lent (at-text d.before.before.before.before.before)) _ _ _ (text d.before.before.before.before.before) c.keep_line-in-Text.ensures
 
 returns-5 : tie.Need-returns-in-Wrong
-returns-5 c = ((faced c.before.before.before.before.before _ c.in-Wrong.is).moves, tt)
+returns-5 c = ((faced c.before.before.before _ c.in-Wrong.is).moves, tt)
 
 returns-6 : tie.Need-returns-in-LeftOut
-returns-6 c = ((faced c.before.before.before.before.before _ c.in-LeftOut.is).moves, tt)
+returns-6 c = ((faced c.before.before.before _ c.in-LeftOut.is).moves, tt)
 
 pub keep_piece_spec : {M : Type 1} → statement M
 keep_piece_spec =

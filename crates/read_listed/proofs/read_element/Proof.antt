@@ -31,7 +31,7 @@ enum-known-begun : tie.Need-enum_known-begun
 enum-known-begun c = search rules
 
 returns : tie.Need-returns-in_default
-returns c = comes_ends _ _ _ _ c.keep_piece-begun.result c.in-On.in-On-own.keys2 c.keep_piece-begun.ensures.0
+returns c = comes_ends _ _ _ _ c.keep_piece-begun.result c.in_default.in_default-own.keys2 c.keep_piece-begun.ensures.0
 
 read-inside-requires : tie.Need-read_inside-requires
 read-inside-requires c κs =

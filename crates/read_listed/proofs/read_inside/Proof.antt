@@ -41,7 +41,7 @@ enum-known-step : tie.Need-enum_known-step invariant-loop decreases-loop
 enum-known-step c = search rules
 
 returns : tie.Need-returns-in_default invariant-loop decreases-loop
-returns c = comes_ends _ _ _ _ c.read_piece-step.result c.in-On.in-On-own.keys2 c.read_piece-step.ensures.0
+returns c = comes_ends _ _ _ _ c.read_piece-step.result c.in_default.in_default-own.keys2 c.read_piece-step.ensures.0
 
 loop-again : tie.Need-loop-so_far-preserved invariant-loop decreases-loop
 loop-again c =

@@ -1126,8 +1126,8 @@ steps_returns_2 t c =
     let l = step_more newer look within _ _ _ _ _ _ _ _ _ _ turn.loop-next.invariant.1 _ _ _ _ _ deep.put_deep-from.ensures.0.0 deep.put_deep-from.ensures.0.1 g in
     steps_done newer look within _ _ _ _ _ _ _ _ _ l _ _ _ (rw over.in-Nothing.is at last.joined-joint.ensures) c.item_of_path.ensures.0 c.put.ensures.0
 
-pub +bracketed-expression-operand-predicates-step-steps-spec : {M : Type 1} → statement M
-+bracketed-expression-operand-predicates-step-steps-spec =
+pub +bracketed_expression_operand_predicates_step_steps_spec : {M : Type 1} → statement M
++bracketed_expression_operand_predicates_step_steps_spec =
     close μ-bracketed μ-expression μ-operand μ-predicates μ-step μ-steps (λ t. bracketed-lts.spec (bracketed_claims t)
     (bracketed_at t)
     bracketed.Post

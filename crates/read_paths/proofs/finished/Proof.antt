@@ -19,7 +19,7 @@ returns c =
     ((refl, ends_here _ _ _ t is), stops_here _ _ _ t is)
 
 returns-2 : tie.Need-returns-in_default
-returns-2 c = ((ends_not _ _ _ c.take-taken.ensures (not_finish c.take-taken.result.token c.in-Finish.in-Finish-own.keys2), taken_at _ _ _ c.take-taken.ensures), tt)
+returns-2 c = ((ends_not _ _ _ c.take-taken.ensures (not_finish c.take-taken.result.token c.in_default.in_default-own.keys2), taken_at _ _ _ c.take-taken.ensures), tt)
 
 pub finished_spec : {M : Type 1} → statement M
 finished_spec = tie.close (tie.spec take-requires enum_told returns returns-2)

@@ -65,7 +65,7 @@ returns c =
     let read = read_of c.before in
     let turn = turn-of read in
     let s = begun-of (lent_of turn) in
-    (all_refused _ _ _ _ _ _ _ _ _ _ _ _ read.path-one.result c.in-Done.in-Done-own.keys2 read.path-one.ensures (paths_stuck s.args.newer (look_of s.args.lookup s.args.list.now) (read_within s.args.newer (look_of s.args.lookup s.args.list.now) bracket_limit) _ _ _ _ _ _ turn.loop-next.invariant.1), stops_not s.args.text.now read.path-one.result c.in-Done.in-Done-own.keys2)
+    (all_refused _ _ _ _ _ _ _ _ _ _ _ _ read.path-one.result c.in_default.in_default-own.keys2 read.path-one.ensures (paths_stuck s.args.newer (look_of s.args.lookup s.args.list.now) (read_within s.args.newer (look_of s.args.lookup s.args.list.now) bracket_limit) _ _ _ _ _ _ turn.loop-next.invariant.1), stops_not s.args.text.now read.path-one.result c.in_default.in_default-own.keys2)
 
 joins-ahead-requires : tie.Need-joins_ahead-bar-requires invariant-loop decreases-loop
 joins-ahead-requires c κs =

@@ -22,7 +22,7 @@ lengths c = agree _ _ _ _ _ _ c.if-text-list.false
 -- The list is good.
 abbrev past-1 : tie.In-Good → tie.Else-text-list
 past-1 c = c.before.before.before
-indexed : (c : tie.In-Good) → Indexed (begun (past-1 c)).args.list.now c.before.before.index.new.1.0 c.in-Good.count
+indexed : (c : tie.In-Good) → Indexed (begun (past-1 c)).args.list.now c.index.new.starts c.in-Good.count
 indexed c = c.index.ensures.good _ c.in-Good.is
 
 returns : tie.Need-returns-then-text-list

@@ -11,7 +11,7 @@ enum-known-item : tie.Need-enum_known-item
 enum-known-item c = search rules
 
 returns : tie.Need-returns-in_default
-returns c = said_none _ _ c.unpack-item.ensures c.in-Step.in-Step-own.keys2
+returns c = said_none _ _ c.unpack-item.ensures c.in_default.in_default-own.keys2
 
 returns-2 : tie.Need-returns
 returns-2 c = said_step _ _ _ c.unpack-item.ensures c.in-Step.is

@@ -32,7 +32,7 @@ returns : tie.Need-returns
 returns c = (
   c.put_way_back.ensures.0 ∙ simp length-set,
   λ s es g n.
-      reverse_put c.args.steps.now c.args.out.now c.put_way_back.new.1.0 c.args.at c.args.count c.pack_path.result s (omega arith) n c.pack_path.ensures
+      reverse_put c.args.steps.now c.args.out.now c.put_way_back.new.out c.args.at c.args.count c.pack_path.result s (omega arith) n c.pack_path.ensures
       (c.put_way_back.ensures.1 s es g),
 )
 

@@ -165,7 +165,7 @@ loop-again c =
     let l = turn.loop-place in
     top a.inner.now l.place ended.skip-next.result counted.owes-count.result l.invariant.rest inside.loop-place-test.true l.invariant.walks counted.owes-count.ensures.0 ended.skip-next.ensures.0
     (λ p ps e t.
-    writing_more reversed_items a.inner.now a.out.now l.out c.put_reverse.new.1.1.0 a.start l.place l.at ended.skip-next.result (l.at + (ended.skip-next.result - l.place + 4)) counted.owes-count.result
+    writing_more reversed_items a.inner.now a.out.now l.out c.put_reverse.new.out a.start l.place l.at ended.skip-next.result (l.at + (ended.skip-next.result - l.place + 4)) counted.owes-count.result
     p ps l.invariant e t begun.requires.2 (c.put_reverse.ensures.1 p t.part t.fine t.counts) (omega (arith, t.ends, reversed_length p)))
 
 same_length : tie.Need-shape_of-out invariant-loop decreases-loop

@@ -85,7 +85,7 @@ put-reverses-requires c κs =
     let n = length-append ors (each_got reversed_items (decode inner)) in
     let k = length-replicate (a.paths - 1) or_item in
     let whole = ap length parts.1 in
-    (begun.requires.0, begun.requires.1, omega (arith, begun.requires.3, same_size ors old c.put_same.new.0 a.at c.put_same.ensures (omega (arith, begun.requires.3))))
+    (begun.requires.0, begun.requires.1, omega (arith, begun.requires.3, same_size ors old c.put_same.new.out a.at c.put_same.ensures (omega (arith, begun.requires.3))))
 
 same_length : tie.Need-shape_of-out
 same_length c = search rules

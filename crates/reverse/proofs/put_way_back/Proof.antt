@@ -81,7 +81,7 @@ put-at-root-requires c κs = omega arith
 loop-holds : tie.Need-loop-place-init invariant-loop decreases-loop
 loop-holds c =
     let begun = begun-of (lent_of c.before.before) in
-    turned_start begun.args.steps.now begun.args.out.now c.put_at_root.new.0 begun.args.at (begun.args.at + 1 + length begun.args.steps.now) refl begun.requires.1 c.put_at_root.ensures
+    turned_start begun.args.steps.now begun.args.out.now c.put_at_root.new.out begun.args.at (begun.args.at + 1 + length begun.args.steps.now) refl begun.requires.1 c.put_at_root.ensures
 
 mul-as-step : tie.Need-offset_bounds-steps-place invariant-loop decreases-loop
 mul-as-step c = omega arith
@@ -164,7 +164,7 @@ loop-again c =
     let rooted = rooted_of turn in
     let a = (begun-of (lent_of rooted)).args in
     let l = turn.loop-place in
-    turned_more a.steps.now rooted.put_at_root.last.0 l.out c.put_items.new.1.0 a.at l.back (l.back - (ended.skip-next.result - l.place)) l.place ended.skip-next.result
+    turned_more a.steps.now rooted.put_at_root.new.out l.out c.put_items.new.out a.at l.back (l.back - (ended.skip-next.result - l.place)) l.place ended.skip-next.result
     l.test l.count packed.pack_step.result packed.turn.result read.as_step-step.result inside.loop-place-test.true l.invariant read.as_step-step.ensures ended.skip-next.ensures.0 ended.skip-next.ensures.1 packed.turn.ensures
     packed.pack_step.ensures refl c.put_items.ensures
 
@@ -181,16 +181,16 @@ same_length : tie.Need-shape_of-out invariant-loop decreases-loop
 same_length c =
     let rooted = rooted_of c.before.before in
     let begun = begun-of (lent_of rooted) in
-    let same = same_size (encode_expr at_root) begun.args.out.now rooted.put_at_root.last.0 (begun.args.at + 1 + length begun.args.steps.now) rooted.put_at_root.ensures (omega arith) in
+    let same = same_size (encode_expr at_root) begun.args.out.now rooted.put_at_root.new.out (begun.args.at + 1 + length begun.args.steps.now) rooted.put_at_root.ensures (omega arith) in
     simp length-set (omega (arith, c.loop-place.invariant.size))
 
 returns : tie.Need-returns invariant-loop decreases-loop
 returns c =
     let rooted = rooted_of c.before.before in
     let begun = begun-of (lent_of rooted) in
-    let same = same_size (encode_expr at_root) begun.args.out.now rooted.put_at_root.last.0 (begun.args.at + 1 + length begun.args.steps.now) rooted.put_at_root.ensures (omega arith) in (
+    let same = same_size (encode_expr at_root) begun.args.out.now rooted.put_at_root.new.out (begun.args.at + 1 + length begun.args.steps.now) rooted.put_at_root.ensures (omega arith) in (
       simp length-set (omega (arith, c.loop-place.invariant.size)),
-      turned_done begun.args.steps.now begun.args.out.now rooted.put_at_root.last.0 c.loop-place.out begun.args.at (begun.args.at + 1 + length begun.args.steps.now) c.loop-place.back c.loop-place.place
+      turned_done begun.args.steps.now begun.args.out.now rooted.put_at_root.new.out c.loop-place.out begun.args.at (begun.args.at + 1 + length begun.args.steps.now) c.loop-place.back c.loop-place.place
           c.loop-place.test c.loop-place.count c.pack_step-2.result c.loop-place-test.false c.loop-place.invariant refl rooted.put_at_root.ensures begun.requires.1 c.pack_step-2.ensures,
     )
 

@@ -28,13 +28,13 @@ few s = s.requires
 -- A turn, and its line.
 abbrev begun : tie.At-loop-at invariant-loop decreases-loop → tie.Start invariant-loop decreases-loop
 begun c = c.before.before
-more : (c : tie.After-line_end-end invariant-loop decreases-loop) → c.before.before.before.loop-at.at < length (views (begun c.before.before.before))
+more : (c : tie.After-line_end-end invariant-loop decreases-loop) → c.loop-at.at < length (views (begun c.before.before.before))
 more c = omega (arith, c.loop-at-test.true)
 
-ends : (c : tie.After-line_end-end invariant-loop decreases-loop) → Ends (drop c.before.before.before.loop-at.at (views (begun c.before.before.before))) c.line_end-end.result
+ends : (c : tie.After-line_end-end invariant-loop decreases-loop) → Ends (drop c.loop-at.at (views (begun c.before.before.before))) c.line_end-end.result
 ends c = subst (λ part. Ends part c.line_end-end.result) (whole_part (views (begun c.before.before.before)) c.loop-at.at) c.line_end-end.ensures
 
-long : (c : tie.After-line_end-end invariant-loop decreases-loop) → length (drop c.before.before.before.loop-at.at (views (begun c.before.before.before))) ≡ length (views (begun c.before.before.before)) - c.before.before.before.loop-at.at
+long : (c : tie.After-line_end-end invariant-loop decreases-loop) → length (drop c.loop-at.at (views (begun c.before.before.before))) ≡ length (views (begun c.before.before.before)) - c.loop-at.at
 long c = length-drop c.loop-at.at (views (begun c.before.before.before))
 
 within : (c : tie.After-line_end-end invariant-loop decreases-loop) → c.line_end-end.result ≤ length (views (begun c.before.before.before))

@@ -71,7 +71,7 @@ there c = omega (arith, c.if-roles-number.false)
 returns : tie.Need-returns-then-long
 returns c =
     let s = c in
-    refused s 1 0 (too_long_lem (views s.before.before.before.before.before) (list s.before.before.before.before.before) (text s.before.before.before.before.before) s.args.roles s.args.role s.args.mask (length (old s.before.before.before.before.before)) c.if-long.true)
+    refused s.before.before.before.before.before 1 0 (too_long_lem (views s.before.before.before.before.before) (list s.before.before.before.before.before) (text s.before.before.before.before.before) s.args.roles s.args.role s.args.mask (length (old s.before.before.before.before.before)) c.if-long.true)
 
 count-views-requires : tie.Need-count_views-count-requires
 count-views-requires c κs = views_short c
@@ -91,7 +91,7 @@ returns-3 : tie.Need-returns-in_default
 returns-3 c =
     let e2 = c in
     let s = begun (past-lengths e2.before.before) in
-    let (number, place, t) = refusal_told c.judge_list-listed.result c.in-Value.in-Value-own.keys2 in
+    let (number, place, t) = refusal_told c.judge_list-listed.result c.in_default.in_default-own.keys2 in
     let e =
     bad_list (views s) (list s) (text s) s.args.roles s.args.role s.args.mask (length (old s)) (short (past-lengths e2.before.before)) (few e2.before.before) number place (sym t ∙ c.judge_list-listed.ensures) in
     let both = refused s number place e in

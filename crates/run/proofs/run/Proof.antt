@@ -41,10 +41,10 @@ returns c =
     let a = start.args in
     let t = table_of a.parent.now a.kind.now in
     let said = c.judge-said in (
-      refused_answer a.query.now t a.given.now a.marks.now a.scratch.now said.result c.in-Value.in-Value-own.keys2 said.ensures,
+      refused_answer a.query.now t a.given.now a.marks.now a.scratch.now said.result c.in_default.in_default-own.keys2 said.ensures,
       (
-        refused_marks a.query.now t a.given.now a.marks.now a.scratch.now said.result c.in-Value.in-Value-own.keys2 said.ensures,
-        refused_scratch a.query.now t a.given.now a.marks.now a.scratch.now said.result c.in-Value.in-Value-own.keys2 said.ensures,
+        refused_marks a.query.now t a.given.now a.marks.now a.scratch.now said.result c.in_default.in_default-own.keys2 said.ensures,
+        refused_scratch a.query.now t a.given.now a.marks.now a.scratch.now said.result c.in_default.in_default-own.keys2 said.ensures,
       ),
     )
 

@@ -345,7 +345,7 @@ abbrev operand_opened : (t : ℕ) → Operand-bracket t → Operand-start t
 operand_opened t c = operand_begun t (operand_no_path t c)
 
 operand_deep : (t : ℕ) (c : Operand-bracket t) → (operand_opened t c).args.depth ≡ 0 → ⊥
-operand_deep t c = let start = operand_opened t c in not_deep _ _ _ start.args.depth start.requires.1.1.1.1 (operand_no_path t c).unpack-item.result (operand_said t (operand_no_path t c) _ refl) c.in-Path.in-Path-own.keys2
+operand_deep t c = let start = operand_opened t c in not_deep _ _ _ start.args.depth start.requires.1.1.1.1 (operand_no_path t c).unpack-item.result (operand_said t (operand_no_path t c) _ refl) c.in_default.in_default-own.keys2
 
 operand_denies : (t : ℕ) (c : Operand-denied t) → let a = (operand_opened t (operand_bracket t c)).args in get_or a.items.now a.at 0 ≡ not_item
 operand_denies t c = operand_said t (operand_no_path t (operand_bracket t c)) Not c.in-Not.is
@@ -354,7 +354,7 @@ operand_joins : (t : ℕ) (c : Operand-operator t) → let a = (operand_opened t
 operand_joins t c =
     let bracket = operand_no_not t c in
     let start = operand_opened t bracket in
-    must_join _ _ _ start.args.depth start.requires.1.1.1.1 (operand_no_path t bracket).unpack-item.result (operand_said t (operand_no_path t bracket) _ refl) bracket.in-Path.in-Path-own.keys2 c.in-Not.in-Not-own.keys2
+    must_join _ _ _ start.args.depth start.requires.1.1.1.1 (operand_no_path t bracket).unpack-item.result (operand_said t (operand_no_path t bracket) _ refl) bracket.in_default.in_default-own.keys2 c.in_default-item.in_default-item-own.keys2
 
 operand_mul_unpack : (t : ℕ) → operand-lts.Need-offset_bounds-items-at (operand_claims t) (operand_at t) operand.Post
 operand_mul_unpack t c = search rules
@@ -375,7 +375,7 @@ operand_path_requires : (t : ℕ) → operand-lts.Need-path-holds-requires (oper
 operand_path_requires t c κs =
     let here = c in
     let start = operand_begun t (operand_unpacked t here.before) in
-    (omega (arith, operand_on t start, start.requires.0), (start.requires.1.0, (start.requires.1.1.0, (start.requires.1.1.1.0, operand_steps t here))))
+    (omega (arith, operand_on t start, start.requires.0), (start.requires.1.0, (start.requires.1.1.0, (start.requires.1.1.1.0, operand_steps t here.before))))
 
 operand_add_skip : (t : ℕ) → operand-lts.Need-overflow_add-at-in-Path (operand_claims t) (operand_at t) operand.Post
 operand_add_skip t c = search rules
@@ -536,7 +536,7 @@ abbrev path_turned : (t : ℕ) → Path-sought t → Path-turn t
 path_turned t c = path_turn t (path_seen t c)
 
 abbrev path_part : (t : ℕ) → Path-sought t → List ℕ
-path_part t c = c.seek-sought.new.1.1.1.1.1.1.1.1.1.0
+path_part t c = c.seek-sought.new.stand
 
 abbrev path_stand : (t : ℕ) → Path-sought t → List ℕ
 path_stand t c = let l = (path_turned t c).loop-k in put_mid l.k (length l.stand-1 - l.k) l.stand-1 (path_part t c)
@@ -553,7 +553,7 @@ path_loop_holds : (t : ℕ) → path-lts.Need-loop-k-init (path_claims t) (path-
 path_loop_holds t c = (refl, state_begin _ _ _ _ _ _ _ _ _ (path_start t c).requires.1.1.1.1)
 
 path_stood_requires : (t : ℕ) → path-lts.Need-stood-from-requires (path_claims t) (path-at t) path.Post path_Inv_loop path_μ_loop
-path_stood_requires t c κs = path_room t c.before
+path_stood_requires t c κs = path_room t c
 
 path_arrived_requires : (t : ℕ) → path-lts.Need-arrived-requires (path_claims t) (path-at t) path.Post path_Inv_loop path_μ_loop
 path_arrived_requires t c κs = search rules
@@ -686,7 +686,7 @@ path_loop_less t c =
     let l = turn.loop-k in
     let a = (path_begun t turn).args in
     subst (λ (j : ℕ). worth (length a.parent.now) a.count (take (l.k - 1) (path_stand t sought)) j < worth (length a.parent.now) a.count (take l.k l.stand) l.bound) (sym c.wide-bound.ensures)
-    (back_less _ _ _ _ _ _ _ _ _ (path_begun t turn).requires.1.1.1.1 l.invariant.1 (path_nothing t (path_dead t back.before.before.before)) (take (l.k - 1) (path_stand t sought)) (get_or (path_stand t sought) (l.k - 1) 0) (path_last t back))
+    (back_less _ _ _ _ _ _ _ _ _ (path_begun t turn).requires.1.1.1.1 l.invariant.1 (path_nothing t (path_dead t back.before.before.before)) (take (l.k - 1) (path_stand t sought)) (get_or (path_stand t sought) (l.k - 1) 0) (path_last t back.before.before.before))
 
 path_loop_again : (t : ℕ) → path-lts.Need-loop-k-preserved-then-sought-eq0 (path_claims t) (path-at t) path.Post path_Inv_loop path_μ_loop
 path_loop_again t c =
@@ -701,7 +701,7 @@ path_loop_again t c =
     let ends = skip_ends a.items.now a.at a.depth (l.k - 1) _ f.inside (first_readable _ _ _ a.depth a.count f (l.k - 1) (omega (arith, l.invariant.1.few))) skip.ensures in (
       path_as_long t sought ∙ l.invariant.0,
       subst (State (table_of a.parent.now a.kind.now) a.given.now a.items.now a.at a.depth a.count a.node a.wanted (take (l.k - 1) (path_stand t sought)) (l.k - 1) skip.result) (sym c.wide-bound.ensures)
-          (state_back _ _ _ _ _ _ _ _ _ f l.invariant.1 (path_nothing t (path_dead t back.before.before.before)) (take (l.k - 1) (path_stand t sought)) (get_or (path_stand t sought) (l.k - 1) 0) (path_last t back) skip.result ends),
+          (state_back _ _ _ _ _ _ _ _ _ f l.invariant.1 (path_nothing t (path_dead t back.before.before.before)) (take (l.k - 1) (path_stand t sought)) (get_or (path_stand t sought) (l.k - 1) 0) (path_last t back.before.before.before) skip.result ends),
     )
 
 path_sub_stand : (t : ℕ) → path-lts.Need-overflow_sub-stand (path_claims t) (path-at t) path.Post path_Inv_loop path_μ_loop
@@ -940,13 +940,13 @@ Seek-next t = seek-lts.After-candidate-c (seek_claims t) (seek-at t) seek.Post s
 
 seek_past : (t : ℕ) (c : Seek-next t) → let a = (seek_begun t c.before).args in Past (table_of a.parent.now a.kind.now) a.given.now a.items.now a.place a.depth a.from a.bound c.candidate-c.result
 seek_past t c =
-    let turn = c.before in
+    let turn = c in
     let step = turn.step_at-step in
-    let a = (seek_begun t turn).args in
+    let a = (seek_begun t turn.before).args in
     past_led (table_of a.parent.now a.kind.now) a.given.now a.items.now a.place a.depth a.from a.bound step.result step.ensures c.candidate-c.ensures turn.loop-c.invariant.1
 
 -- The step has so many predicates,
-seek_counts : (t : ℕ) (c : Seek-next t) (h : Head) → let a = (seek_begun t c.before).args in step_at (get_or a.items.now a.place 0) ≡ some h → c.before.before.step_at-step.result.count ≡ h.count
+seek_counts : (t : ℕ) (c : Seek-next t) (h : Head) → let a = (seek_begun t c.before).args in step_at (get_or a.items.now a.place 0) ≡ some h → c.step_at-step.result.count ≡ h.count
 seek_counts t c h p =
     let step = c.step_at-step in
     let a = (seek_begun t c.before).args in
@@ -960,7 +960,7 @@ seek_holds : (t : ℕ) (c : Seek-tried t) (h : Head) (ps : Preds) (rest : List �
     → c.predicates-held.result.holds ≡ all_hold (table_of a.parent.now a.kind.now) a.given.now ps (next.candidate-c.result - 1)
 seek_holds t c h ps rest p u =
     let next = (seek_led t c).before in
-    let a = (seek_begun t next.before.before).args in
+    let a = (seek_begun t next.before).args in
     c.predicates-held.ensures.0 ps rest (ap (λ (k : ℕ). take_preds (take_within a.depth) k (drop (a.place + 1) a.items.now)) (seek_counts t next h p) ∙ u)
 
 seek_returns : (t : ℕ) → seek-lts.Need-returns-then-not-more (seek_claims t) (seek-at t) seek.Post seek_Inv_loop seek_μ_loop
@@ -1006,9 +1006,9 @@ seek_predicates_requires t c κs =
     let start = seek_begun t turn in
     let a = start.args in
     let g = seek_fits t (seek_more t turn) in
-    let counted = subst (λ (k : ℕ). Fits a.items.now (a.place + 1) (length a.stand.now) (take_preds (take_within a.depth) k (drop (a.place + 1) a.items.now))) (sym (seek_counts t led.before g.head g.there)) g.preds in
+    let counted = subst (λ (k : ℕ). Fits a.items.now (a.place + 1) (length a.stand.now) (take_preds (take_within a.depth) k (drop (a.place + 1) a.items.now))) (sym (seek_counts t led.before.before g.head g.there)) g.preds in
     let fits = subst (λ (k : ℕ). Fits a.items.now (a.place + 1) k (take_preds (take_within a.depth) turn.step_at-step.result.count (drop (a.place + 1) a.items.now))) (sym turn.loop-c.invariant.0) counted in
-    (omega (arith, start.requires.0, g.on), (start.requires.1.0, (start.requires.1.1.0, (omega (arith, (seek_past t led.before).within, start.requires.1.1.1.0.1, led.if-c-eq0.false), fits))))
+    (omega (arith, start.requires.0, g.on), (start.requires.1.0, (start.requires.1.1.0, (omega (arith, (seek_past t led.before.before).within, start.requires.1.1.1.0.1, led.if-c-eq0.false), fits))))
 
 seek_same_length_2 : (t : ℕ) → seek-lts.Need-shape_of-stand-then-held (seek_claims t) (seek-at t) seek.Post seek_Inv_loop seek_μ_loop
 seek_same_length_2 t c =
@@ -1025,7 +1025,7 @@ seek_returns_3 t c =
     let w = tried.predicates-held in
     sought_here (table_of a.parent.now a.kind.now) a.given.now a.items.now a.place a.depth a.from a.bound led.candidate-c.result w.result.next (omega (arith, led.if-c-eq0.false)) (seek_past t led.before)
     (λ h p. led_here (table_of a.parent.now a.kind.now) a.given.now a.items.now a.place a.depth a.from a.bound step.result step.ensures led.candidate-c.ensures (omega (arith, led.if-c-eq0.false)) h p)
-    (λ h ps rest p u. sym (seek_holds t tried h ps rest p u) ∙ c.if-held.true)
+    (λ h ps rest p u. sym (seek_holds t tried.before.before.before h ps rest p u) ∙ c.if-held.true)
     (λ h p. subst (λ (k : ℕ). Ends a.items.now (a.place + 1) (take_preds (take_within a.depth) k (drop (a.place + 1) a.items.now)) w.result.next) (seek_counts t led.before h p) (w.ensures.1 c.if-held.true))
     a.more (not-false a.more (seek_more t turn).if-not-more.false-raw)
 
@@ -1047,11 +1047,11 @@ seek_loop_again t c =
     let turn = seek_turn t led in
     let a = (seek_begun t turn).args in (
       tried.predicates-held.auto.1.1.1.1.1.1.1.1.0 ∙ turn.loop-c.invariant.0,
-      past_failed (table_of a.parent.now a.kind.now) a.given.now a.items.now a.place a.depth a.from a.bound led.candidate-c.result (omega (arith, led.if-c-eq0.false)) (seek_past t led.before) (λ h ps rest p u. sym (seek_holds t tried h ps rest p u) ∙ c.if-held.false),
+      past_failed (table_of a.parent.now a.kind.now) a.given.now a.items.now a.place a.depth a.from a.bound led.candidate-c.result (omega (arith, led.if-c-eq0.false)) (seek_past t led.before) (λ h ps rest p u. sym (seek_holds t tried.before.before.before h ps rest p u) ∙ c.if-held.false),
     )
 
-pub +expression-operand-path-predicates-seek-spec : {M : Type 1} → statement M
-+expression-operand-path-predicates-seek-spec =
+pub +expression_operand_path_predicates_seek_spec : {M : Type 1} → statement M
++expression_operand_path_predicates_seek_spec =
     close μ-expression μ-operand μ-path μ-predicates μ-seek (λ t. expression-lts.spec (expression_claims t) (expression_at t) expression.Post expression_Inv_loop expression_μ_loop
     (expression_joins_requires t)
     (expression_add_joins t)

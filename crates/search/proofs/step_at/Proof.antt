@@ -29,7 +29,7 @@ returns : tie.Need-returns-in-Step
 returns c = subst (Said _) c.in-Step.is (told c.before)
 
 returns-2 : tie.Need-returns-in_default
-returns-2 c = none-some (sym (not_step _ c.unpack-item.result (told c.before) c.in-Step.in-Step-own.keys2) ∙ (begun c.before).requires.1.1)
+returns-2 c = none-some (sym (not_step _ c.unpack-item.result (told c.before) c.in_default.in_default-own.keys2) ∙ (begun c.before).requires.1.1)
 
 pub step_at_spec : {M : Type 1} → statement M
 step_at_spec = tie.close (tie.spec mul-unpack shared-slice-read-unpack unpack-requires enum-known-item returns returns-2)

@@ -47,7 +47,7 @@ returns-2 c = λ t f g e s.
     let d = c.args in
     let n : d.test ≡ test_number any_element = omega arith in
     let kind : ℕ → ℕ = λ k. get_or d.kind.now k 0 in
-    let kept : c.keep_at_least.new.1.1.0 ≡ bits (length d.set.now) (λ k. f k && leb element_kind (kind k)) = c.keep_at_least.ensures f s in
+    let kept : c.keep_at_least.new.set ≡ bits (length d.set.now) (λ k. f k && leb element_kind (kind k)) = c.keep_at_least.ensures f s in
     kept
     ∙ bits_same (length d.set.now) (λ k. f k && leb element_kind (kind k)) (λ k. f k && meets t (kind k)) (λ k l. ap (λ x. f k && x) (meets_element t (kind k) g (sym n ∙ e)))
 

@@ -194,7 +194,7 @@ expression_enum_told t c = search rules
 expression_returns : (t : ℕ) → expression-lts.Need-returns-in_default (expression_claims t) (expression_at t) expression.Post expression_Inv_loop expression_μ_loop
 expression_returns t c =
     let l = (expression_turn t c.before).loop-next in
-    turn_stuck l.invariant (expression_walks t c.before.before _ c.in_default.is)
+    turn_stuck l.invariant (expression_walks t c.before _ c.in_default.is)
 
 expression_larger_requires : (t : ℕ) → expression-lts.Need-larger-deep-requires (expression_claims t) (expression_at t) expression.Post expression_Inv_loop expression_μ_loop
 expression_larger_requires t c κs = search rules
@@ -379,7 +379,7 @@ operand_returns_4 t c =
     let u = c.unpack-item in
     let w = get_or a.items.now a.at 0 in
     walk_none a.items.now a.at a.depth c.if-items-at.false a.depth
-    (rw c.if-depth-eq0.true (operand_deep w u.result _ (said w u.result u.ensures) c.in-Path.in-Path-own.keys2))
+    (rw c.if-depth-eq0.true (operand_deep w u.result _ (said w u.result u.ensures) c.in_default.in_default-own.keys2))
 
 operand_sub_expression : (t : ℕ) → operand-lts.Need-overflow_sub-depth (operand_claims t) (operand_at t) operand.Post
 operand_sub_expression t c = search rules
@@ -450,7 +450,7 @@ operand_returns_7 t c =
     let u = no_path.unpack-item in
     let w = get_or a.items.now a.at 0 in
     walk_none a.items.now a.at a.depth there.if-items-at.false a.depth
-    (operand_rest (take_within a.depth) w u.result _ (said w u.result u.ensures) c.in-Path.in-Path-own.keys2 c.in-And.in-And-own.keys3)
+    (operand_rest (take_within a.depth) w u.result _ (said w u.result u.ensures) c.in_default.in_default-own.keys2 c.in_default-item.in_default-item-own.keys3)
 
 abbrev predicates_Inv_loop : predicates-lts.invariant-loop-owed
 predicates_Inv_loop items at count depth place₀ deep₀ high₀ guarded₀ owed₀ place deep high guarded owed =
@@ -546,7 +546,7 @@ predicates_returns_2 t c =
     let a = (predicates_begun t turn).args in
     let l = turn.loop-owed in
     row_stuck (pred_rows a.depth) _ _ _ _ l.place l.deep l.high l.guarded l.owed owed.loop-owed-test.true l.invariant
-    (bad_pred_row a.depth a.items.now l.place allowed.if-depth-eq0.false (predicates_walks t c.before.before _ c.in_default.is))
+    (bad_pred_row a.depth a.items.now l.place allowed.if-depth-eq0.false (predicates_walks t c.before _ c.in_default.is))
 
 predicates_add_larger : (t : ℕ) → predicates-lts.Need-overflow_add-nesting (predicates_claims t) (predicates_at t) predicates.Post predicates_Inv_loop predicates_μ_loop
 predicates_add_larger t c =
@@ -579,10 +579,10 @@ predicates_loop_again t c =
     let begun = predicates_begun t turn in
     let a = begun.args in
     let l = turn.loop-owed in
-    let m = one.more.given in
-    let w = predicates_walks t walked _ m.1 in
-    row_more (pred_rows a.depth) a.items.now a.at a.depth _ l.place l.deep l.high l.guarded l.owed m.0.0 (m.0.1.0 + 1) m.0.1.1.0 m.0.1.1.1.0 _ _ _ (pred w.what bare)
-    owed.loop-owed-test.true l.invariant (pred_next a.depth a.items.now l.place w.what m.0.0 allowed.if-depth-eq0.false w.reads) w.onward w.inside
+    let m = one.in-Done in
+    let w = predicates_walks t walked _ m.is in
+    row_more (pred_rows a.depth) a.items.now a.at a.depth _ l.place l.deep l.high l.guarded l.owed m.next (m.nesting + 1) m.height m.guards _ _ _ (pred w.what bare)
+    owed.loop-owed-test.true l.invariant (pred_next a.depth a.items.now l.place w.what m.next allowed.if-depth-eq0.false w.reads) w.onward w.inside
     (omega (arith, w.nests)) (omega (arith, w.heights))
     (omega (arith, w.guards ∙ ap (guard_depth_expr w.what) (less_opened a.depth allowed.if-depth-eq0.false begun.requires.1.1)))
     (omega (arith, w.shallow, allowed.if-depth-eq0.false)) (omega (arith, w.low)) c.larger-deep.ensures c.larger-high.ensures c.larger-guarded.ensures
@@ -709,7 +709,7 @@ steps_returns_2 t c =
     let u = c.unpack-item in
     let w = get_or a.items.now l.place 0 in
     row_stuck (step_rows a.depth) _ _ _ _ l.place l.deep l.high l.guarded l.owed owed.loop-owed-test.true l.invariant
-    (no_step_row a.depth a.items.now l.place there.if-items-place.false (not_step w u.result (said w u.result u.ensures) c.in-Step.in-Step-own.keys2))
+    (no_step_row a.depth a.items.now l.place there.if-items-place.false (not_step w u.result (said w u.result u.ensures) c.in_default.in_default-own.keys2))
 
 steps_own_depth_requires : (t : ℕ) → steps-lts.Need-own_depth-requires (steps_claims t) (steps_at t) steps.Post steps_Inv_loop steps_μ_loop
 steps_own_depth_requires t c κs = search rules
@@ -742,7 +742,7 @@ steps_returns_3 t c =
     let w = get_or a.items.now l.place 0 in
     let s = said w _ (sym step-place.in-Step.is ∙ u.ensures) in
     row_stuck (step_rows a.depth) _ _ _ _ l.place l.deep l.high l.guarded l.owed owed.loop-owed-test.true l.invariant
-    (bad_step_row a.depth a.items.now l.place s.0 _ there.if-items-place.false s.1 (ap (λ x. x.count) s.2) (steps_walks t c.before.before _ c.in_default-more.is))
+    (bad_step_row a.depth a.items.now l.place s.0 _ there.if-items-place.false s.1 (ap (λ x. x.count) s.2) (steps_walks t c.before _ c.in_default-more.is))
 
 steps_larger_requires_2 : (t : ℕ) → steps-lts.Need-larger-deep-requires (steps_claims t) (steps_at t) steps.Post steps_Inv_loop steps_μ_loop
 steps_larger_requires_2 t c κs = search rules
@@ -774,15 +774,15 @@ steps_loop_again t c =
     let u = unpacked.unpack-item in
     let w = get_or a.items.now l.place 0 in
     let s = said w _ (sym step-place.in-Step.is ∙ u.ensures) in
-    let m = one.more.given in
-    let p = steps_walks t walked _ m.1 in
+    let m = one.in-Done in
+    let p = steps_walks t walked _ m.is in
     let own = own-place.own_depth.result in
     let own_is : own ≡ cond (guarded s.0.axis) (opened a.depth) 0 =
     own-place.own_depth.ensures ∙
     ap (λ g. cond g (opened a.depth) 0) (sym (guarded-number s.0.axis _ (ap (λ x. x.axis) s.2))) in
-    row_more (step_rows a.depth) a.items.now a.at a.depth _ l.place l.deep l.high l.guarded l.owed m.0.0 m.0.1.0 m.0.1.1.0 (max own m.0.1.1.1.0) _ _ _ (step s.0.axis s.0.test p.what stop)
+    row_more (step_rows a.depth) a.items.now a.at a.depth _ l.place l.deep l.high l.guarded l.owed m.next m.nesting m.height (max own m.guards) _ _ _ (step s.0.axis s.0.test p.what stop)
     owed.loop-owed-test.true l.invariant
-    (step_row a.depth a.items.now l.place s.0 _ p.what m.0.0 there.if-items-place.false s.1 (ap (λ x. x.count) s.2) p.reads) (omega (arith, p.onward)) p.inside
+    (step_row a.depth a.items.now l.place s.0 _ p.what m.next there.if-items-place.false s.1 (ap (λ x. x.count) s.2) p.reads) (omega (arith, p.onward)) p.inside
     (omega (arith, p.nests)) (omega (arith, p.heights)) (omega (arith, own_is, p.guards)) p.shallow (omega (arith, p.low)) c.larger-deep.ensures c.larger-high.ensures
     (omega (arith, c.larger-guarded-in-loop-owed.ensures, own-place.larger-guarded.ensures))
 
@@ -791,8 +791,8 @@ steps_returns_4 t c =
     let l = c.loop-owed in
     row_done (step_rows (steps_begun t c.before).args.depth) _ _ _ _ l.place l.deep l.high l.guarded l.owed c.loop-owed-test.false l.invariant
 
-pub +expression-operand-predicates-steps-spec : {M : Type 1} → statement M
-+expression-operand-predicates-steps-spec =
+pub +expression_operand_predicates_steps_spec : {M : Type 1} → statement M
++expression_operand_predicates_steps_spec =
     close μ-expression μ-operand μ-predicates μ-steps (λ t. expression-lts.spec (expression_claims t)
     (expression_at t)
     expression.Post

@@ -102,7 +102,7 @@ returns-2 c =
     let l = turn.loop-place in
     let u = c.unpack-item in
     let w = get_or a.items.now l.place 0 in
-    paths_none a.items.now l.place l.deep l.high l.guarded inside.loop-place-test.true l.invariant (not_path w u.result (said w u.result u.ensures) c.in-Path.in-Path-own.keys2)
+    paths_none a.items.now l.place l.deep l.high l.guarded inside.loop-place-test.true l.invariant (not_path w u.result (said w u.result u.ensures) c.in_default.in_default-own.keys2)
 
 add-steps : tie.Need-overflow_add-place invariant-loop decreases-loop
 add-steps c = search rules
@@ -127,7 +127,7 @@ returns-3 c =
     let u = unpacked.unpack-item in
     let w = get_or a.items.now l.place 0 in
     let s = said w _ (sym path.in-Path.is ∙ u.ensures) in
-    paths_bad a.items.now l.place l.deep l.high l.guarded _ inside.loop-place-test.true l.invariant s (walks c.before.before _ c.in_default-more.is)
+    paths_bad a.items.now l.place l.deep l.high l.guarded _ inside.loop-place-test.true l.invariant s (walks c.before _ c.in_default-more.is)
 
 larger-requires : tie.Need-larger-deep-requires invariant-loop decreases-loop
 larger-requires c κs = search rules
@@ -163,9 +163,9 @@ loop-again c =
     let u = unpacked.unpack-item in
     let i = get_or a.items.now l.place 0 in
     let s = said i _ (sym path.in-Path.is ∙ u.ensures) in
-    let m = walked-over.more.given in
-    let w = walks stepped _ m.1 in
-    paths_more a.items.now l.place l.deep l.high l.guarded _ m.0.0 m.0.1.0 m.0.1.1.0 m.0.1.1.1.0 _ _ _ inside.loop-place-test.true l.invariant s w c.larger-deep.ensures c.larger-high.ensures c.larger-guarded.ensures
+    let m = walked-over.in-Done in
+    let w = walks stepped _ m.is in
+    paths_more a.items.now l.place l.deep l.high l.guarded _ m.next m.nesting m.height m.guards _ _ _ inside.loop-place-test.true l.invariant s w c.larger-deep.ensures c.larger-high.ensures c.larger-guarded.ensures
 
 returns-4 : tie.Need-returns invariant-loop decreases-loop
 returns-4 c =

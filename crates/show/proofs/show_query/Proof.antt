@@ -32,7 +32,7 @@ returns : tie.Need-returns-in_default
 unfolding query_shows
 returns c =
     let asked = c in
-    refused_part "query" _ _ (file_room + 1) _ _ _ (omega arith) asked.read-said.result c.in-Value.in-Value-own.keys2 asked.read-said.ensures.0 c.put_refusal.ensures
+    refused_part "query" _ _ (file_room + 1) _ _ _ (omega arith) asked.read-said.result c.in_default.in_default-own.keys2 asked.read-said.ensures.0 c.put_refusal.ensures
 
 -- The query was read, and its items stand at the start of the room.
 abbrev asked : tie.In-Value → tie.After-read-said
@@ -46,7 +46,7 @@ count c = c.in-Value.size
 accepted : (c : tie.In-Value) → value (count c) ≡ read_answer (start c).args.query.now 1 (start c).args.list.now item_limit
 accepted c = ap told (sym c.in-Value.is) ∙ (asked c).read-said.ensures.0
 
-items : (c : tie.In-Value) → Gives (read_items (start c).args.query.now 1 (start c).args.list.now) (count c) item_limit (asked c).read-said.new.1.1.1.0
+items : (c : tie.In-Value) → Gives (read_items (start c).args.query.now 1 (start c).args.list.now) (count c) item_limit (asked c).read-said.new.out
 items c = read_gives (count c) (replicate item_limit 0) _ (start c).args.query.now (start c).args.list.now (accepted c) (asked c).read-said.ensures.1
 
 array-share-prefix-room : tie.Need-slice_bounds-room-end

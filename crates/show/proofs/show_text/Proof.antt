@@ -45,7 +45,7 @@ returns : tie.Need-returns-in_default
 unfolding text_shows
 returns c =
     let asked = c in
-    refused_part "text" _ _ (file_room + 1) _ _ _ (omega arith) asked.read_xml-said.result c.in-Value.in-Value-own.keys2 asked.read_xml-said.ensures.0 c.put_refusal.ensures
+    refused_part "text" _ _ (file_room + 1) _ _ _ (omega arith) asked.read_xml-said.result c.in_default.in_default-own.keys2 asked.read_xml-said.ensures.0 c.put_refusal.ensures
 
 -- The text was read, and found to be wanted: each column begins with what it has of each node.
 abbrev read : tie.In-Value → tie.After-read_xml-said
@@ -70,16 +70,16 @@ column c field out left =
     column_left text (start c).args.list.now (count c) (found c) field node_limit old out (found c).few
     (left ∙ ap (λ a. read_xml_column field text (told a) old) c.in-Value.is)
 
-parents : (c : tie.In-Value) → Gives (map parent_field (rows (start c).args.text.now)) (count c) node_limit (read c).read_xml-said.new.1.1.0
+parents : (c : tie.In-Value) → Gives (map parent_field (rows (start c).args.text.now)) (count c) node_limit (read c).read_xml-said.new.parent
 parents c = column c parent_field _ (read c).read_xml-said.ensures.1.0
 
-kinds : (c : tie.In-Value) → Gives (map (kind_field (start c).args.list.now) (rows (start c).args.text.now)) (count c) node_limit (read c).read_xml-said.new.1.1.1.0
+kinds : (c : tie.In-Value) → Gives (map (kind_field (start c).args.list.now) (rows (start c).args.text.now)) (count c) node_limit (read c).read_xml-said.new.kind
 kinds c = column c (kind_field (start c).args.list.now) _ (read c).read_xml-said.ensures.1.1.0
 
-begins : (c : tie.In-Value) → Gives (map begin_field (rows (start c).args.text.now)) (count c) node_limit (read c).read_xml-said.new.1.1.1.1.0
+begins : (c : tie.In-Value) → Gives (map begin_field (rows (start c).args.text.now)) (count c) node_limit (read c).read_xml-said.new.begin
 begins c = column c begin_field _ (read c).read_xml-said.ensures.1.1.1.0
 
-ends : (c : tie.In-Value) → Gives (map end_field (rows (start c).args.text.now)) (count c) node_limit (read c).read_xml-said.new.1.1.1.1.1.0
+ends : (c : tie.In-Value) → Gives (map end_field (rows (start c).args.text.now)) (count c) node_limit (read c).read_xml-said.new.end
 ends c = column c end_field _ (read c).read_xml-said.ensures.1.1.1.1
 
 array-share-prefix-parent : tie.Need-slice_bounds-parent-end

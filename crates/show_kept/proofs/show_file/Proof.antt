@@ -45,8 +45,8 @@ answered : (c : tie.After-write_xml-answer) → told c.write_xml-answer.result �
 answered c = c.write_xml-answer.ensures.0 ∙ ap (answer-of c) (length-replicate {A = ℕ} file_room 0)
 
 file : (c : tie.In-Value) →
-    let wrote = c.before.before.before in
-    Gives (kept_xml (start wrote).args.text.now (start wrote).args.marks.now) c.in-Value.count file_room wrote.write_xml-answer.new.1.1.1.1.1.1.1.0
+    let wrote = c in
+    Gives (kept_xml (start wrote.before.before).args.text.now (start wrote.before.before).args.marks.now) c.in-Value.count file_room wrote.write_xml-answer.new.out
 file c =
     let wrote = c in
     let args = (start wrote.before.before).args in
@@ -58,7 +58,7 @@ returns : tie.Need-returns-in_default
 unfolding file_shows
 returns c =
     let wrote = c in
-    refused_part "write" _ _ (file_room + 1) _ _ _ (omega arith) wrote.write_xml-answer.result c.in-Value.in-Value-own.keys2 (answered wrote.before.before.before.before.before.before.before.before) c.put_refusal.ensures
+    refused_part "write" _ _ (file_room + 1) _ _ _ (omega arith) wrote.write_xml-answer.result c.in_default.in_default-own.keys2 (answered wrote.before.before.before.before.before.before.before.before) c.put_refusal.ensures
 
 array-share-prefix-file : tie.Need-slice_bounds-file-end
 array-share-prefix-file c = (file c.before).inside

@@ -54,7 +54,7 @@ accepted c = ap told (sym c.in-Value.is) ∙ answered (ran-at c)
 
 marked : (c : tie.In-Value) →
     let ran = ran-at c in
-    ran.run_whole-ran.last.1.1.1.0 ≡ kept_got (columns ran) (all_marked (columns ran)) (decode (start ran).args.query.now)
+    ran.run_whole-ran.new.marks ≡ kept_got (columns ran) (all_marked (columns ran)) (decode (start ran).args.query.now)
 marked c =
     let ran = ran-at c in
     marks_kept (start ran).args.query.now (columns ran) _ (start ran).args.marks.now _ c.in-Value.kept (ap told (sym c.in-Value.is) ∙ ran.run_whole-ran.ensures.0) (start ran).requires.1
@@ -64,7 +64,7 @@ returns : tie.Need-returns-in_default
 unfolding table_shows
 returns c =
     let ran = c in
-    refused_part "run" _ _ (file_room + 1) _ _ _ (omega arith) ran.run_whole-ran.result c.in-Value.in-Value-own.keys2 (answered ran.before.before.before.before.before.before.before.before.before.before) c.put_refusal.ensures
+    refused_part "run" _ _ (file_room + 1) _ _ _ (omega arith) ran.run_whole-ran.result c.in_default.in_default-own.keys2 (answered ran.before.before.before.before.before.before.before.before.before.before) c.put_refusal.ensures
 
 same-length-3 : tie.Need-shape_of-marks-then-kept-eq0
 same-length-3 c = search rules

@@ -27,7 +27,7 @@ Turn = tie.At-loop-younger invariant-loop decreases-loop
 abbrev turn-of : tie.After-slice_known-in-loop-younger-1 invariant-loop decreases-loop → Turn
 turn-of c = c.before.before.before.before
 -- The table is a tree.
-tree_of : (c : Turn) (kinds : List ℕ) → Tree (table_of c.before.args.parent.now kinds)
+tree_of : (c : Turn) (kinds : List ℕ) → Tree (table_of c.args.parent.now kinds)
 tree_of c kinds = c.requires.1 kinds
 
 loop-holds : tie.Need-loop-younger-init invariant-loop decreases-loop
@@ -94,7 +94,7 @@ returns c =
     let t = table_of turn.args.parent.now kinds in
     let bytes = turn.loop-younger.set in
     subst (λ n. turn.args.set.now ≡ bits n f → column n (λ k. get_or (set bytes 0 0) k 0 % 2) ≡ bits n (image t followingSibling f)) turn.requires.0
-    (λ e. behind_end t (tree_of turn kinds) f bytes turn.loop-younger.younger (omega arith) (turn.loop-younger.invariant.stands kinds f e))
+    (λ e. behind_end t (tree_of turn.before kinds) f bytes turn.loop-younger.younger (omega arith) (turn.loop-younger.invariant.stands kinds f e))
 
 pub behind_siblings_spec : {M : Type 1} → statement M
 behind_siblings_spec =

@@ -105,7 +105,7 @@ returns c =
     let turn = c in
     let start = start_of turn.before in
     let t = table_of start.args.parent.now kinds in
-    let w = tree_of turn kinds in
+    let w = tree_of turn.before kinds in
     resized start.requires.0 f (image t Axis.following f)
     (λ e. (turn.loop-i.invariant.stands kinds (λ k. not (eqb k 0) && f k) (parent_first t w f start.args.set.now e)).0 ∙ follow_end t w f turn.loop-i.i (omega arith))
 

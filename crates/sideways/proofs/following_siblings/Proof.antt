@@ -24,7 +24,7 @@ returns : tie.Need-returns
 returns c =
     λ kinds f e.
     let first = c in
-    let bytes = first.behind_siblings.new.1.0 in
+    let bytes = first.behind_siblings.new.set in
     let n = length (start_of first.before.before.before.before.before.before).args.set.now in
     let size : length bytes ≡ n = omega arith in
     c.first_bits.ensures ∙ ap (λ x. column x (λ k. get_or bytes k 0 % 2)) size ∙ first.behind_siblings.ensures kinds f e

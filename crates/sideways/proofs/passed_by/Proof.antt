@@ -103,7 +103,7 @@ returns c =
     let start = start_of turn.before in
     let t = table_of start.args.parent.now kinds in
     resized start.requires.0 (image t ancestorOrSelf f) (image t Axis.preceding f)
-    (λ e. precede_end t (tree_of turn kinds) f turn.loop-at.set turn.loop-at.at (omega arith) (turn.loop-at.invariant.stands kinds f e).0)
+    (λ e. precede_end t (tree_of turn.before kinds) f turn.loop-at.set turn.loop-at.at (omega arith) (turn.loop-at.invariant.stands kinds f e).0)
 
 pub passed_by_spec : {M : Type 1} → statement M
 passed_by_spec =

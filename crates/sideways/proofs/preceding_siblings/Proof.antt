@@ -27,7 +27,7 @@ Turn = tie.At-loop-elder invariant-loop decreases-loop
 abbrev turn-of : tie.After-slice_known-in-loop-elder-1 invariant-loop decreases-loop → Turn
 turn-of c = c.before.before.before.before
 -- The table is a tree.
-tree_of : (c : Turn) (kinds : List ℕ) → Tree (table_of c.before.args.parent.now kinds)
+tree_of : (c : Turn) (kinds : List ℕ) → Tree (table_of c.args.parent.now kinds)
 tree_of c kinds = c.requires.1 kinds
 
 loop-holds : tie.Need-loop-elder-init invariant-loop decreases-loop
@@ -93,7 +93,7 @@ returns c =
     let turn = c in
     let t = table_of turn.args.parent.now kinds in
     resized turn.requires.0 f (image t precedingSibling f)
-    (λ e. ahead_end t (tree_of turn kinds) f turn.loop-elder.set turn.loop-elder.elder (omega arith) (turn.loop-elder.invariant.stands kinds f e))
+    (λ e. ahead_end t (tree_of turn.before kinds) f turn.loop-elder.set turn.loop-elder.elder (omega arith) (turn.loop-elder.invariant.stands kinds f e))
 
 pub preceding_siblings_spec : {M : Type 1} → statement M
 preceding_siblings_spec =

@@ -48,7 +48,7 @@ returns-2 c =
     let a = (start c.before.before.before).args in
     let u = c.unpack-item in
     let w = get_or a.items.now a.at 0 in
-    no_step_there a.brief a.items.now a.at a.left (not_step w u.result (said w u.result u.ensures) c.in-Step.in-Step-own.keys2)
+    no_step_there a.brief a.items.now a.at a.left (not_step w u.result (said w u.result u.ensures) c.in_default.in_default-own.keys2)
 
 returns-3 : tie.Need-returns-then-found
 returns-3 c =

@@ -24,7 +24,7 @@ same_length : tie.Need-shape_of-column
 same_length c = search rules
 
 -- The numbers of the column fit their type.
-small : (c : tie.After-slice_known-1) → Small sums c.before.args.column.now
+small : (c : tie.After-slice_known-1) → Small sums c.args.column.now
 small c = λ v l. omega (arith, c.slice_known-1.given v)
 
 returns : tie.Need-returns-then-v-column

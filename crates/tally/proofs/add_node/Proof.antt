@@ -6,7 +6,7 @@ use Rattle.tally.proofs.add_node.Statement.{statement}
 use Rattle.tally.proofs.add_node.Tie as tie
 
 -- The numbers of the column fit their type.
-small : (c : tie.After-slice_known-1) → Small sums c.before.args.column.now
+small : (c : tie.After-slice_known-1) → Small sums c.args.column.now
 small c = λ v l. omega (arith, c.slice_known-1.given v)
 
 returns : tie.Need-returns-then-kind-lt-ELEMENT_KIND

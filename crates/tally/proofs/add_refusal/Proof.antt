@@ -24,7 +24,7 @@ same_length : tie.Need-shape_of-refusals
 same_length c = search rules
 
 -- The numbers of the column fit their type.
-small : (c : tie.After-slice_known-1) → Small times c.before.args.refusals.now
+small : (c : tie.After-slice_known-1) → Small times c.args.refusals.now
 small c = λ v l. omega (arith, c.slice_known-1.given v)
 
 returns : tie.Need-returns-then-number-refusals

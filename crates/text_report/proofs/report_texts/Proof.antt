@@ -63,17 +63,17 @@ unfolding texts_print_by
 returns c =
     let outer-refused = outer-refused-of c.before.before in
     let asked = outer-asked-of outer-refused in
-    refused_part "outer" _ _ report_limit _ _ _ (omega arith) asked.read-outer_answer.result outer-refused.in-Value.in-Value-own.keys2 asked.read-outer_answer.ensures.0 c.put_refusal.ensures
+    refused_part "outer" _ _ report_limit _ _ _ (omega arith) asked.read-outer_answer.result outer-refused.in_default.in_default-own.keys2 asked.read-outer_answer.ensures.0 c.put_refusal.ensures
 
 -- The outer text is read, and its query stands at the start of its room.
 outer_says : (c : tie.In-Value) →
     let start = begun-of (lent_of (outer-read-of c)) in
-    value c.before.in-Value.outer_size ≡ read_answer start.args.outer.now 1 start.args.list.now item_limit
+    value c.in-Value.outer_size ≡ read_answer start.args.outer.now 1 start.args.list.now item_limit
 outer_says c = ap told (sym c.in-Value.is) ∙ (outer-read-of c).read-outer_answer.ensures.0
 
 outer_gives : (c : tie.In-Value) →
     let start = begun-of (lent_of (outer-read-of c)) in
-    Gives (read_items start.args.outer.now 1 start.args.list.now) c.before.in-Value.outer_size item_limit (outer-read-of c).read-outer_answer.new.1.1.1.0
+    Gives (read_items start.args.outer.now 1 start.args.list.now) c.in-Value.outer_size item_limit (outer-read-of c).read-outer_answer.new.out
 outer_gives c =
     let outer-read = outer-read-of c in
     let start = begun-of (lent_of outer-read) in
@@ -82,12 +82,12 @@ outer_gives c =
 -- The inner text is read, and its query stands at the start of its room.
 inner_says : (c : tie.In-Value-inner_answer) →
     let start = begun-of (lent_of (outer-read-of (outer-of (inner-read-of c)))) in
-    value c.before.in-Value-inner_answer.inner_size ≡ read_answer start.args.inner.now 1 start.args.list.now item_limit
+    value c.in-Value-inner_answer.inner_size ≡ read_answer start.args.inner.now 1 start.args.list.now item_limit
 inner_says c = ap told (sym c.in-Value-inner_answer.is) ∙ (inner-read-of c).read-inner_answer.ensures.0
 
 inner_gives : (c : tie.In-Value-inner_answer) →
     let start = begun-of (lent_of (outer-read-of (outer-of (inner-read-of c)))) in
-    Gives (read_items start.args.inner.now 1 start.args.list.now) c.before.in-Value-inner_answer.inner_size item_limit (inner-read-of c).read-inner_answer.new.1.1.1.0
+    Gives (read_items start.args.inner.now 1 start.args.list.now) c.in-Value-inner_answer.inner_size item_limit (inner-read-of c).read-inner_answer.new.out
 inner_gives c =
     let inner-read = inner-read-of c in
     let start = begun-of (lent_of (outer-read-of (outer-of inner-read))) in
@@ -115,7 +115,7 @@ returns-2 c =
     let inner-asked = inner-asked-of inner-refused in
     let asked = inner-asked in
     given_part "outer" _ _ _ _ _ _ _ (outer_says (outer-of inner-asked))
-    (refused_part "inner" _ _ report_limit _ _ _ (omega arith) asked.read-inner_answer.result inner-refused.in-Value-inner_answer.in-Value-inner_answer-own.keys2 asked.read-inner_answer.ensures.0 c.put_refusal-in_default-inner_answer.ensures)
+    (refused_part "inner" _ _ report_limit _ _ _ (omega arith) asked.read-inner_answer.result inner-refused.in_default-inner_answer.in_default-inner_answer-own.keys2 asked.read-inner_answer.ensures.0 c.put_refusal-in_default-inner_answer.ensures)
 
 array-share-prefix-outer-room : tie.Need-slice_bounds-outer_room-end
 array-share-prefix-outer-room c = (outer_gives (outer-of (inner-read-of c))).inside

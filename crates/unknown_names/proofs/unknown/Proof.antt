@@ -19,7 +19,7 @@ returns : tie.Need-returns-in_default
 returns c =
     let a = c.args in
     let u = c.unpack-item in
-    let e : step_at a.w ≡ none = not_step a.w u.result (said a.w u.result u.ensures) c.in-Step.in-Step-own.keys2 in
+    let e : step_at a.w ≡ none = not_step a.w u.result (said a.w u.result u.ensures) c.in_default.in_default-own.keys2 in
     rw e
 
 cast-test : tie.Need-overflow_cast-test

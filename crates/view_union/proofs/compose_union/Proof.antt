@@ -43,10 +43,10 @@ abbrev size : tie.In-Items → ℕ
 size c = c.in-Items.size
 
 abbrev spare : tie.In-Items → List ℕ
-spare c = (of-gather c).gather-gathered.new.1.1.1.0
+spare c = (of-gather c).gather-gathered.new.spare
 
 abbrev union : tie.In-Items → List ℕ
-union c = (of-gather c).gather-gathered.new.1.1.1.1.0
+union c = (of-gather c).gather-gathered.new.union
 
 all_read : (c : tie.In-Items) →
     let s = begun (of-gather c) in
@@ -73,7 +73,7 @@ count c = c.in-Value.count
 value_is : (c : tie.In-Value) → value (count c) ≡ read_answer (text (start (of-read c))) 1 (list (start (of-read c))) item_limit
 value_is c = ap told (sym c.in-Value.is) ∙ says (of-read c)
 
-gives : (c : tie.In-Value) → Gives (read_items (text (start (of-read c))) 1 (list (start (of-read c)))) (count c) (length (spare (of-known (of-read c)))) (of-read c).read-answer.new.1.1.1.0
+gives : (c : tie.In-Value) → Gives (read_items (text (start (of-read c))) 1 (list (start (of-read c)))) (count c) (length (spare (of-known (of-read c)))) (of-read c).read-answer.new.out
 gives c =
     let r = of-read c in
     read_gives (count c) (spare (of-known r)) _ (text (start r)) (list (start r)) (ap told (sym c.in-Value.is) ∙ r.read-answer.ensures.0) r.read-answer.ensures.1
@@ -116,7 +116,7 @@ returns : tie.Need-returns-in_default
 returns c =
     let r = c in
     let s = start r.before.before in
-    let (number, place, t) = refusal_told r.read-answer.result c.in-Value.in-Value-own.keys2 in
+    let (number, place, t) = refusal_told r.read-answer.result c.in_default.in_default-own.keys2 in
     let e = query_refused (views s) (list s) (text s) (mask s) (length (old s)) (all_read (of-known r.before.before)).0 number place (sym t ∙ says r.before.before) in
     (t ∙ e, kept_union (views s) (list s) (text s) (old s) (mask s) number place e)
 
@@ -148,7 +148,7 @@ returns-3 : tie.Need-returns-in-Unread
 returns-3 c =
     let g = c in
     let s = begun g.before.before.before in
-    let f = subst (Gathers (views s) (list s) (mask s) g.gather-gathered.new.1.1.1.0 g.gather-gathered.new.1.1.1.1.0) c.in-Unread.is g.gather-gathered.ensures in
+    let f = subst (Gathers (views s) (list s) (mask s) g.gather-gathered.new.spare g.gather-gathered.new.union) c.in-Unread.is g.gather-gathered.ensures in
     let e = view_unread (views s) (list s) (text s) (mask s) (length (old s)) c.in-Unread.view f in
     (e, kept_union (views s) (list s) (text s) (old s) (mask s) 17 _ e)
 

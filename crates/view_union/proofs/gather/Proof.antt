@@ -78,7 +78,7 @@ of_line c = c.before.before
 says : (c : Read) → told c.read-answer.result ≡ read_answer (line (of_line c)) 1 (list (begun (at_turn (of_line c)))) item_limit
 says c = c.read-answer.ensures.0 ∙ ap (read_answer (line (of_line c)) 1 (list (begun (at_turn (of_line c))))) (at_turn (of_line c)).loop-at.invariant.spare_long
 
-still_long : (c : Read) → length c.read-answer.new.1.1.1.0 ≡ item_limit
+still_long : (c : Read) → length c.read-answer.new.out ≡ item_limit
 still_long c =
     read_length (line (of_line c)) (list (begun (at_turn (of_line c)))) (at_turn (of_line c)).loop-at.spare _ c.read-answer.ensures.1 ∙ (at_turn (of_line c)).loop-at.invariant.spare_long
 
@@ -94,7 +94,7 @@ count c = c.in-Value.count
 value_is : (c : Known) → value (count c) ≡ read_answer (line (of_line (of-read c))) 1 (list (begun (at_turn (of_line (of-read c))))) item_limit
 value_is c = ap told (sym c.in-Value.is) ∙ says (of-read c)
 
-gives : (c : Known) → Gives (read_items (line (of_line (of-read c))) 1 (list (begun (at_turn (of_line (of-read c)))))) (count c) (length (at_turn (of_line (of-read c))).loop-at.spare) (of-read c).read-answer.new.1.1.1.0
+gives : (c : Known) → Gives (read_items (line (of_line (of-read c))) 1 (list (begun (at_turn (of_line (of-read c)))))) (count c) (length (at_turn (of_line (of-read c))).loop-at.spare) (of-read c).read-answer.new.out
 gives c =
     let r = of-read c in
     read_gives (count c) (at_turn (of_line r)).loop-at.spare _ (line (of_line r)) (list (begun (at_turn (of_line r))))
@@ -138,7 +138,7 @@ returns : tie.Need-returns-in_default invariant-loop decreases-loop
 returns c =
     let r = c in
     let turn_is = at_turn (of_line r.before.before.before) in
-    let (number, place, t) = refusal_told r.read-answer.result c.in-Value.in-Value-own.keys2 in
+    let (number, place, t) = refusal_told r.read-answer.result c.in_default.in_default-own.keys2 in
     let refused = can_not (list (begun turn_is)) (line (of_line r.before.before.before)) number place (sym t ∙ says r.before.before.before) in
     stops (views (begun turn_is)) (list (begun turn_is)) _ _ _ _ _ _ _ turn_is.loop-at.invariant (more (of_line r.before.before.before)) _ (ends (of_line r.before.before.before)) (rw (line_is (of_line r.before.before.before)) at refused)
 

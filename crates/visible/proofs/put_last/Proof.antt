@@ -28,12 +28,12 @@ long start = part_length (old start) start.args.from start.args.count (omega ari
 -- After both are written.
 abbrev begun : tie.After-put_some_node → tie.Start
 begun c = c.before.before.before.before
-wrote : (c : tie.After-put_some_node) → c.put_some_node.new.1.0 ≡ placed (last_items (chosen (begun c))) (begun c).args.at (old (begun c))
+wrote : (c : tie.After-put_some_node) → c.put_some_node.new.out ≡ placed (last_items (chosen (begun c))) (begun c).args.at (old (begun c))
 wrote c =
     let start = begun c in
     let at = start.args.at in
     let head = packed (record { axis = axis_number descendantOrSelf; test = test_number anyNode; count = 1 }) in
-    then_chosen (some_node_items (axis_number ancestorOrSelf)) (head ∷ []) (old start) _ c.put_some_node.new.1.0 at (at + 1) start.args.from start.args.count
+    then_chosen (some_node_items (axis_number ancestorOrSelf)) (head ∷ []) (old start) _ c.put_some_node.new.out at (at + 1) start.args.from start.args.count
     (ap (set (old start) at) c.pack_step.ensures ∙ placed_one (old start) at head (omega arith)) c.put_some_node.ensures.0 refl (omega arith) (omega arith)
 
 pack-step-requires : tie.Need-pack_step-requires

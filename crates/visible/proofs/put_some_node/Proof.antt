@@ -24,14 +24,14 @@ chosen start = take start.args.count (drop start.args.from (old start))
 -- After all is written.
 abbrev begun : tie.After-copy → tie.Start
 begun c = c.before.before.before.before.before
-wrote : (c : tie.After-copy) → c.copy.new.0 ≡ placed (some_node_items (begun c).args.axis (chosen (begun c))) (begun c).args.at (old (begun c))
+wrote : (c : tie.After-copy) → c.copy.new.out ≡ placed (some_node_items (begun c).args.axis (chosen (begun c))) (begun c).args.at (old (begun c))
 wrote c =
     let start = begun c in
     let at = start.args.at in
     let step = packed (record { axis = start.args.axis; test = 0; count = 1 }) in
     let path = c.pack_path in
     let stepped = c.pack_step in
-    then_chosen (λ x. x) (pack_path 1 ∷ step ∷ []) (old start) _ c.copy.new.0 at (at + 2) start.args.from start.args.count
+    then_chosen (λ x. x) (pack_path 1 ∷ step ∷ []) (old start) _ c.copy.new.out at (at + 2) start.args.from start.args.count
     (two_put (old start) at path.result stepped.result (pack_path 1) step path.ensures stepped.ensures (omega arith)) c.copy.ensures refl (omega arith) (omega arith)
 
 pack-path-requires : tie.Need-pack_path-requires

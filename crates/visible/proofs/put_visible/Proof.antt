@@ -27,23 +27,23 @@ long start = part_length (old start) start.args.from start.args.count (omega ari
 -- After the first half: `or`, and all below with S.
 abbrev begun : tie.After-put_some_node-second → tie.Start
 begun c = c.before.before.before
-first : (c : tie.After-put_some_node-second) → c.put_some_node-second.new.1.0 ≡ placed (or_item ∷ some_node_items (axis_number descendantOrSelf) (chosen (begun c))) (begun c).args.at (old (begun c))
+first : (c : tie.After-put_some_node-second) → c.put_some_node-second.new.out ≡ placed (or_item ∷ some_node_items (axis_number descendantOrSelf) (chosen (begun c))) (begun c).args.at (old (begun c))
 first c =
     let start = begun c in
     let at = start.args.at in
-    then_chosen (some_node_items (axis_number descendantOrSelf)) (or_item ∷ []) (old start) _ c.put_some_node-second.new.1.0 at (at + 1) start.args.from start.args.count (placed_one (old start) at or_item (omega arith)) c.put_some_node-second.ensures.0 refl
+    then_chosen (some_node_items (axis_number descendantOrSelf)) (or_item ∷ []) (old start) _ c.put_some_node-second.new.out at (at + 1) start.args.from start.args.count (placed_one (old start) at or_item (omega arith)) c.put_some_node-second.ensures.0 refl
     (omega arith) (omega arith)
 
 -- After the second: all above with S.
 abbrev half : tie.After-put_some_node → tie.After-put_some_node-second
 half c = c.before.before.before.before
-wrote : (c : tie.After-put_some_node) → c.put_some_node.new.1.0 ≡ placed (visible_items (chosen (begun (half c)))) (begun (half c)).args.at (old (begun (half c)))
+wrote : (c : tie.After-put_some_node) → c.put_some_node.new.out ≡ placed (visible_items (chosen (begun (half c)))) (begun (half c)).args.at (old (begun (half c)))
 wrote c =
     let start = begun (half c) in
     let at = start.args.at in
     let len = long start in
     let ends = (half c).put_some_node-second.ensures.1 in
-    then_chosen (some_node_items (axis_number ancestorOrSelf)) (or_item ∷ some_node_items (axis_number descendantOrSelf) (chosen start)) (old start) _ c.put_some_node.new.1.0 at (half c).put_some_node-second.result start.args.from start.args.count (first (half c)) c.put_some_node.ensures.0
+    then_chosen (some_node_items (axis_number ancestorOrSelf)) (or_item ∷ some_node_items (axis_number descendantOrSelf) (chosen start)) (old start) _ c.put_some_node.new.out at (half c).put_some_node-second.result start.args.from start.args.count (first (half c)) c.put_some_node.ensures.0
     (omega arith) (omega arith) (omega arith)
 
 mul-out : tie.Need-offset_bounds-out-at

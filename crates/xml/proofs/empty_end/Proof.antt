@@ -15,7 +15,7 @@ sought c = c.before
 abbrev begun : tie.In-At → tie.Start
 begun c = (sought c).before.before
 
-mark_read : (c : tie.In-At) → let s = begun c in Reads s.args.text.now s.args.at (eqb 62 ∷ []) (At c.before.in-At.next)
+mark_read : (c : tie.In-At) → let s = begun c in Reads s.args.text.now s.args.at (eqb 62 ∷ []) (At c.in-At.next)
 mark_read c = let s = begun c in subst (Reads s.args.text.now s.args.at (eqb 62 ∷ [])) c.in-At.is (sought c).byte-closed.ensures
 
 byte-requires : tie.Need-byte-closed-requires
@@ -31,7 +31,7 @@ returns : tie.Need-returns-in_default
 returns c =
     let stuck = c in
     let b = stuck in
-    empty_refused _ _ _ b.byte-closed.result _ stuck.in-At.in-At-own.keys2 b.requires.0 b.byte-closed.ensures c.refused.ensures
+    empty_refused _ _ _ b.byte-closed.result _ stuck.in_default.in_default-own.keys2 b.requires.0 b.byte-closed.ensures c.refused.ensures
 
 returns-2 : tie.Need-returns
 returns-2 c = empty_read _ _ _ _ (begun c).requires.1 (begun c).requires.0 (mark_read c)

@@ -19,7 +19,7 @@ abbrev sought : tie.In-At → tie.After-end_tag-ended
 sought c = c.before
 abbrev begun : tie.After-end_tag-ended → tie.Start
 begun c = c.before.before
-end_read : (c : tie.In-At) → let s = begun (sought c) in Ends s.args.text.now (s.args.at + 2) s.args.inner (At c.before.in-At.next)
+end_read : (c : tie.In-At) → let s = begun (sought c) in Ends s.args.text.now (s.args.at + 2) s.args.inner (At c.in-At.next)
 end_read c = let s = begun (sought c) in subst (Ends s.args.text.now (s.args.at + 2) s.args.inner) c.in-At.is (sought c).end_tag-ended.ensures
 
 add-end-tag : tie.Need-overflow_add-at
@@ -39,7 +39,7 @@ returns c =
     let stuck = c in
     let tag = stuck in
     let s = begun tag.before.before in
-    end_refused _ _ _ (inside s) s.requires.1 s.requires.4 s.requires.0 s.requires.2 _ refl tag.end_tag-ended.result _ stuck.in-At.in-At-own.keys2 tag.end_tag-ended.ensures c.refused.ensures
+    end_refused _ _ _ (inside s) s.requires.1 s.requires.4 s.requires.0 s.requires.2 _ refl tag.end_tag-ended.result _ stuck.in_default.in_default-own.keys2 tag.end_tag-ended.ensures c.refused.ensures
 
 returns-2 : tie.Need-returns
 returns-2 c = let s = begun (sought c) in takes_end _ _ _ (inside s) s.requires.1 s.requires.4 s.requires.0 s.requires.2 _ refl _ (end_read c)

@@ -13,7 +13,7 @@ sought c = c.before
 abbrev begun : tie.In-At → tie.Start
 begun c = (sought c).before.before
 
-run_read : (c : tie.In-At) → let s = begun c in Runs s.args.text.now s.args.at (At c.before.in-At.next)
+run_read : (c : tie.In-At) → let s = begun c in Runs s.args.text.now s.args.at (At c.in-At.next)
 run_read c = let s = begun c in subst (Runs s.args.text.now s.args.at) c.in-At.is (sought c).run-ended.ensures
 
 run-requires : tie.Need-run-ended-requires
@@ -29,7 +29,7 @@ returns : tie.Need-returns-in_default
 returns c =
     let stuck = c in
     let ran = stuck in
-    λ inner. text_refused _ _ inner ran.run-ended.result _ stuck.in-At.in-At-own.keys2 ran.run-ended.ensures c.refused.ensures
+    λ inner. text_refused _ _ inner ran.run-ended.result _ stuck.in_default.in_default-own.keys2 ran.run-ended.ensures c.refused.ensures
 
 returns-2 : tie.Need-returns
 returns-2 c = λ inner. takes_text _ _ inner _ (run_read c)

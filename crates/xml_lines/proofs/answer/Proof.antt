@@ -10,7 +10,7 @@ use mathlib.Core.List.{List}
 use mathlib.Core.Path.{◌≡◌, sym, ◌∙◌, ap, subst}
 
 -- The text is wanted.
-read : (c : tie.In-On) (text list : List ℕ) (cols : Columns) → Judges text list cols c.before.before.before.args.judged → Wanted text list cols c.before.in-On.read
+read : (c : tie.In-On) (text list : List ℕ) (cols : Columns) → Judges text list cols c.args.judged → Wanted text list cols c.in-On.read
 read c text list cols h = subst (Judges text list cols) c.in-On.is h
 
 enum-known-judged : tie.Need-enum_known-judged

@@ -18,7 +18,7 @@ abbrev begun : tie.After-within-one → tie.Start
 begun c = c.before.before
 abbrev sought : tie.In-At → tie.After-within-one
 sought c = c.before
-first_read : (c : tie.In-At) → First (begun (sought c)) (At c.before.in-At.next)
+first_read : (c : tie.In-At) → First (begun (sought c)) (At c.in-At.next)
 first_read c = subst (First (begun (sought c))) c.in-At.is (sought c).within-one.ensures
 
 within-requires : tie.Need-within-one-requires
@@ -28,7 +28,7 @@ enum-known-one : tie.Need-enum_known-one
 enum-known-one c = search rules
 
 returns : tie.Need-returns-in_default
-returns c = let w = c in row_stuck _ _ _ w.within-one.result c.in-At.in-At-own.keys2 w.within-one.ensures _
+returns c = let w = c in row_stuck _ _ _ w.within-one.result c.in_default.in_default-own.keys2 w.within-one.ensures _
 
 tails-requires : tie.Need-tails-requires
 tails-requires c κs = let s = begun (sought c) in (reads_bounds _ _ (from s.args.low s.args.high ∷ []) _ s.requires (first_read c)).1

@@ -29,7 +29,7 @@ decreases-loop text begin at₀ squares₀ at squares = length text - at
 abbrev Past : Type 0
 Past = tie.After-squares_past-squares invariant-loop decreases-loop
 
-passed : (c : Past) → Running c.before.before.before.before.before.args.text.now c.before.before.before.before.before.args.begin c.before.ordinary_end-past.result c.squares_past-squares.result
+passed : (c : Past) → Running c.args.text.now c.args.begin c.ordinary_end-past.result c.squares_past-squares.result
 passed c = ordinary_past _ _ _ _ _ _ c.ordinary_end-past.ensures c.squares_past-squares.ensures c.loop-at.invariant
 
 -- From the byte that is looked at, and from the end of a turn, back to it.
@@ -62,7 +62,7 @@ enum-known-one : tie.Need-enum_known-one invariant-loop decreases-loop
 enum-known-one c = search rules
 
 returns-3 : tie.Need-returns-in_default invariant-loop decreases-loop
-returns-3 c = run_refused _ _ _ _ _ c.character-one.result (passed (looked c.before.before)) c.in-At.in-At-own.keys2 c.character-one.ensures
+returns-3 c = run_refused _ _ _ _ _ c.character-one.result (passed (looked c.before.before)) c.in_default.in_default-own.keys2 c.character-one.ensures
 
 squares-after-requires : tie.Need-squares_after-squares-requires invariant-loop decreases-loop
 squares-after-requires c κs = search rules

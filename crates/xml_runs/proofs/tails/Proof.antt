@@ -68,7 +68,7 @@ enum_told : tie.Need-enum_told-1 invariant-loop decreases-loop
 enum_told c = search rules
 
 returns : tie.Need-returns-in_default invariant-loop decreases-loop
-returns c = let b = c in passed_stuck _ _ _ (place (turn b.before)) (from 128 191) (tailing (left (turn b.before))) b.within-one.result (so_far b.before) c.in-At.in-At-own.keys2 b.within-one.ensures
+returns c = let b = c in passed_stuck _ _ _ (place (turn b.before)) (from 128 191) (tailing (left (turn b.before))) b.within-one.result (so_far b.before) c.in_default.in_default-own.keys2 b.within-one.ensures
 
 add_done : tie.Need-overflow_add-done invariant-loop decreases-loop
 add_done c = omega arith

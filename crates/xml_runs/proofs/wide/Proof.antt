@@ -44,19 +44,9 @@ narrows : (s : tie.Start) (low high n : ℕ) (r : Reach) → 60 < low → s.args
     → Crosses (text s) (s.args.at + 1) (λ begin. partly begin (one (from low high) (ones (tailing n) done))) (λ begin. run begin 0) r
 narrows s low high n r high-enough l h = cross_row (text s) (s.args.at + 1) (from low high) (tailing n) r (range_calm low high high-enough) (tails_calm n) l h
 
--- The way back from the choice by the byte, and from the bytes that are in no range below.
+-- The way back from the choice by the byte.
 abbrev begun : tie.After-shared_slice_known-2-1 → tie.Start
 begun c = c.before.before
-abbrev others : tie.Else-b-lt194-1 → tie.In_default-1
-others c = c.before
-abbrev from-194 : tie.Else-b-lt194-1 → tie.Start
-from-194 c = begun (others c).before
-
-abbrev from-225 : tie.Else-b-lt224-1 → tie.Else-b-lt194-1
-from-225 c = c.before
-abbrev from-241 : tie.Else-b-lt237-1 → tie.Else-b-lt194-1
-from-241 c = from-225 c.before
-
 shared-slice-read-b : tie.Need-bounds-text-at
 shared-slice-read-b c = search rules
 
@@ -110,20 +100,18 @@ returns-6 c = leads (begun c.before.before) _ _ (ap (after wide) c.in-244.is) re
 
 returns-7 : tie.Need-returns-in-194-to-223
 returns-7 c =
-    let s = from-194 c.before.before in
+    let s = begun c.before.before in
     leads s _ _ (wide_two (here s) (omega arith) (omega arith)) refl (tails_on s 0 _ (omega arith) c.tails-in-194-to-223.ensures)
 
 returns-8 : tie.Need-returns-in-225-to-236
 returns-8 c =
-    let e = from-225 c.before.before in
-    let s = from-194 e in
-    leads s _ _ (wide_three (here s) (past 224 (here s) (omega arith) (others e).in_default.in_default-own.rest.0.0.0.0.0.1) (omega arith)) refl (tails_on s 1 _ (omega arith) c.tails-in-225-to-236.ensures)
+    let s = begun c.before.before in
+    leads s _ _ (wide_three (here s) (past 224 (here s) (omega arith) c.in-225-to-236.in_default-own.rest.0.0.0.0.0.1) (omega arith)) refl (tails_on s 1 _ (omega arith) c.tails-in-225-to-236.ensures)
 
 returns-9 : tie.Need-returns-in-241-to-243
 returns-9 c =
-    let e = from-241 c.before.before in
-    let s = from-194 e in
-    let n = (others e).in_default.in_default-own.rest in
+    let s = begun c.before.before in
+    let n = c.in-241-to-243.in_default-own.rest in
     let p237 = past 237 (here s) (omega arith) n.0.0.0.0.1 in
     let p238 = past 238 (here s) p237 n.0.0.0.1 in
     let p239 = past 239 (here s) p238 n.0.0.1 in
@@ -135,9 +123,8 @@ returns-10 c = let s = begun c.before in leads_nowhere s (wide_low (here s) (ome
 
 returns-11 : tie.Need-returns-in_default-2
 returns-11 c =
-    let e = from-241 c.before in
-    let s = from-194 e in
-    leads_nowhere s (wide_high (here s) (past 244 (here s) (omega arith) (others e).in_default.in_default-own.rest.1))
+    let s = begun c.before in
+    leads_nowhere s (wide_high (here s) (past 244 (here s) (omega arith) c.in_default.in_default-own.rest.1))
 
 pub wide_spec : {M : Type 1} → statement M
 wide_spec =
