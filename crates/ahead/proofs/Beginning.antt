@@ -54,6 +54,6 @@ pub and_false : (a : Bool) → (a && false) ≡ false
 and_false true = refl
 and_false false = refl
 
-pub no_round_and : (text word : List ℕ) (from past : ℕ) → Past text from past → sees paper.openRound (tokens_at text past) ≡ false
-    → (says word (tokens_at text from) && sees paper.openRound (drop 1 (tokens_at text from))) ≡ false
+pub no_round_and : (text word : List ℕ) (from past : ℕ) → Past text from past → sees paper.open_round (tokens_at text past) ≡ false
+    → (says word (tokens_at text from) && sees paper.open_round (drop 1 (tokens_at text from))) ≡ false
 no_round_and text word from past p h = rw (p.rest, h) (and_false (says word (tokens_at text from)))

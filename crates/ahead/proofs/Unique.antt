@@ -84,8 +84,8 @@ module _ (text : List ℕ) (from : ℕ) where
 
   begins_made : (r : Opens) → Begins text from r
       → r
-      ≡ cond (says (ascii "not") here && sees paper.openRound (drop 1 here)) (Not (at (drop 1 here)) (after (drop 1 here)))
-      (cond (sees paper.openRound here) (Round (at here) (after here)) Path)
+      ≡ cond (says (ascii "not") here && sees paper.open_round (drop 1 here)) (Not (at (drop 1 here)) (after (drop 1 here)))
+      (cond (sees paper.open_round here) (Round (at here) (after here)) Path)
   begins_made (Not spot past) h =
       rw (h.says_not, h.first.rest, h.opens) (ap₂ Not h.place (after_made past (tokens_at text h.word) h.second.ends))
   begins_made (Round spot past) h = rw (h.0, h.1) (ap₂ Round h.2 (past_made past h.3))
@@ -107,7 +107,7 @@ module _ (text : List ℕ) (from : ℕ) where
   axis_ahead_unique r s p q = axes_made r p ∙ sym (axes_made s q)
 
   calls_made : (word : List ℕ) (r : Call) → Calls text word from r
-      → r ≡ cond (ltb (call_code word) 2 && sees paper.openRound here) (Inside (call_code word) (after here)) NoCall
+      → r ≡ cond (ltb (call_code word) 2 && sees paper.open_round here) (Inside (call_code word) (after here)) NoCall
   calls_made word (Inside test past) h =
       rw (← h.0, lt-ltb test 2 h.1, h.2) (ap (Inside test) (past_made past h.3))
   calls_made word NoCall (inl none-called) = rw none-called

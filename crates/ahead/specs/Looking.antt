@@ -4,7 +4,7 @@ use Rattle.std.proofs.Math.Option.{none, some}
 use Rattle.paper.specs.Tools.{ascii, same}
 use Rattle.marks.specs.Marks.{tokens_at, end_of, Past}
 use Rattle.paper.specs.Tokens as paper
-use Rattle.paper.specs.Query.{Axis, anyNode, textNode}
+use Rattle.paper.specs.Query.{Axis, any_node, text_node}
 use Rattle.paper.specs.Items.{axis_number, named_from, test_number}
 use Rattle.paper.specs.Reading.{next, at, sees, says, axis_ahead, starts_step}
 use Rattle.ahead.specs.declared.Joint.{Joint}
@@ -40,16 +40,16 @@ pub record NotBegins (text : List ℕ) (from spot past : ℕ) : Type 0 where
   pub word : ℕ
   pub says_not : says (ascii "not") (tokens_at text from) ≡ true
   pub first : Past text from word
-  pub opens : sees paper.openRound (tokens_at text word) ≡ true
+  pub opens : sees paper.open_round (tokens_at text word) ≡ true
   pub place : spot ≡ at (tokens_at text word)
   pub second : Past text word past
 
 abbrev pub Begins : List ℕ → ℕ → Opens → Type 0
 Begins text from (Not spot past) = NotBegins text from spot past.at
 Begins text from (Round spot past) =
-    ((says (ascii "not") (tokens_at text from) && sees paper.openRound (drop 1 (tokens_at text from))) ≡ false) × (sees paper.openRound (tokens_at text from) ≡ true) × (spot ≡ at (tokens_at text from)) × Past text from past.at
+    ((says (ascii "not") (tokens_at text from) && sees paper.open_round (drop 1 (tokens_at text from))) ≡ false) × (sees paper.open_round (tokens_at text from) ≡ true) × (spot ≡ at (tokens_at text from)) × Past text from past.at
 Begins text from Path =
-    ((says (ascii "not") (tokens_at text from) && sees paper.openRound (drop 1 (tokens_at text from))) ≡ false) × (sees paper.openRound (tokens_at text from) ≡ false)
+    ((says (ascii "not") (tokens_at text from) && sees paper.open_round (drop 1 (tokens_at text from))) ≡ false) × (sees paper.open_round (tokens_at text from) ≡ false)
 
 -- AXES AND TESTS. The axis that is written; the place past it is where the `::` ends.
 pub record AxisWritten (text : List ℕ) (from axis past : ℕ) : Type 0 where
@@ -68,9 +68,9 @@ Axes text from Unnamed = axis_ahead (tokens_at text from) ≡ none
 
 -- The number of the test that a word calls; where it calls none, that of the first name, which none calls.
 abbrev pub call_code : List ℕ → ℕ
-call_code word = cond (same (ascii "node") word) (test_number anyNode) (cond (same (ascii "text") word) (test_number textNode) named_from)
+call_code word = cond (same (ascii "node") word) (test_number any_node) (cond (same (ascii "text") word) (test_number text_node) named_from)
 
 -- A test that is called by a word and the `(` that comes next.
 abbrev pub Calls : List ℕ → List ℕ → ℕ → Call → Type 0
-Calls text word from (Inside test past) = (test ≡ call_code word) × (test < named_from) × (sees paper.openRound (tokens_at text from) ≡ true) × Past text from past.at
-Calls text word from NoCall = ((call_code word ≡ named_from) ⊎ (sees paper.openRound (tokens_at text from) ≡ false))
+Calls text word from (Inside test past) = (test ≡ call_code word) × (test < named_from) × (sees paper.open_round (tokens_at text from) ≡ true) × Past text from past.at
+Calls text word from NoCall = ((call_code word ≡ named_from) ⊎ (sees paper.open_round (tokens_at text from) ≡ false))

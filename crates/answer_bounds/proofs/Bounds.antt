@@ -78,13 +78,13 @@ unfolding marks_fault
 marks_within t marks place e = omega (arith, first_below_lem (nodes t) 0 (λ i. not (good_mark t marks i)) place e)
 
 -- EXTRACT.
-pub extract_small : (t : Table) (marks : List ℕ) (parentRoom kindRoom : ℕ) → Small (extract_answer t marks parentRoom kindRoom)
+pub extract_small : (t : Table) (marks : List ℕ) (parent_room kind_room : ℕ) → Small (extract_answer t marks parent_room kind_room)
 unfolding extract_answer
-extract_small t marks parentRoom kindRoom =
+extract_small t marks parent_room kind_room =
     let many = ltb node_limit (nodes t) in
     let kinds = not (eqb (length t.kinds) (nodes t)) in
     let given = not (eqb (length marks) (nodes t)) in
-    let rooms = not (eqb parentRoom kindRoom) in
+    let rooms = not (eqb parent_room kind_room) in
     let count = marked_count t marks in
     small_when 1 0 (many || kinds || given || rooms) _ (omega arith)
     (λ h.
@@ -92,17 +92,17 @@ extract_small t marks parentRoom kindRoom =
     let counted : count < 4294967296 = omega (arith, rank_le marks (nodes t)) in
     small_line 7 (table_fault t) _ (λ p e. omega (arith, table_within t p e))
     (small_line 8 (marks_fault t marks) _ (λ p e. omega (arith, marks_within t marks p e))
-    (small_room count (ltb parentRoom count) counted)))
+    (small_room count (ltb parent_room count) counted)))
 
 -- RUN.
-pub run_small : (query : List ℕ) (t : Table) (given : List ℕ) (marksRoom scratch_room : ℕ) → Small (run_answer query t given marksRoom scratch_room)
+pub run_small : (query : List ℕ) (t : Table) (given : List ℕ) (marks_room scratch_room : ℕ) → Small (run_answer query t given marks_room scratch_room)
 unfolding run_answer
-run_small query t given marksRoom scratch_room =
+run_small query t given marks_room scratch_room =
     let long = too_long query item_limit in
     let many = ltb node_limit (nodes t) in
     let kinds = not (eqb (length t.kinds) (nodes t)) in
     let marks = not (eqb (length given) (nodes t)) in
-    let rooms = not (eqb marksRoom (nodes t)) in
+    let rooms = not (eqb marks_room (nodes t)) in
     small_when 1 0 (long || many || kinds || marks || rooms) _ (omega arith)
     (λ h.
     let two = or_none long many (or_none (long || many) kinds (or_none (long || many || kinds) marks (or_none (long || many || kinds || marks) rooms h).0).0).0 in
@@ -182,8 +182,8 @@ pub paths_small : (query : List ℕ) → Small (paths_answer query)
 paths_small query = measure_small path_count query paths_size
 
 -- SCRATCH.
-pub scratch_small : (count outerHeight outerPaths innerHeight innerPaths : ℕ) → Small (scratch_answer count outerHeight outerPaths innerHeight innerPaths)
+pub scratch_small : (count outer_height outer_paths inner_height inner_paths : ℕ) → Small (scratch_answer count outer_height outer_paths inner_height inner_paths)
 unfolding scratch_answer
-scratch_small count outerHeight outerPaths innerHeight innerPaths =
-    small_when 1 0 (Wrong count outerHeight outerPaths innerHeight innerPaths) _ (omega arith)
-    (λ h. omega (arith, bytes_few count outerHeight outerPaths innerHeight innerPaths (all_inside count outerHeight outerPaths innerHeight innerPaths h)))
+scratch_small count outer_height outer_paths inner_height inner_paths =
+    small_when 1 0 (Wrong count outer_height outer_paths inner_height inner_paths) _ (omega arith)
+    (λ h. omega (arith, bytes_few count outer_height outer_paths inner_height inner_paths (all_inside count outer_height outer_paths inner_height inner_paths h)))

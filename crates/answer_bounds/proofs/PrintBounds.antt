@@ -7,12 +7,12 @@ use mathlib.Core.List.{List, [], ◌∷◌, ◌++◌}
 use mathlib.Core.Option.{some}
 use lib.ListN.{length, get_or, length-append}
 use Rattle.paper.specs.Limits.{list_limit}
-use Rattle.paper.specs.Query.{Axis, Test, anyNode, textNode, named, any_element}
+use Rattle.paper.specs.Query.{Axis, Test, any_node, text_node, named, any_element}
 use Rattle.paper.specs.Query.{Expr, path, both, either, negated, Steps, stop, step, Preds, bare, pred, Query}
 use Rattle.paper.specs.Items.{step_at, pred_count}
 use Rattle.paper.specs.Measures.{size_expr, size_steps, size_preds, size_paths, size}
 use Rattle.paper.specs.Measures.{round_left_of_and, round_right_of_and, round_right_of_or}
-use Rattle.paper.specs.Printing.{Piece, slashSign, slashesSign, dotSign, dotsSign, colonsSign, barSign, openPred, closePred, openGroup, openNot, closeRound, andWord, orWord, axis_word, test_word}
+use Rattle.paper.specs.Printing.{Piece, slash_sign, slashes_sign, dot_sign, dots_sign, colons_sign, bar_sign, open_pred, close_pred, open_group, open_not, close_round, and_word, or_word, axis_word, test_word}
 use Rattle.paper.specs.Printing.{axis_text, test_text, piece_text, grouped, head_pieces, expr_pieces, relative_pieces, later_pieces, preds_pieces, path_pieces, paths_pieces, pieces, text_of, printed}
 use Rattle.paper.specs.Answers.{unknown_item, unknown_from}
 use Rattle.paper.proofs.Tests.{none-some, some_inj}
@@ -22,7 +22,7 @@ use Rattle.query_grammar.proofs.Seeing.{chosen}
 
 -- Brackets are two pieces.
 group_few : (b : Bool) (ps : List Piece) → length (grouped b ps) ≤ 2 + length ps
-group_few true ps = omega (arith, length-append ps (closeRound ∷ []))
+group_few true ps = omega (arith, length-append ps (close_round ∷ []))
 group_few false ps = omega arith
 
 module _ (brief : Bool) where
@@ -53,12 +53,12 @@ module _ (brief : Bool) where
           expr_few b,
           group_few (round_left_of_and a) (expr_pieces brief a),
           group_few (round_right_of_and b) (expr_pieces brief b),
-          length-append left (andWord ∷ right),
+          length-append left (and_word ∷ right),
         )
     expr_few (either a b) =
         let right = grouped (round_right_of_or b) (expr_pieces brief b) in
-        omega (arith, expr_few a, expr_few b, group_few (round_right_of_or b) (expr_pieces brief b), length-append (expr_pieces brief a) (orWord ∷ right))
-    expr_few (negated a) = omega (arith, expr_few a, length-append (expr_pieces brief a) (closeRound ∷ []))
+        omega (arith, expr_few a, expr_few b, group_few (round_right_of_or b) (expr_pieces brief b), length-append (expr_pieces brief a) (or_word ∷ right))
+    expr_few (negated a) = omega (arith, expr_few a, length-append (expr_pieces brief a) (close_round ∷ []))
 
     relative_few : (s : Steps) → length (relative_pieces brief s) ≤ 5 * size_steps s
     relative_few stop = omega arith
@@ -73,7 +73,7 @@ module _ (brief : Bool) where
 
     preds_few : (ps : Preds) → length (preds_pieces brief ps) ≤ 5 * size_preds ps
     preds_few bare = omega arith
-    preds_few (pred e ps) = omega (arith, expr_few e, preds_few ps, length-append (expr_pieces brief e) (closePred ∷ preds_pieces brief ps))
+    preds_few (pred e ps) = omega (arith, expr_few e, preds_few ps, length-append (expr_pieces brief e) (close_pred ∷ preds_pieces brief ps))
 
   path_few : (s : Steps) → 1 + length (path_pieces brief s) ≤ 5 * (1 + size_steps s)
   path_few stop = omega arith
@@ -91,25 +91,25 @@ module _ (brief : Bool) where
 -- The names have at most 8,192 bytes, which is what a list has.
 module _ (names : List (List ℕ)) (short : (v : ℕ) → length (get_or names v []) ≤ list_limit) where
   test_short : (t : Test) → length (test_text names t) ≤ list_limit
-  test_short anyNode = omega arith
-  test_short textNode = omega arith
+  test_short any_node = omega arith
+  test_short text_node = omega arith
   test_short (named v) = short v
   test_short any_element = omega arith
 
   piece_short : (p : Piece) → length (piece_text names p) ≤ list_limit
-  piece_short slashSign = omega arith
-  piece_short slashesSign = omega arith
-  piece_short dotSign = omega arith
-  piece_short dotsSign = omega arith
-  piece_short colonsSign = omega arith
-  piece_short barSign = omega arith
-  piece_short openPred = omega arith
-  piece_short closePred = omega arith
-  piece_short openGroup = omega arith
-  piece_short openNot = omega arith
-  piece_short closeRound = omega arith
-  piece_short andWord = omega arith
-  piece_short orWord = omega arith
+  piece_short slash_sign = omega arith
+  piece_short slashes_sign = omega arith
+  piece_short dot_sign = omega arith
+  piece_short dots_sign = omega arith
+  piece_short colons_sign = omega arith
+  piece_short bar_sign = omega arith
+  piece_short open_pred = omega arith
+  piece_short close_pred = omega arith
+  piece_short open_group = omega arith
+  piece_short open_not = omega arith
+  piece_short close_round = omega arith
+  piece_short and_word = omega arith
+  piece_short or_word = omega arith
   piece_short (axis_word a) = omega (arith, axis_short a)
   piece_short (test_word t) = test_short t
 

@@ -8,8 +8,8 @@ use mathlib.Core.Option.{Option, none, some}
 use lib.ListN.{length, drop, length-drop}
 use Rattle.paper.specs.Tools.{ascii}
 use Rattle.paper.specs.Limits.{bracket_limit}
-use Rattle.paper.specs.Tokens.{Token, slash, slashes, dot, dots, openSquare, closeSquare, openRound, closeRound, star, finish, word, letters, Placed, white, token_at, beyond, tokens_from, tokens}
-use Rattle.paper.specs.Query.{Axis, Test, anyNode, textNode, named, any_element, Expr, Steps, stop, Query, paths}
+use Rattle.paper.specs.Tokens.{Token, slash, slashes, dot, dots, open_square, close_square, open_round, close_round, star, finish, word, letters, Placed, white, token_at, beyond, tokens_from, tokens}
+use Rattle.paper.specs.Query.{Axis, Test, any_node, text_node, named, any_element, Expr, Steps, stop, Query, paths}
 use Rattle.paper.specs.Measures.{size_expr, size_steps, size_preds, size_paths, size}
 use Rattle.paper.specs.Reading.{Got, got, refused, then, next, at, sees, says, pass, axis_ahead, Step, before, deep, starts_step, joins}
 use Rattle.paper.specs.Reading.{read_preds, read_tail, read_name, read_tested, read_axis, read_dot, read_step, read_steps, read_operand, read_term, read_expr, read_path, read_paths, read_within, read_text}
@@ -76,8 +76,8 @@ module _ (last : ℕ) where
     preds_fair (suc n) [] m = (m, omega arith)
     preds_fair (suc n) (t ∷ ts) m =
         let most = 2 * suc (length ts) in
-        either_way (Fair size_preds most) (sees openSquare (t ∷ ts))
-        (fair_then size_expr size_preds (2 * length ts) most (then (within t.place ts) (pass closeSquare)) _ (bracket_fair closeSquare t.place ts m.0 m.1)
+        either_way (Fair size_preds most) (sees open_square (t ∷ ts))
+        (fair_then size_expr size_preds (2 * length ts) most (then (within t.place ts) (pass close_square)) _ (bracket_fair close_square t.place ts m.0 m.1)
         (λ e left k h.
         fair_then size_preds size_preds (2 * length left) most (read_preds newer look within n left) _ (preds_fair n left k) (λ ps rest j i. (j, omega arith))))
         (m, omega arith)
@@ -97,14 +97,14 @@ module _ (last : ℕ) where
     tested_fair a (t ∷ ts) m =
         let most = 2 + 2 * length ts in
         let P = Fair step_size most in
-        let call : (x : Test) → P (then (pass closeRound x (drop 1 ts)) (read_tail newer look within a)) =
-        λ x. fair_then (λ y. 0) step_size (2 * length (drop 1 ts)) most (pass closeRound x (drop 1 ts)) (read_tail newer look within a)
-        (fair_pass (λ y. 0) (2 * length (drop 1 ts)) closeRound x (drop 1 ts) (near_one ts m.1) (omega arith))
+        let call : (x : Test) → P (then (pass close_round x (drop 1 ts)) (read_tail newer look within a)) =
+        λ x. fair_then (λ y. 0) step_size (2 * length (drop 1 ts)) most (pass close_round x (drop 1 ts)) (read_tail newer look within a)
+        (fair_pass (λ y. 0) (2 * length (drop 1 ts)) close_round x (drop 1 ts) (near_one ts m.1) (omega arith))
         (λ y left k h. fair_more step_size (2 + 2 * length left) most (read_tail newer look within a y left) (omega (arith, length-drop 1 ts)) (tail_fair a y left k)) in
         fair_more step_size most (2 * length (t ∷ ts)) (read_tested newer look within a (t ∷ ts)) (omega arith)
         (either_way P (sees star (t ∷ ts)) (tail_fair a any_element ts m.1)
-        (either_way P (sees openRound ts && says (ascii "node") (t ∷ ts)) (call anyNode)
-        (either_way P (sees openRound ts && says (ascii "text") (t ∷ ts)) (call textNode)
+        (either_way P (sees open_round ts && says (ascii "node") (t ∷ ts)) (call any_node)
+        (either_way P (sees open_round ts && says (ascii "text") (t ∷ ts)) (call text_node)
         (either_way P (sees (word []) (t ∷ ts)) (name_fair (look (letters (next (t ∷ ts)))) a t ts m)
         m.0))))
 
@@ -116,7 +116,7 @@ module _ (last : ℕ) where
     dot_fair : (a : Axis) (ts : List Placed) → Near ts → Fair step_size (2 * suc (length ts)) (read_dot newer look within a ts)
     dot_fair a ts m =
         let P = Fair step_size (2 * suc (length ts)) in
-        either_way P newer (fair_more step_size (2 + 2 * length ts) (2 * suc (length ts)) (read_tail newer look within a anyNode ts) (omega arith) (tail_fair a anyNode ts m)) (m, omega arith)
+        either_way P newer (fair_more step_size (2 + 2 * length ts) (2 * suc (length ts)) (read_tail newer look within a any_node ts) (omega arith) (tail_fair a any_node ts m)) (m, omega arith)
 
     step_fair : (ts : List Placed) → Near ts → Fair step_size (2 * length ts) (read_step newer look within ts)
     unfolding read_step
@@ -154,11 +154,11 @@ module _ (last : ℕ) where
         let most = 2 * length (t ∷ ts) in
         let P = Fair size_expr most in
         let after = drop 1 ts in
-        either_way P (says (ascii "not") (t ∷ ts) && sees openRound ts)
-        (fair_then size_expr size_expr (2 * length after) most (then (within (at ts) after) (pass closeRound)) _
-        (bracket_fair closeRound (at ts) after (near_at ts m.1) (near_one ts m.1)) (λ e left k h. (k, omega (arith, length-drop 1 ts))))
-        (either_way P (sees openRound (t ∷ ts))
-        (fair_more size_expr (2 * length ts) most (then (within t.place ts) (pass closeRound)) (omega arith) (bracket_fair closeRound t.place ts m.0 m.1))
+        either_way P (says (ascii "not") (t ∷ ts) && sees open_round ts)
+        (fair_then size_expr size_expr (2 * length after) most (then (within (at ts) after) (pass close_round)) _
+        (bracket_fair close_round (at ts) after (near_at ts m.1) (near_one ts m.1)) (λ e left k h. (k, omega (arith, length-drop 1 ts))))
+        (either_way P (sees open_round (t ∷ ts))
+        (fair_more size_expr (2 * length ts) most (then (within t.place ts) (pass close_round)) (omega arith) (bracket_fair close_round t.place ts m.0 m.1))
         (fair_then path_size size_expr most most (read_steps newer look within (length (t ∷ ts)) (t ∷ ts)) _ (steps_fair (length (t ∷ ts)) (t ∷ ts) m) (λ s left k h. (k, h))))
 
     -- A run, whose operands are read so.

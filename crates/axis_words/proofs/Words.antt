@@ -6,7 +6,7 @@ use mathlib.Core.List.{List, [], ◌∷◌}
 use mathlib.Core.Option.{Option, none, some}
 use Rattle.paper.specs.Tools.{same}
 use Rattle.paper.specs.Tokens as paper
-use Rattle.paper.specs.Query.{Axis, self, child, parent, descendantOrSelf, ancestorOrSelf, descendant, ancestor, followingSibling, precedingSibling, following, preceding}
+use Rattle.paper.specs.Query.{Axis, self, child, parent, descendant_or_self, ancestor_or_self, descendant, ancestor, following_sibling, preceding_sibling, following, preceding}
 use Rattle.paper.specs.Items.{axis_number, axes}
 use Rattle.paper.specs.Printing.{axis_text}
 use Rattle.paper.specs.Reading.{axis_named}
@@ -15,7 +15,7 @@ use Rattle.axis_words.specs.AxisWords.{axis_code}
 
 -- THE WORDS OF THE AXES, in the order in which they are compared.
 abbrev pub in_order : List Axis
-in_order = self ∷ child ∷ parent ∷ descendantOrSelf ∷ ancestorOrSelf ∷ descendant ∷ ancestor ∷ followingSibling ∷ precedingSibling ∷ following ∷ preceding ∷ []
+in_order = self ∷ child ∷ parent ∷ descendant_or_self ∷ ancestor_or_self ∷ descendant ∷ ancestor ∷ following_sibling ∷ preceding_sibling ∷ following ∷ preceding ∷ []
 
 module _ (w : List ℕ) where
   -- The axis of the word, where those before these have another.

@@ -47,7 +47,7 @@ module _ {query parents kinds given marks : List ℕ} {a : ℕ} (c : RunCall que
   run_left = sym c.marks_left ∙ (rw (c.query_lent, c.parents_lent, c.kinds_lent, c.given_lent) at c.met.1.0)
 
 -- EXTRACT.
-module _ {parents kinds marks newParents newKinds : List ℕ} {n : ℕ} (c : ExtractCall parents kinds marks (Value n) newParents newKinds) where
+module _ {parents kinds marks new_parents new_kinds : List ℕ} {n : ℕ} (c : ExtractCall parents kinds marks (Value n) new_parents new_kinds) where
   abbrev old-parents : List ℕ
   old-parents = c.args.1.1.1.0.now
 
@@ -57,10 +57,10 @@ module _ {parents kinds marks newParents newKinds : List ℕ} {n : ℕ} (c : Ext
   extract_value : extract_answer (table_of parents kinds) marks (length old-parents) (length old-kinds) ≡ value n
   extract_value = rw (c.parents_lent, c.kinds_lent, c.marks_lent) at (sym c.met.0)
 
-  parents_left : newParents ≡ extract_parents (table_of parents kinds) marks old-parents (length old-kinds)
+  parents_left : new_parents ≡ extract_parents (table_of parents kinds) marks old-parents (length old-kinds)
   parents_left = sym c.parents_left ∙ (rw (c.parents_lent, c.kinds_lent, c.marks_lent) at c.met.1.0)
 
-  kinds_left : newKinds ≡ extract_kinds (table_of parents kinds) marks (length old-parents) old-kinds
+  kinds_left : new_kinds ≡ extract_kinds (table_of parents kinds) marks (length old-parents) old-kinds
   kinds_left = sym c.kinds_left ∙ (rw (c.parents_lent, c.kinds_lent, c.marks_lent) at c.met.1.1)
 
 -- A view is what such a run and extract show.
@@ -168,22 +168,22 @@ scratch_enough outer inner both parents kinds given marks n oh op ih ip bytes pl
     (rw (composed_left composing) at said)
 
 -- IS CUT.
-module _ {parents kinds cutParents cutKinds numbers : List ℕ} {answer : Answer} (c : CutCall parents kinds cutParents cutKinds numbers answer) where
-  cut_said : told answer ≡ is_cut_answer (table_of parents kinds) (table_of cutParents cutKinds) numbers
+module _ {parents kinds cut_parents cut_kinds numbers : List ℕ} {answer : Answer} (c : CutCall parents kinds cut_parents cut_kinds numbers answer) where
+  cut_said : told answer ≡ is_cut_answer (table_of parents kinds) (table_of cut_parents cut_kinds) numbers
   cut_said = rw (c.parents_lent, c.kinds_lent, c.cut_parents_lent, c.cut_kinds_lent, c.numbers_lent) at c.met
 
 -- A YES.
 pub yes_marks : YesMarks
-yes_marks parents kinds cutParents cutKinds numbers out_parents out_kinds place c x =
+yes_marks parents kinds cut_parents cut_kinds numbers out_parents out_kinds place c x =
     let t = table_of parents kinds in
     let refused : extract_answer t (marks_of t numbers) (length x.args.1.1.1.0.now) (length x.args.1.1.1.1.0.now) ≡ refusal 8 place =
     rw (x.parents_lent, x.kinds_lent, x.marks_lent) at (sym x.met.0) in
-    entries.never_bad_marks t (marks_of t numbers) _ _ place (marks_are_good t (table_of cutParents cutKinds) numbers (entries.says_yes t (table_of cutParents cutKinds) numbers (sym (cut_said c)))) refused
+    entries.never_bad_marks t (marks_of t numbers) _ _ place (marks_are_good t (table_of cut_parents cut_kinds) numbers (entries.says_yes t (table_of cut_parents cut_kinds) numbers (sym (cut_said c)))) refused
 
 pub yes_extracts : YesExtracts
-yes_extracts parents kinds cutParents cutKinds numbers out_parents out_kinds n c x =
+yes_extracts parents kinds cut_parents cut_kinds numbers out_parents out_kinds n c x =
     let t = table_of parents kinds in
-    let cut = table_of cutParents cutKinds in
+    let cut = table_of cut_parents cut_kinds in
     let marks = marks_of t numbers in
     let got = took t marks n (old-parents x) (old-kinds x) (extract_value x) in
     let table = (extracts t cut numbers (entries.says_yes t cut numbers (sym (cut_said c)))).0 in

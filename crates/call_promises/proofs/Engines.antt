@@ -27,14 +27,14 @@ use Rattle.call_promises.specs.Engines.{follow_answer, follow_marks, SameEngines
 sufficient : (t : Table) (q : Query) (room : ℕ) → scratch_of t q ≤ room → short room (scratch_of t q) ≡ none
 sufficient t q room l = ap (λ b. when b (scratch_of t q)) (le-ltb room (scratch_of t q) l)
 
-module _ (query : List ℕ) (t : Table) (given : List ℕ) (marksRoom : ℕ) where
+module _ (query : List ℕ) (t : Table) (given : List ℕ) (marks_room : ℕ) where
   -- A run with this scratch answers as one with enough, or 10 with the bytes needed.
-  same_or_short : (room : ℕ) → (C : Type 0) → (run_answer query t given marksRoom room ≡ follow_answer query t given marksRoom → C)
-      → ((q : Query) → decode query ≡ some q → run_answer query t given marksRoom room ≡ refusal 10 (scratch_of t q) → C) → C
+  same_or_short : (room : ℕ) → (C : Type 0) → (run_answer query t given marks_room room ≡ follow_answer query t given marks_room → C)
+      → ((q : Query) → decode query ≡ some q → run_answer query t given marks_room room ≡ refusal 10 (scratch_of t q) → C) → C
   unfolding run_answer
-  same_or_short room C alike lacking = go (when (Long query t given marksRoom) 0) refl (decode query) refl (table_fault t) refl (marks_fault t given) refl
+  same_or_short room C alike lacking = go (when (Long query t given marks_room) 0) refl (decode query) refl (table_fault t) refl (marks_fault t given) refl
     where
-      go : (l : Option ℕ) → when (Long query t given marksRoom) 0 ≡ l → (o : Option Query) → decode query ≡ o → (u : Option ℕ) → table_fault t ≡ u → (v : Option ℕ) → marks_fault t given ≡ v → C
+      go : (l : Option ℕ) → when (Long query t given marks_room) 0 ≡ l → (o : Option Query) → decode query ≡ o → (u : Option ℕ) → table_fault t ≡ u → (v : Option ℕ) → marks_fault t given ≡ v → C
       go (some p) e o f u g v k = alike (rw e)
       go none e none f u g v k = alike (rw (e, f))
       go none e (some q) f (some p) g v k = alike (rw (e, f, g))
@@ -45,14 +45,14 @@ module _ (query : List ℕ) (t : Table) (given : List ℕ) (marksRoom : ℕ) whe
           (λ l. alike (let many : short room (scratch_of t q) ≡ none = ap (λ b. when b (scratch_of t q)) l in rw (e, f, g, k, many, sufficient t q (scratch_of t q) (omega arith)))) (decide (ltb room (scratch_of t q)))
 
   -- With the bytes needed it is never 10.
-  not_ten : (q : Query) → decode query ≡ some q → (room place : ℕ) → scratch_of t q ≤ room → run_answer query t given marksRoom room ≡ refusal 10 place → ⊥
+  not_ten : (q : Query) → decode query ≡ some q → (room place : ℕ) → scratch_of t q ≤ room → run_answer query t given marks_room room ≡ refusal 10 place → ⊥
   unfolding run_answer
-  not_ten q d room place l h = go (when (Long query t given marksRoom) 0) refl (table_fault t) refl (marks_fault t given) refl
+  not_ten q d room place l h = go (when (Long query t given marks_room) 0) refl (table_fault t) refl (marks_fault t given) refl
     where
       other : {n p m r : ℕ} → refusal n p ≡ refusal m r → n ≡ m
       other e = cc
 
-      go : (o : Option ℕ) → when (Long query t given marksRoom) 0 ≡ o → (u : Option ℕ) → table_fault t ≡ u → (v : Option ℕ) → marks_fault t given ≡ v → ⊥
+      go : (o : Option ℕ) → when (Long query t given marks_room) 0 ≡ o → (u : Option ℕ) → table_fault t ≡ u → (v : Option ℕ) → marks_fault t given ≡ v → ⊥
       go (some p) e u g v k = let z : ◌≡◌ {A = ℕ} 1 10 = other (rw e at h) in omega arith
       go none e (some p) g v k = let z : ◌≡◌ {A = ℕ} 7 10 = other (rw (e, d, g) at h) in omega arith
       go none e none g (some p) k = let z : ◌≡◌ {A = ℕ} 8 10 = other (rw (e, d, g, k) at h) in omega arith
@@ -65,18 +65,18 @@ same_marks query t given marks room more e = ap (λ (a : Told). at_exit a (kept_
 
 pub never_short : NeverShort
 unfolding run_answer
-never_short query t given marksRoom place h = go (decode query) refl
+never_short query t given marks_room place h = go (decode query) refl
   where
     other : {n p m r : ℕ} → refusal n p ≡ refusal m r → n ≡ m
     other e = cc
 
-    first : (o : Option ℕ) → when (Long query t given marksRoom) 0 ≡ o → decode query ≡ none → ⊥
+    first : (o : Option ℕ) → when (Long query t given marks_room) 0 ≡ o → decode query ≡ none → ⊥
     first (some p) e d = let z : ◌≡◌ {A = ℕ} 1 10 = other (rw e at h) in omega arith
     first none e d = let z : ◌≡◌ {A = ℕ} 6 10 = other (rw (e, d) at h) in omega arith
 
     go : (o : Option Query) → decode query ≡ o → ⊥
-    go none d = first (when (Long query t given marksRoom) 0) refl d
-    go (some q) d = not_ten query t given marksRoom q d (enough t (decode query)) place (omega (arith, ap (enough t) d)) h
+    go none d = first (when (Long query t given marks_room) 0) refl d
+    go (some q) d = not_ten query t given marks_room q d (enough t (decode query)) place (omega (arith, ap (enough t) d)) h
 
 pub same_engines : SameEngines
 same_engines query t given marks room never =

@@ -80,7 +80,7 @@ pub record RunCall (query parents kinds given : List ℕ) (answer : Answer) (mar
   pub marks_left : exit.1.1.1.1.0.now ≡ marks
 
 -- A call of `extract::extract`, which left these columns.
-pub record ExtractCall (parents kinds marks : List ℕ) (answer : Answer) (newParents newKinds : List ℕ) : Type 0 where
+pub record ExtractCall (parents kinds marks : List ℕ) (answer : Answer) (new_parents new_kinds : List ℕ) : Type 0 where
   pub κs : Lfts 5
   pub args : Dens κs extract.Kinds.ps
   pub exit : AtExit (ended_of 5 extract.Kinds.ps extract.Kinds.r) κs
@@ -88,8 +88,8 @@ pub record ExtractCall (parents kinds marks : List ℕ) (answer : Answer) (newPa
   pub parents_lent : args.0.now ≡ parents
   pub kinds_lent : args.1.0.now ≡ kinds
   pub marks_lent : args.1.1.0.now ≡ marks
-  pub parents_left : exit.1.1.1.0.now ≡ newParents
-  pub kinds_left : exit.1.1.1.1.0.now ≡ newKinds
+  pub parents_left : exit.1.1.1.0.now ≡ new_parents
+  pub kinds_left : exit.1.1.1.1.0.now ≡ new_kinds
 
 -- EXACTNESS: a run of the composed items answers and writes the same as a run of the inner items and, inside the marks that this wrote, a run of the outer items.
 abbrev pub Exactness : Type 0
@@ -99,7 +99,7 @@ Exactness =
     → (a ≡ c) × (marks ≡ last)
 
 -- A run of the items inside marks and an extract of the marks that it wrote, both accepted: the columns of the sub-document.
-pub record View (query parents kinds given : List ℕ) (newParents newKinds : List ℕ) : Type 0 where
+pub record View (query parents kinds given : List ℕ) (new_parents new_kinds : List ℕ) : Type 0 where
   pub kept : ℕ
   pub count : ℕ
   pub marks : List ℕ
@@ -107,8 +107,8 @@ pub record View (query parents kinds given : List ℕ) (newParents newKinds : Li
   pub out_kinds : List ℕ
   pub ran : RunCall query parents kinds given (Value kept) marks
   pub took : ExtractCall parents kinds marks (Value count) out_parents out_kinds
-  pub parents_first : newParents ≡ take count out_parents
-  pub kinds_first : newKinds ≡ take count out_kinds
+  pub parents_first : new_parents ≡ take count out_parents
+  pub kinds_first : new_kinds ≡ take count out_kinds
 
 -- Every mark 1.
 abbrev pub ones : List ℕ → List ℕ
@@ -182,29 +182,29 @@ ScratchEnough =
     → (run : RunCall (take n both) parents kinds given (Short place) marks) → bytes ≤ scratch_lent run → ⊥
 
 -- A call of `cut::is_cut`.
-pub record CutCall (parents kinds cutParents cutKinds numbers : List ℕ) (answer : Answer) : Type 0 where
+pub record CutCall (parents kinds cut_parents cut_kinds numbers : List ℕ) (answer : Answer) : Type 0 where
   pub κs : Lfts 5
   pub args : Dens κs is_cut.Kinds.ps
   pub exit : AtExit (ended_of 5 is_cut.Kinds.ps is_cut.Kinds.r) κs
   pub met : is_cut.Reads.Post κs args answer exit
   pub parents_lent : args.0.now ≡ parents
   pub kinds_lent : args.1.0.now ≡ kinds
-  pub cut_parents_lent : args.1.1.0.now ≡ cutParents
-  pub cut_kinds_lent : args.1.1.1.0.now ≡ cutKinds
+  pub cut_parents_lent : args.1.1.0.now ≡ cut_parents
+  pub cut_kinds_lent : args.1.1.1.0.now ≡ cut_kinds
   pub numbers_lent : args.1.1.1.1.0.now ≡ numbers
 
 -- A YES: no extract calls the marks that the partner's numbers stand for bad,
 abbrev pub YesMarks : Type 0
 YesMarks =
-    (parents kinds cutParents cutKinds numbers out_parents out_kinds : List ℕ) (place : ℕ) → CutCall parents kinds cutParents cutKinds numbers (Value 1)
+    (parents kinds cut_parents cut_kinds numbers out_parents out_kinds : List ℕ) (place : ℕ) → CutCall parents kinds cut_parents cut_kinds numbers (Value 1)
     → ExtractCall parents kinds (marks_of (table_of parents kinds) numbers) (BadMarks place) out_parents out_kinds → ⊥
 
 -- and one that is accepted leaves the partner's columns.
 abbrev pub YesExtracts : Type 0
 YesExtracts =
-    (parents kinds cutParents cutKinds numbers out_parents out_kinds : List ℕ) (n : ℕ) → CutCall parents kinds cutParents cutKinds numbers (Value 1)
+    (parents kinds cut_parents cut_kinds numbers out_parents out_kinds : List ℕ) (n : ℕ) → CutCall parents kinds cut_parents cut_kinds numbers (Value 1)
     → ExtractCall parents kinds (marks_of (table_of parents kinds) numbers) (Value n) out_parents out_kinds
-    → (n ≡ length cutParents) × (take n out_parents ≡ cutParents) × (take n out_kinds ≡ cutKinds)
+    → (n ≡ length cut_parents) × (take n out_parents ≡ cut_parents) × (take n out_kinds ≡ cut_kinds)
 
 -- A VIEW IS A CUT: what a run that started with every mark 1 shows gets a yes, with the numbers of the nodes that it marked.
 abbrev pub ViewIsCut : Type 0

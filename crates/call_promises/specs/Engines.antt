@@ -15,7 +15,7 @@ use Rattle.call_promises.specs.Calls.{RunCall}
 
 -- What `follow` answers, and the marks that it leaves: those of a run with scratch enough.
 abbrev pub follow_answer : List ℕ → Table → List ℕ → ℕ → Told
-follow_answer query t given marksRoom = run_answer query t given marksRoom (enough t (decode query))
+follow_answer query t given marks_room = run_answer query t given marks_room (enough t (decode query))
 
 abbrev pub follow_marks : List ℕ → Table → List ℕ → List ℕ → List ℕ
 follow_marks query t given marks = run_marks query t given marks (enough t (decode query))
@@ -34,7 +34,7 @@ EnoughScratch =
 
 -- `follow` never answers 10.
 abbrev pub NeverShort : Type 0
-NeverShort = (query : List ℕ) (t : Table) (given : List ℕ) (marksRoom place : ℕ) → follow_answer query t given marksRoom ≡ refusal 10 place → ⊥
+NeverShort = (query : List ℕ) (t : Table) (given : List ℕ) (marks_room place : ℕ) → follow_answer query t given marks_room ≡ refusal 10 place → ⊥
 
 -- A call of `follow::follow`, which held `old` in the slice for marks and left these.
 pub record FollowCall (query parents kinds given old : List ℕ) (answer : Answer) (marks : List ℕ) : Type 0 where

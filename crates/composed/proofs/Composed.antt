@@ -8,7 +8,7 @@ use mathlib.Core.Option.{Option}
 use lib.Dec.{ltb}
 use lib.ListN.{length, take, drop, length-append}
 use lib.Seq.{drop_at, length-take-le, take_at}
-use Rattle.paper.specs.Query.{Axis, descendantOrSelf, ancestorOrSelf, anyNode, Expr, path, Steps, stop, step, Query, paths}
+use Rattle.paper.specs.Query.{Axis, descendant_or_self, ancestor_or_self, any_node, Expr, path, Steps, stop, step, Query, paths}
 use Rattle.paper.specs.Items.{axis_number, pack_path, pack_step, or_item, step_count, pred_count, encode_expr, encode_steps, encode_preds, encode_paths, encode, decode, good_steps, good_paths, good, count_bound}
 use Rattle.paper.specs.Tools.{written}
 use Rattle.paper.specs.Answers.{made_got}
@@ -27,19 +27,19 @@ use Rattle.composed.proofs.Items.{steps_guarded}
 -- V and the last step.
 some-node-items : (a : Axis) (e : Expr) → encode_expr (some_node a e) ≡ some_node_items (axis_number a) (encode_expr e)
 some-node-items a e =
-    ap (λ (l : List ℕ). pack_path 1 ∷ pack_step a anyNode 1 ∷ l) (append-nil (encode_expr e ++ []) ∙ append-nil (encode_expr e))
+    ap (λ (l : List ℕ). pack_path 1 ∷ pack_step a any_node 1 ∷ l) (append-nil (encode_expr e ++ []) ∙ append-nil (encode_expr e))
 
 pub visible-items : (q : Query) → visible_items (encode_expr (selected_by q)) ≡ encode_expr (visible q)
 unfolding visible
 visible-items q =
-    ap₂ (λ (x y : List ℕ). or_item ∷ (x ++ y)) (sym (some-node-items descendantOrSelf (selected_by q))) (sym (some-node-items ancestorOrSelf (selected_by q)))
+    ap₂ (λ (x y : List ℕ). or_item ∷ (x ++ y)) (sym (some-node-items descendant_or_self (selected_by q))) (sym (some-node-items ancestor_or_self (selected_by q)))
 
 pub last-items : (q : Query) → last_items (encode_expr (selected_by q)) ≡ encode_steps (last_step q)
 unfolding last_step
 last-items q =
-    ap (λ (l : List ℕ). pack_step descendantOrSelf anyNode 1 ∷ l) (sym (some-node-items ancestorOrSelf (selected_by q))) ∙
-    ap (λ (l : List ℕ). pack_step descendantOrSelf anyNode 1 ∷ l)
-    (sym (append-nil (encode_expr (some_node ancestorOrSelf (selected_by q)) ++ []) ∙ append-nil (encode_expr (some_node ancestorOrSelf (selected_by q)))))
+    ap (λ (l : List ℕ). pack_step descendant_or_self any_node 1 ∷ l) (sym (some-node-items ancestor_or_self (selected_by q))) ∙
+    ap (λ (l : List ℕ). pack_step descendant_or_self any_node 1 ∷ l)
+    (sym (append-nil (encode_expr (some_node ancestor_or_self (selected_by q)) ++ []) ∙ append-nil (encode_expr (some_node ancestor_or_self (selected_by q)))))
 
 -- A path with one step more at its end.
 append_items : (s last : Steps) → encode_steps (append s last) ≡ encode_steps s ++ encode_steps last

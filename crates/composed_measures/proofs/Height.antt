@@ -6,7 +6,7 @@ use mathlib.Core.Path.{◌≡◌}
 use mathlib.Core.Bool.{Bool, true, false, cond}
 use mathlib.Core.List.{List, [], ◌∷◌, map}
 use lib.ListN.{length}
-use Rattle.paper.specs.Query.{Test, anyNode, Expr, path, both, either, negated, Steps, stop, step, Preds, bare, pred, Query, paths}
+use Rattle.paper.specs.Query.{Test, any_node, Expr, path, both, either, negated, Steps, stop, step, Preds, bare, pred, Query, paths}
 use Rattle.paper.specs.Measures.{height_expr, height_steps, height_preds, height_paths, height}
 use Rattle.paper.specs.Composition.{turned, at_root, way_back, reversed, joined, selected_by, visible, guarded, guard_expr, guard_steps, guard_preds, append, last_step, composed_path, composed}
 use Rattle.paper.specs.Document.{nodes}
@@ -19,7 +19,7 @@ way_height x ps back (step a y qs rest) = omega (arith, way_height y qs (step (t
 
 reversed_height : (p : Steps) → height_expr (reversed p) ≡ max 3 (height_expr (path p))
 unfolding reversed
-reversed_height p = omega (arith, way_height anyNode (pred at_root bare) stop p)
+reversed_height p = omega (arith, way_height any_node (pred at_root bare) stop p)
 
 -- Each `or` adds one to what bounds its operands.
 joined-height : (e : Expr) (ps : List Steps) (b : ℕ) → height_expr e ≤ b → 3 ≤ b → height_paths ps ≤ b → height_expr (joined e ps) ≤ b + length ps

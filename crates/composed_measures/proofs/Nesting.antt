@@ -4,7 +4,7 @@ use native.Mathlib.Omega.{arith}
 use mathlib.Core.Path.{◌≡◌, refl, ◌∙◌, ap, ap₂}
 use mathlib.Core.Bool.{Bool, true, false, cond}
 use mathlib.Core.List.{List, [], ◌∷◌, map}
-use Rattle.paper.specs.Query.{Test, anyNode, Expr, path, both, either, negated, Steps, stop, step, Preds, bare, pred, Query, paths}
+use Rattle.paper.specs.Query.{Test, any_node, Expr, path, both, either, negated, Steps, stop, step, Preds, bare, pred, Query, paths}
 use Rattle.paper.specs.Measures.{is_and, is_or, round_left_of_and, round_right_of_and, round_right_of_or, in_brackets, nest_expr, nest_steps, nest_preds, nest_paths, nesting}
 use Rattle.paper.specs.Composition.{turned, at_root, way_back, reversed, joined, selected_by, visible, guarded, guard_on, guard_expr, guard_steps, guard_preds, append, last_step, composed_path, composed, composed_nesting}
 use Rattle.paper.specs.Composition.{guard_depth_expr, guard_depth_steps, guard_depth_preds, guard_depth_paths, guard_depth}
@@ -16,7 +16,7 @@ way_nest x ps back (step a y qs rest) = omega (arith, way_nest y qs (step (turne
 
 reversed_nest : (p : Steps) → nest_expr (reversed p) ≡ max 2 (nest_steps p)
 unfolding reversed
-reversed_nest p = omega (arith, way_nest anyNode (pred at_root bare) stop p)
+reversed_nest p = omega (arith, way_nest any_node (pred at_root bare) stop p)
 
 -- A reverse is a path, so it gets no round brackets.
 not_or : (p : Steps) → is_or (reversed p) ≡ false

@@ -5,7 +5,7 @@ use mathlib.Core.Path.{◌≡◌, ◌∙◌, ap, ap₂}
 use mathlib.Core.Bool.{Bool, true, false, cond}
 use mathlib.Core.List.{List, [], ◌∷◌, map}
 use lib.ListN.{length}
-use Rattle.paper.specs.Query.{Test, anyNode, Expr, path, both, either, negated, Steps, stop, step, Preds, bare, pred, Query, paths}
+use Rattle.paper.specs.Query.{Test, any_node, Expr, path, both, either, negated, Steps, stop, step, Preds, bare, pred, Query, paths}
 use native.Mathlib.Nat.{add-mul}
 use Rattle.paper.specs.Measures.{size_expr, size_steps, size_preds, size_paths, size}
 use Rattle.paper.specs.Composition.{turned, at_root, way_back, reversed, joined, selected_by, visible, guarded, guard_expr, guard_steps, guard_preds, append, last_step, composed_path, composed}
@@ -19,7 +19,7 @@ way_size x ps back (step a y qs rest) = omega (arith, way_size y qs (step (turne
 
 reversed_size : (p : Steps) → size_expr (reversed p) ≡ 4 + size_expr (path p)
 unfolding reversed
-reversed_size p = omega (arith, way_size anyNode (pred at_root bare) stop p)
+reversed_size p = omega (arith, way_size any_node (pred at_root bare) stop p)
 
 joined_size : (e : Expr) (ps : List Steps) → size_expr (joined e ps) ≡ size_expr e + size_paths ps + 5 * length ps
 joined_size e [] = omega arith

@@ -25,7 +25,7 @@ fn child_behind(parent: &[u16], i: usize) -> bool
 fn in_place(parent: &[u16], cut_parent: &[u16], cut_node: &[u16], r: usize, n: usize) -> bool
     requires r_in_bounds { (r < length cut_node.now) × (length cut_parent.now ≡ length cut_node.now) }
     requires n_value { (n ≡ get_or cut_node.now r 0) × (n < length parent.now) }
-    ensures { (kinds kindsOfCut : List ℕ) → let t = table_of parent.now kinds in let cut = table_of cut_parent.now kindsOfCut in result ≡ (rising t cut cut_node.now r && parent_stands t cut cut_node.now r) }
+    ensures { (kinds kinds_of_cut : List ℕ) → let t = table_of parent.now kinds in let cut = table_of cut_parent.now kinds_of_cut in result ≡ (rising t cut cut_node.now r && parent_stands t cut cut_node.now r) }
 {
     if r == 0 {
         return true;

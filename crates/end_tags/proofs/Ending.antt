@@ -118,14 +118,14 @@ module _ (text : List ℕ) (at inner : ℕ) where
         }
 
   -- PAST THE NAME.
-  module _ (nameEnd place : ℕ) (named : Renames text at inner (At nameEnd)) (e : place ≡ nameEnd + run_of white (drop nameEnd text)) where
+  module _ (name_end place : ℕ) (named : Renames text at inner (At name_end)) (e : place ≡ name_end + run_of white (drop name_end text)) where
     pub place_within : place ≤ length text
-    place_within = run_inside white text nameEnd place e named.bounds.1
+    place_within = run_inside white text name_end place e named.bounds.1
 
     to_place : (f : Frame) (fs : List Frame) → f.name ≡ name_at text (suc inner) → seek_at text at (state (closing f.name) (f ∷ fs)) ≡ seek_at text place (state (closing []) (f ∷ fs))
     to_place f fs n =
-        ap (λ (w : List ℕ). seek_at text at (state (closing w) (f ∷ fs))) n ∙ named.goes (f ∷ fs) ∙ end_gap nameEnd (f ∷ fs) (drop nameEnd text)
-        ∙ ap (λ (l : List ℕ). seek (nameEnd + run_of white (drop nameEnd text)) (state (closing []) (f ∷ fs)) l) (drop-drop (run_of white (drop nameEnd text)) nameEnd text)
+        ap (λ (w : List ℕ). seek_at text at (state (closing w) (f ∷ fs))) n ∙ named.goes (f ∷ fs) ∙ end_gap name_end (f ∷ fs) (drop name_end text)
+        ∙ ap (λ (l : List ℕ). seek (name_end + run_of white (drop name_end text)) (state (closing []) (f ∷ fs)) l) (drop-drop (run_of white (drop name_end text)) name_end text)
         ∙ ap (λ m. seek_at text m (state (closing []) (f ∷ fs))) (sym e)
 
     pub end_cut : length text ≤ place → Ends text at inner (Wrong place)
@@ -133,7 +133,7 @@ module _ (text : List ℕ) (at inner : ℕ) where
 
     module _ (inside : place < length text) where
       no_space : white (get_or text place 0) ≡ false
-      no_space = stops_run white text nameEnd place e inside
+      no_space = stops_run white text name_end place e inside
 
       pub end_closes : (to : ℕ) → get_or text place 0 ≡ 62 → to ≡ place + 1 → Ends text at inner (At to)
       unfolding left_out

@@ -58,20 +58,20 @@ not_value : (n wanted place : ℕ) → value n ≡ refusal wanted place → ⊥
 not_value n wanted place e = let z : ◌≡◌ {A = ℕ} 0 1 = cc in omega arith
 
 -- so a run of items that are a query gives no refusal 6,
-pub well_formed : (query : List ℕ) (q : Query) (t : Table) (given : List ℕ) (marksRoom scratch_room place : ℕ) → decode query ≡ some q
-    → run_answer query t given marksRoom scratch_room ≡ refusal 6 place → ⊥
+pub well_formed : (query : List ℕ) (q : Query) (t : Table) (given : List ℕ) (marks_room scratch_room place : ℕ) → decode query ≡ some q
+    → run_answer query t given marks_room scratch_room ≡ refusal 6 place → ⊥
 unfolding run_answer
-well_formed query q t given marksRoom scratch_room place d r =
+well_formed query q t given marks_room scratch_room place d r =
     let ten = not_given 6 10 place (short scratch_room (scratch_of t q)) _ (λ e. omega arith) (not_value (marked_count t (kept t given q)) 6 place) in
     let eight = not_given 6 8 place (marks_fault t given) _ (λ e. omega arith) ten in
     let seven = not_given 6 7 place (table_fault t) _ (λ e. omega arith) eight in
-    not_given 6 1 place (when (Long query t given marksRoom scratch_room) 0) _ (λ e. omega arith) seven (rw d at r)
+    not_given 6 1 place (when (Long query t given marks_room scratch_room) 0) _ (λ e. omega arith) seven (rw d at r)
 
 -- and a composition is a query.
 pub never_malformed : NeverMalformed
-never_malformed outer inner out n t given marksRoom scratch_room place h =
+never_malformed outer inner out n t given marks_room scratch_room place h =
     let w = (composition outer inner out n h).0 in
-    well_formed (take n (compose_out outer inner out)) (composed w.outer_is w.inner_is) t given marksRoom scratch_room place w.decodes
+    well_formed (take n (compose_out outer inner out)) (composed w.outer_is w.inner_is) t given marks_room scratch_room place w.decodes
 
 -- EXACTNESS.
 pub exactness : Exactness
@@ -148,19 +148,19 @@ round_trip brief query list out again n version fine h most room =
     (back.0, rw (back.0, back.1) (first_written query again (length query) refl))
 
 -- SCRATCH. A run with scratch enough gives no 10,
-pub room_enough : (query : List ℕ) (q : Query) (t : Table) (given : List ℕ) (marksRoom scratch_room place : ℕ) → decode query ≡ some q → scratch_of t q ≤ scratch_room
-    → run_answer query t given marksRoom scratch_room ≡ refusal 10 place → ⊥
+pub room_enough : (query : List ℕ) (q : Query) (t : Table) (given : List ℕ) (marks_room scratch_room place : ℕ) → decode query ≡ some q → scratch_of t q ≤ scratch_room
+    → run_answer query t given marks_room scratch_room ≡ refusal 10 place → ⊥
 unfolding run_answer
-room_enough query q t given marksRoom scratch_room place d enough r =
+room_enough query q t given marks_room scratch_room place d enough r =
     let ten : line 10 (short scratch_room (scratch_of t q)) (value (marked_count t (kept t given q))) ≡ refusal 10 place → ⊥ =
     λ e. not_value (marked_count t (kept t given q)) 10 place (rw (le-ltb scratch_room (scratch_of t q) enough) at e) in
     let eight = not_given 10 8 place (marks_fault t given) _ (λ e. omega arith) ten in
     let seven = not_given 10 7 place (table_fault t) _ (λ e. omega arith) eight in
-    not_given 10 1 place (when (Long query t given marksRoom scratch_room) 0) _ (λ e. omega arith) seven (rw d at r)
+    not_given 10 1 place (when (Long query t given marks_room scratch_room) 0) _ (λ e. omega arith) seven (rw d at r)
 
 -- and what is told before composing is enough,
 pub scratch_enough : ScratchEnough
-scratch_enough outer inner out t given n oh op ih ip bytes marksRoom scratch_room place h oh-told op-told ih-told ip-told bytes-told enough =
+scratch_enough outer inner out t given n oh op ih ip bytes marks_room scratch_room place h oh-told op-told ih-told ip-told bytes-told enough =
     let w = (composition outer inner out n h).0 in
     let o = w.outer_is in
     let i = w.inner_is in
@@ -169,7 +169,7 @@ scratch_enough outer inner out t given n oh op ih ip bytes marksRoom scratch_roo
     let inner-paths = measure_is path_count inner i ip w.inner_decodes ip-told in
     let most : bytes ≡ scratch_bytes (nodes t) (height o) (height i) (path_count i) =
     scratch_is (nodes t) oh op ih ip bytes bytes-told ∙ rw (outer-high, inner-high, inner-paths) in
-    room_enough _ (composed o i) t given marksRoom scratch_room place w.decodes (omega (arith, demands.scratch_enough t o i, most))
+    room_enough _ (composed o i) t given marks_room scratch_room place w.decodes (omega (arith, demands.scratch_enough t o i, most))
 
 -- and can be told.
 pub scratch-told : ScratchTold
@@ -192,13 +192,13 @@ scratch-told outer inner out n count h some-node few =
     )
 
 -- AN EXTRACT OF MARKS WITHOUT FAULT IS NOT REFUSED FOR THEM.
-pub never_bad_marks : (t : Table) (marks : List ℕ) (parentRoom kindRoom place : ℕ) → marks_fault t marks ≡ none → extract_answer t marks parentRoom kindRoom ≡ refusal 8 place → ⊥
+pub never_bad_marks : (t : Table) (marks : List ℕ) (parent_room kind_room place : ℕ) → marks_fault t marks ≡ none → extract_answer t marks parent_room kind_room ≡ refusal 8 place → ⊥
 unfolding extract_answer
-never_bad_marks t marks parentRoom kindRoom place fm h =
+never_bad_marks t marks parent_room kind_room place fm h =
     let count = marked_count t marks in
-    let ten = not_given 8 10 place (short parentRoom count) (value count) (λ e. omega arith) (not_value count 8 place) in
-    let seven = not_given 8 7 place (table_fault t) (line 10 (short parentRoom count) (value count)) (λ e. omega arith) ten in
-    not_given 8 1 place (when (extracting.wrong t marks parentRoom kindRoom) 0) (line 7 (table_fault t) (line 10 (short parentRoom count) (value count))) (λ e. omega arith) seven (rw fm at h)
+    let ten = not_given 8 10 place (short parent_room count) (value count) (λ e. omega arith) (not_value count 8 place) in
+    let seven = not_given 8 7 place (table_fault t) (line 10 (short parent_room count) (value count)) (λ e. omega arith) ten in
+    not_given 8 1 place (when (extracting.wrong t marks parent_room kind_room) 0) (line 7 (table_fault t) (line 10 (short parent_room count) (value count))) (λ e. omega arith) seven (rw fm at h)
 
 -- A YES. The partner's table is a cut of ours, which is without fault.
 one_is_yes : (b : Bool) → value (cond b 1 0) ≡ value 1 → b ≡ true

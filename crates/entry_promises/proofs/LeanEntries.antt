@@ -111,9 +111,9 @@ no_more_refusals outer inner room n h =
 
 -- IT IS A QUERY.
 pub lean_never_malformed : LeanNeverMalformed
-lean_never_malformed outer inner out n t given marksRoom scratch_room place h =
+lean_never_malformed outer inner out n t given marks_room scratch_room place h =
     let w = (lean_acceptance outer inner out n h).0 in
-    well_formed (take n (compose_lean_out outer inner out)) (composed_lean w.outer_is w.inner_is) t given marksRoom scratch_room place w.decodes
+    well_formed (take n (compose_lean_out outer inner out)) (composed_lean w.outer_is w.inner_is) t given marks_room scratch_room place w.decodes
 
 -- A RUN OF IT IS ONE OF THE COMPOSITION.
 pub lean_as_composed : LeanAsComposed
@@ -174,7 +174,7 @@ lean_secrecy outer inner out t u n a b l m parentsₜ kindsₜ parentsᵤ kinds�
 
 -- SCRATCH.
 pub lean_scratch_enough : LeanScratchEnough
-lean_scratch_enough outer inner out t given n oh op ih ip bytes marksRoom scratch_room place h oh-told op-told ih-told ip-told bytes-told enough =
+lean_scratch_enough outer inner out t given n oh op ih ip bytes marks_room scratch_room place h oh-told op-told ih-told ip-told bytes-told enough =
     let w = (lean_acceptance outer inner out n h).0 in
     let o = w.outer_is in
     let i = w.inner_is in
@@ -183,7 +183,7 @@ lean_scratch_enough outer inner out t given n oh op ih ip bytes marksRoom scratc
     let inner-paths = measure_is path_count inner i ip w.inner_decodes ip-told in
     let most : bytes ≡ scratch_bytes (nodes t) (height o) (height i) (path_count i) =
     scratch_is (nodes t) oh op ih ip bytes bytes-told ∙ rw (outer-high, inner-high, inner-paths) in
-    room_enough _ (composed_lean o i) t given marksRoom scratch_room place w.decodes (omega (arith, lower.lean_scratch_enough t o i, most))
+    room_enough _ (composed_lean o i) t given marks_room scratch_room place w.decodes (omega (arith, lower.lean_scratch_enough t o i, most))
 
 -- THREE VIEWS. What an accepted lean composition is, where its parts are known.
 is_lean : {outer inner both : List ℕ} → ComposesLean outer inner both → IsMade composed_lean outer inner both

@@ -118,9 +118,9 @@ role_acceptance views list masks role text out n h =
 
 -- NEVER MALFORMED.
 pub role_never_malformed : RoleNeverMalformed
-role_never_malformed views list masks role text out n t given marksRoom scratch_room place h r =
+role_never_malformed views list masks role text out n t given marks_room scratch_room place h r =
     let w = role_acceptance views list masks role text out n h in
-    entries.never_malformed (asked_by list text) (union_for views list masks role) out n t given marksRoom scratch_room place w.composes (rw w.leaves at r)
+    entries.never_malformed (asked_by list text) (union_for views list masks role) out n t given marks_room scratch_room place w.composes (rw w.leaves at r)
 
 -- INDEPENDENCE. The items that are left do not depend on what the slice held.
 items_alike : (outer inner out out' : List ℕ) (n : ℕ) → compose_answer outer inner (length out) ≡ value n → compose_answer outer inner (length out') ≡ value n

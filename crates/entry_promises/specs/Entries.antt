@@ -34,8 +34,8 @@ Acceptance =
 -- No run calls them malformed.
 abbrev pub NeverMalformed : Type 0
 NeverMalformed =
-    (outer inner out : List ℕ) (n : ℕ) (t : Table) (given : List ℕ) (marksRoom scratch_room place : ℕ) → compose_answer outer inner (length out) ≡ value n
-    → run_answer (take n (compose_out outer inner out)) t given marksRoom scratch_room ≡ refusal 6 place → ⊥
+    (outer inner out : List ℕ) (n : ℕ) (t : Table) (given : List ℕ) (marks_room scratch_room place : ℕ) → compose_answer outer inner (length out) ≡ value n
+    → run_answer (take n (compose_out outer inner out)) t given marks_room scratch_room ≡ refusal 6 place → ⊥
 
 -- EXACTNESS: a run of the composed items answers and writes the same as a run of the inner items and, inside the marks that this wrote, a run of the outer items.
 abbrev pub Exactness : Type 0
@@ -110,10 +110,10 @@ RoundTrip =
 -- SCRATCH (02, 2026-10): lent the bytes that are told by the nodes of the table and by the heights and path counts of two queries, a run of their accepted composition never gets 10.
 abbrev pub ScratchEnough : Type 0
 ScratchEnough =
-    (outer inner out : List ℕ) (t : Table) (given : List ℕ) (n oh op ih ip bytes marksRoom scratch_room place : ℕ) → compose_answer outer inner (length out) ≡ value n
+    (outer inner out : List ℕ) (t : Table) (given : List ℕ) (n oh op ih ip bytes marks_room scratch_room place : ℕ) → compose_answer outer inner (length out) ≡ value n
     → height_answer outer ≡ value oh → paths_answer outer ≡ value op → height_answer inner ≡ value ih → paths_answer inner ≡ value ip
     → scratch_answer (nodes t) oh op ih ip ≡ value bytes → bytes ≤ scratch_room
-    → run_answer (take n (compose_out outer inner out)) t given marksRoom scratch_room ≡ refusal 10 place → ⊥
+    → run_answer (take n (compose_out outer inner out)) t given marks_room scratch_room ≡ refusal 10 place → ⊥
 
 -- The premises can be met: of the queries of an accepted composition heights and path counts are told, and by them the bytes for every number of nodes from 1 to 4,096.
 abbrev pub ScratchTold : Type 0

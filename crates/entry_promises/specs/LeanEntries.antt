@@ -38,8 +38,8 @@ NoMoreRefusals =
 -- No run calls them malformed.
 abbrev pub LeanNeverMalformed : Type 0
 LeanNeverMalformed =
-    (outer inner out : List ℕ) (n : ℕ) (t : Table) (given : List ℕ) (marksRoom scratch_room place : ℕ) → compose_lean_answer outer inner (length out) ≡ value n
-    → run_answer (take n (compose_lean_out outer inner out)) t given marksRoom scratch_room ≡ refusal 6 place → ⊥
+    (outer inner out : List ℕ) (n : ℕ) (t : Table) (given : List ℕ) (marks_room scratch_room place : ℕ) → compose_lean_answer outer inner (length out) ≡ value n
+    → run_answer (take n (compose_lean_out outer inner out)) t given marks_room scratch_room ≡ refusal 6 place → ⊥
 
 -- THE SAME AS COMPOSED: a run of the lean items answers and writes the same as a run of the composed items.
 abbrev pub LeanAsComposed : Type 0
@@ -79,10 +79,10 @@ LeanSecrecy =
 -- SCRATCH: lent the bytes that are told by the nodes of the table and by the heights and path counts of two queries, a run of their accepted lean composition never gets 10.
 abbrev pub LeanScratchEnough : Type 0
 LeanScratchEnough =
-    (outer inner out : List ℕ) (t : Table) (given : List ℕ) (n oh op ih ip bytes marksRoom scratch_room place : ℕ) → compose_lean_answer outer inner (length out) ≡ value n
+    (outer inner out : List ℕ) (t : Table) (given : List ℕ) (n oh op ih ip bytes marks_room scratch_room place : ℕ) → compose_lean_answer outer inner (length out) ≡ value n
     → height_answer outer ≡ value oh → paths_answer outer ≡ value op → height_answer inner ≡ value ih → paths_answer inner ≡ value ip
     → scratch_answer (nodes t) oh op ih ip ≡ value bytes → bytes ≤ scratch_room
-    → run_answer (take n (compose_lean_out outer inner out)) t given marksRoom scratch_room ≡ refusal 10 place → ⊥
+    → run_answer (take n (compose_lean_out outer inner out)) t given marks_room scratch_room ≡ refusal 10 place → ⊥
 
 -- A lean composition was accepted, and left these items.
 pub record ComposesLean (outer inner both : List ℕ) : Type 0 where

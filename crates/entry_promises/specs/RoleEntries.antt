@@ -40,9 +40,9 @@ RoleAcceptance =
 -- No run calls the items malformed.
 abbrev pub RoleNeverMalformed : Type 0
 RoleNeverMalformed =
-    (views list masks : List ℕ) (role : ℕ) (text out : List ℕ) (n : ℕ) (t : Table) (given : List ℕ) (marksRoom scratch_room place : ℕ)
+    (views list masks : List ℕ) (role : ℕ) (text out : List ℕ) (n : ℕ) (t : Table) (given : List ℕ) (marks_room scratch_room place : ℕ)
     → role_answer views list masks role text (length out) ≡ value n
-    → run_answer (take n (role_out views list masks role text out)) t given marksRoom scratch_room ≡ refusal 6 place → ⊥
+    → run_answer (take n (role_out views list masks role text out)) t given marks_room scratch_room ≡ refusal 6 place → ⊥
 
 -- INDEPENDENCE: of two lendings within the limits in which all views can be read, that are the same for this role, it gets in the same room the same answer and, where that is a number of items, the same items.
 abbrev pub RoleIndependence : Type 0

@@ -17,16 +17,16 @@ use Rattle.paper.specs.Told.{told}
 use Rattle.paper.specs.declared.Answer.{Answer}
 use Rattle.paper.proofs.Refusing.{line_value, when_none, or_none, Refuses, refused_keeps}
 
-module _ (t : Table) (marks : List ℕ) (parentRoom kindRoom : ℕ) where
+module _ (t : Table) (marks : List ℕ) (parent_room kind_room : ℕ) where
   -- Line 1 holds where a length is wrong.
   abbrev pub wrong : Bool
-  wrong = ltb node_limit (nodes t) || not (eqb (length t.kinds) (nodes t)) || not (eqb (length marks) (nodes t)) || not (eqb parentRoom kindRoom)
+  wrong = ltb node_limit (nodes t) || not (eqb (length t.kinds) (nodes t)) || not (eqb (length marks) (nodes t)) || not (eqb parent_room kind_room)
 
   -- The lines after line 1.
   abbrev pub judged : Told
-  judged = line 7 (table_fault t) (line 8 (marks_fault t marks) (line 10 (short parentRoom (marked_count t marks)) (value (marked_count t marks))))
+  judged = line 7 (table_fault t) (line 8 (marks_fault t marks) (line 10 (short parent_room (marked_count t marks)) (value (marked_count t marks))))
 
-  pub too_long_lem : wrong ≡ true → extract_answer t marks parentRoom kindRoom ≡ refusal 1 0
+  pub too_long_lem : wrong ≡ true → extract_answer t marks parent_room kind_room ≡ refusal 1 0
   unfolding extract_answer
   too_long_lem h = ap (λ b. line 1 (when b 0) judged) h
 
@@ -35,16 +35,16 @@ module _ (t : Table) (marks : List ℕ) (parentRoom kindRoom : ℕ) where
     pub few : nodes t ≤ node_limit
     pub kinds_long : length t.kinds ≡ nodes t
     pub marks_long : length marks ≡ nodes t
-    pub rooms : parentRoom ≡ kindRoom
+    pub rooms : parent_room ≡ kind_room
 
-  pub right_lengths : Agree → extract_answer t marks parentRoom kindRoom ≡ judged
+  pub right_lengths : Agree → extract_answer t marks parent_room kind_room ≡ judged
   unfolding extract_answer
   right_lengths a =
       rw (
         le-ltb node_limit (nodes t) a.few,
         eq-eqb (length t.kinds) (nodes t) a.kinds_long,
         eq-eqb (length marks) (nodes t) a.marks_long,
-        eq-eqb parentRoom kindRoom a.rooms,
+        eq-eqb parent_room kind_room a.rooms,
       )
 
   -- What an accepted extract has.
@@ -52,35 +52,35 @@ module _ (t : Table) (marks : List ℕ) (parentRoom kindRoom : ℕ) where
     pub agree : Agree
     pub table : table_fault t ≡ none
     pub closed : marks_fault t marks ≡ none
-    pub fits : rank marks (length marks) ≤ parentRoom
+    pub fits : rank marks (length marks) ≤ parent_room
 
-  pub accepted : (n : ℕ) → extract_answer t marks parentRoom kindRoom ≡ value n → Accepted
+  pub accepted : (n : ℕ) → extract_answer t marks parent_room kind_room ≡ value n → Accepted
   unfolding extract_answer
   accepted n h =
       let a = ltb node_limit (nodes t) in
       let b = not (eqb (length t.kinds) (nodes t)) in
       let c = not (eqb (length marks) (nodes t)) in
-      let d = not (eqb parentRoom kindRoom) in
+      let d = not (eqb parent_room kind_room) in
       let one = line_value 1 n (when wrong 0) judged h in
       let abcd = or_none (a || b || c) d (when_none wrong 0 one.0) in
       let abc = or_none (a || b) c abcd.0 in
       let ab = or_none a b abc.0 in
       let count = marked_count t marks in
-      let last = line 10 (short parentRoom count) (value count) in
+      let last = line 10 (short parent_room count) (value count) in
       let seven = line_value 7 n (table_fault t) (line 8 (marks_fault t marks) last) one.1 in
       let eight = line_value 8 n (marks_fault t marks) last seven.1 in
-      let ten = line_value 10 n (short parentRoom count) (value count) eight.1 in
+      let ten = line_value 10 n (short parent_room count) (value count) eight.1 in
       let marks_long : length marks ≡ nodes t = eqb-true (length marks) (nodes t) (not-false (eqb (length marks) (nodes t)) abc.1) in
       record {
         agree = record {
           few = ltb-false node_limit (nodes t) ab.0;
           kinds_long = eqb-true (length t.kinds) (nodes t) (not-false (eqb (length t.kinds) (nodes t)) ab.1);
           marks_long = marks_long;
-          rooms = eqb-true parentRoom kindRoom (not-false (eqb parentRoom kindRoom) abcd.1);
+          rooms = eqb-true parent_room kind_room (not-false (eqb parent_room kind_room) abcd.1);
         };
         table = seven.0;
         closed = eight.0;
-        fits = subst (λ k. rank marks k ≤ parentRoom) (sym marks_long) (ltb-false parentRoom count (when_none (ltb parentRoom count) count ten.0));
+        fits = subst (λ k. rank marks k ≤ parent_room) (sym marks_long) (ltb-false parent_room count (when_none (ltb parent_room count) count ten.0));
       }
 
 module _ (t : Table) (marks parents kinds : List ℕ) where

@@ -37,7 +37,7 @@ module _ {text list parents kinds begins ends marks file : List ℕ} {n : ℕ} (
 
 -- READ BACK.
 pub read_back : ReadBack
-read_back text list parents kinds begins ends marks file newParents newKinds n room answer wrote most enough r =
+read_back text list parents kinds begins ends marks file new_parents new_kinds n room answer wrote most enough r =
     let ps = r.args.1.1.0.now in
     let ks = r.args.1.1.1.0.now in
     let bs = r.args.1.1.1.1.0.now in
@@ -48,8 +48,8 @@ read_back text list parents kinds begins ends marks file newParents newKinds n r
     let said : told answer ≡ read_xml_answer (take n file) list (length ps) (length ks) (length bs) (length es) = rw (r.text_lent, r.list_lent) at r.met.0 in
     let got : told answer ≡ value m =
     said ∙ ap (λ f. read_xml_answer (take n f) list (length ps) (length ks) (length bs) (length es)) (write_left wrote) ∙ back.1 in
-    let parents-are : newParents ≡ read_xml_column parent_field (take n file) (told answer) ps = sym r.parents_left ∙ (rw r.text_lent at r.met.1.0) in
-    let kinds-are : newKinds ≡ read_xml_column (kind_field list) (take n file) (told answer) ks =
+    let parents-are : new_parents ≡ read_xml_column parent_field (take n file) (told answer) ps = sym r.parents_left ∙ (rw r.text_lent at r.met.1.0) in
+    let kinds-are : new_kinds ≡ read_xml_column (kind_field list) (take n file) (told answer) ks =
     sym r.kinds_left ∙ (rw (r.text_lent, r.list_lent) at r.met.1.1.0) in
     let parents_left = parents-are ∙ ap₂ (λ f a. read_xml_column parent_field (take n f) a ps) (write_left wrote) got in
     let kinds_left = kinds-are ∙ ap₂ (λ f a. read_xml_column (kind_field list) (take n f) a ks) (write_left wrote) got in

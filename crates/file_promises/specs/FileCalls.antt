@@ -47,10 +47,10 @@ pub record WriteXmlCall (text list parents kinds begins ends marks : List ℕ) (
 -- as the extracted table of the marks with each row of texts side by side made one.
 abbrev pub ReadBack : Type 0
 ReadBack =
-    (text list parents kinds begins ends marks file newParents newKinds : List ℕ) (n room : ℕ) (answer : Answer)
+    (text list parents kinds begins ends marks file new_parents new_kinds : List ℕ) (n room : ℕ) (answer : Answer)
     → WriteXmlCall text list parents kinds begins ends marks (Value n) file → n ≤ text_limit → length parents ≤ room
-    → ReadXmlCall (take n file) list room answer newParents newKinds
-    → (m : ℕ) × (answer ≡ Value m) × (table_of (take m newParents) (take m newKinds) ≡ merged (extracted (table_of parents kinds) marks))
+    → ReadXmlCall (take n file) list room answer new_parents new_kinds
+    → (m : ℕ) × (answer ≡ Value m) × (table_of (take m new_parents) (take m new_kinds) ≡ merged (extracted (table_of parents kinds) marks))
 
 -- SECRECY OF FILES: of two documents that the inner items show alike, with equal bytes of text, what a run of the composed items keeps gives the same file.
 abbrev pub FileSecrecy : Type 0

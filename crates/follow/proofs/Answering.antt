@@ -36,10 +36,10 @@ pub shaped_some {ℓ} : {C : Type ℓ} (o : Option Query) (n h g : ℕ) → IsQu
 shaped_some none n h g e k = absurd (let z : ◌≡◌ {A = ℕ} 0 1 = cc in omega arith)
 shaped_some (some q) n h g e k = k q refl
 
-module _ (query : List ℕ) (t : Table) (given : List ℕ) (marksRoom : ℕ) where
+module _ (query : List ℕ) (t : Table) (given : List ℕ) (marks_room : ℕ) where
   -- Does line 1 hold?
   abbrev pub Long : Bool
-  Long = too_long query item_limit || ltb node_limit (nodes t) || not (eqb (length t.kinds) (nodes t)) || not (eqb (length given) (nodes t)) || not (eqb marksRoom (nodes t))
+  Long = too_long query item_limit || ltb node_limit (nodes t) || not (eqb (length t.kinds) (nodes t)) || not (eqb (length given) (nodes t)) || not (eqb marks_room (nodes t))
 
   -- All lengths are right.
   pub record Agree : Type 0 where
@@ -47,28 +47,28 @@ module _ (query : List ℕ) (t : Table) (given : List ℕ) (marksRoom : ℕ) whe
     pub nodes_few : nodes t ≤ node_limit
     pub kinds_all : length t.kinds ≡ nodes t
     pub given_all : length given ≡ nodes t
-    pub marks_all : marksRoom ≡ nodes t
+    pub marks_all : marks_room ≡ nodes t
 
-  pub judged_long : Long ≡ true → refusal 1 0 ≡ judged query t given marksRoom
+  pub judged_long : Long ≡ true → refusal 1 0 ≡ judged query t given marks_room
   unfolding judged
   judged_long h = rw h
 
-  judged_agrees : Agree → judged query t given marksRoom ≡ line_query 6 0 (decode query) (λ q. line 7 (table_fault t) (line 8 (marks_fault t given) (value 0)))
+  judged_agrees : Agree → judged query t given marks_room ≡ line_query 6 0 (decode query) (λ q. line 7 (table_fault t) (line 8 (marks_fault t given) (value 0)))
   unfolding judged
   judged_agrees a =
-      rw (le-ltb item_limit (length query) a.items_few, le-ltb node_limit (nodes t) a.nodes_few, eq-eqb (length t.kinds) (nodes t) a.kinds_all, eq-eqb (length given) (nodes t) a.given_all, eq-eqb marksRoom (nodes t) a.marks_all)
+      rw (le-ltb item_limit (length query) a.items_few, le-ltb node_limit (nodes t) a.nodes_few, eq-eqb (length t.kinds) (nodes t) a.kinds_all, eq-eqb (length given) (nodes t) a.given_all, eq-eqb marks_room (nodes t) a.marks_all)
 
   -- Each later line, where those before it do not hold.
-  pub judged_six : Agree → decode query ≡ none → refusal 6 0 ≡ judged query t given marksRoom
+  pub judged_six : Agree → decode query ≡ none → refusal 6 0 ≡ judged query t given marks_room
   judged_six a d = sym (judged_agrees a ∙ rw d)
 
-  pub judged_seven : (q : Query) (i : ℕ) → Agree → decode query ≡ some q → table_fault t ≡ some i → refusal 7 i ≡ judged query t given marksRoom
+  pub judged_seven : (q : Query) (i : ℕ) → Agree → decode query ≡ some q → table_fault t ≡ some i → refusal 7 i ≡ judged query t given marks_room
   judged_seven q i a d e = sym (judged_agrees a ∙ rw (d, e))
 
-  pub judged_eight : (q : Query) (i : ℕ) → Agree → decode query ≡ some q → table_fault t ≡ none → marks_fault t given ≡ some i → refusal 8 i ≡ judged query t given marksRoom
+  pub judged_eight : (q : Query) (i : ℕ) → Agree → decode query ≡ some q → table_fault t ≡ none → marks_fault t given ≡ some i → refusal 8 i ≡ judged query t given marks_room
   judged_eight q i a d e f = sym (judged_agrees a ∙ rw (d, e, f))
 
-  pub judged_value : (q : Query) → Agree → decode query ≡ some q → table_fault t ≡ none → marks_fault t given ≡ none → value 0 ≡ judged query t given marksRoom
+  pub judged_value : (q : Query) → Agree → decode query ≡ some q → table_fault t ≡ none → marks_fault t given ≡ none → value 0 ≡ judged query t given marks_room
   judged_value q a d e f = sym (judged_agrees a ∙ rw (d, e, f))
 
   -- Where a value is answered, nothing refuses.
@@ -81,7 +81,7 @@ module _ (query : List ℕ) (t : Table) (given : List ℕ) (marksRoom : ℕ) whe
 
   agrees : Long ≡ false → Agree
   agrees h =
-      let a = or_none (too_long query item_limit || ltb node_limit (nodes t) || not (eqb (length t.kinds) (nodes t)) || not (eqb (length given) (nodes t))) (not (eqb marksRoom (nodes t))) h in
+      let a = or_none (too_long query item_limit || ltb node_limit (nodes t) || not (eqb (length t.kinds) (nodes t)) || not (eqb (length given) (nodes t))) (not (eqb marks_room (nodes t))) h in
       let b = or_none (too_long query item_limit || ltb node_limit (nodes t) || not (eqb (length t.kinds) (nodes t))) (not (eqb (length given) (nodes t))) a.0 in
       let c = or_none (too_long query item_limit || ltb node_limit (nodes t)) (not (eqb (length t.kinds) (nodes t))) b.0 in
       let d = or_none (too_long query item_limit) (ltb node_limit (nodes t)) c.0 in
@@ -93,7 +93,7 @@ module _ (query : List ℕ) (t : Table) (given : List ℕ) (marksRoom : ℕ) whe
         marks_all = eqb-true _ _ (not-false _ a.1);
       }
 
-  pub accepted : (n : ℕ) → judged query t given marksRoom ≡ value n → Accepted
+  pub accepted : (n : ℕ) → judged query t given marks_room ≡ value n → Accepted
   unfolding judged
   accepted n h =
       let first = line_value 1 n (when Long 0) _ h in
@@ -107,18 +107,18 @@ module _ (query : List ℕ) (t : Table) (given : List ℕ) (marksRoom : ℕ) whe
           record { agree = a; query_is = q; decodes = e; table_good = seven.0; marks_good = eight.0 }
 
   -- A call that nothing refuses answers the number of nodes kept, as a run with scratch enough,
-  pub follows : (a : Accepted) → run_answer query t given marksRoom (enough t (decode query)) ≡ value (marked_count t (kept t given a.query_is))
+  pub follows : (a : Accepted) → run_answer query t given marks_room (enough t (decode query)) ≡ value (marked_count t (kept t given a.query_is))
   unfolding run_answer
   follows a =
-      rw (le-ltb item_limit (length query) a.agree.items_few, le-ltb node_limit (nodes t) a.agree.nodes_few, eq-eqb (length t.kinds) (nodes t) a.agree.kinds_all, eq-eqb (length given) (nodes t) a.agree.given_all, eq-eqb marksRoom (nodes t) a.agree.marks_all, a.decodes, a.table_good, a.marks_good, le-ltb (scratch_of t a.query_is) (scratch_of t a.query_is) (omega arith))
+      rw (le-ltb item_limit (length query) a.agree.items_few, le-ltb node_limit (nodes t) a.agree.nodes_few, eq-eqb (length t.kinds) (nodes t) a.agree.kinds_all, eq-eqb (length given) (nodes t) a.agree.given_all, eq-eqb marks_room (nodes t) a.agree.marks_all, a.decodes, a.table_good, a.marks_good, le-ltb (scratch_of t a.query_is) (scratch_of t a.query_is) (omega arith))
 
   -- and one that something refuses answers that.
-  pub refuses : (number place : ℕ) → judged query t given marksRoom ≡ refusal number place → run_answer query t given marksRoom (enough t (decode query)) ≡ refusal number place
+  pub refuses : (number place : ℕ) → judged query t given marks_room ≡ refusal number place → run_answer query t given marks_room (enough t (decode query)) ≡ refusal number place
   unfolding judged run_answer
   refuses number place h = go (when Long 0) refl (decode query) refl (table_fault t) refl (marks_fault t given) refl
     where
       go : (l : Option ℕ) → when Long 0 ≡ l → (o : Option Query) → decode query ≡ o → (u : Option ℕ) → table_fault t ≡ u → (v : Option ℕ) → marks_fault t given ≡ v
-          → run_answer query t given marksRoom (enough t (decode query)) ≡ refusal number place
+          → run_answer query t given marks_room (enough t (decode query)) ≡ refusal number place
       go (some p) e o f u g v k = rw e (rw e at h)
       go none e none f u g v k = rw (e, f) (rw (e, f) at h)
       go none e (some q) f (some p) g v k = rw (e, f, g) (rw (e, f, g) at h)
@@ -149,8 +149,8 @@ module _ (query : List ℕ) (t : Table) (given marks : List ℕ) where
       rw (follows query t given (length marks) a, a.decodes, all) (sym (append-nil k))
 
 -- Where nothing refuses, the document can be searched.
-pub searchable : (query parents kinds given : List ℕ) (marksRoom : ℕ) → Accepted query (table_of parents kinds) given marksRoom → Ready parents kinds given
-searchable query parents kinds given marksRoom a =
+pub searchable : (query parents kinds given : List ℕ) (marks_room : ℕ) → Accepted query (table_of parents kinds) given marks_room → Ready parents kinds given
+searchable query parents kinds given marks_room a =
     record {
       kinds_all = a.agree.kinds_all;
       marks_all = a.agree.given_all;

@@ -15,9 +15,9 @@ enough t (some q) = scratch_of t q
 
 -- What refuses a call, with 0 in the place of the number of nodes kept: 1, 6, 7, 8.
 unfoldable pub judged : List ℕ → Table → List ℕ → ℕ → Answer
-judged query t given marksRoom =
+judged query t given marks_room =
     line 1
     (when
-    (too_long query item_limit || ltb node_limit (nodes t) || not (eqb (length t.kinds) (nodes t)) || not (eqb (length given) (nodes t)) || not (eqb marksRoom (nodes t)))
+    (too_long query item_limit || ltb node_limit (nodes t) || not (eqb (length t.kinds) (nodes t)) || not (eqb (length given) (nodes t)) || not (eqb marks_room (nodes t)))
     0)
     (line_query 6 0 (decode query) (λ q. line 7 (table_fault t) (line 8 (marks_fault t given) (value 0))))

@@ -5,7 +5,7 @@ use mathlib.Core.Path.{◌≡◌, refl, sym, ◌∙◌, ap}
 use mathlib.Core.Bool.{Bool, true, false, cond}
 use mathlib.Core.List.{List, [], ◌∷◌}
 use lib.ListN.{length, get_or, drop, drop_of_length-le, length-append}
-use Rattle.paper.specs.Query.{descendantOrSelf, ancestorOrSelf}
+use Rattle.paper.specs.Query.{descendant_or_self, ancestor_or_self}
 use Rattle.paper.specs.Items.{axis_bound, test_bound, axis_number}
 use Rattle.paper.proofs.Axes.{axis_small}
 use Rattle.paper.proofs.Fields.{test_small}
@@ -98,4 +98,4 @@ step_fields w i s e f =
 
 pub guarded_room : (chosen : List ℕ) (flag w : ℕ) (s : Step) → guarded_item chosen flag w ≡ guarded_step chosen s → length (guarded_item chosen flag w) ≡ 6 + length chosen + length chosen
 guarded_room chosen flag w s same =
-    ap length same ∙ omega (arith, length-append (some_node_items (axis_number descendantOrSelf) chosen) (some_node_items (axis_number ancestorOrSelf) chosen))
+    ap length same ∙ omega (arith, length-append (some_node_items (axis_number descendant_or_self) chosen) (some_node_items (axis_number ancestor_or_self) chosen))

@@ -14,7 +14,7 @@ use Rattle.paper.specs.Limits.{names_limit}
 use Rattle.paper.specs.Tools.{ascii, same}
 use Rattle.paper.specs.Tokens as paper
 use Rattle.paper.specs.Tokens.{Placed, sort, letters}
-use Rattle.paper.specs.Query.{Axis, self, child, parent, Test, anyNode, textNode, named, any_element, Expr}
+use Rattle.paper.specs.Query.{Axis, self, child, parent, Test, any_node, text_node, named, any_element, Expr}
 use Rattle.paper.specs.Items.{axis_number, test_number, named_from, axis_bound}
 use Rattle.paper.specs.Reading.{Got, got, refused, then, next, at, sees, says, axis_ahead, Step, read_name, read_tested, read_dot, read_step, read_tail}
 use Rattle.paper.proofs.Tests.{decide}
@@ -57,7 +57,7 @@ module _ (newer : Bool) (look : List ℕ → Option ℕ) (text : List ℕ) (from
       → place ≡ at (tokens_at text from) → (within : ℕ → List Placed → Got Expr) → read_tested newer look within a (tokens_at text from) ≡ refused 3 place
   unfolding read_tested
   tested_wrong place s w l e within =
-      let call = sees paper.openRound (drop 1 (tokens_at text from)) in
+      let call = sees paper.open_round (drop 1 (tokens_at text from)) in
       rw (s, l, and_false call, w, ← e)
 
   -- A word: the other tests fail first.
@@ -75,7 +75,7 @@ module _ (newer : Bool) (look : List ℕ → Option ℕ) (text : List ℕ) (from
     text_too b h = ap (same (ascii "text")) l ∙ h
 
     -- A test that is called.
-    module _ (test inner : ℕ) (code : test ≡ call_code w) (few : test < 2) (opens : sees paper.openRound (tokens_at text mid) ≡ true) (q : Past text mid inner) where
+    module _ (test inner : ℕ) (code : test ≡ call_code w) (few : test < 2) (opens : sees paper.open_round (tokens_at text mid) ≡ true) (q : Past text mid inner) where
       two : drop 2 (tokens_at text from) ≡ tokens_at text inner
       two = sym (drop-drop 1 1 (tokens_at text from)) ∙ ap (drop 1) p.rest ∙ q.rest
 
@@ -83,16 +83,16 @@ module _ (newer : Bool) (look : List ℕ → Option ℕ) (text : List ℕ) (from
         pub kind : Test
         pub tested : test ≡ test_number kind
         pub reads : (within : ℕ → List Placed → Got Expr)
-            → read_tested newer look within a (tokens_at text from) ≡ then (cond (sees paper.closeRound (tokens_at text inner)) (got kind (drop 1 (tokens_at text inner))) (refused 3 (at (tokens_at text inner)))) (read_tail newer look within a)
+            → read_tested newer look within a (tokens_at text from) ≡ then (cond (sees paper.close_round (tokens_at text inner)) (got kind (drop 1 (tokens_at text inner))) (refused 3 (at (tokens_at text inner)))) (read_tail newer look within a)
 
       which : Called
       unfolding read_tested
       which =
           ⊎_elim
-          (λ (h : same (ascii "node") w ≡ true). record { kind = anyNode; tested = code ∙ rw h; reads = λ within. rw (no_star, p.rest, opens, node true h, two) })
+          (λ (h : same (ascii "node") w ≡ true). record { kind = any_node; tested = code ∙ rw h; reads = λ within. rw (no_star, p.rest, opens, node true h, two) })
           (λ (h : same (ascii "node") w ≡ false).
           ⊎_elim
-          (λ (k : same (ascii "text") w ≡ true). record { kind = textNode; tested = code ∙ rw (h, k); reads = λ within. rw (no_star, p.rest, opens, node false h, text_too true k, two) })
+          (λ (k : same (ascii "text") w ≡ true). record { kind = text_node; tested = code ∙ rw (h, k); reads = λ within. rw (no_star, p.rest, opens, node false h, text_too true k, two) })
           (λ (k : same (ascii "text") w ≡ false). absurd (let e : call_code w ≡ 2 = rw (h, k) in omega arith))
           (decide (same (ascii "text") w)))
           (decide (same (ascii "node") w))
@@ -126,10 +126,10 @@ module _ (newer : Bool) (look : List ℕ → Option ℕ) (text : List ℕ) (from
           (λ (h : same (ascii "node") w ≡ false).
           ⊎_elim
           (λ (k : same (ascii "text") w ≡ true). absurd (let e : call_code w ≡ 1 = rw (h, k) in omega arith))
-          (λ (k : same (ascii "text") w ≡ false). rw (no_star, node false h, text_too false k, and_false (sees paper.openRound (drop 1 (tokens_at text from))), a_word, l))
+          (λ (k : same (ascii "text") w ≡ false). rw (no_star, node false h, text_too false k, and_false (sees paper.open_round (drop 1 (tokens_at text from))), a_word, l))
           (decide (same (ascii "text") w)))
           (decide (same (ascii "node") w)))
-          (λ (closed : sees paper.openRound (tokens_at text mid) ≡ false). rw (no_star, p.rest, closed, a_word, l)) none-called
+          (λ (closed : sees paper.open_round (tokens_at text mid) ≡ false). rw (no_star, p.rest, closed, a_word, l)) none-called
 
       pub tested_name : (v : ℕ) → look w ≡ some v → v < names_limit → TestedStep newer look text from axis (v + named_from) mid (λ within. read_tested newer look within a (tokens_at text from))
       tested_name v h small =
@@ -176,7 +176,7 @@ heads_from newer look text from mid o p (Wrong place) e l f h = λ within. e wit
 heads_from newer look text from mid o p (Unknown place) e l f h = λ within. e within ∙ h within
 
 -- `.` and `..`, of which the reader knows the axis a: by version 2 their predicates follow, by version 1 none.
-pub dotted_on : (newer : Bool) (axis : ℕ) (past : Cursor) → newer ≡ true → Tested axis (test_number anyNode) past ≡ dotted_head newer axis past
+pub dotted_on : (newer : Bool) (axis : ℕ) (past : Cursor) → newer ≡ true → Tested axis (test_number any_node) past ≡ dotted_head newer axis past
 dotted_on newer axis past n = rw n
 
 pub dotted_off : (newer : Bool) (axis : ℕ) (past : Cursor) → newer ≡ false → Plain axis past ≡ dotted_head newer axis past
@@ -188,7 +188,7 @@ dotted-head : (newer : Bool) (look : List ℕ → Option ℕ) (text : List ℕ) 
 dotted-head true look text from axis a past o number s p =
     record {
       way = a;
-      kind = anyNode;
+      kind = any_node;
       number = number;
       tested = refl;
       small = omega arith;

@@ -56,7 +56,7 @@ module _ (look : List ℕ → Option ℕ) (text : List ℕ) (from axis : ℕ) wh
     a_word : sees (paper.word []) (tokens_at text from) ≡ true
     a_word = eq-eqb 13 (sort (next (tokens_at text from))) (sym is)
 
-    pub call_made : (test inner : ℕ) → test ≡ call_code w → test < named_from → sees paper.openRound (tokens_at text past.at) ≡ true → Past text past.at inner
+    pub call_made : (test inner : ℕ) → test ≡ call_code w → test < named_from → sees paper.open_round (tokens_at text past.at) ≡ true → Past text past.at inner
         → (r : Head) → Closes text inner axis test r → r ≡ tested_head look axis (tokens_at text from)
     unfolding tested_head
     call_made test inner code few opens q r h =
@@ -65,9 +65,9 @@ module _ (look : List ℕ → Option ℕ) (text : List ℕ) (from axis : ℕ) wh
         closes_made text inner axis test r h ∙ ap (λ (n : ℕ). closed_head axis n (tokens_at text inner)) code ∙ sym (rw (no_star, a_word, l, calls, p.rest, opens, two))
 
     module _ (none-called : Calls text w past.at NoCall) where
-      no_call : (ltb (call_code w) named_from && sees paper.openRound (drop 1 (tokens_at text from))) ≡ false
+      no_call : (ltb (call_code w) named_from && sees paper.open_round (drop 1 (tokens_at text from))) ≡ false
       no_call =
-          ⊎_elim (λ (two : call_code w ≡ named_from). rw two) (λ (closed : sees paper.openRound (tokens_at text past.at) ≡ false). rw (p.rest, closed) (and_false (ltb (call_code w) named_from))) none-called
+          ⊎_elim (λ (two : call_code w ≡ named_from). rw two) (λ (closed : sees paper.open_round (tokens_at text past.at) ≡ false). rw (p.rest, closed) (and_false (ltb (call_code w) named_from))) none-called
 
       pub name_made : (v : ℕ) → look w ≡ some v → Tested axis (v + named_from) past ≡ tested_head look axis (tokens_at text from)
       unfolding tested_head

@@ -5,7 +5,7 @@ use Rattle.paper.specs.Limits.{names_limit}
 use Rattle.paper.specs.Names.{names_of, number_of}
 use Rattle.paper.specs.Tokens as paper
 use Rattle.paper.specs.Tokens.{Placed, letters}
-use Rattle.paper.specs.Query.{Axis, self, child, parent, Test, anyNode, any_element, Expr, bare}
+use Rattle.paper.specs.Query.{Axis, self, child, parent, Test, any_node, any_element, Expr, bare}
 use Rattle.paper.specs.Reading.{Got, got, refused, next, at, sees, axis_ahead, Step, read_tail}
 use Rattle.paper.specs.Items.{axis_number, test_number, named_from}
 use Rattle.paper.specs.Answers.{any_name}
@@ -26,7 +26,7 @@ look_of false list = any_name
 pub record PlainStep (newer : Bool) (look : List ℕ → Option ℕ) (text : List ℕ) (from axis past : ℕ) (outcome : (ℕ → List Placed → Got Expr) → Got Step) : Type 0 where
   pub way : Axis
   pub number : axis ≡ axis_number way
-  pub reads : (within : ℕ → List Placed → Got Expr) → outcome within ≡ got (record { axis = way; test = anyNode; preds = bare }) (tokens_at text past)
+  pub reads : (within : ℕ → List Placed → Got Expr) → outcome within ≡ got (record { axis = way; test = any_node; preds = bare }) (tokens_at text past)
   pub onward : from < past
   pub inside : past ≤ length text
   pub fewer : length (tokens_at text past) ≤ length (tokens_at text from)
@@ -50,13 +50,13 @@ Heads newer look text from outcome (Unknown place) = (within : ℕ → List Plac
 
 -- The head that `.` or `..` is, by its axis.
 abbrev pub dotted_head : Bool → ℕ → Cursor → Head
-dotted_head newer axis past = cond newer (Tested axis (test_number anyNode) past) (Plain axis past)
+dotted_head newer axis past = cond newer (Tested axis (test_number any_node) past) (Plain axis past)
 
 -- The `)` of a test that is called.
 abbrev pub Closes : List ℕ → ℕ → ℕ → ℕ → Head → Type 0
 Closes text from axis test (Plain axis' past) = ⊥
-Closes text from axis test (Tested axis' test' past) = (axis' ≡ axis) × (test' ≡ test) × (sees paper.closeRound (tokens_at text from) ≡ true) × Past text from past.at
-Closes text from axis test (Wrong place) = (sees paper.closeRound (tokens_at text from) ≡ false) × (place ≡ at (tokens_at text from))
+Closes text from axis test (Tested axis' test' past) = (axis' ≡ axis) × (test' ≡ test) × (sees paper.close_round (tokens_at text from) ≡ true) × Past text from past.at
+Closes text from axis test (Wrong place) = (sees paper.close_round (tokens_at text from) ≡ false) × (place ≡ at (tokens_at text from))
 Closes text from axis test (Unknown place) = ⊥
 
 -- The number of a name, of which an item can say so many.
@@ -70,7 +70,7 @@ after ts = record { at = end_of ts }
 
 -- A test that is called, from what stands in its bracket on.
 abbrev pub closed_head : ℕ → ℕ → List Placed → Head
-closed_head axis test ts = cond (sees paper.closeRound ts) (Tested axis test (after ts)) (Wrong (at ts))
+closed_head axis test ts = cond (sees paper.close_round ts) (Tested axis test (after ts)) (Wrong (at ts))
 
 -- A name by its number.
 abbrev pub named_head : Option ℕ → ℕ → List Placed → Head
@@ -79,7 +79,7 @@ named_head none axis ts = Unknown (at ts)
 
 -- A word: it calls a test where `(` comes after it, or it is a name.
 abbrev pub word_head : (List ℕ → Option ℕ) → List ℕ → ℕ → List Placed → Head
-word_head look word axis ts = cond (ltb (call_code word) named_from && sees paper.openRound (drop 1 ts)) (closed_head axis (call_code word) (drop 2 ts)) (named_head (look word) axis ts)
+word_head look word axis ts = cond (ltb (call_code word) named_from && sees paper.open_round (drop 1 ts)) (closed_head axis (call_code word) (drop 2 ts)) (named_head (look word) axis ts)
 
 -- The test of a step, after its axis.
 unfoldable pub tested_head : (List ℕ → Option ℕ) → ℕ → List Placed → Head

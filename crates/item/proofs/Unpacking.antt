@@ -11,7 +11,7 @@ use lib.Dec.{ltb}
 use lib.Bits.{bit_and, bit_or, and_mask, or_shifted}
 use borrow.Author.Tests.{lt-ltb, le-ltb, eq-eqb, ne_eqb}
 use Rattle.paper.specs.Limits.{names_limit}
-use Rattle.paper.specs.Query.{Axis, Test, anyNode, textNode, named, any_element}
+use Rattle.paper.specs.Query.{Axis, Test, any_node, text_node, named, any_element}
 use Rattle.paper.specs.Items.{axes, axis_of, axis_bound, test_number, test_of, test_bound, count_bound, path_at, step_at}
 use Rattle.paper.proofs.Axes.{axis_found, axis_some, axis_none}
 use Rattle.paper.proofs.Fields.{test_found}
@@ -44,8 +44,8 @@ path_long w k l = no_item w (rw (eq-eqb (w % 8) 0 k, le-ltb w 65536 l)) (no_step
 
 -- Kind 1: there is a test up to that of `*`.
 test_some : (n : ℕ) → n ≤ test_number any_element → (t : Test) × (test_of n ≡ some t)
-test_some zero l = (anyNode, refl)
-test_some (suc zero) l = (textNode, refl)
+test_some zero l = (any_node, refl)
+test_some (suc zero) l = (text_node, refl)
 test_some (suc (suc v)) l =
     by_cases (dec_lt v names_limit) (λ h. (named v, rw (lt-ltb v names_limit h))) (λ h. let e : v ≡ names_limit = omega arith in (any_element, rw (le-ltb v names_limit (omega arith), eq-eqb v names_limit e)))
 

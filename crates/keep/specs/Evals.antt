@@ -20,12 +20,12 @@ pub record Fits {A : Type 0} (items : List ℕ) (at nodes room : ℕ) (taken : T
   pub inside : at ≤ length items
 
 -- What was read ends at `next`, and the first set of `sets` has the nodes at which it holds.
-pub record Evaluates {A : Type 0} (items : List ℕ) (at nodes : ℕ) (taken : Taken A) (holdsAt : A → ℕ → Bool) (next : ℕ) (sets : List ℕ) : Type 0 where
+pub record Evaluates {A : Type 0} (items : List ℕ) (at nodes : ℕ) (taken : Taken A) (holds_at : A → ℕ → Bool) (next : ℕ) (sets : List ℕ) : Type 0 where
   pub what : A
   pub reads : taken ≡ some (what, drop next items)
   pub onward : at ≤ next
   pub inside : next ≤ length items
-  pub set : take nodes sets ≡ bits nodes (holdsAt what)
+  pub set : take nodes sets ≡ bits nodes (holds_at what)
 
 -- The set at `base` was joined with the one behind it, or nothing was done where no bytes of it were held before; all other bytes stay.
 pub record Joined (nodes base held : ℕ) (op : Bool → Bool → Bool) (before after : List ℕ) : Type 0 where
@@ -35,12 +35,12 @@ pub record Joined (nodes base held : ℕ) (op : Bool → Bool → Bool) (before 
   pub later : 0 < held → (f g : ℕ → Bool) → take nodes (drop base before) ≡ bits nodes f → take nodes (drop (base + nodes) before) ≡ bits nodes g → take nodes (drop base after) ≡ bits nodes (λ i. op (f i) (g i))
 
 -- What was read ends at `next`, and the first set has kept the nodes at which it holds.
-pub record Narrows {A : Type 0} (items : List ℕ) (at nodes : ℕ) (taken : Taken A) (holdsAt : A → ℕ → Bool) (next : ℕ) (before after : List ℕ) : Type 0 where
+pub record Narrows {A : Type 0} (items : List ℕ) (at nodes : ℕ) (taken : Taken A) (holds_at : A → ℕ → Bool) (next : ℕ) (before after : List ℕ) : Type 0 where
   pub what : A
   pub reads : taken ≡ some (what, drop next items)
   pub onward : at ≤ next
   pub inside : next ≤ length items
-  pub set : (f : ℕ → Bool) → take nodes before ≡ bits nodes f → take nodes after ≡ bits nodes (λ i. f i && holdsAt what i)
+  pub set : (f : ℕ → Bool) → take nodes before ≡ bits nodes f → take nodes after ≡ bits nodes (λ i. f i && holds_at what i)
 
 -- What was read ends at `next`, and the first set has been moved along its steps.
 pub record Moves (items : List ℕ) (at : ℕ) (t : Table) (marks : List ℕ) (taken : Taken Steps) (next : ℕ) (before after : List ℕ) : Type 0 where
@@ -51,8 +51,8 @@ pub record Moves (items : List ℕ) (at : ℕ) (t : Table) (marks : List ℕ) (t
   pub set : (f : ℕ → Bool) → take (nodes t) before ≡ bits (nodes t) f → take (nodes t) after ≡ bits (nodes t) (λ k. some_below (nodes t) (λ i. f i && arrives t marks what i k))
 
 -- The items are a query, no more than there may be, and there is room for its sets.
-pub record Runs (items : List ℕ) (nodeCount room : ℕ) : Type 0 where
+pub record Runs (items : List ℕ) (node_count room : ℕ) : Type 0 where
   pub few : length items ≤ item_limit
   pub query : Query
   pub decodes : decode items ≡ some query
-  pub room_for : nodeCount * height query ≤ room
+  pub room_for : node_count * height query ≤ room

@@ -10,7 +10,7 @@ use mathlib.Core.Option.{Option, some}
 use lib.ListN.{length, get_or, set, take, drop, replicate, length-append}
 use lib.Seq.{set_at, set_out, get_or_at, drop_at, drop-set-lt}
 use borrow.Author.Tests.{lt-ltb, ltb-true}
-use Rattle.paper.specs.Query.{Axis, self, child, parent, descendantOrSelf, ancestorOrSelf, descendant, ancestor, followingSibling, precedingSibling, following, preceding}
+use Rattle.paper.specs.Query.{Axis, self, child, parent, descendant_or_self, ancestor_or_self, descendant, ancestor, following_sibling, preceding_sibling, following, preceding}
 use Rattle.paper.specs.Query.{Test, Expr, path, both, either, negated, Steps, stop, step, Preds, bare, pred, Query, paths}
 use Rattle.paper.specs.Items.{axis_number, test_number, pack_path, pack_step, path_at, step_at, and_item, or_item, not_item, step_count, pred_count, encode_expr, encode_steps, encode_preds, encode_paths, encode, decode, good_test, good_expr, good_steps, good_preds, good_paths, good, count_bound}
 use Rattle.paper.specs.Tools.{written}
@@ -64,12 +64,12 @@ self_number : (a : Axis) → eqb (axis_number a) 0 ≡ is_self a
 self_number self = refl
 self_number child = refl
 self_number parent = refl
-self_number descendantOrSelf = refl
-self_number ancestorOrSelf = refl
+self_number descendant_or_self = refl
+self_number ancestor_or_self = refl
 self_number descendant = refl
 self_number ancestor = refl
-self_number followingSibling = refl
-self_number precedingSibling = refl
+self_number following_sibling = refl
+self_number preceding_sibling = refl
 self_number following = refl
 self_number preceding = refl
 

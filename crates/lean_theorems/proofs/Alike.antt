@@ -7,7 +7,7 @@ use mathlib.Core.List.{List, map}
 use mathlib.Core.Logic.{⊎_elim}
 use mathlib.Core.Option.{none}
 use Rattle.paper.specs.Tools.{some_below, some_of}
-use Rattle.paper.specs.Query.{Axis, self, child, parent, descendantOrSelf, ancestorOrSelf, descendant, ancestor, followingSibling, precedingSibling, following, preceding}
+use Rattle.paper.specs.Query.{Axis, self, child, parent, descendant_or_self, ancestor_or_self, descendant, ancestor, following_sibling, preceding_sibling, following, preceding}
 use Rattle.paper.specs.Query.{Test, Expr, path, both, either, negated, Steps, stop, step, Preds, bare, pred, Query, paths}
 use Rattle.paper.specs.Document.{Table, nodes, kind_of, over, marked, table_fault, marks_fault}
 use Rattle.paper.specs.Selection.{leads, meets, reaches, holds, finds, all_hold, arrives, selects, kept}
@@ -29,12 +29,12 @@ down_turned : (a : Axis) → rises (turned a) ≡ goes_down a
 down_turned self = refl
 down_turned child = refl
 down_turned parent = refl
-down_turned descendantOrSelf = refl
-down_turned ancestorOrSelf = refl
+down_turned descendant_or_self = refl
+down_turned ancestor_or_self = refl
 down_turned descendant = refl
 down_turned ancestor = refl
-down_turned followingSibling = refl
-down_turned precedingSibling = refl
+down_turned following_sibling = refl
+down_turned preceding_sibling = refl
 down_turned following = refl
 down_turned preceding = refl
 
@@ -47,12 +47,12 @@ loose_down : (a : Axis) → goes_down a ≡ true → may_be_hidden true a ≡ tr
 loose_down self g = refl
 loose_down child g = refl
 loose_down parent g = absurd (false≢true g)
-loose_down descendantOrSelf g = refl
-loose_down ancestorOrSelf g = absurd (false≢true g)
+loose_down descendant_or_self g = refl
+loose_down ancestor_or_self g = absurd (false≢true g)
 loose_down descendant g = refl
 loose_down ancestor g = absurd (false≢true g)
-loose_down followingSibling g = refl
-loose_down precedingSibling g = refl
+loose_down following_sibling g = refl
+loose_down preceding_sibling g = refl
 loose_down following g = refl
 loose_down preceding g = refl
 

@@ -4,7 +4,7 @@ use mathlib.Core.Path.{◌≡◌, refl, sym, ◌∙◌, ap, ap₂}
 use mathlib.Core.Bool.{Bool, true, false, not, ◌&&◌, ◌||◌, cond}
 use mathlib.Core.List.{List, [], ◌∷◌, map}
 use lib.ListN.{length}
-use Rattle.paper.specs.Query.{Axis, self, child, parent, descendantOrSelf, ancestorOrSelf, descendant, ancestor, followingSibling, precedingSibling, following, preceding}
+use Rattle.paper.specs.Query.{Axis, self, child, parent, descendant_or_self, ancestor_or_self, descendant, ancestor, following_sibling, preceding_sibling, following, preceding}
 use Rattle.paper.specs.Query.{Expr, path, both, either, negated, Steps, stop, step, Preds, bare, pred, Query, paths}
 use Rattle.paper.specs.Measures.{round_left_of_and, round_right_of_and, round_right_of_or, in_brackets, size, nesting}
 use Rattle.paper.specs.Composition.{guarded, guard_on, guard_expr, guard_steps, guard_preds, visible, append, last_step, composed_path, composed, selected_size, composed_size, composed_nesting}
@@ -18,12 +18,12 @@ never_loose : (a : Axis) (down : Bool) → loose_after by_axis false a down ≡ 
 never_loose self down = refl
 never_loose child down = refl
 never_loose parent down = refl
-never_loose descendantOrSelf down = refl
-never_loose ancestorOrSelf down = refl
+never_loose descendant_or_self down = refl
+never_loose ancestor_or_self down = refl
 never_loose descendant down = refl
 never_loose ancestor down = refl
-never_loose followingSibling down = refl
-never_loose precedingSibling down = refl
+never_loose following_sibling down = refl
+never_loose preceding_sibling down = refl
 never_loose following down = refl
 never_loose preceding down = refl
 

@@ -80,18 +80,18 @@ module _ (text list begins : List ℕ) (cols : Columns) (p : Progress) (long : l
   words = number_of (names_of list)
 
   -- There is room for the place of an element more.
-  pub start_room : (nameEnd : ℕ) (next : Cursor) → Facing text list begins cols (Start nameEnd next) p → length text ≤ text_limit → p.depth < open_limit
-  start_room nameEnd next h short =
+  pub start_room : (name_end : ℕ) (next : Cursor) → Facing text list begins cols (Start name_end next) p → length text ≤ text_limit → p.depth < open_limit
+  start_room name_end next h short =
       let t = h.moves.1 in omega (arith, t.1, t.2, h.moves.0.inside, h.counts.room, h.counts.depth)
 
   -- The lines so far are those counted.
   counted : (frames : List Frame) (u : ℕ) → Counts words begins frames (lines (length text) frames) (progress p.at p.depth 0 p.nodes u) → p.nodes ≡ begun frames
   counted frames u h = h.nodes ∙ length_lines (length text) frames
 
-  pub start_comes : (nameEnd : ℕ) (next : Cursor) → Facing text list begins cols (Start nameEnd next) p → length text ≤ text_limit → (v n : ℕ) → v ≡ p.at → n ≡ p.nodes → (check : Bool)
+  pub start_comes : (name_end : ℕ) (next : Cursor) → Facing text list begins cols (Start name_end next) p → length text ≤ text_limit → (v n : ℕ) → v ≡ p.at → n ≡ p.nodes → (check : Bool)
       → Tells check ((Has cols.parents p.nodes p.inner × Has cols.begins p.nodes p.at) × NamedAt words name cols.kinds p.nodes)
       → Standing text list (set begins p.depth v) cols (place next.at (p.depth + 1) n (p.nodes + 1) (p.same && check)) × (p.at < next.at)
-  start_comes nameEnd next h short v n e number check tells =
+  start_comes name_end next h short v n e number check tells =
       let t = h.moves.1 in
       let frames = h.frames in
       let many = counted frames h.unnamed h.counts in
@@ -112,10 +112,10 @@ module _ (text list begins : List ℕ) (cols : Columns) (p : Progress) (long : l
         omega (arith, t.1, t.2),
       )
 
-  pub empty_comes : (nameEnd : ℕ) (next : Cursor) → Facing text list begins cols (Empty nameEnd next) p → (check : Bool)
+  pub empty_comes : (name_end : ℕ) (next : Cursor) → Facing text list begins cols (Empty name_end next) p → (check : Bool)
       → Tells check (((Has cols.parents p.nodes p.inner × Has cols.begins p.nodes p.at) × NamedAt words name cols.kinds p.nodes) × Has cols.ends p.nodes next.at)
       → Standing text list begins cols (place next.at p.depth p.inner (p.nodes + 1) (p.same && check)) × (p.at < next.at)
-  empty_comes nameEnd next h check tells =
+  empty_comes name_end next h check tells =
       let t = h.moves.1 in
       let frames = h.frames in
       let node = element name p.at next.at nothing nothing in

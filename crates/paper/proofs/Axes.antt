@@ -19,7 +19,7 @@ use mathlib.Core.Option.{none, some}
 use lib.Dec.{eqb}
 use lib.ListN.{length}
 use borrow.Author.Tests.{eqb-true, eq-eqb}
-use Rattle.paper.specs.Query.{Axis, self, child, parent, descendantOrSelf, ancestorOrSelf, descendant, ancestor, followingSibling, precedingSibling, following, preceding}
+use Rattle.paper.specs.Query.{Axis, self, child, parent, descendant_or_self, ancestor_or_self, descendant, ancestor, following_sibling, preceding_sibling, following, preceding}
 use Rattle.paper.specs.Document.{Table}
 use Rattle.paper.specs.Names.{is_name}
 use Rattle.paper.specs.Items.{axis_number, axes, axis_of, axis_bound}
@@ -34,12 +34,12 @@ pub axis-number : (a : Axis) → axis_of (axis_number a) ≡ some a
 axis-number self = refl
 axis-number child = refl
 axis-number parent = refl
-axis-number descendantOrSelf = refl
-axis-number ancestorOrSelf = refl
+axis-number descendant_or_self = refl
+axis-number ancestor_or_self = refl
 axis-number descendant = refl
 axis-number ancestor = refl
-axis-number followingSibling = refl
-axis-number precedingSibling = refl
+axis-number following_sibling = refl
+axis-number preceding_sibling = refl
 axis-number following = refl
 axis-number preceding = refl
 
@@ -48,12 +48,12 @@ pub axis_below : (a : Axis) → axis_number a < axes
 axis_below self = omega arith
 axis_below child = omega arith
 axis_below parent = omega arith
-axis_below descendantOrSelf = omega arith
-axis_below ancestorOrSelf = omega arith
+axis_below descendant_or_self = omega arith
+axis_below ancestor_or_self = omega arith
 axis_below descendant = omega arith
 axis_below ancestor = omega arith
-axis_below followingSibling = omega arith
-axis_below precedingSibling = omega arith
+axis_below following_sibling = omega arith
+axis_below preceding_sibling = omega arith
 axis_below following = omega arith
 axis_below preceding = omega arith
 
@@ -66,12 +66,12 @@ pub axis_found : (n : ℕ) (a : Axis) → axis_of n ≡ some a → n ≡ axis_nu
 axis_found zero a h = ap axis_number (let e : self ≡ a = cc in e)
 axis_found (suc zero) a h = ap axis_number (let e : child ≡ a = cc in e)
 axis_found (suc (suc zero)) a h = ap axis_number (let e : parent ≡ a = cc in e)
-axis_found (suc (suc (suc zero))) a h = ap axis_number (let e : descendantOrSelf ≡ a = cc in e)
-axis_found (suc (suc (suc (suc zero)))) a h = ap axis_number (let e : ancestorOrSelf ≡ a = cc in e)
+axis_found (suc (suc (suc zero))) a h = ap axis_number (let e : descendant_or_self ≡ a = cc in e)
+axis_found (suc (suc (suc (suc zero)))) a h = ap axis_number (let e : ancestor_or_self ≡ a = cc in e)
 axis_found (suc (suc (suc (suc (suc zero))))) a h = ap axis_number (let e : descendant ≡ a = cc in e)
 axis_found (suc (suc (suc (suc (suc (suc zero)))))) a h = ap axis_number (let e : ancestor ≡ a = cc in e)
-axis_found (suc (suc (suc (suc (suc (suc (suc zero))))))) a h = ap axis_number (let e : followingSibling ≡ a = cc in e)
-axis_found (suc (suc (suc (suc (suc (suc (suc (suc zero)))))))) a h = ap axis_number (let e : precedingSibling ≡ a = cc in e)
+axis_found (suc (suc (suc (suc (suc (suc (suc zero))))))) a h = ap axis_number (let e : following_sibling ≡ a = cc in e)
+axis_found (suc (suc (suc (suc (suc (suc (suc (suc zero)))))))) a h = ap axis_number (let e : preceding_sibling ≡ a = cc in e)
 axis_found (suc (suc (suc (suc (suc (suc (suc (suc (suc zero))))))))) a h = ap axis_number (let e : following ≡ a = cc in e)
 axis_found (suc (suc (suc (suc (suc (suc (suc (suc (suc (suc zero)))))))))) a h = ap axis_number (let e : preceding ≡ a = cc in e)
 axis_found (suc (suc (suc (suc (suc (suc (suc (suc (suc (suc (suc n))))))))))) a h = none-some h
@@ -81,12 +81,12 @@ pub axis_some : (n : ℕ) → n < axes → (a : Axis) × (axis_of n ≡ some a)
 axis_some zero l = (self, refl)
 axis_some (suc zero) l = (child, refl)
 axis_some (suc (suc zero)) l = (parent, refl)
-axis_some (suc (suc (suc zero))) l = (descendantOrSelf, refl)
-axis_some (suc (suc (suc (suc zero)))) l = (ancestorOrSelf, refl)
+axis_some (suc (suc (suc zero))) l = (descendant_or_self, refl)
+axis_some (suc (suc (suc (suc zero)))) l = (ancestor_or_self, refl)
 axis_some (suc (suc (suc (suc (suc zero))))) l = (descendant, refl)
 axis_some (suc (suc (suc (suc (suc (suc zero)))))) l = (ancestor, refl)
-axis_some (suc (suc (suc (suc (suc (suc (suc zero))))))) l = (followingSibling, refl)
-axis_some (suc (suc (suc (suc (suc (suc (suc (suc zero)))))))) l = (precedingSibling, refl)
+axis_some (suc (suc (suc (suc (suc (suc (suc zero))))))) l = (following_sibling, refl)
+axis_some (suc (suc (suc (suc (suc (suc (suc (suc zero)))))))) l = (preceding_sibling, refl)
 axis_some (suc (suc (suc (suc (suc (suc (suc (suc (suc zero))))))))) l = (following, refl)
 axis_some (suc (suc (suc (suc (suc (suc (suc (suc (suc (suc zero)))))))))) l = (preceding, refl)
 axis_some (suc (suc (suc (suc (suc (suc (suc (suc (suc (suc (suc n))))))))))) l = absurd (omega arith)
@@ -118,12 +118,12 @@ pub no_axis : (a : Axis) (n : ℕ) → n ≡ axis_number a → NoAxis n → ⊥
 no_axis self n e h = h.0.0.0.0.0.0.0.0.0.0.1 e
 no_axis child n e h = h.0.0.0.0.0.0.0.0.0.1 e
 no_axis parent n e h = h.0.0.0.0.0.0.0.0.1 e
-no_axis descendantOrSelf n e h = h.0.0.0.0.0.0.0.1 e
-no_axis ancestorOrSelf n e h = h.0.0.0.0.0.0.1 e
+no_axis descendant_or_self n e h = h.0.0.0.0.0.0.0.1 e
+no_axis ancestor_or_self n e h = h.0.0.0.0.0.0.1 e
 no_axis descendant n e h = h.0.0.0.0.0.1 e
 no_axis ancestor n e h = h.0.0.0.0.1 e
-no_axis followingSibling n e h = h.0.0.0.1 e
-no_axis precedingSibling n e h = h.0.0.1 e
+no_axis following_sibling n e h = h.0.0.0.1 e
+no_axis preceding_sibling n e h = h.0.0.1 e
 no_axis following n e h = h.0.1 e
 no_axis preceding n e h = h.1 e
 
@@ -136,12 +136,12 @@ pub axis-named : (a : Axis) → axis_named (axis_text a) ≡ some a
 axis-named self = refl
 axis-named child = refl
 axis-named parent = refl
-axis-named descendantOrSelf = refl
-axis-named ancestorOrSelf = refl
+axis-named descendant_or_self = refl
+axis-named ancestor_or_self = refl
 axis-named descendant = refl
 axis-named ancestor = refl
-axis-named followingSibling = refl
-axis-named precedingSibling = refl
+axis-named following_sibling = refl
+axis-named preceding_sibling = refl
 axis-named following = refl
 axis-named preceding = refl
 
@@ -150,12 +150,12 @@ pub axis_name : (a : Axis) → is_name (axis_text a) ≡ true
 axis_name self = refl
 axis_name child = refl
 axis_name parent = refl
-axis_name descendantOrSelf = refl
-axis_name ancestorOrSelf = refl
+axis_name descendant_or_self = refl
+axis_name ancestor_or_self = refl
 axis_name descendant = refl
 axis_name ancestor = refl
-axis_name followingSibling = refl
-axis_name precedingSibling = refl
+axis_name following_sibling = refl
+axis_name preceding_sibling = refl
 axis_name following = refl
 axis_name preceding = refl
 
@@ -164,12 +164,12 @@ pub axis_short : (a : Axis) → length (axis_text a) ≤ axis_text_limit
 axis_short self = omega arith
 axis_short child = omega arith
 axis_short parent = omega arith
-axis_short descendantOrSelf = omega arith
-axis_short ancestorOrSelf = omega arith
+axis_short descendant_or_self = omega arith
+axis_short ancestor_or_self = omega arith
 axis_short descendant = omega arith
 axis_short ancestor = omega arith
-axis_short followingSibling = omega arith
-axis_short precedingSibling = omega arith
+axis_short following_sibling = omega arith
+axis_short preceding_sibling = omega arith
 axis_short following = omega arith
 axis_short preceding = omega arith
 
@@ -182,11 +182,11 @@ pub converse : (t : Table) (a : Axis) (i j : ℕ) → leads t (turned a) i j ≡
 converse t self i j = same_turned i j
 converse t child i j = refl
 converse t parent i j = refl
-converse t descendantOrSelf i j = refl
-converse t ancestorOrSelf i j = refl
+converse t descendant_or_self i j = refl
+converse t ancestor_or_self i j = refl
 converse t descendant i j = refl
 converse t ancestor i j = refl
-converse t followingSibling i j = refl
-converse t precedingSibling i j = refl
+converse t following_sibling i j = refl
+converse t preceding_sibling i j = refl
 converse t following i j = refl
 converse t preceding i j = refl

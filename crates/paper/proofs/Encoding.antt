@@ -72,17 +72,17 @@ begun w [] h = absurd (false≢true h)
 begun w (x ∷ xs) h = ap (λ y. y ∷ xs) (sym (eqb-true w x h))
 
 -- A run of operators, whose items stand before its operands: `one` takes an operand, `more n e` takes n more and joins each to e.
-module _ (d item : ℕ) (one : List ℕ → Taken Expr) (more : ℕ → Expr → List ℕ → Taken Expr) (join : Expr → Expr → Expr) (nestLeft nestRight : Expr → ℕ)
+module _ (d item : ℕ) (one : List ℕ → Taken Expr) (more : ℕ → Expr → List ℕ → Taken Expr) (join : Expr → Expr → Expr) (nest_left nest_right : Expr → ℕ)
     (stops : (e : Expr) (ws : List ℕ) → more 0 e ws ≡ some (e, ws))
     (goes : (n : ℕ) (e : Expr) (ws : List ℕ) → more (suc n) e ws ≡ found (one ws) (λ r. more n (join e r.0) r.1))
     (encode-join : (a b : Expr) → encode_expr (join a b) ≡ item ∷ encode_expr a ++ encode_expr b) (good-join : (a b : Expr) → good_expr (join a b) ≡ (good_expr a && good_expr b))
-    (nest_join : (a b : Expr) → nestLeft a ≤ d → nestRight b ≤ d → nestLeft (join a b) ≤ d) (nest-one : (a : Expr) → nestRight a ≤ d → nestLeft a ≤ d)
-    (from_one : (ws : List ℕ) (r : Expr × List ℕ) → one ws ≡ some r → From ws r.0 r.1 (nestRight r.0) d) where
+    (nest_join : (a b : Expr) → nest_left a ≤ d → nest_right b ≤ d → nest_left (join a b) ≤ d) (nest-one : (a : Expr) → nest_right a ≤ d → nest_left a ≤ d)
+    (from_one : (ws : List ℕ) (r : Expr × List ℕ) → one ws ≡ some r → From ws r.0 r.1 (nest_right r.0) d) where
   -- The rest of it.
-  from_more : (n : ℕ) (a : Expr) (ws : List ℕ) (r : Expr × List ℕ) → good_expr a ≡ true → nestLeft a ≤ d → more n a ws ≡ some r
-      → From (replicate n item ++ (encode_expr a ++ ws)) r.0 r.1 (nestLeft r.0) d
+  from_more : (n : ℕ) (a : Expr) (ws : List ℕ) (r : Expr × List ℕ) → good_expr a ≡ true → nest_left a ≤ d → more n a ws ≡ some r
+      → From (replicate n item ++ (encode_expr a ++ ws)) r.0 r.1 (nest_left r.0) d
   from_more zero a ws r g l h =
-      subst (λ (x : Expr × List ℕ). From (encode_expr a ++ ws) x.0 x.1 (nestLeft x.0) d) (some_inj (sym (stops a ws) ∙ h))
+      subst (λ (x : Expr × List ℕ). From (encode_expr a ++ ws) x.0 x.1 (nest_left x.0) d) (some_inj (sym (stops a ws) ∙ h))
       (record { items = refl; fine = g; nested = l })
   from_more (suc n) a ws r g l h =
       found_some (one ws) _ r (sym (goes n a ws) ∙ h)
@@ -101,7 +101,7 @@ module _ (d item : ℕ) (one : List ℕ → Taken Expr) (more : ℕ → Expr →
       })
 
   -- The whole of it.
-  from_run : (ws : List ℕ) (r : Expr × List ℕ) → found (one (drop (leading item ws) ws)) (λ a. more (leading item ws) a.0 a.1) ≡ some r → From ws r.0 r.1 (nestLeft r.0) d
+  from_run : (ws : List ℕ) (r : Expr × List ℕ) → found (one (drop (leading item ws) ws)) (λ a. more (leading item ws) a.0 a.1) ≡ some r → From ws r.0 r.1 (nest_left r.0) d
   from_run ws r h =
       found_some (one (drop (leading item ws) ws)) _ r h
       (λ a u v.
@@ -157,19 +157,19 @@ module _ (d : ℕ) (within : List ℕ → Taken Expr)
       }))))
 
   -- A path, with at least one step unless it may be bare.
-  pub from_path : (bareToo : Bool) (ws : List ℕ) (r : Steps × List ℕ) → take_path within bareToo ws ≡ some r
+  pub from_path : (bare_too : Bool) (ws : List ℕ) (r : Steps × List ℕ) → take_path within bare_too ws ≡ some r
       → (ws ≡ pack_path (step_count r.0) ∷ encode_steps r.0 ++ r.1) × (step_count r.0 < count_bound) × (good_steps r.0 ≡ true) × (nest_steps r.0 ≤ d)
-      × ((leb 1 (step_count r.0) || bareToo) ≡ true)
-  from_path bareToo [] r h = none-some h
-  from_path bareToo (w ∷ ws) r h = found_some (path_at w) _ r h (λ n p q. go n p q (leb 1 n || bareToo) refl)
+      × ((leb 1 (step_count r.0) || bare_too) ≡ true)
+  from_path bare_too [] r h = none-some h
+  from_path bare_too (w ∷ ws) r h = found_some (path_at w) _ r h (λ n p q. go n p q (leb 1 n || bare_too) refl)
     where
-      go : (n : ℕ) → path_at w ≡ some n → cond (leb 1 n || bareToo) (take_steps within n ws) none ≡ some r → (b : Bool) → (leb 1 n || bareToo) ≡ b
+      go : (n : ℕ) → path_at w ≡ some n → cond (leb 1 n || bare_too) (take_steps within n ws) none ≡ some r → (b : Bool) → (leb 1 n || bare_too) ≡ b
           → (w ∷ ws ≡ pack_path (step_count r.0) ∷ encode_steps r.0 ++ r.1) × (step_count r.0 < count_bound) × (good_steps r.0 ≡ true) × (nest_steps r.0 ≤ d)
-          × ((leb 1 (step_count r.0) || bareToo) ≡ true)
+          × ((leb 1 (step_count r.0) || bare_too) ≡ true)
       go n p q true e =
           let f = from_steps n ws r (rw e at q) in
           let i = path_found w n p in
-          (ap₂ ◌∷◌ (i.0 ∙ ap pack_path (sym f.count)) f.items, omega (arith, i.1, f.count), f.fine, f.nested, ap (λ k. leb 1 k || bareToo) f.count ∙ e)
+          (ap₂ ◌∷◌ (i.0 ∙ ap pack_path (sym f.count)) f.items, omega (arith, i.1, f.count), f.fine, f.nested, ap (λ k. leb 1 k || bare_too) f.count ∙ e)
       go n p q false e = none-some (rw e at q)
 
   -- An operand of `and`.

@@ -11,20 +11,20 @@ use lib.Dec.{eqb, ltb}
 use borrow.Author.Tests.{lt-ltb, ltb-true, eqb-true}
 use Rattle.paper.specs.Limits.{names_limit}
 use Rattle.paper.specs.Query.{Axis}
-use Rattle.paper.specs.Query.{Test, anyNode, textNode, named, any_element}
+use Rattle.paper.specs.Query.{Test, any_node, text_node, named, any_element}
 use Rattle.paper.specs.Items.{axis_number, axis_of, test_number, test_of, test_bound, count_bound, pack_path, path_at, Head, pack_step, step_at, good_test}
 use Rattle.paper.proofs.Tests.{none-some, some_inj, found_some}
 use Rattle.paper.proofs.Axes.{axis-number, axis_small, axis_found}
 
 pub test-number : (t : Test) → good_test t ≡ true → test_of (test_number t) ≡ some t
-test-number anyNode h = refl
-test-number textNode h = refl
+test-number any_node h = refl
+test-number text_node h = refl
 test-number (named v) h = rw (add_comm 2 v, add-two, h)
 test-number any_element h = refl
 
 pub test_small : (t : Test) → good_test t ≡ true → test_number t < test_bound
-test_small anyNode h = omega arith
-test_small textNode h = omega arith
+test_small any_node h = omega arith
+test_small text_node h = omega arith
 test_small (named v) h = omega (arith, ltb-true v names_limit h)
 test_small any_element h = omega arith
 
@@ -72,8 +72,8 @@ path_found w count h = go (eqb (w % 8) 0) refl (ltb w 65536) refl
 
 -- The test of a number has that number.
 pub test_found : (n : ℕ) (t : Test) → test_of n ≡ some t → (n ≡ test_number t) × (good_test t ≡ true)
-test_found zero t h = let e : anyNode ≡ t = cc in subst (λ (x : Test). (0 ≡ test_number x) × (good_test x ≡ true)) e (refl, refl)
-test_found (suc zero) t h = let e : textNode ≡ t = cc in subst (λ (x : Test). (1 ≡ test_number x) × (good_test x ≡ true)) e (refl, refl)
+test_found zero t h = let e : any_node ≡ t = cc in subst (λ (x : Test). (0 ≡ test_number x) × (good_test x ≡ true)) e (refl, refl)
+test_found (suc zero) t h = let e : text_node ≡ t = cc in subst (λ (x : Test). (1 ≡ test_number x) × (good_test x ≡ true)) e (refl, refl)
 test_found (suc (suc v)) t h = go (ltb v names_limit) refl (eqb v names_limit) refl
   where
     go : (a : Bool) → ltb v names_limit ≡ a → (b : Bool) → eqb v names_limit ≡ b → (suc (suc v) ≡ test_number t) × (good_test t ≡ true)

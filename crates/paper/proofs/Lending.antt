@@ -16,16 +16,16 @@ use Rattle.paper.specs.Room.{path_count, height_bound, scratch_bytes, outside, s
 use Rattle.paper.proofs.Refusing.{or_none}
 use Rattle.paper.proofs.Sizes.{height_size}
 
-module _ (count outerHeight outerPaths innerHeight innerPaths : ℕ) where
+module _ (count outer_height outer_paths inner_height inner_paths : ℕ) where
   -- Does line 1 hold?
   abbrev pub Wrong : Bool
-  Wrong = outside node_limit count || outside item_limit outerHeight || outside item_limit outerPaths || outside item_limit innerHeight || outside item_limit innerPaths
+  Wrong = outside node_limit count || outside item_limit outer_height || outside item_limit outer_paths || outside item_limit inner_height || outside item_limit inner_paths
 
-  pub wrong_number : Wrong ≡ true → refusal 1 0 ≡ scratch_answer count outerHeight outerPaths innerHeight innerPaths
+  pub wrong_number : Wrong ≡ true → refusal 1 0 ≡ scratch_answer count outer_height outer_paths inner_height inner_paths
   unfolding scratch_answer
   wrong_number h = rw h
 
-  pub lends : Wrong ≡ false → value (scratch_bytes count outerHeight innerHeight innerPaths) ≡ scratch_answer count outerHeight outerPaths innerHeight innerPaths
+  pub lends : Wrong ≡ false → value (scratch_bytes count outer_height inner_height inner_paths) ≡ scratch_answer count outer_height outer_paths inner_height inner_paths
   unfolding scratch_answer
   lends h = rw h
 
@@ -35,31 +35,31 @@ module _ (count outerHeight outerPaths innerHeight innerPaths : ℕ) where
 
   pub record Inside : Type 0 where
     pub nodes_few : count ≤ node_limit
-    pub outer_low : outerHeight ≤ item_limit
-    pub inner_low : innerHeight ≤ item_limit
-    pub paths_few : innerPaths ≤ item_limit
+    pub outer_low : outer_height ≤ item_limit
+    pub inner_low : inner_height ≤ item_limit
+    pub paths_few : inner_paths ≤ item_limit
 
   pub all_inside : Wrong ≡ false → Inside
   all_inside h =
       let a = outside node_limit count in
-      let b = outside item_limit outerHeight in
-      let c = outside item_limit outerPaths in
-      let d = outside item_limit innerHeight in
-      let e = outside item_limit innerPaths in
+      let b = outside item_limit outer_height in
+      let c = outside item_limit outer_paths in
+      let d = outside item_limit inner_height in
+      let e = outside item_limit inner_paths in
       let five = or_none (a || b || c || d) e h in
       let four = or_none (a || b || c) d five.0 in
       let two = or_none a b (or_none (a || b) c four.0).0 in
       record {
         nodes_few = inside node_limit count two.0;
-        outer_low = inside item_limit outerHeight two.1;
-        inner_low = inside item_limit innerHeight four.1;
-        paths_few = inside item_limit innerPaths five.1;
+        outer_low = inside item_limit outer_height two.1;
+        inner_low = inside item_limit inner_height four.1;
+        paths_few = inside item_limit inner_paths five.1;
       }
 
-  pub bytes_few : Inside → scratch_bytes count outerHeight innerHeight innerPaths ≤ 100679680
+  pub bytes_few : Inside → scratch_bytes count outer_height inner_height inner_paths ≤ 100679680
   bytes_few i =
       let twice : count * 2 ≤ node_limit * 2 = omega (arith, i.nodes_few) in
-      let low : height_bound outerHeight innerHeight innerPaths + 1 ≤ 12290 = omega (arith, i.outer_low, i.inner_low, i.paths_few) in
+      let low : height_bound outer_height inner_height inner_paths + 1 ≤ 12290 = omega (arith, i.outer_low, i.inner_low, i.paths_few) in
       mul-le-mul twice low
 
 -- A number from 1 to its limit is let pass.

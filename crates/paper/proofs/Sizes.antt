@@ -12,7 +12,7 @@ use Rattle.paper.specs.Items.{pred_count, encode_expr, encode_steps, encode_pred
 use Rattle.paper.specs.Measures.{size_expr, size_steps, size_preds, size_paths, size}
 use Rattle.paper.specs.Measures.{height_expr, height_steps, height_preds, height_paths, height}
 use Rattle.paper.specs.Measures.{round_left_of_and, round_right_of_and, round_right_of_or, in_brackets, nest_expr, nest_steps, nest_preds, nest_paths, nesting}
-use Rattle.paper.specs.Printing.{Piece, slashSign, slashesSign, dotSign, dotsSign, colonsSign, barSign, openPred, closePred, openGroup, openNot, closeRound, andWord, orWord, axis_word, test_word}
+use Rattle.paper.specs.Printing.{Piece, slash_sign, slashes_sign, dot_sign, dots_sign, colons_sign, bar_sign, open_pred, close_pred, open_group, open_not, close_round, and_word, or_word, axis_word, test_word}
 use Rattle.paper.specs.Printing.{grouped, head_pieces, step_pieces, expr_pieces, relative_pieces, later_pieces, preds_pieces, path_pieces, paths_pieces, pieces, most_open}
 use Rattle.paper.proofs.Abbreviating.{by_head, by_later}
 use Rattle.paper.proofs.Encoding.{encode_decode}
@@ -84,13 +84,13 @@ closed_again n nest m = omega arith
 one_less : (n : ℕ) → 1 + n - 1 ≡ n
 one_less n = omega arith
 
-opens_round : (p : Piece) → ((n : ℕ) (rest : List Piece) → most_open n (p ∷ rest) ≡ max n (most_open (1 + n) rest)) → (ps : List Piece) (nest : ℕ) → Opens ps nest → Opens (p ∷ ps ++ (closeRound ∷ [])) (1 + nest)
+opens_round : (p : Piece) → ((n : ℕ) (rest : List Piece) → most_open n (p ∷ rest) ≡ max n (most_open (1 + n) rest)) → (ps : List Piece) (nest : ℕ) → Opens ps nest → Opens (p ∷ ps ++ (close_round ∷ [])) (1 + nest)
 opens_round p op ps nest o n rest =
-    op n (ps ++ (closeRound ∷ []) ++ rest) ∙
-    rw (append_assoc ps (closeRound ∷ []) rest, o (1 + n) (closeRound ∷ rest), one_less n) (closed_again n nest (most_open n rest))
+    op n (ps ++ (close_round ∷ []) ++ rest) ∙
+    rw (append_assoc ps (close_round ∷ []) rest, o (1 + n) (close_round ∷ rest), one_less n) (closed_again n nest (most_open n rest))
 
 opens_group : (b : Bool) (ps : List Piece) (nest : ℕ) → Opens ps nest → Opens (grouped b ps) (in_brackets b nest)
-opens_group true ps nest o n rest = opens_round openGroup (λ n rest. refl) ps nest o n rest
+opens_group true ps nest o n rest = opens_round open_group (λ n rest. refl) ps nest o n rest
 opens_group false ps nest o n rest = o n rest
 
 -- Two parts with a word between, or one after the other.
@@ -117,28 +117,28 @@ opens_more p op ps x o n rest = opens_word p op ps x o n rest ∙ omega arith
 opens_head : (brief : Bool) (a : Axis) (t : Test) (count : ℕ) → Opens (head_pieces brief a t count) 0
 opens_head brief a t count =
     let test = opens_word (test_word t) (λ n rest. refl) [] 0 opens_none in
-    by_head (λ ps. Opens ps 0) brief a t count (λ p. opens_word dotSign (λ n rest. refl) [] 0 opens_none) (λ p. opens_word dotsSign (λ n rest. refl) [] 0 opens_none) (λ p. test)
-    (opens_word (axis_word a) (λ n rest. refl) (colonsSign ∷ test_word t ∷ []) 0 (opens_word colonsSign (λ n rest. refl) (test_word t ∷ []) 0 test))
+    by_head (λ ps. Opens ps 0) brief a t count (λ p. opens_word dot_sign (λ n rest. refl) [] 0 opens_none) (λ p. opens_word dots_sign (λ n rest. refl) [] 0 opens_none) (λ p. test)
+    (opens_word (axis_word a) (λ n rest. refl) (colons_sign ∷ test_word t ∷ []) 0 (opens_word colons_sign (λ n rest. refl) (test_word t ∷ []) 0 test))
 
 opens_step : (hs ps qs : List Piece) (x y : ℕ) → Opens hs 0 → Opens ps x → Opens qs y → Opens (step_pieces hs ps qs) (max x y)
 opens_step hs ps qs x y oh ox oy n rest = opens_join hs (ps ++ qs) 0 (max x y) oh (opens_join ps qs x y ox oy) n rest ∙ omega arith
 
-opens_pred : (ps qs : List Piece) (x y : ℕ) → Opens ps x → Opens qs y → Opens (openPred ∷ ps ++ closePred ∷ qs) (max (1 + x) y)
+opens_pred : (ps qs : List Piece) (x y : ℕ) → Opens ps x → Opens qs y → Opens (open_pred ∷ ps ++ close_pred ∷ qs) (max (1 + x) y)
 opens_pred ps qs x y ox oy n rest =
-    rw (append_assoc ps (closePred ∷ qs) rest, ox (1 + n) (closePred ∷ qs ++ rest), one_less n, oy n rest) (omega arith)
+    rw (append_assoc ps (close_pred ∷ qs) rest, ox (1 + n) (close_pred ∷ qs ++ rest), one_less n, oy n rest) (omega arith)
 
 module _ (brief : Bool) where
   mutual
     opens_expr : (e : Expr) → Opens (expr_pieces brief e) (nest_expr e)
     opens_expr (path s) = opens_relative s
     opens_expr (both a b) =
-        opens_two andWord (λ n rest. refl) (grouped (round_left_of_and a) (expr_pieces brief a)) (grouped (round_right_of_and b) (expr_pieces brief b))
+        opens_two and_word (λ n rest. refl) (grouped (round_left_of_and a) (expr_pieces brief a)) (grouped (round_right_of_and b) (expr_pieces brief b))
         (in_brackets (round_left_of_and a) (nest_expr a)) (in_brackets (round_right_of_and b) (nest_expr b))
         (opens_group (round_left_of_and a) (expr_pieces brief a) (nest_expr a) (opens_expr a)) (opens_group (round_right_of_and b) (expr_pieces brief b) (nest_expr b) (opens_expr b))
     opens_expr (either a b) =
-        opens_two orWord (λ n rest. refl) (expr_pieces brief a) (grouped (round_right_of_or b) (expr_pieces brief b)) (nest_expr a) (in_brackets (round_right_of_or b) (nest_expr b))
+        opens_two or_word (λ n rest. refl) (expr_pieces brief a) (grouped (round_right_of_or b) (expr_pieces brief b)) (nest_expr a) (in_brackets (round_right_of_or b) (nest_expr b))
         (opens_expr a) (opens_group (round_right_of_or b) (expr_pieces brief b) (nest_expr b) (opens_expr b))
-    opens_expr (negated a) = opens_round openNot (λ n rest. refl) (expr_pieces brief a) (nest_expr a) (opens_expr a)
+    opens_expr (negated a) = opens_round open_not (λ n rest. refl) (expr_pieces brief a) (nest_expr a) (opens_expr a)
 
     opens_relative : (s : Steps) → Opens (relative_pieces brief s) (nest_steps s)
     opens_relative stop = opens_none
@@ -150,8 +150,8 @@ module _ (brief : Bool) where
     opens_later stop = opens_none
     opens_later (step a t ps rest) =
         by_later (λ qs. Opens qs (max (nest_preds ps) (nest_steps rest))) brief a t ps rest
-        (λ d. rw d.preds (opens_more slashesSign (λ n rest. refl) (relative_pieces brief rest) (nest_steps rest) (opens_relative rest)))
-        (opens_word slashSign (λ n rest. refl) (relative_pieces brief (step a t ps rest)) (max (nest_preds ps) (nest_steps rest))
+        (λ d. rw d.preds (opens_more slashes_sign (λ n rest. refl) (relative_pieces brief rest) (nest_steps rest) (opens_relative rest)))
+        (opens_word slash_sign (λ n rest. refl) (relative_pieces brief (step a t ps rest)) (max (nest_preds ps) (nest_steps rest))
         (opens_step (head_pieces brief a t (pred_count ps)) (preds_pieces brief ps) (later_pieces brief rest) (nest_preds ps) (nest_steps rest)
         (opens_head brief a t (pred_count ps)) (opens_preds ps) (opens_later rest)))
 
@@ -160,13 +160,13 @@ module _ (brief : Bool) where
     opens_preds (pred e ps) = opens_pred (expr_pieces brief e) (preds_pieces brief ps) (nest_expr e) (nest_preds ps) (opens_expr e) (opens_preds ps)
 
   opens_path : (s : Steps) → Opens (path_pieces brief s) (nest_steps s)
-  opens_path stop = opens_word slashSign (λ n rest. refl) [] 0 opens_none
+  opens_path stop = opens_word slash_sign (λ n rest. refl) [] 0 opens_none
   opens_path (step a t ps rest) = opens_later (step a t ps rest)
 
   opens_paths : (ps : List Steps) → Opens (paths_pieces brief ps) (nest_paths ps)
   opens_paths [] = opens_none
   opens_paths (p ∷ ps) =
-      opens_word barSign (λ n rest. refl) (path_pieces brief p ++ paths_pieces brief ps) (max (nest_steps p) (nest_paths ps))
+      opens_word bar_sign (λ n rest. refl) (path_pieces brief p ++ paths_pieces brief ps) (max (nest_steps p) (nest_paths ps))
       (opens_join (path_pieces brief p) (paths_pieces brief ps) (nest_steps p) (nest_paths ps) (opens_path p) (opens_paths ps))
 
 -- NESTING IS THE MOST BRACKETS OPEN AT ONCE IN THE PRINTED TEXT, in either form.

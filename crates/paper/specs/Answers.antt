@@ -3,7 +3,7 @@ use Rattle.std.specs.Prelude.{ℕ, suc, ◌+◌, ◌*◌, Bool, false, not, ◌&
 use Rattle.std.proofs.Math.Option.{Option, none, some}
 use Rattle.paper.specs.Tools.{when, written, same, some_below}
 use Rattle.paper.specs.Limits.{text_limit, list_limit, item_limit, node_limit, bracket_limit}
-use Rattle.paper.specs.Query.{Test, anyNode, textNode, named, any_element, Query}
+use Rattle.paper.specs.Query.{Test, any_node, text_node, named, any_element, Query}
 use Rattle.paper.specs.Names.{names_fault, names_of, number_of}
 use Rattle.paper.specs.Reading.{Got, got, refused, read_text}
 use Rattle.paper.specs.Items.{Head, step_at, encode, decode}
@@ -89,8 +89,8 @@ read_out text version list out = at_exit (read_answer text version list (length 
 
 -- PRINT. Does the item name what the list has no name for?
 abbrev pub unknown_test : ℕ → Test → Bool
-unknown_test count anyNode = false
-unknown_test count textNode = false
+unknown_test count any_node = false
+unknown_test count text_node = false
 unknown_test count (named v) = leb count v
 unknown_test count any_element = false
 
@@ -162,10 +162,10 @@ marked_count t marks = rank marks (nodes t)
 
 -- Run: 1, 6, 7, 8, 10; it answers the number of nodes kept.
 unfoldable pub run_answer : List ℕ → Table → List ℕ → ℕ → ℕ → Answer
-run_answer query t given marksRoom scratch_room =
+run_answer query t given marks_room scratch_room =
     line 1
     (when
-    (too_long query item_limit || ltb node_limit (nodes t) || not (eqb (length t.kinds) (nodes t)) || not (eqb (length given) (nodes t)) || not (eqb marksRoom (nodes t)))
+    (too_long query item_limit || ltb node_limit (nodes t) || not (eqb (length t.kinds) (nodes t)) || not (eqb (length given) (nodes t)) || not (eqb marks_room (nodes t)))
     0)
     (line_query 6 0 (decode query)
     (λ q.
@@ -188,25 +188,25 @@ zeros_got t none = []
 zeros_got t (some q) = replicate (scratch_of t q) 0
 
 unfoldable pub run_scratch : List ℕ → Table → List ℕ → ℕ → List ℕ → List ℕ
-run_scratch query t given marksRoom scratch =
-    at_exit (run_answer query t given marksRoom (length scratch)) (zeros_got t (decode query)) scratch
+run_scratch query t given marks_room scratch =
+    at_exit (run_answer query t given marks_room (length scratch)) (zeros_got t (decode query)) scratch
 
 -- EXTRACT: 1, 7, 8, 10; it answers the number of marked nodes. The columns written are of one length too.
 unfoldable pub extract_answer : Table → List ℕ → ℕ → ℕ → Answer
-extract_answer t marks parentRoom kindRoom =
+extract_answer t marks parent_room kind_room =
     line 1
     (when
-    (ltb node_limit (nodes t) || not (eqb (length t.kinds) (nodes t)) || not (eqb (length marks) (nodes t)) || not (eqb parentRoom kindRoom))
+    (ltb node_limit (nodes t) || not (eqb (length t.kinds) (nodes t)) || not (eqb (length marks) (nodes t)) || not (eqb parent_room kind_room))
     0)
     (line 7 (table_fault t)
     (line 8 (marks_fault t marks)
-    (line 10 (short parentRoom (marked_count t marks)) (value (marked_count t marks)))))
+    (line 10 (short parent_room (marked_count t marks)) (value (marked_count t marks)))))
 
 unfoldable pub extract_parents : Table → List ℕ → List ℕ → ℕ → List ℕ
-extract_parents t marks out kindRoom = at_exit (extract_answer t marks (length out) kindRoom) (extracted t marks).parents out
+extract_parents t marks out kind_room = at_exit (extract_answer t marks (length out) kind_room) (extracted t marks).parents out
 
 unfoldable pub extract_kinds : Table → List ℕ → ℕ → List ℕ → List ℕ
-extract_kinds t marks parentRoom out = at_exit (extract_answer t marks parentRoom (length out)) (extracted t marks).kinds out
+extract_kinds t marks parent_room out = at_exit (extract_answer t marks parent_room (length out)) (extracted t marks).kinds out
 
 -- READ XML (02, 2026-01). What a text is, with any names: refusal 12 or 11, whichever comes first.
 abbrev pub line_xml : Judged → (Nodes → Answer) → Answer
@@ -229,12 +229,12 @@ read_xml_last list room lines =
 
 -- Read XML: 1, 2, then 12 or 11 by place, 5, 10; it answers the number of nodes. The four columns written are of one length.
 unfoldable pub read_xml_answer : List ℕ → List ℕ → ℕ → ℕ → ℕ → ℕ → Answer
-read_xml_answer text list parentRoom kindRoom beginRoom endRoom =
+read_xml_answer text list parent_room kind_room begin_room end_room =
     line 1
     (when
-    (too_long text text_limit || too_long list list_limit || not (eqb kindRoom parentRoom) || not (eqb beginRoom parentRoom) || not (eqb endRoom parentRoom))
+    (too_long text text_limit || too_long list list_limit || not (eqb kind_room parent_room) || not (eqb begin_room parent_room) || not (eqb end_room parent_room))
     0)
-    (line 2 (names_fault list) (line_xml (read_xml text) (λ tree. read_xml_last list parentRoom (table (length text) tree))))
+    (line 2 (names_fault list) (line_xml (read_xml text) (λ tree. read_xml_last list parent_room (table (length text) tree))))
 
 -- What each line of the table says in the four columns.
 abbrev pub parent_field : Row → ℕ

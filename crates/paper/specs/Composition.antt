@@ -1,7 +1,7 @@
 -- docs/SCOPE.md, "Composition": one query for an outer query run inside what an inner query keeps.
 use Rattle.std.specs.Prelude.{ℕ, ◌+◌, ◌*◌, ◌-◌, max, Bool, true, false, cond, List, [], ◌∷◌, map, length}
-use Rattle.paper.specs.Query.{Axis, self, child, parent, descendantOrSelf, ancestorOrSelf, descendant, ancestor, followingSibling, precedingSibling, following, preceding}
-use Rattle.paper.specs.Query.{Test, anyNode}
+use Rattle.paper.specs.Query.{Axis, self, child, parent, descendant_or_self, ancestor_or_self, descendant, ancestor, following_sibling, preceding_sibling, following, preceding}
+use Rattle.paper.specs.Query.{Test, any_node}
 use Rattle.paper.specs.Query.{Expr, path, both, either, negated, Steps, stop, step, Preds, bare, pred, Query, paths}
 use Rattle.paper.specs.Measures.{round_left_of_and, round_right_of_and, round_right_of_or, in_brackets, size, nesting}
 
@@ -10,18 +10,18 @@ abbrev pub turned : Axis → Axis
 turned self = self
 turned child = parent
 turned parent = child
-turned descendantOrSelf = ancestorOrSelf
-turned ancestorOrSelf = descendantOrSelf
+turned descendant_or_self = ancestor_or_self
+turned ancestor_or_self = descendant_or_self
 turned descendant = ancestor
 turned ancestor = descendant
-turned followingSibling = precedingSibling
-turned precedingSibling = followingSibling
+turned following_sibling = preceding_sibling
+turned preceding_sibling = following_sibling
 turned following = preceding
 turned preceding = following
 
 -- `not(parent::node())`, which holds at the root alone.
 abbrev pub at_root : Expr
-at_root = negated (path (step parent anyNode bare stop))
+at_root = negated (path (step parent any_node bare stop))
 
 -- The way back from a node that has this test and these predicates, with `back` behind it, where the steps lead on from there.
 abbrev pub way_back : Test → Preds → Steps → Steps → Steps
@@ -30,7 +30,7 @@ way_back test preds back (step a t ps rest) = way_back t ps (step (turned a) tes
 
 -- The reverse of a path: back from its last step to the root. For `/` it is `self::node()[not(parent::node())]`.
 unfoldable pub reversed : Steps → Expr
-reversed steps = path (way_back anyNode (pred at_root bare) stop steps)
+reversed steps = path (way_back any_node (pred at_root bare) stop steps)
 
 -- The reverses of more paths, joined by `or` and grouped left.
 abbrev pub joined : Expr → List Steps → Expr
@@ -43,23 +43,23 @@ selected_by inner = joined (reversed inner.first) inner.others
 
 -- A path of one step with `node()` and one predicate.
 abbrev pub some_node : Axis → Expr → Expr
-some_node a e = path (step a anyNode (pred e bare) stop)
+some_node a e = path (step a any_node (pred e bare) stop)
 
 -- V: `descendant-or-self::node()[S] or ancestor-or-self::node()[S]`.
 unfoldable pub visible : Query → Expr
-visible inner = either (some_node descendantOrSelf (selected_by inner)) (some_node ancestorOrSelf (selected_by inner))
+visible inner = either (some_node descendant_or_self (selected_by inner)) (some_node ancestor_or_self (selected_by inner))
 
 -- Is a step along the axis guarded? Self, parent, ancestor-or-self and ancestor lead from a visible node only to visible nodes, so they are not; the others are.
 abbrev pub guarded : Axis → Bool
 guarded self = false
 guarded child = true
 guarded parent = false
-guarded descendantOrSelf = true
-guarded ancestorOrSelf = false
+guarded descendant_or_self = true
+guarded ancestor_or_self = false
 guarded descendant = true
 guarded ancestor = false
-guarded followingSibling = true
-guarded precedingSibling = true
+guarded following_sibling = true
+guarded preceding_sibling = true
 guarded following = true
 guarded preceding = true
 
@@ -90,7 +90,7 @@ append (step a t ps rest) last = step a t ps (append rest last)
 
 -- Every top-level path gets a last step `descendant-or-self::node()[ancestor-or-self::node()[S]]`.
 unfoldable pub last_step : Query → Steps
-last_step inner = step descendantOrSelf anyNode (pred (some_node ancestorOrSelf (selected_by inner)) bare) stop
+last_step inner = step descendant_or_self any_node (pred (some_node ancestor_or_self (selected_by inner)) bare) stop
 
 unfoldable pub composed_path : Query → Steps → Steps
 composed_path inner p = append (guard_steps p (visible inner)) (last_step inner)

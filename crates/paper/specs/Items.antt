@@ -3,8 +3,8 @@ use Rattle.std.specs.Prelude.{ℕ, zero, suc, ◌+◌, ◌*◌, ◌/◌, ◌%◌
 use Rattle.std.proofs.Math.Option.{Option, none, some}
 use Rattle.paper.specs.Tools.{begins, found}
 use Rattle.paper.specs.Limits.{bracket_limit, names_limit}
-use Rattle.paper.specs.Query.{Axis, self, child, parent, descendantOrSelf, ancestorOrSelf, descendant, ancestor, followingSibling, precedingSibling, following, preceding}
-use Rattle.paper.specs.Query.{Test, anyNode, textNode, named, any_element}
+use Rattle.paper.specs.Query.{Axis, self, child, parent, descendant_or_self, ancestor_or_self, descendant, ancestor, following_sibling, preceding_sibling, following, preceding}
+use Rattle.paper.specs.Query.{Test, any_node, text_node, named, any_element}
 use Rattle.paper.specs.Query.{Expr, path, both, either, negated, Steps, stop, step, Preds, bare, pred, Query, paths}
 
 -- Axes 0 to 4 in the order of 01's list, 5 to 10 in that of 02, 2026-06.
@@ -12,12 +12,12 @@ abbrev pub axis_number : Axis → ℕ
 axis_number self = 0
 axis_number child = 1
 axis_number parent = 2
-axis_number descendantOrSelf = 3
-axis_number ancestorOrSelf = 4
+axis_number descendant_or_self = 3
+axis_number ancestor_or_self = 4
 axis_number descendant = 5
 axis_number ancestor = 6
-axis_number followingSibling = 7
-axis_number precedingSibling = 8
+axis_number following_sibling = 7
+axis_number preceding_sibling = 8
 axis_number following = 9
 axis_number preceding = 10
 
@@ -29,12 +29,12 @@ abbrev pub axis_of : ℕ → Option Axis
 axis_of zero = some self
 axis_of (suc zero) = some child
 axis_of (suc (suc zero)) = some parent
-axis_of (suc (suc (suc zero))) = some descendantOrSelf
-axis_of (suc (suc (suc (suc zero)))) = some ancestorOrSelf
+axis_of (suc (suc (suc zero))) = some descendant_or_self
+axis_of (suc (suc (suc (suc zero)))) = some ancestor_or_self
 axis_of (suc (suc (suc (suc (suc zero))))) = some descendant
 axis_of (suc (suc (suc (suc (suc (suc zero)))))) = some ancestor
-axis_of (suc (suc (suc (suc (suc (suc (suc zero))))))) = some followingSibling
-axis_of (suc (suc (suc (suc (suc (suc (suc (suc zero)))))))) = some precedingSibling
+axis_of (suc (suc (suc (suc (suc (suc (suc zero))))))) = some following_sibling
+axis_of (suc (suc (suc (suc (suc (suc (suc (suc zero)))))))) = some preceding_sibling
 axis_of (suc (suc (suc (suc (suc (suc (suc (suc (suc zero))))))))) = some following
 axis_of (suc (suc (suc (suc (suc (suc (suc (suc (suc (suc zero)))))))))) = some preceding
 axis_of (suc (suc (suc (suc (suc (suc (suc (suc (suc (suc (suc n))))))))))) = none
@@ -45,14 +45,14 @@ named_from = 2
 
 -- Test 0 is `node()`, 1 `text()`, 2 + v a name, 258 `*`.
 abbrev pub test_number : Test → ℕ
-test_number anyNode = 0
-test_number textNode = 1
+test_number any_node = 0
+test_number text_node = 1
 test_number (named v) = named_from + v
 test_number any_element = 258
 
 abbrev pub test_of : ℕ → Option Test
-test_of zero = some anyNode
-test_of (suc zero) = some textNode
+test_of zero = some any_node
+test_of (suc zero) = some text_node
 test_of (suc (suc v)) = cond (ltb v names_limit) (some (named v)) (cond (eqb v names_limit) (some any_element) none)
 
 -- The fields of an item: an axis has 4 bits, a test 9, and a count 13, so each is below its bound, and a count is at most its limit.
@@ -162,8 +162,8 @@ module _ (within : List ℕ → Taken Expr) where
 
   -- A path; one in a predicate has at least one step.
   abbrev pub take_path : Bool → List ℕ → Taken Steps
-  take_path bareToo [] = none
-  take_path bareToo (w ∷ ws) = found (path_at w) (λ n. cond (leb 1 n || bareToo) (take_steps n ws) none)
+  take_path bare_too [] = none
+  take_path bare_too (w ∷ ws) = found (path_at w) (λ n. cond (leb 1 n || bare_too) (take_steps n ws) none)
 
   -- An operand of `and`: a path, or `not` or an operator, whose operands stand in a bracket.
   unfoldable pub take_operand : List ℕ → Taken Expr
@@ -216,8 +216,8 @@ decode ws = found (take_paths (length ws) ws) as_query
 
 -- Can a query stand in memory: names below 256, counts below 8,192, a step in each path of a predicate?
 abbrev pub good_test : Test → Bool
-good_test anyNode = true
-good_test textNode = true
+good_test any_node = true
+good_test text_node = true
 good_test (named v) = ltb v names_limit
 good_test any_element = true
 

@@ -1,7 +1,7 @@
 -- docs/SCOPE.md, "Lean composition": the composition with fewer guards. What the inner query keeps is closed under parents, so a step needs no V if the next step of its path goes down: the guard behind it answers for both.
 -- All but the decision which step is guarded is as in Composition.antt, and the decision is an argument here.
 use Rattle.std.specs.Prelude.{ℕ, ◌+◌, ◌*◌, max, Bool, true, false, not, ◌&&◌, ◌||◌, cond, List, [], ◌∷◌, map, length}
-use Rattle.paper.specs.Query.{Axis, self, child, parent, descendantOrSelf, ancestorOrSelf, descendant, ancestor, followingSibling, precedingSibling, following, preceding}
+use Rattle.paper.specs.Query.{Axis, self, child, parent, descendant_or_self, ancestor_or_self, descendant, ancestor, following_sibling, preceding_sibling, following, preceding}
 use Rattle.paper.specs.Query.{Expr, path, both, either, negated, Steps, stop, step, Preds, bare, pred, Query, paths}
 use Rattle.paper.specs.Measures.{round_left_of_and, round_right_of_and, round_right_of_or, in_brackets, size, nesting}
 use Rattle.paper.specs.Composition.{guarded, visible, append, last_step, selected_size}
@@ -12,12 +12,12 @@ abbrev pub goes_down : Axis → Bool
 goes_down self = true
 goes_down child = true
 goes_down parent = false
-goes_down descendantOrSelf = true
-goes_down ancestorOrSelf = false
+goes_down descendant_or_self = true
+goes_down ancestor_or_self = false
 goes_down descendant = true
 goes_down ancestor = false
-goes_down followingSibling = false
-goes_down precedingSibling = false
+goes_down following_sibling = false
+goes_down preceding_sibling = false
 goes_down following = false
 goes_down preceding = false
 
@@ -25,12 +25,12 @@ abbrev pub is_self : Axis → Bool
 is_self self = true
 is_self child = false
 is_self parent = false
-is_self descendantOrSelf = false
-is_self ancestorOrSelf = false
+is_self descendant_or_self = false
+is_self ancestor_or_self = false
 is_self descendant = false
 is_self ancestor = false
-is_self followingSibling = false
-is_self precedingSibling = false
+is_self following_sibling = false
+is_self preceding_sibling = false
 is_self following = false
 is_self preceding = false
 

@@ -3,11 +3,11 @@ use Rattle.std.specs.Prelude.{ℕ, List, ◌∷◌}
 
 -- The axes.
 pub data Axis : Type 0 where
-  self child parent descendantOrSelf ancestorOrSelf descendant ancestor followingSibling precedingSibling following preceding : Axis
+  self child parent descendant_or_self ancestor_or_self descendant ancestor following_sibling preceding_sibling following preceding : Axis
 
 -- The tests: `node()`, `text()`, a name of the list by its number, and `*`.
 pub data Test : Type 0 where
-  anyNode textNode : Test
+  any_node text_node : Test
   named : ℕ → Test
   any_element : Test
 

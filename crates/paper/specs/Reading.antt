@@ -3,10 +3,10 @@ use Rattle.std.specs.Prelude.{ℕ, zero, suc, Bool, ◌&&◌, ◌||◌, cond, Li
 use Rattle.std.proofs.Math.Option.{Option, none, some}
 use Rattle.paper.specs.Tools.{ascii, same}
 use Rattle.paper.specs.Limits.{bracket_limit}
-use Rattle.paper.specs.Tokens.{Token, slash, slashes, dot, dots, colons, bar, openSquare, closeSquare, openRound, closeRound, star, finish, word}
+use Rattle.paper.specs.Tokens.{Token, slash, slashes, dot, dots, colons, bar, open_square, close_square, open_round, close_round, star, finish, word}
 use Rattle.paper.specs.Tokens.{is, letters, Placed, tokens}
-use Rattle.paper.specs.Query.{Axis, self, child, parent, descendantOrSelf, ancestorOrSelf, descendant, ancestor, followingSibling, precedingSibling, following, preceding}
-use Rattle.paper.specs.Query.{Test, anyNode, textNode, named, any_element}
+use Rattle.paper.specs.Query.{Axis, self, child, parent, descendant_or_self, ancestor_or_self, descendant, ancestor, following_sibling, preceding_sibling, following, preceding}
+use Rattle.paper.specs.Query.{Test, any_node, text_node, named, any_element}
 use Rattle.paper.specs.Query.{Expr, path, both, either, negated, Steps, stop, step, Preds, bare, pred, Query, paths}
 
 -- What reading gives: a value and the tokens left, or a refusal number with a place.
@@ -49,12 +49,12 @@ axis_named w =
     cond (same w (ascii "self")) (some self)
     (cond (same w (ascii "child")) (some child)
     (cond (same w (ascii "parent")) (some parent)
-    (cond (same w (ascii "descendant-or-self")) (some descendantOrSelf)
-    (cond (same w (ascii "ancestor-or-self")) (some ancestorOrSelf)
+    (cond (same w (ascii "descendant-or-self")) (some descendant_or_self)
+    (cond (same w (ascii "ancestor-or-self")) (some ancestor_or_self)
     (cond (same w (ascii "descendant")) (some descendant)
     (cond (same w (ascii "ancestor")) (some ancestor)
-    (cond (same w (ascii "following-sibling")) (some followingSibling)
-    (cond (same w (ascii "preceding-sibling")) (some precedingSibling)
+    (cond (same w (ascii "following-sibling")) (some following_sibling)
+    (cond (same w (ascii "preceding-sibling")) (some preceding_sibling)
     (cond (same w (ascii "following")) (some following)
     (cond (same w (ascii "preceding")) (some preceding)
     none))))))))))
@@ -75,7 +75,7 @@ before s rest = step s.axis s.test s.preds rest
 
 -- The step that `//` stands for, put before steps.
 abbrev pub deep : Steps → Steps
-deep rest = step descendantOrSelf anyNode bare rest
+deep rest = step descendant_or_self any_node bare rest
 
 -- Does a step begin with this token?
 abbrev pub starts_step : Token → Bool
@@ -91,8 +91,8 @@ module _ (newer : Bool) (look : List ℕ → Option ℕ) (within : ℕ → List 
   abbrev pub read_preds : ℕ → List Placed → Got Preds
   read_preds zero ts = got bare ts
   read_preds (suc n) ts =
-      let more = then (then (within (at ts) (drop 1 ts)) (pass closeSquare)) (λ e left. then (read_preds n left) (λ ps. got (pred e ps))) in
-      cond (sees openSquare ts) more (got bare ts)
+      let more = then (then (within (at ts) (drop 1 ts)) (pass close_square)) (λ e left. then (read_preds n left) (λ ps. got (pred e ps))) in
+      cond (sees open_square ts) more (got bare ts)
 
   -- The predicates after axis and test.
   unfoldable pub read_tail : Axis → Test → List Placed → Got Step
@@ -106,12 +106,12 @@ module _ (newer : Bool) (look : List ℕ → Option ℕ) (within : ℕ → List 
   -- Test and predicates after an axis: `*`, `node()`, `text()` or a name.
   unfoldable pub read_tested : Axis → List Placed → Got Step
   read_tested a ts =
-      let call = sees openRound (drop 1 ts) in
-      let inside : Test → Got Step = λ t. then (pass closeRound t (drop 2 ts)) (read_tail a) in
+      let call = sees open_round (drop 1 ts) in
+      let inside : Test → Got Step = λ t. then (pass close_round t (drop 2 ts)) (read_tail a) in
       let name = read_name (look (letters (next ts))) a ts in
       cond (sees star ts) (read_tail a any_element (drop 1 ts))
-      (cond (call && says (ascii "node") ts) (inside anyNode)
-      (cond (call && says (ascii "text") ts) (inside textNode)
+      (cond (call && says (ascii "node") ts) (inside any_node)
+      (cond (call && says (ascii "text") ts) (inside text_node)
       (cond (sees (word []) ts) name
       (wrong ts))))
 
@@ -122,7 +122,7 @@ module _ (newer : Bool) (look : List ℕ → Option ℕ) (within : ℕ → List 
 
   -- What follows `.` or `..`, which are self and parent with `node()`: no predicate in version 1, any number in version 2.
   abbrev pub read_dot : Axis → List Placed → Got Step
-  read_dot a ts = let tail = read_tail a anyNode ts in cond newer tail (got (record { axis = a; test = anyNode; preds = bare }) ts)
+  read_dot a ts = let tail = read_tail a any_node ts in cond newer tail (got (record { axis = a; test = any_node; preds = bare }) ts)
 
   -- One step; no axis means child.
   unfoldable pub read_step : List Placed → Got Step
@@ -147,11 +147,11 @@ module _ (newer : Bool) (look : List ℕ → Option ℕ) (within : ℕ → List 
   -- An operand: `not(..)`, round brackets, or a path that starts with a step.
   unfoldable pub read_operand : List Placed → Got Expr
   read_operand ts =
-      let denied = then (then (within (at (drop 1 ts)) (drop 2 ts)) (pass closeRound)) (λ e. got (negated e)) in
-      let grouped = then (within (at ts) (drop 1 ts)) (pass closeRound) in
+      let denied = then (then (within (at (drop 1 ts)) (drop 2 ts)) (pass close_round)) (λ e. got (negated e)) in
+      let grouped = then (within (at ts) (drop 1 ts)) (pass close_round) in
       let steps = then (read_steps (length ts) ts) (λ s. got (path s)) in
-      cond (says (ascii "not") ts && sees openRound (drop 1 ts)) denied
-      (cond (sees openRound ts) grouped
+      cond (says (ascii "not") ts && sees open_round (drop 1 ts)) denied
+      (cond (sees open_round ts) grouped
       steps)
 
   -- After an operand, each `and` with one more, at most n, grouped to the left.

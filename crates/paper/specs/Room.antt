@@ -23,11 +23,11 @@ paths_answer query = measure_answer path_count query
 
 -- The bound on the composed height: the outer height, plus the larger of 3 and the inner height, plus the number of inner paths, plus 1.
 abbrev pub height_bound : ℕ → ℕ → ℕ → ℕ
-height_bound outerHeight innerHeight innerPaths = outerHeight + max 3 innerHeight + innerPaths + 1
+height_bound outer_height inner_height inner_paths = outer_height + max 3 inner_height + inner_paths + 1
 
 -- 01's rule for a run with this bound as the height.
 abbrev pub scratch_bytes : ℕ → ℕ → ℕ → ℕ → ℕ
-scratch_bytes count outerHeight innerHeight innerPaths = count * 2 * (height_bound outerHeight innerHeight innerPaths + 1)
+scratch_bytes count outer_height inner_height inner_paths = count * 2 * (height_bound outer_height inner_height inner_paths + 1)
 
 -- A number that is 0 or over its limit.
 abbrev pub outside : ℕ → ℕ → Bool
@@ -35,9 +35,9 @@ outside limit n = eqb n 0 || ltb limit n
 
 -- SCRATCH: 1 where the node count, a height or a path count is 0 or over 4,096; it answers the bytes.
 unfoldable pub scratch_answer : ℕ → ℕ → ℕ → ℕ → ℕ → Answer
-scratch_answer count outerHeight outerPaths innerHeight innerPaths =
+scratch_answer count outer_height outer_paths inner_height inner_paths =
     line 1
     (when
-    (outside node_limit count || outside item_limit outerHeight || outside item_limit outerPaths || outside item_limit innerHeight || outside item_limit innerPaths)
+    (outside node_limit count || outside item_limit outer_height || outside item_limit outer_paths || outside item_limit inner_height || outside item_limit inner_paths)
     0)
-    (value (scratch_bytes count outerHeight innerHeight innerPaths))
+    (value (scratch_bytes count outer_height inner_height inner_paths))

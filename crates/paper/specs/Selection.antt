@@ -1,8 +1,8 @@
 -- docs/SCOPE.md, "Run": what a query selects inside marks, as XPath 1.0 says it, and what the subtree rule keeps.
 use Rattle.std.specs.Prelude.{ℕ, ◌+◌, Bool, true, not, ◌&&◌, ◌||◌, cond, List, eqb, leb, ltb}
 use Rattle.paper.specs.Tools.{some_below, some_of, column}
-use Rattle.paper.specs.Query.{Axis, self, child, parent, descendantOrSelf, ancestorOrSelf, descendant, ancestor, followingSibling, precedingSibling, following, preceding}
-use Rattle.paper.specs.Query.{Test, anyNode, textNode, named, any_element}
+use Rattle.paper.specs.Query.{Axis, self, child, parent, descendant_or_self, ancestor_or_self, descendant, ancestor, following_sibling, preceding_sibling, following, preceding}
+use Rattle.paper.specs.Query.{Test, any_node, text_node, named, any_element}
 use Rattle.paper.specs.Query.{Expr, path, both, either, negated, Steps, stop, step, Preds, bare, pred, Query, paths}
 use Rattle.paper.specs.Document.{Table, nodes, parent_of, kind_of, element_kind, over, marked}
 
@@ -27,19 +27,19 @@ abbrev pub leads : Table → Axis → ℕ → ℕ → Bool
 leads t self i j = eqb i j
 leads t child i j = child_of t i j
 leads t parent i j = child_of t j i
-leads t descendantOrSelf i j = over t j i
-leads t ancestorOrSelf i j = over t i j
+leads t descendant_or_self i j = over t j i
+leads t ancestor_or_self i j = over t i j
 leads t descendant i j = below t i j
 leads t ancestor i j = below t j i
-leads t followingSibling i j = sibling_after t i j
-leads t precedingSibling i j = sibling_after t j i
+leads t following_sibling i j = sibling_after t i j
+leads t preceding_sibling i j = sibling_after t j i
 leads t following i j = after t i j
 leads t preceding i j = after t j i
 
 -- Is the test met by a node of this kind? `*` is met by the kinds of elements, `node()` by all.
 abbrev pub meets : Test → ℕ → Bool
-meets anyNode kind = true
-meets textNode kind = eqb kind 1
+meets any_node kind = true
+meets text_node kind = eqb kind 1
 meets (named v) kind = eqb kind (element_kind + v)
 meets any_element kind = leb element_kind kind
 

@@ -5,7 +5,7 @@ use Rattle.paper.specs.Names.{name_start, name_part}
 
 -- The tokens; beside them the end of the text, and a byte that starts no token.
 pub data Token : Type 0 where
-  slash slashes dot dots colons bar openSquare closeSquare openRound closeRound star finish stray : Token
+  slash slashes dot dots colons bar open_square close_square open_round close_round star finish stray : Token
   word : List ℕ → Token
 
 -- Which of them a token is, as a number.
@@ -16,10 +16,10 @@ sort dot = 2
 sort dots = 3
 sort colons = 4
 sort bar = 5
-sort openSquare = 6
-sort closeSquare = 7
-sort openRound = 8
-sort closeRound = 9
+sort open_square = 6
+sort close_square = 7
+sort open_round = 8
+sort close_round = 9
 sort star = 10
 sort finish = 11
 sort stray = 12
@@ -37,10 +37,10 @@ letters dot = []
 letters dots = []
 letters colons = []
 letters bar = []
-letters openSquare = []
-letters closeSquare = []
-letters openRound = []
-letters closeRound = []
+letters open_square = []
+letters close_square = []
+letters open_round = []
+letters close_round = []
 letters star = []
 letters finish = []
 letters stray = []
@@ -62,10 +62,10 @@ token_at b bs =
     (cond (eqb b 46) (cond (begins 46 bs) dots dot)
     (cond (eqb b 58) (cond (begins 58 bs) colons stray)
     (cond (eqb b 124) bar
-    (cond (eqb b 91) openSquare
-    (cond (eqb b 93) closeSquare
-    (cond (eqb b 40) openRound
-    (cond (eqb b 41) closeRound
+    (cond (eqb b 91) open_square
+    (cond (eqb b 93) close_square
+    (cond (eqb b 40) open_round
+    (cond (eqb b 41) close_round
     (cond (eqb b 42) star
     stray)))))))))
 
@@ -77,10 +77,10 @@ beyond dot = 0
 beyond dots = 1
 beyond colons = 1
 beyond bar = 0
-beyond openSquare = 0
-beyond closeSquare = 0
-beyond openRound = 0
-beyond closeRound = 0
+beyond open_square = 0
+beyond close_square = 0
+beyond open_round = 0
+beyond close_round = 0
 beyond star = 0
 beyond finish = 0
 beyond stray = 0

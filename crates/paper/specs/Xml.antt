@@ -157,7 +157,7 @@ pub data Mode : Type 0 where
   ahead : Mode
   -- Past the `<` at a place; in the name of the start tag that begins there, past white space in it, past the `/` of an empty element.
   opening : ℕ → Mode
-  inName inTag emptied : ℕ → List ℕ → Mode
+  in_name in_tag emptied : ℕ → List ℕ → Mode
   -- In an element, where no run of characters is under way; in a run that begins there and ends with so many `]`, 2 at most; in a character or a reference of it.
   content : Mode
   run : ℕ → ℕ → Mode
@@ -199,12 +199,12 @@ end_opens (f ∷ fs) = stands (closing f.name) (f ∷ fs)
 
 -- What follows the `<`: a name's first byte, or the `/` of an end tag.
 abbrev pub name_or_slash : ℕ → List Frame → ℕ → Option State
-name_or_slash begin frames b = cond (name_start b) (stands (inName begin (b ∷ [])) frames) (cond (eqb b 47) (end_opens frames) none)
+name_or_slash begin frames b = cond (name_start b) (stands (in_name begin (b ∷ [])) frames) (cond (eqb b 47) (end_opens frames) none)
 
 -- White space or the end of a start tag.
 abbrev pub tag_goes_on : ℕ → List ℕ → List Frame → ℕ → Option State
 tag_goes_on begin name frames b =
-    cond (white b) (stands (inTag begin name) frames)
+    cond (white b) (stands (in_tag begin name) frames)
     (cond (eqb b 47) (stands (emptied begin name) frames)
     (cond (eqb b 62) (stands content (record { name = name; begin = begin; inside = nothing } ∷ frames))
     none))
@@ -241,9 +241,9 @@ step_mode first at frames b =
 step_mode (heading p) at frames b = heading_goes_on (after p b)
 step_mode ahead at frames b = cond (white b) (stands ahead frames) (cond (eqb b 60) (stands (opening at) frames) none)
 step_mode (opening begin) at frames b = name_or_slash begin frames b
-step_mode (inName begin name) at frames b =
-    cond (name_part b) (stands (inName begin (name ++ (b ∷ []))) frames) (tag_goes_on begin name frames b)
-step_mode (inTag begin name) at frames b = tag_goes_on begin name frames b
+step_mode (in_name begin name) at frames b =
+    cond (name_part b) (stands (in_name begin (name ++ (b ∷ []))) frames) (tag_goes_on begin name frames b)
+step_mode (in_tag begin name) at frames b = tag_goes_on begin name frames b
 step_mode (emptied begin name) at frames b = cond (eqb b 62) (add (element name begin (suc at) nothing nothing) frames) none
 step_mode content at frames b = cond (eqb b 60) (stands (opening at) frames) (char_goes_on at 0 frames b)
 step_mode (run begin k) at frames b = cond (eqb b 60) (run_ends begin at frames) (char_goes_on begin k frames b)
@@ -298,8 +298,8 @@ left_out first bs = left_out_anywhere bs || first_is (λ b. xml_start b && not (
 left_out (heading p) bs = left_out_anywhere bs || other_encoding (quote_of p) bs
 left_out ahead bs = left_out_anywhere bs
 left_out (opening begin) bs = left_out_anywhere bs || first_is (λ b. xml_start b && not (name_start b)) bs
-left_out (inName begin name) bs = left_out_anywhere bs || first_is (λ b. xml_part b && not (name_part b)) bs
-left_out (inTag begin name) bs = left_out_anywhere bs || first_is xml_start bs
+left_out (in_name begin name) bs = left_out_anywhere bs || first_is (λ b. xml_part b && not (name_part b)) bs
+left_out (in_tag begin name) bs = left_out_anywhere bs || first_is xml_start bs
 left_out (emptied begin name) bs = left_out_anywhere bs
 left_out content bs = left_out_anywhere bs
 left_out (run begin k) bs = left_out_anywhere bs
@@ -321,8 +321,8 @@ at_end first at = unwanted 11 at
 at_end (heading p) at = unwanted 11 at
 at_end ahead at = unwanted 11 at
 at_end (opening begin) at = unwanted 11 at
-at_end (inName begin name) at = unwanted 11 at
-at_end (inTag begin name) at = unwanted 11 at
+at_end (in_name begin name) at = unwanted 11 at
+at_end (in_tag begin name) at = unwanted 11 at
 at_end (emptied begin name) at = unwanted 11 at
 at_end content at = unwanted 11 at
 at_end (run begin k) at = unwanted 11 at

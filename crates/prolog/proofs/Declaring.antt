@@ -105,14 +105,14 @@ module _ (text : List ℕ) (at : ℕ) where
     name_stuck (Wrong place) stuck h = record { goes = λ value. (h (valued value)).goes; bounds = (h done).bounds; quote = tt }
     name_stuck (LeftOut place) stuck h = record { goes = λ value. (h (valued value)).goes; bounds = (h done).bounds; quote = tt }
 
-    module _ (nameEnd : ℕ) (named : (p : Pattern) → Heads text at (say name p) p (At nameEnd)) where
-      pub mark_stuck : (r : Reach) → Refused r → ((p : Pattern) → is_done p ≡ false → quote_of p ≡ none → Heads text nameEnd (many white (one (eqb 61) (many white p))) p r)
+    module _ (name_end : ℕ) (named : (p : Pattern) → Heads text at (say name p) p (At name_end)) where
+      pub mark_stuck : (r : Reach) → Refused r → ((p : Pattern) → is_done p ≡ false → quote_of p ≡ none → Heads text name_end (many white (one (eqb 61) (many white p))) p r)
           → Gives text at (λ value. say name (valued value)) r
       mark_stuck (At to) stuck h = absurd (miss (1 ∷ 2 ∷ []) 0 tt stuck)
       mark_stuck (Wrong place) stuck h = record { goes = λ value. (named (valued value)).goes ∙ (h (quoted value) refl refl).goes; bounds = (h (one white done) refl refl).bounds; quote = tt }
       mark_stuck (LeftOut place) stuck h = record { goes = λ value. (named (valued value)).goes ∙ (h (quoted value) refl refl).goes; bounds = (h (one white done) refl refl).bounds; quote = tt }
 
-      pub name_quote : (place : ℕ) (r : Reach) → ((p : Pattern) → is_done p ≡ false → quote_of p ≡ none → Heads text nameEnd (many white (one (eqb 61) (many white p))) p (At place))
+      pub name_quote : (place : ℕ) (r : Reach) → ((p : Pattern) → is_done p ≡ false → quote_of p ≡ none → Heads text name_end (many white (one (eqb 61) (many white p))) p (At place))
           → Gives text place quoted r → Gives text at (λ value. say name (valued value)) r
       name_quote place r h g =
           record {

@@ -3,7 +3,7 @@ use Rattle.std.specs.Prelude.{ℕ, suc, ◌-◌, ◌≤◌, ◌<◌, ◌≡◌, 
 use Rattle.paper.specs.Tools.{ascii, begins}
 use Rattle.paper.specs.Tokens.{white}
 use Rattle.paper.specs.Xml.{Pattern, one, many, fork, encoding, is_done, say, quoted, digit, any_case, declaration_end, after_encoding, after_version}
-use Rattle.paper.specs.Xml.{Mode, start, first, heading, ahead, opening, inName, inTag, emptied, content, run, partly, closing, ended, State, step, left_out, left_out_anywhere}
+use Rattle.paper.specs.Xml.{Mode, start, first, heading, ahead, opening, in_name, in_tag, emptied, content, run, partly, closing, ended, State, step, left_out, left_out_anywhere}
 use Rattle.xml_bytes.specs.Seeking.{Sought, stops, refused, onwards, seek}
 use Rattle.xml_bytes.specs.Promised.{state, reached, Between}
 use Rattle.xml_bytes.specs.declared.Reach.{Reach}
@@ -20,8 +20,8 @@ heads first bs = false
 heads (heading p) bs = false
 heads ahead bs = marks bs
 heads (opening begin) bs = false
-heads (inName begin name) bs = false
-heads (inTag begin name) bs = false
+heads (in_name begin name) bs = false
+heads (in_tag begin name) bs = false
 heads (emptied begin name) bs = false
 heads content bs = false
 heads (run begin k) bs = false

@@ -59,7 +59,7 @@ fn quote(text: &[u8], at: usize) -> Reach
 
 // A name of the declaration, `=`, and the quote that opens its value.
 fn given(text: &[u8], at: usize, name: &[u8]) -> Reach
-    requires { (at ≤ length text.now) × (allCalm name.now ≡ true) }
+    requires { (at ≤ length text.now) × (all_calm name.now ≡ true) }
     ensures { Gives text.now at (λ value. xml.say name.now (valued value)) result }
 {
     let named = say(text, at, name);
@@ -114,7 +114,7 @@ fn stands(text: &[u8], at: usize, wanted: u8) -> bool
 // The end of the declaration.
 fn declaration_end(text: &[u8], at: usize) -> Reach
     requires { at ≤ length text.now }
-    ensures { Heads text.now at declarationEnd xml.done result }
+    ensures { Heads text.now at declaration_end xml.done result }
 {
     say(text, skip(text, at), b"?>")
 }
@@ -122,7 +122,7 @@ fn declaration_end(text: &[u8], at: usize) -> Reach
 // `yes` or `no`.
 fn yes_no(text: &[u8], at: usize) -> Reach
     requires { at ≤ length text.now }
-    ensures { (p : Pattern) → Heads text.now at (yesNo p) p result }
+    ensures { (p : Pattern) → Heads text.now at (yes_no p) p result }
 {
     if stands(text, at, b'y') {
         say(text, at, b"yes")
@@ -134,7 +134,7 @@ fn yes_no(text: &[u8], at: usize) -> Reach
 // The declaration from `standalone` on.
 fn standalone(text: &[u8], at: usize) -> Reach
     requires { at ≤ length text.now }
-    ensures { Heads text.now at (xml.say (ascii "standalone") (valued standaloneValue)) xml.done result }
+    ensures { Heads text.now at (xml.say (ascii "standalone") (valued standalone_value)) xml.done result }
 {
     let behind = given(text, at, b"standalone");
     let Reach::At(from) = behind else {
@@ -154,7 +154,7 @@ fn standalone(text: &[u8], at: usize) -> Reach
 // The declaration past the encoding.
 fn after_encoding(text: &[u8], at: usize) -> Reach
     requires { at ≤ length text.now }
-    ensures { Heads text.now at afterEncoding xml.done result }
+    ensures { Heads text.now at after_encoding xml.done result }
 {
     let place = skip(text, at);
     if (at < place) & stands(text, place, b's') {
@@ -188,7 +188,7 @@ fn utf_8_named(text: &[u8], at: usize, end: usize) -> bool
 // Does the name of another encoding stand here, in closed quotes?
 fn other_encoding(text: &[u8], at: usize, closing: u8) -> bool
     requires { at ≤ length text.now }
-    ensures { result ≡ otherEncoding (some closing) (drop at text.now) }
+    ensures { result ≡ other_encoding (some closing) (drop at text.now) }
 {
     if text.len() <= at {
         return false;
@@ -207,7 +207,7 @@ fn other_encoding(text: &[u8], at: usize, closing: u8) -> bool
 // `utf-8` in any case of letters, and the quote.
 fn utf_8(text: &[u8], at: usize, closing: u8) -> Reach
     requires { (at ≤ length text.now) × (calm closing ≡ true) }
-    ensures { Heads text.now at (utf8 closing) afterEncoding result }
+    ensures { Heads text.now at (utf8 closing) after_encoding result }
 {
     let u = any_case(text, at, b'u');
     let Reach::At(past_u) = u else {
@@ -231,7 +231,7 @@ fn utf_8(text: &[u8], at: usize, closing: u8) -> Reach
 // The value of the encoding, past its quote, and what follows.
 fn encoding_value(text: &[u8], at: usize, closing: u8) -> Reach
     requires { (at ≤ length text.now) × (calm closing ≡ true) }
-    ensures { Heads text.now at (encodingValue closing) xml.done result }
+    ensures { Heads text.now at (encoding_value closing) xml.done result }
 {
     if other_encoding(text, at, closing) {
         return Reach::LeftOut(at);
@@ -246,7 +246,7 @@ fn encoding_value(text: &[u8], at: usize, closing: u8) -> Reach
 // The declaration from `encoding` on.
 fn encoding(text: &[u8], at: usize) -> Reach
     requires { at ≤ length text.now }
-    ensures { Heads text.now at (xml.say (ascii "encoding") (valued encodingValue)) xml.done result }
+    ensures { Heads text.now at (xml.say (ascii "encoding") (valued encoding_value)) xml.done result }
 {
     let behind = given(text, at, b"encoding");
     let Reach::At(from) = behind else {
@@ -258,7 +258,7 @@ fn encoding(text: &[u8], at: usize) -> Reach
 // The declaration past the version.
 fn after_version(text: &[u8], at: usize) -> Reach
     requires { at ≤ length text.now }
-    ensures { Heads text.now at afterVersion xml.done result }
+    ensures { Heads text.now at after_version xml.done result }
 {
     let place = skip(text, at);
     if (at < place) & stands(text, place, b'e') {
@@ -271,7 +271,7 @@ fn after_version(text: &[u8], at: usize) -> Reach
 // The version, past its quote.
 fn version_value(text: &[u8], at: usize, closing: u8) -> Reach
     requires { (at ≤ length text.now) × (calm closing ≡ true) }
-    ensures { Heads text.now at (versionValue closing) xml.done result }
+    ensures { Heads text.now at (version_value closing) xml.done result }
 {
     let one = say(text, at, b"1.");
     let Reach::At(from) = one else {
@@ -287,7 +287,7 @@ fn version_value(text: &[u8], at: usize, closing: u8) -> Reach
 // The declaration from `version` on.
 fn version(text: &[u8], at: usize) -> Reach
     requires { at ≤ length text.now }
-    ensures { Heads text.now at (xml.say (ascii "version") (valued versionValue)) xml.done result }
+    ensures { Heads text.now at (xml.say (ascii "version") (valued version_value)) xml.done result }
 {
     let behind = given(text, at, b"version");
     let Reach::At(from) = behind else {

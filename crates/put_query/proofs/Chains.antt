@@ -10,7 +10,7 @@ use Rattle.paper.specs.Tools.{found, ascii}
 use Rattle.paper.specs.Query.{Expr}
 use Rattle.paper.specs.Items.{and_item, or_item, leading, Taken, take_operand, take_term, take_expr, take_within}
 use Rattle.paper.specs.Measures.{is_or}
-use Rattle.paper.specs.Printing.{Piece, andWord, orWord, piece_text, grouped, expr_pieces, text_of}
+use Rattle.paper.specs.Printing.{Piece, and_word, or_word, piece_text, grouped, expr_pieces, text_of}
 use Rattle.paper.proofs.Tests.{found_some}
 use Rattle.shape.proofs.Operators.{by_operator, take_run, take_part, take_more, join_by, is_joined, Run, run_starts, first_alone, operators_run}
 use Rattle.shape.proofs.Operators.{ands as ands-laws, ors as ors-laws}
@@ -54,7 +54,7 @@ between_text names ps sign qs = append_assoc (text_of names ps) (piece_text name
 ands_text : (brief : Bool) (names : List (List ℕ)) → Joined brief names and_item
 ands_text brief names =
     record {
-      text_join = λ a b. between_text names (term_pieces brief a) andWord (operand_pieces brief b);
+      text_join = λ a b. between_text names (term_pieces brief a) and_word (operand_pieces brief b);
       text_alone = λ e h. rw h (ap (text_of names) (plain (is_or e) (expr_pieces brief e)));
       few = omega arith;
       ahead = λ items place. omega arith;
@@ -67,7 +67,7 @@ ands_text brief names =
 ors_text : (brief : Bool) (names : List (List ℕ)) → Joined brief names or_item
 ors_text brief names =
     record {
-      text_join = λ a b. between_text names (expr_pieces brief a) orWord (term_pieces brief b);
+      text_join = λ a b. between_text names (expr_pieces brief a) or_word (term_pieces brief b);
       text_alone = λ e h. rw h;
       few = omega arith;
       ahead = λ items place. omega arith;

@@ -12,7 +12,7 @@ use types.Run.{OneOf, miss}
 use Rattle.paper.specs.Tools.{found, ascii}
 use Rattle.paper.specs.Query.{path, negated}
 use Rattle.paper.specs.Items.{not_item, path_at, Taken, take_steps, take_operand, take_expr, take_within}
-use Rattle.paper.specs.Printing.{Piece, openGroup, closeRound, expr_pieces, relative_pieces, text_of}
+use Rattle.paper.specs.Printing.{Piece, open_group, close_round, expr_pieces, relative_pieces, text_of}
 use Rattle.paper.proofs.Tests.{found_some, none-some}
 use Rattle.item.specs.declared.Item.{Item}
 use Rattle.item.specs.declared.Item.TheVariants.{Path, Step as StepItem, And, Or, Not, Bad}
@@ -99,8 +99,8 @@ is_operator depth w Not ws s p n t = absurd (miss (0 ∷ 1 ∷ 2 ∷ 3 ∷ 5 ∷
 is_operator depth w Bad ws s p n t = none-some (sym (operand_other (take_within depth) w ws s.0 s.2 s.3 s.4) ∙ t.taken_whole)
 
 -- The text in brackets.
-close_text : (names : List (List ℕ)) (ps : List Piece) (opening : List ℕ) → opening ++ text_of names ps ++ (41 ∷ []) ≡ opening ++ text_of names (ps ++ (closeRound ∷ []))
-close_text names ps opening = append_assoc opening (text_of names ps) (41 ∷ []) ∙ ap (λ (x : List ℕ). opening ++ x) (sym (text_append names ps (closeRound ∷ [])))
+close_text : (names : List (List ℕ)) (ps : List Piece) (opening : List ℕ) → opening ++ text_of names ps ++ (41 ∷ []) ≡ opening ++ text_of names (ps ++ (close_round ∷ []))
+close_text names ps opening = append_assoc opening (text_of names ps) (41 ∷ []) ∙ ap (λ (x : List ℕ). opening ++ x) (sym (text_append names ps (close_round ∷ [])))
 
 -- What stands in a bracket, which is one that may be opened.
 module _ (items : List ℕ) (at depth : ℕ) (s : Some (take_operand (take_within depth) (drop at items))) where
@@ -164,7 +164,7 @@ module _ (items : List ℕ) (at depth : ℕ) (s : Some (take_operand (take_withi
         (λ d v.
         let read : take_operand (take_within (suc d)) (drop at items) ≡ some (v.what, drop r.item items) =
         operand_same items at d there o ∙ v.reads ∙ ap (λ (k : ℕ). some (v.what, drop k items)) (sym i) in
-        let grouped-so : operand_pieces brief v.what ≡ openGroup ∷ expr_pieces brief v.what ++ (closeRound ∷ []) =
+        let grouped-so : operand_pieces brief v.what ≡ open_group ∷ expr_pieces brief v.what ++ (close_round ∷ []) =
         rw (in_bracket (get_or items at 0) o v.what (joined_there items at d there o v.what r.item read)) in
         record {
           what = v.what;

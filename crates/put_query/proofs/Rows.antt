@@ -10,9 +10,9 @@ use lib.ListN.{length, get_or, drop}
 use borrow.Author.Tests.{ltb-true, leb-false}
 use Rattle.paper.specs.Limits.{names_limit}
 use Rattle.paper.specs.Tools.{ascii}
-use Rattle.paper.specs.Query.{Axis, Test, anyNode, textNode, named, any_element, Expr, Steps, step, Preds, pred}
+use Rattle.paper.specs.Query.{Axis, Test, any_node, text_node, named, any_element, Expr, Steps, step, Preds, pred}
 use Rattle.paper.specs.Items.{Head, step_at, Taken, take_preds, take_steps, take_expr, take_within, pred_count, test_number, good_test}
-use Rattle.paper.specs.Printing.{Piece, head_pieces, expr_pieces, relative_pieces, later_pieces, preds_pieces, text_of, closePred}
+use Rattle.paper.specs.Printing.{Piece, head_pieces, expr_pieces, relative_pieces, later_pieces, preds_pieces, text_of, close_pred}
 use Rattle.paper.specs.Answers.{unknown_test}
 use Rattle.paper.proofs.Tests.{found_some, some_inj, none-some}
 use Rattle.paper.proofs.Encoding.{from_preds, from_within}
@@ -182,7 +182,7 @@ pred_text : (brief : Bool) (names : List (List ℕ)) (e : Expr) (ps : Preds)
     → (91 ∷ []) ++ text_of names (expr_pieces brief e) ++ (93 ∷ []) ++ text_of names (preds_pieces brief ps) ≡ text_of names (preds_pieces brief (pred e ps))
 pred_text brief names e ps =
     ap (λ (x : List ℕ). 91 ∷ x)
-    (append_assoc (text_of names (expr_pieces brief e)) (93 ∷ []) (text_of names (preds_pieces brief ps)) ∙ sym (text_append names (expr_pieces brief e) (closePred ∷ preds_pieces brief ps)))
+    (append_assoc (text_of names (expr_pieces brief e)) (93 ∷ []) (text_of names (preds_pieces brief ps)) ∙ sym (text_append names (expr_pieces brief e) (close_pred ∷ preds_pieces brief ps)))
 
 -- A predicate more, in its bracket.
 pub pred_turn : (brief : Bool) (names : List (List ℕ)) (depth : ℕ) (items old : List ℕ) (at pen : ℕ) (taken : Taken Preds) (out mid new last : List ℕ) (place byte owed opened byte' : ℕ) (r : Reached)
@@ -237,8 +237,8 @@ head_counted {pen} {old} {new} {next} names brief a t n e p = subst (λ (k : ℕ
 
 -- A test that the list has a name for.
 pub known_test : (count : ℕ) (t : Test) → good_test t ≡ true → unknown_test count t ≡ false → Known count (test_number t)
-known_test count anyNode g u = (omega arith, λ l m. absurd (omega arith))
-known_test count textNode g u = (omega arith, λ l m. absurd (omega arith))
+known_test count any_node g u = (omega arith, λ l m. absurd (omega arith))
+known_test count text_node g u = (omega arith, λ l m. absurd (omega arith))
 known_test count (named v) g u =
     let few : v < names_limit = ltb-true v names_limit g in
     let less : v < count = leb-false count v u in

@@ -11,34 +11,34 @@ use borrow.Author.Tests.{ltb-true, ltb-false}
 use Rattle.paper.proofs.Tests.{decide}
 use Rattle.paper.specs.Tools.{ascii}
 use Rattle.paper.specs.Limits.{names_limit}
-use Rattle.paper.specs.Query.{Axis, self, child, Test, anyNode, textNode, named, any_element}
+use Rattle.paper.specs.Query.{Axis, self, child, Test, any_node, text_node, named, any_element}
 use Rattle.paper.specs.Items.{axis_number, named_from, test_number, good_test}
-use Rattle.paper.specs.Printing.{Piece, colonsSign, axis_word, test_word, axis_text, test_text, plain, head_pieces, text_of}
+use Rattle.paper.specs.Printing.{Piece, colons_sign, axis_word, test_word, axis_text, test_text, plain, head_pieces, text_of}
 use Rattle.put_axes.specs.Along.{along}
 
 -- The word of a test.
 module _ (names : List (List ℕ)) where
   pub test_node : (t : Test) → test_number t ≡ 0 → ascii "node()" ≡ test_text names t
-  test_node anyNode h = refl
-  test_node textNode h = absurd (omega arith)
+  test_node any_node h = refl
+  test_node text_node h = absurd (omega arith)
   test_node (named v) h = absurd (omega arith)
   test_node any_element h = absurd (omega arith)
 
   pub test-text : (t : Test) → test_number t ≡ 1 → ascii "text()" ≡ test_text names t
-  test-text anyNode h = absurd (omega arith)
-  test-text textNode h = refl
+  test-text any_node h = absurd (omega arith)
+  test-text text_node h = refl
   test-text (named v) h = absurd (omega arith)
   test-text any_element h = absurd (omega arith)
 
   pub test_star : (t : Test) → good_test t ≡ true → test_number t ≡ test_number any_element → ascii "*" ≡ test_text names t
-  test_star anyNode g h = absurd (omega arith)
-  test_star textNode g h = absurd (omega arith)
+  test_star any_node g h = absurd (omega arith)
+  test_star text_node g h = absurd (omega arith)
   test_star (named v) g h = absurd (omega (arith, ltb-true v names_limit g))
   test_star any_element g h = refl
 
   pub test_named : (t : Test) (n : ℕ) → n ≡ test_number t → (n ≡ 0 → ⊥) → (n ≡ 1 → ⊥) → (n ≡ test_number any_element → ⊥) → test_text names (named (n - named_from)) ≡ test_text names t
-  test_named anyNode n e h i j = absurd (h e)
-  test_named textNode n e h i j = absurd (i e)
+  test_named any_node n e h i j = absurd (h e)
+  test_named text_node n e h i j = absurd (i e)
   test_named (named v) n e h i j = let d : n - named_from ≡ v = omega arith in ap (λ k. get_or names k []) d
   test_named any_element n e h i j = absurd (j e)
 
@@ -56,7 +56,7 @@ below n m l h = ⊎_elim (λ e. absurd (h e)) (λ k. k) (split n m l)
 
 -- What is asked of the numbers of a step for `.` and `..`: the axis, `node()` and no predicate.
 abbrev pub Asked : Bool → Axis → ℕ → ℕ → ℕ → Bool → Type 0
-Asked brief wanted n m count is = brief && (eqb n (axis_number wanted) && eqb m (test_number anyNode) && eqb count 0) ≡ is
+Asked brief wanted n m count is = brief && (eqb n (axis_number wanted) && eqb m (test_number any_node) && eqb count 0) ≡ is
 
 -- The text of a head, by what was asked.
 module _ (names : List (List ℕ)) (brief : Bool) (a : Axis) (t : Test) (n m count : ℕ) (e : n ≡ axis_number a) (f : m ≡ test_number t) where
@@ -76,7 +76,7 @@ module _ (names : List (List ℕ)) (brief : Bool) (a : Axis) (t : Test) (n m cou
   head_text h i = rw (found self false h, found Axis.parent false i) (go (brief && eqb (axis_number a) (axis_number child)))
     where
       told : List Piece
-      told = axis_word a ∷ colonsSign ∷ test_word t ∷ []
+      told = axis_word a ∷ colons_sign ∷ test_word t ∷ []
 
       go : (b : Bool) → cond b [] (axis_text a ++ ascii "::") ++ test_text names t ≡ text_of names (cond b (test_word t ∷ []) told)
       go true = sym (append-nil (test_text names t))

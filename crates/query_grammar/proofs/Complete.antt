@@ -9,8 +9,8 @@ use mathlib.Core.Logic.{◌⊎◌, inl, inr, ⊎_elim}
 use mathlib.Core.Option.{Option}
 use lib.ListN.{drop}
 use Rattle.paper.specs.Tools.{ascii, same}
-use Rattle.paper.specs.Tokens.{slash, slashes, colons, openSquare, closeSquare, openRound, closeRound, finish, word, Placed}
-use Rattle.paper.specs.Query.{Axis, self, child, parent, Test, anyNode}
+use Rattle.paper.specs.Tokens.{slash, slashes, colons, open_square, close_square, open_round, close_round, finish, word, Placed}
+use Rattle.paper.specs.Query.{Axis, self, child, parent, Test, any_node}
 use Rattle.paper.specs.Query.{Expr, path, Steps, Preds, bare, Query}
 use Rattle.paper.specs.Reading.{Got, got, refused, then, next, sees, says, Step, starts_step}
 use Rattle.paper.specs.Reading.{read_tail, read_tested, read_dot, read_step, read_operand, read_term, read_expr, read_path, read_within}
@@ -51,8 +51,8 @@ and_false false = refl
 
 -- No predicate, call or axis goes on with the token that follows a step;
 pub record Stepped (ts : List Placed) : Type 0 where
-  pub square : sees openSquare ts ≡ false
-  pub round : sees openRound ts ≡ false
+  pub square : sees open_square ts ≡ false
+  pub round : sees open_round ts ≡ false
   pub colon : sees colons ts ≡ false
 
 -- nor a further step;
@@ -68,33 +68,33 @@ pub record Done (ts : List Placed) : Type 0 where
   pub no_or : says (ascii "or") ts ≡ false
 
 -- So with the tokens that close a bracket.
-pub square_done : (p : ℕ) (ts : List Placed) → Done (tok p closeSquare ∷ ts)
+pub square_done : (p : ℕ) (ts : List Placed) → Done (tok p close_square ∷ ts)
 square_done p ts = record { over = record { stepped = record { square = refl; round = refl; colon = refl }; one = refl; two = refl }; no_and = refl; no_or = refl }
 
-pub round_done : (p : ℕ) (ts : List Placed) → Done (tok p closeRound ∷ ts)
+pub round_done : (p : ℕ) (ts : List Placed) → Done (tok p close_round ∷ ts)
 round_done p ts = record { over = record { stepped = record { square = refl; round = refl; colon = refl }; one = refl; two = refl }; no_and = refl; no_or = refl }
 
 module _ (Short : Type 0) (newer : Bool) (look : List ℕ → Option ℕ) (within : ℕ → List Placed → Got Expr) (Inside Read : List Placed → Expr → List Placed → Type 0)
     (sound : (p : ℕ) (ts : List Placed) (e : Expr) (left : List Placed) → within p ts ≡ got e left → Read ts e left)
     (leaves : (ts : List Placed) (e : Expr) (rest : List Placed) → Read ts e rest → Leaves ts rest)
     (inside : (p : ℕ) (ts : List Placed) (e : Expr) (rest : List Placed) → Inside ts e rest → Done rest → Comes Short (within p ts) (got e rest)) where
-  preds_read : {ts rest : List Placed} {ps : Preds} → PredsIn newer look Inside ts ps rest → sees openSquare rest ≡ false → Comes Short (all_preds newer look within ts) (got ps rest)
+  preds_read : {ts rest : List Placed} {ps : Preds} → PredsIn newer look Inside ts ps rest → sees open_square rest ≡ false → Comes Short (all_preds newer look within ts) (got ps rest)
   preds_read {ts} no_pred c = comes (preds_on newer look within Read sound leaves ts ∙ rw c)
   preds_read {ts} (one_pred {q = q} {us = us} i d) c =
       comes_on (preds_on newer look within Read sound leaves ts)
       (comes_then _ (comes_then _ (inside _ _ _ _ i (square_done q us)) (comes refl)) (comes_then _ (preds_read d c) (comes refl)))
 
   -- What follows a test, and is no bracket of predicates, follows the predicates too.
-  tested : {ts rest : List Placed} {ps : Preds} → PredsIn newer look Inside ts ps rest → Stepped rest → (sees openRound ts ≡ false) × (sees colons ts ≡ false)
+  tested : {ts rest : List Placed} {ps : Preds} → PredsIn newer look Inside ts ps rest → Stepped rest → (sees open_round ts ≡ false) × (sees colons ts ≡ false)
   tested no_pred c = (c.round, c.colon)
   tested (one_pred i d) c = (refl, refl)
 
-  tail_read : {ts rest : List Placed} {ps : Preds} (a : Axis) (t : Test) → PredsIn newer look Inside ts ps rest → sees openSquare rest ≡ false
+  tail_read : {ts rest : List Placed} {ps : Preds} (a : Axis) (t : Test) → PredsIn newer look Inside ts ps rest → sees open_square rest ≡ false
       → Comes Short (read_tail newer look within a t ts) (got (record { axis = a; test = t; preds = ps }) rest)
   unfolding read_tail all_preds
   tail_read a t d c = comes_then _ (preds_read d c) (comes refl)
 
-  test_read : {ts us : List Placed} {t : Test} (a : Axis) → TestIn newer look Inside ts t us → sees openRound us ≡ false → read_tested newer look within a ts ≡ read_tail newer look within a t us
+  test_read : {ts us : List Placed} {t : Test} (a : Axis) → TestIn newer look Inside ts t us → sees open_round us ≡ false → read_tested newer look within a ts ≡ read_tail newer look within a t us
   unfolding read_tested
   test_read a star_test c = refl
   test_read a node_test c = refl
@@ -108,14 +108,14 @@ module _ (Short : Type 0) (newer : Bool) (look : List ℕ → Option ℕ) (withi
   no_axis text_test c = refl
   no_axis (name_test e) c = rw c
 
-  dot_read : {ts rest : List Placed} {ps : Preds} (a : Axis) → DotIn newer look Inside ts ps rest → sees openSquare rest ≡ false
-      → Comes Short (read_dot newer look within a ts) (got (record { axis = a; test = anyNode; preds = ps }) rest)
+  dot_read : {ts rest : List Placed} {ps : Preds} (a : Axis) → DotIn newer look Inside ts ps rest → sees open_square rest ≡ false
+      → Comes Short (read_dot newer look within a ts) (got (record { axis = a; test = any_node; preds = ps }) rest)
   dot_read {ts} a dot_alone c = go newer refl
     where
-      go : (b : Bool) → newer ≡ b → Comes Short (read_dot newer look within a ts) (got (record { axis = a; test = anyNode; preds = bare }) ts)
-      go true n = comes_on (rw n) (tail_read a anyNode no_pred c)
+      go : (b : Bool) → newer ≡ b → Comes Short (read_dot newer look within a ts) (got (record { axis = a; test = any_node; preds = bare }) ts)
+      go true n = comes_on (rw n) (tail_read a any_node no_pred c)
       go false n = comes (rw n)
-  dot_read a (dot_preds n d) c = comes_on (rw n) (tail_read a anyNode d c)
+  dot_read a (dot_preds n d) c = comes_on (rw n) (tail_read a any_node d c)
 
   step_read : {ts rest : List Placed} {s : Step} → StepIn newer look Inside ts s rest → Stepped rest → Comes Short (read_step newer look within ts) (got s rest)
   unfolding read_step
@@ -137,11 +137,11 @@ module _ (Short : Type 0) (newer : Bool) (look : List ℕ → Option ℕ) (withi
 
   -- A path is neither `not(..)` nor in round brackets, and starts a step.
   record Starts (ts : List Placed) : Type 0 where
-    no_not : (says (ascii "not") ts && sees openRound (drop 1 ts)) ≡ false
-    no_round : sees openRound ts ≡ false
+    no_not : (says (ascii "not") ts && sees open_round (drop 1 ts)) ≡ false
+    no_round : sees open_round ts ≡ false
     a_step : starts_step (next ts) ≡ true
 
-  test_starts : {ts us : List Placed} {t : Test} → TestIn newer look Inside ts t us → sees openRound us ≡ false → Starts ts
+  test_starts : {ts us : List Placed} {t : Test} → TestIn newer look Inside ts t us → sees open_round us ≡ false → Starts ts
   test_starts star_test c = record { no_not = refl; no_round = refl; a_step = refl }
   test_starts node_test c = record { no_not = refl; no_round = refl; a_step = refl }
   test_starts text_test c = record { no_not = refl; no_round = refl; a_step = refl }

@@ -7,7 +7,7 @@ use mathlib.Core.Bool.{Bool, true, false, cond}
 use mathlib.Core.List.{List, [], ◌∷◌}
 use mathlib.Core.Option.{Option}
 use lib.ListN.{length, drop, length-drop}
-use Rattle.paper.specs.Tokens.{slash, slashes, openSquare, closeSquare, finish, Placed}
+use Rattle.paper.specs.Tokens.{slash, slashes, open_square, close_square, finish, Placed}
 use Rattle.paper.specs.Query.{Expr, Steps, stop, Preds, bare, pred, Query, paths}
 use Rattle.paper.specs.Reading.{Got, got, refused, then, at, sees, says, pass, before, deep, joins}
 use Rattle.paper.specs.Reading.{read_preds, read_tested, read_step, read_steps, read_path, read_paths}
@@ -33,7 +33,7 @@ all_run run a ts = run.more (length ts) a ts
 module _ (newer : Bool) (look : List ℕ → Option ℕ) (within : ℕ → List Placed → Got Expr) where
   abbrev pub preds_turn : (List Placed → Got Preds) → List Placed → Got Preds
   preds_turn more ts =
-      cond (sees openSquare ts) (then (then (within (at ts) (drop 1 ts)) (pass closeSquare)) (λ e left. then (more left) (λ ps. got (pred e ps)))) (got bare ts)
+      cond (sees open_square ts) (then (then (within (at ts) (drop 1 ts)) (pass close_square)) (λ e left. then (more left) (λ ps. got (pred e ps)))) (got bare ts)
 
   abbrev pub steps_turn : (List Placed → Got Steps) → List Placed → Got Steps
   steps_turn more ts =
@@ -97,10 +97,10 @@ module _ (newer : Bool) (look : List ℕ → Option ℕ) (within : ℕ → List 
   -- A turn goes on with fewer tokens than it was given.
   preds_same : (f g : List Placed → Got Preds) (ts : List Placed) → ((left : List Placed) → length left ≤ length ts - 1 → f left ≡ g left) → preds_turn newer look within f ts ≡ preds_turn newer look within g ts
   preds_same f g ts same =
-      cond_same (sees openSquare ts)
-      (then_same (then (within (at ts) (drop 1 ts)) (pass closeSquare)) _ _
+      cond_same (sees open_square ts)
+      (then_same (then (within (at ts) (drop 1 ts)) (pass close_square)) _ _
       (λ e left u.
-      let i = closed_got newer look within Inside sound closeSquare refl (λ w. refl) (at ts) (drop 1 ts) e left u in
+      let i = closed_got newer look within Inside sound close_square refl (λ w. refl) (at ts) (drop 1 ts) e left u in
       let less : suc (length left) ≤ length (drop 1 ts) = leaves_less (leaves _ _ _ i.1) in
       let one : length (drop 1 ts) ≡ length ts - 1 = length-drop 1 ts in
       ap (λ r. then r (λ ps. got (pred e ps))) (same left (omega arith))))

@@ -8,7 +8,7 @@ use mathlib.Core.List.{List, [], ◌∷◌}
 use lib.Dec.{eqb}
 use lib.ListN.{drop}
 use borrow.Author.Tests.{eqb-true}
-use Rattle.paper.specs.Tokens.{Token, slash, slashes, dot, dots, colons, bar, openSquare, closeSquare, openRound, closeRound, star, finish, stray, word, sort, is, letters, Placed}
+use Rattle.paper.specs.Tokens.{Token, slash, slashes, dot, dots, colons, bar, open_square, close_square, open_round, close_round, star, finish, stray, word, sort, is, letters, Placed}
 use Rattle.paper.specs.Reading.{Got, got, refused, then, next, at, sees, says, pass}
 use Rattle.paper.proofs.Same.{same_equal}
 use Rattle.query_grammar.specs.Grammar.{tok}
@@ -22,10 +22,10 @@ of_sort n w =
     (cond (eqb n 3) dots
     (cond (eqb n 4) colons
     (cond (eqb n 5) bar
-    (cond (eqb n 6) openSquare
-    (cond (eqb n 7) closeSquare
-    (cond (eqb n 8) openRound
-    (cond (eqb n 9) closeRound
+    (cond (eqb n 6) open_square
+    (cond (eqb n 7) close_square
+    (cond (eqb n 8) open_round
+    (cond (eqb n 9) close_round
     (cond (eqb n 10) star
     (cond (eqb n 11) finish
     (cond (eqb n 12) stray
@@ -38,10 +38,10 @@ of-sort dot = refl
 of-sort dots = refl
 of-sort colons = refl
 of-sort bar = refl
-of-sort openSquare = refl
-of-sort closeSquare = refl
-of-sort openRound = refl
-of-sort closeRound = refl
+of-sort open_square = refl
+of-sort close_square = refl
+of-sort open_round = refl
+of-sort close_round = refl
 of-sort star = refl
 of-sort finish = refl
 of-sort stray = refl
@@ -64,10 +64,10 @@ not_word dot h = refl
 not_word dots h = refl
 not_word colons h = refl
 not_word bar h = refl
-not_word openSquare h = refl
-not_word closeSquare h = refl
-not_word openRound h = refl
-not_word closeRound h = refl
+not_word open_square h = refl
+not_word close_square h = refl
+not_word open_round h = refl
+not_word close_round h = refl
 not_word star h = refl
 not_word finish h = refl
 not_word stray h = refl

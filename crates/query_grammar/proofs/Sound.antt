@@ -7,8 +7,8 @@ use mathlib.Core.List.{List, [], ◌∷◌}
 use mathlib.Core.Option.{Option, none, some}
 use lib.ListN.{length, drop}
 use Rattle.paper.specs.Tools.{ascii}
-use Rattle.paper.specs.Tokens.{Token, slash, slashes, dot, dots, colons, bar, openSquare, closeSquare, openRound, closeRound, star, finish, word, sort, is, letters, Placed}
-use Rattle.paper.specs.Query.{Axis, self, child, parent, Test, anyNode, textNode, named, any_element}
+use Rattle.paper.specs.Tokens.{Token, slash, slashes, dot, dots, colons, bar, open_square, close_square, open_round, close_round, star, finish, word, sort, is, letters, Placed}
+use Rattle.paper.specs.Query.{Axis, self, child, parent, Test, any_node, text_node, named, any_element}
 use Rattle.paper.specs.Query.{Expr, negated, Steps, stop, Preds, bare, pred, Query}
 use Rattle.paper.specs.Reading.{Got, got, then, next, at, sees, says, pass, axis_named, axis_ahead, Step, deep, starts_step, joins}
 use Rattle.paper.specs.Reading.{read_preds, read_tail, read_name, read_tested, read_axis, read_dot, read_step, read_steps, read_operand, read_term, read_expr, read_path, read_paths, read_within}
@@ -58,15 +58,15 @@ module _ (newer : Bool) (look : List ℕ → Option ℕ) (within : ℕ → List 
   pub preds_got : (n : ℕ) (ts : List Placed) (ps : Preds) (left : List Placed) → read_preds newer look within n ts ≡ got ps left → PredsIn newer look Inside ts ps left
   preds_got zero ts ps left h = as_got (λ x l. PredsIn newer look Inside ts x l) h no_pred
   preds_got (suc n) ts ps left h =
-      chosen (sees openSquare ts) h
+      chosen (sees open_square ts) h
       (λ s k.
-      then_got (then (within (at ts) (drop 1 ts)) (pass closeSquare)) _ k
+      then_got (then (within (at ts) (drop 1 ts)) (pass close_square)) _ k
       (λ e mid u v.
       then_got (read_preds newer look within n mid) _ v
       (λ qs l x y.
-      let i = closed_got closeSquare refl (λ w. refl) (at ts) (drop 1 ts) e mid u in
+      let i = closed_got close_square refl (λ w. refl) (at ts) (drop 1 ts) e mid u in
       as_got (λ z m. PredsIn newer look Inside ts z m) y
-      (subst (λ m. PredsIn newer look Inside m (pred e qs) l) (sym (seen openSquare ts refl s)) (one_pred i.1 (preds_got n mid qs l x))))))
+      (subst (λ m. PredsIn newer look Inside m (pred e qs) l) (sym (seen open_square ts refl s)) (one_pred i.1 (preds_got n mid qs l x))))))
       (λ s k. as_got (λ x l. PredsIn newer look Inside ts x l) k no_pred)
 
   tail-got {ℓ} : {C : Type ℓ} (a : Axis) (t : Test) (ts : List Placed) (s : Step) (left : List Placed) → read_tail newer look within a t ts ≡ got s left
@@ -78,20 +78,20 @@ module _ (newer : Bool) (look : List ℕ → Option ℕ) (within : ℕ → List 
 
   -- `node()` and `text()`, each with the predicates after it.
   call-got {ℓ} : {C : Type ℓ} (x : ℕ) (w : List ℕ) (a : Axis) (t : Test) (ts : List Placed) (s : Step) (left : List Placed)
-      → (sees openRound (drop 1 ts) && says (x ∷ w) ts) ≡ true → then (pass closeRound t (drop 2 ts)) (read_tail newer look within a) ≡ got s left
-      → ((p q r : ℕ) (us : List Placed) (ps : Preds) → ts ≡ tok p (word (x ∷ w)) ∷ tok q openRound ∷ tok r closeRound ∷ us → PredsIn newer look Inside us ps left
+      → (sees open_round (drop 1 ts) && says (x ∷ w) ts) ≡ true → then (pass close_round t (drop 2 ts)) (read_tail newer look within a) ≡ got s left
+      → ((p q r : ℕ) (us : List Placed) (ps : Preds) → ts ≡ tok p (word (x ∷ w)) ∷ tok q open_round ∷ tok r close_round ∷ us → PredsIn newer look Inside us ps left
       → record { axis = a; test = t; preds = ps } ≡ s → C) → C
   call-got x w a t ts s left c h k =
-      then_got (pass closeRound t (drop 2 ts)) (read_tail newer look within a) h
+      then_got (pass close_round t (drop 2 ts)) (read_tail newer look within a) h
       (λ t' mid u v.
-      passed closeRound t (drop 2 ts) u
+      passed close_round t (drop 2 ts) u
       (λ z et el.
       tail-got a t' mid s left v
       (λ ps d f.
-      let b = and_true (sees openRound (drop 1 ts)) (says (x ∷ w) ts) c in
-      let two : drop 1 (drop 1 ts) ≡ tok (at (drop 2 ts)) closeRound ∷ mid = drop_two ts ∙ seen closeRound (drop 2 ts) refl z ∙ ap (λ l. tok (at (drop 2 ts)) closeRound ∷ l) el in
-      let one : drop 1 ts ≡ tok (at (drop 1 ts)) openRound ∷ tok (at (drop 2 ts)) closeRound ∷ mid =
-      seen openRound (drop 1 ts) refl b.0 ∙ ap (λ l. tok (at (drop 1 ts)) openRound ∷ l) two in
+      let b = and_true (sees open_round (drop 1 ts)) (says (x ∷ w) ts) c in
+      let two : drop 1 (drop 1 ts) ≡ tok (at (drop 2 ts)) close_round ∷ mid = drop_two ts ∙ seen close_round (drop 2 ts) refl z ∙ ap (λ l. tok (at (drop 2 ts)) close_round ∷ l) el in
+      let one : drop 1 ts ≡ tok (at (drop 1 ts)) open_round ∷ tok (at (drop 2 ts)) close_round ∷ mid =
+      seen open_round (drop 1 ts) refl b.0 ∙ ap (λ l. tok (at (drop 1 ts)) open_round ∷ l) two in
       k (at ts) (at (drop 1 ts)) (at (drop 2 ts)) mid ps (said x w ts b.1 ∙ ap (λ l. tok (at ts) (word (x ∷ w)) ∷ l) one) d
       (ap (λ y. record { axis = a; test = y; preds = ps }) et ∙ f))))
 
@@ -105,11 +105,11 @@ module _ (newer : Bool) (look : List ℕ → Option ℕ) (within : ℕ → List 
       tail-got a any_element (drop 1 ts) s left e
       (λ ps d f. k any_element (drop 1 ts) ps (subst (λ m. TestIn newer look Inside m any_element (drop 1 ts)) (sym (seen star ts refl c)) star_test) d f))
       (λ c1 e1.
-      chosen (sees openRound (drop 1 ts) && says (ascii "node") ts) e1
-      (λ c e. call-got 110 (ascii "ode") a anyNode ts s left c e (λ p q r us ps m d f. k anyNode us ps (subst (λ l. TestIn newer look Inside l anyNode us) (sym m) node_test) d f))
+      chosen (sees open_round (drop 1 ts) && says (ascii "node") ts) e1
+      (λ c e. call-got 110 (ascii "ode") a any_node ts s left c e (λ p q r us ps m d f. k any_node us ps (subst (λ l. TestIn newer look Inside l any_node us) (sym m) node_test) d f))
       (λ c2 e2.
-      chosen (sees openRound (drop 1 ts) && says (ascii "text") ts) e2
-      (λ c e. call-got 116 (ascii "ext") a textNode ts s left c e (λ p q r us ps m d f. k textNode us ps (subst (λ l. TestIn newer look Inside l textNode us) (sym m) text_test) d f))
+      chosen (sees open_round (drop 1 ts) && says (ascii "text") ts) e2
+      (λ c e. call-got 116 (ascii "ext") a text_node ts s left c e (λ p q r us ps m d f. k text_node us ps (subst (λ l. TestIn newer look Inside l text_node us) (sym m) text_test) d f))
       (λ c3 e3. chosen (sees (word []) ts) e3 (λ c e. name (look (letters (next ts))) refl c e) (λ c e. not-got e))))
     where
       name : (o : Option ℕ) → look (letters (next ts)) ≡ o → sees (word []) ts ≡ true → read_name newer look within o a ts ≡ got s left → C
@@ -120,9 +120,9 @@ module _ (newer : Bool) (look : List ℕ → Option ℕ) (within : ℕ → List 
 
   -- What follows `.` and `..`.
   dot-got {ℓ} : {C : Type ℓ} (a : Axis) (ts : List Placed) (s : Step) (left : List Placed) → read_dot newer look within a ts ≡ got s left
-      → ((ps : Preds) → DotIn newer look Inside ts ps left → record { axis = a; test = anyNode; preds = ps } ≡ s → C) → C
+      → ((ps : Preds) → DotIn newer look Inside ts ps left → record { axis = a; test = any_node; preds = ps } ≡ s → C) → C
   dot-got a ts s left h k =
-      chosen newer h (λ n e. tail-got a anyNode ts s left e (λ ps d f. k ps (dot_preds n d) f))
+      chosen newer h (λ n e. tail-got a any_node ts s left e (λ ps d f. k ps (dot_preds n d) f))
       (λ n e. k bare (subst (λ l. DotIn newer look Inside ts bare l) (got_left e) dot_alone) (got_value e))
 
   -- A step.
@@ -132,12 +132,12 @@ module _ (newer : Bool) (look : List ℕ → Option ℕ) (within : ℕ → List 
       chosen (sees dot ts) h
       (λ c e.
       dot-got self (drop 1 ts) s left e
-      (λ ps d q. subst (λ x. StepIn newer look Inside ts x left) q (subst (λ m. StepIn newer look Inside m (record { axis = self; test = anyNode; preds = ps }) left) (sym (seen dot ts refl c)) (dot_step d))))
+      (λ ps d q. subst (λ x. StepIn newer look Inside ts x left) q (subst (λ m. StepIn newer look Inside m (record { axis = self; test = any_node; preds = ps }) left) (sym (seen dot ts refl c)) (dot_step d))))
       (λ c1 e1.
       chosen (sees dots ts) e1
       (λ c e.
       dot-got parent (drop 1 ts) s left e
-      (λ ps d q. subst (λ x. StepIn newer look Inside ts x left) q (subst (λ m. StepIn newer look Inside m (record { axis = parent; test = anyNode; preds = ps }) left) (sym (seen dots ts refl c)) (dots_step d))))
+      (λ ps d q. subst (λ x. StepIn newer look Inside ts x left) q (subst (λ m. StepIn newer look Inside m (record { axis = parent; test = any_node; preds = ps }) left) (sym (seen dots ts refl c)) (dots_step d))))
       (λ c e. full (axis_ahead ts) refl e))
     where
       full : (o : Option Axis) → axis_ahead ts ≡ o → read_axis newer look within o ts ≡ got s left → StepIn newer look Inside ts s left
@@ -174,21 +174,21 @@ module _ (newer : Bool) (look : List ℕ → Option ℕ) (within : ℕ → List 
   pub operand_got : (ts : List Placed) (e : Expr) (left : List Placed) → read_operand newer look within ts ≡ got e left → OperandIn newer look Inside ts e left
   unfolding read_operand
   operand_got ts x left h =
-      chosen (says (ascii "not") ts && sees openRound (drop 1 ts)) h
+      chosen (says (ascii "not") ts && sees open_round (drop 1 ts)) h
       (λ c e.
-      then_got (then (within (at (drop 1 ts)) (drop 2 ts)) (pass closeRound)) _ e
+      then_got (then (within (at (drop 1 ts)) (drop 2 ts)) (pass close_round)) _ e
       (λ a mid u v.
-      let i = closed_got closeRound refl (λ w. refl) (at (drop 1 ts)) (drop 2 ts) a mid u in
-      let b = and_true (says (ascii "not") ts) (sees openRound (drop 1 ts)) c in
-      let rest : drop 1 ts ≡ tok (at (drop 1 ts)) openRound ∷ drop 2 ts = seen openRound (drop 1 ts) refl b.1 ∙ ap (λ l. tok (at (drop 1 ts)) openRound ∷ l) (drop_two ts) in
-      let whole : ts ≡ tok (at ts) (word (ascii "not")) ∷ tok (at (drop 1 ts)) openRound ∷ drop 2 ts =
+      let i = closed_got close_round refl (λ w. refl) (at (drop 1 ts)) (drop 2 ts) a mid u in
+      let b = and_true (says (ascii "not") ts) (sees open_round (drop 1 ts)) c in
+      let rest : drop 1 ts ≡ tok (at (drop 1 ts)) open_round ∷ drop 2 ts = seen open_round (drop 1 ts) refl b.1 ∙ ap (λ l. tok (at (drop 1 ts)) open_round ∷ l) (drop_two ts) in
+      let whole : ts ≡ tok (at ts) (word (ascii "not")) ∷ tok (at (drop 1 ts)) open_round ∷ drop 2 ts =
       said 110 (ascii "ot") ts b.0 ∙ ap (λ l. tok (at ts) (word (ascii "not")) ∷ l) rest in
       as_got (λ z m. OperandIn newer look Inside ts z m) v (subst (λ m. OperandIn newer look Inside m (negated a) mid) (sym whole) (not_operand i.1))))
       (λ c1 e1.
-      chosen (sees openRound ts) e1
+      chosen (sees open_round ts) e1
       (λ c e.
-      let i = closed_got closeRound refl (λ w. refl) (at ts) (drop 1 ts) x left e in
-      subst (λ m. OperandIn newer look Inside m x left) (sym (seen openRound ts refl c)) (round_operand i.1))
+      let i = closed_got close_round refl (λ w. refl) (at ts) (drop 1 ts) x left e in
+      subst (λ m. OperandIn newer look Inside m x left) (sym (seen open_round ts refl c)) (round_operand i.1))
       (λ c e.
       then_got (read_steps newer look within (length ts) ts) _ e
       (λ s mid u v. as_got (λ z m. OperandIn newer look Inside ts z m) v (path_operand (steps_got (length ts) ts s mid u)))))

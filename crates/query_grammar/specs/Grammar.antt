@@ -4,8 +4,8 @@ use Rattle.std.specs.Prelude.{ℕ, zero, suc, ◌≡◌, Bool, true, false, cond
 use Rattle.std.proofs.Math.Option.{Option, none, some}
 use Rattle.paper.specs.Tools.{ascii}
 use Rattle.paper.specs.Limits.{bracket_limit}
-use Rattle.paper.specs.Tokens.{Token, slash, slashes, dot, dots, colons, bar, openSquare, closeSquare, openRound, closeRound, star, finish, stray, word, is, Placed, tokens}
-use Rattle.paper.specs.Query.{Axis, self, child, parent, Test, anyNode, textNode, named, any_element}
+use Rattle.paper.specs.Tokens.{Token, slash, slashes, dot, dots, colons, bar, open_square, close_square, open_round, close_round, star, finish, stray, word, is, Placed, tokens}
+use Rattle.paper.specs.Query.{Axis, self, child, parent, Test, any_node, text_node, named, any_element}
 use Rattle.paper.specs.Query.{Expr, path, both, either, negated, Steps, stop, step, Preds, bare, pred, Query, paths}
 use Rattle.paper.specs.Reading.{Got, got, sees, axis_named, axis_ahead, Step, before, deep, read_step, read_paths, read_within, read_text}
 
@@ -28,14 +28,14 @@ module _ (newer : Bool) (look : List ℕ → Option ℕ) (Inside : List Placed �
   -- Predicates: any number of `[` expression `]`.
   pub data PredsIn : List Placed → Preds → List Placed → Type 0 where
     no_pred : {ts : List Placed} → PredsIn ts bare ts
-    one_pred : {p q : ℕ} {ts us rest : List Placed} {e : Expr} {ps : Preds} → Inside ts e (tok q closeSquare ∷ us) → PredsIn us ps rest
-        → PredsIn (tok p openSquare ∷ ts) (pred e ps) rest
+    one_pred : {p q : ℕ} {ts us rest : List Placed} {e : Expr} {ps : Preds} → Inside ts e (tok q close_square ∷ us) → PredsIn us ps rest
+        → PredsIn (tok p open_square ∷ ts) (pred e ps) rest
 
   -- A test: `*`, `node()`, `text()`, or a name.
   pub data TestIn : List Placed → Test → List Placed → Type 0 where
     star_test : {p : ℕ} {ts : List Placed} → TestIn (tok p star ∷ ts) any_element ts
-    node_test : {p q r : ℕ} {ts : List Placed} → TestIn (tok p (word (ascii "node")) ∷ tok q openRound ∷ tok r closeRound ∷ ts) anyNode ts
-    text_test : {p q r : ℕ} {ts : List Placed} → TestIn (tok p (word (ascii "text")) ∷ tok q openRound ∷ tok r closeRound ∷ ts) textNode ts
+    node_test : {p q r : ℕ} {ts : List Placed} → TestIn (tok p (word (ascii "node")) ∷ tok q open_round ∷ tok r close_round ∷ ts) any_node ts
+    text_test : {p q r : ℕ} {ts : List Placed} → TestIn (tok p (word (ascii "text")) ∷ tok q open_round ∷ tok r close_round ∷ ts) text_node ts
     name_test : {p v : ℕ} {w : List ℕ} {ts : List Placed} → look w ≡ some v → TestIn (tok p (word w) ∷ ts) (named v) ts
 
   -- What follows `.` and `..`: nothing, or by version 2 predicates.
@@ -45,8 +45,8 @@ module _ (newer : Bool) (look : List ℕ → Option ℕ) (Inside : List Placed �
 
   -- A step: `.`, `..`, or test and predicates, after an axis and `::` or alone.
   pub data StepIn : List Placed → Step → List Placed → Type 0 where
-    dot_step : {p : ℕ} {ts rest : List Placed} {ps : Preds} → DotIn ts ps rest → StepIn (tok p dot ∷ ts) (record { axis = self; test = anyNode; preds = ps }) rest
-    dots_step : {p : ℕ} {ts rest : List Placed} {ps : Preds} → DotIn ts ps rest → StepIn (tok p dots ∷ ts) (record { axis = parent; test = anyNode; preds = ps }) rest
+    dot_step : {p : ℕ} {ts rest : List Placed} {ps : Preds} → DotIn ts ps rest → StepIn (tok p dot ∷ ts) (record { axis = self; test = any_node; preds = ps }) rest
+    dots_step : {p : ℕ} {ts rest : List Placed} {ps : Preds} → DotIn ts ps rest → StepIn (tok p dots ∷ ts) (record { axis = parent; test = any_node; preds = ps }) rest
     child_step : {ts us rest : List Placed} {t : Test} {ps : Preds} → TestIn ts t us → PredsIn us ps rest
         → StepIn ts (record { axis = child; test = t; preds = ps }) rest
     axis_step : {p q : ℕ} {w : List ℕ} {a : Axis} {ts us rest : List Placed} {t : Test} {ps : Preds} → axis_named w ≡ some a → TestIn ts t us → PredsIn us ps rest
@@ -62,9 +62,9 @@ module _ (newer : Bool) (look : List ℕ → Option ℕ) (Inside : List Placed �
   -- An operand: steps, `(` expression `)`, or `not(` expression `)`.
   pub data OperandIn : List Placed → Expr → List Placed → Type 0 where
     path_operand : {ts rest : List Placed} {s : Steps} → StepsIn ts s rest → OperandIn ts (path s) rest
-    round_operand : {p q : ℕ} {ts rest : List Placed} {e : Expr} → Inside ts e (tok q closeRound ∷ rest) → OperandIn (tok p openRound ∷ ts) e rest
-    not_operand : {p q r : ℕ} {ts rest : List Placed} {e : Expr} → Inside ts e (tok r closeRound ∷ rest)
-        → OperandIn (tok p (word (ascii "not")) ∷ tok q openRound ∷ ts) (negated e) rest
+    round_operand : {p q : ℕ} {ts rest : List Placed} {e : Expr} → Inside ts e (tok q close_round ∷ rest) → OperandIn (tok p open_round ∷ ts) e rest
+    not_operand : {p q r : ℕ} {ts rest : List Placed} {e : Expr} → Inside ts e (tok r close_round ∷ rest)
+        → OperandIn (tok p (word (ascii "not")) ∷ tok q open_round ∷ ts) (negated e) rest
 
   -- A term: an operand, or a term, `and` and an operand.
   pub data TermIn : List Placed → Expr → List Placed → Type 0 where
@@ -137,7 +137,7 @@ Unique = (newer : Bool) (look : List ℕ → Option ℕ) (c d : ℕ) (ts : List 
 
 -- A token at a place written out: `//` as `/descendant-or-self::node()/`, `.` as `self::node()`, `..` as `parent::node()`.
 abbrev pub nodes_along : ℕ → List ℕ → List Placed → List Placed
-nodes_along p axis rest = tok p (word axis) ∷ tok p colons ∷ tok p (word (ascii "node")) ∷ tok p openRound ∷ tok p closeRound ∷ rest
+nodes_along p axis rest = tok p (word axis) ∷ tok p colons ∷ tok p (word (ascii "node")) ∷ tok p open_round ∷ tok p close_round ∷ rest
 
 abbrev pub spell : Token → ℕ → List Placed → List Placed
 spell slash p rest = tok p slash ∷ rest
@@ -146,10 +146,10 @@ spell dot p rest = nodes_along p (ascii "self") rest
 spell dots p rest = nodes_along p (ascii "parent") rest
 spell colons p rest = tok p colons ∷ rest
 spell bar p rest = tok p bar ∷ rest
-spell openSquare p rest = tok p openSquare ∷ rest
-spell closeSquare p rest = tok p closeSquare ∷ rest
-spell openRound p rest = tok p openRound ∷ rest
-spell closeRound p rest = tok p closeRound ∷ rest
+spell open_square p rest = tok p open_square ∷ rest
+spell close_square p rest = tok p close_square ∷ rest
+spell open_round p rest = tok p open_round ∷ rest
+spell close_round p rest = tok p close_round ∷ rest
 spell star p rest = tok p star ∷ rest
 spell finish p rest = tok p finish ∷ rest
 spell stray p rest = tok p stray ∷ rest

@@ -8,8 +8,8 @@ use mathlib.Core.List.{List, [], ◌∷◌}
 use mathlib.Core.Option.{Option, none, some}
 use lib.ListN.{length, drop}
 use Rattle.paper.specs.Tools.{ascii}
-use Rattle.paper.specs.Tokens.{Token, slash, slashes, dot, dots, colons, openSquare, closeSquare, openRound, closeRound, star, finish, word, letters, Placed}
-use Rattle.paper.specs.Query.{Axis, self, child, parent, Test, anyNode, textNode, named, any_element}
+use Rattle.paper.specs.Tokens.{Token, slash, slashes, dot, dots, colons, open_square, close_square, open_round, close_round, star, finish, word, letters, Placed}
+use Rattle.paper.specs.Query.{Axis, self, child, parent, Test, any_node, text_node, named, any_element}
 use Rattle.paper.specs.Query.{Expr, path, negated, Steps, stop, Preds, bare, pred, paths}
 use Rattle.paper.specs.Reading.{Got, got, refused, then, next, at, sees, says, pass, axis_ahead, before, deep, starts_step, joins}
 use Rattle.paper.specs.Reading.{read_preds, read_tail, read_name, read_tested, read_axis, read_dot, read_step, read_steps, read_operand, read_term, read_expr, read_path, read_paths, read_within}
@@ -131,22 +131,22 @@ module _ (newer : Bool) (look : List ℕ → Option ℕ) (known : AllKnown look)
   preds_deep : (n : ℕ) (ts : List Placed) (p : ℕ) → read_preds newer look within n ts ≡ refused 4 p → Deep (PredsIn newer look Inside) (PredsIn newer look More) d ts p
   preds_deep zero ts p h = got-refused h
   preds_deep (suc n) ts p h =
-      chosen (sees openSquare ts) h
+      chosen (sees open_square ts) h
       (λ s k.
-      subst (λ l. Deep (PredsIn newer look Inside) (PredsIn newer look More) d l p) (sym (seen openSquare ts refl s))
-      (then-refused (then (within (at ts) (drop 1 ts)) (pass closeSquare)) _ k
+      subst (λ l. Deep (PredsIn newer look Inside) (PredsIn newer look More) d l p) (sym (seen open_square ts refl s))
+      (then-refused (then (within (at ts) (drop 1 ts)) (pass close_square)) _ k
       (λ e.
-      bracket_deep (PredsIn newer look Inside) (PredsIn newer look More) (λ l. l) front_none openSquare closeSquare (at ts) refl refl (λ x. pred x bare)
-      (λ us rest x i. one_pred i no_pred) (λ us rest x i. one_pred i no_pred) (λ l. l, bare, λ rest. no_pred) (drop 1 ts) p (closed_four (within (at ts) (drop 1 ts)) closeSquare e))
+      bracket_deep (PredsIn newer look Inside) (PredsIn newer look More) (λ l. l) front_none open_square close_square (at ts) refl refl (λ x. pred x bare)
+      (λ us rest x i. one_pred i no_pred) (λ us rest x i. one_pred i no_pred) (λ l. l, bare, λ rest. no_pred) (drop 1 ts) p (closed_four (within (at ts) (drop 1 ts)) close_square e))
       (λ e mid u v.
       then-refused (read_preds newer look within n mid) _ v
       (λ r.
-      let i = closed_got newer look within Inside sound closeSquare refl (λ w. refl) (at ts) (drop 1 ts) e mid u in
-      let x = piece (drop 1 ts) e (tok i.0 closeSquare ∷ mid) i.1 in
-      deep_on (PredsIn newer look Inside) (PredsIn newer look More) d d p (tok (at ts) openSquare ∷ drop 1 ts) mid (λ l. tok (at ts) openSquare ∷ x.put (tok i.0 closeSquare ∷ l)) (λ l. l) (pred e)
-      (λ g f. front_then (front_close (tok i.0 closeSquare) refl refl (front_open (tok (at ts) openSquare) refl refl x.front)) f)
-      (ap (λ l. tok (at ts) openSquare ∷ l) x.split)
-      (λ us rest ps y. one_pred (x.here (tok i.0 closeSquare ∷ us)) y) (λ us rest ps y. one_pred (x.deeper (tok i.0 closeSquare ∷ us)) y)
+      let i = closed_got newer look within Inside sound close_square refl (λ w. refl) (at ts) (drop 1 ts) e mid u in
+      let x = piece (drop 1 ts) e (tok i.0 close_square ∷ mid) i.1 in
+      deep_on (PredsIn newer look Inside) (PredsIn newer look More) d d p (tok (at ts) open_square ∷ drop 1 ts) mid (λ l. tok (at ts) open_square ∷ x.put (tok i.0 close_square ∷ l)) (λ l. l) (pred e)
+      (λ g f. front_then (front_close (tok i.0 close_square) refl refl (front_open (tok (at ts) open_square) refl refl x.front)) f)
+      (ap (λ l. tok (at ts) open_square ∷ l) x.split)
+      (λ us rest ps y. one_pred (x.here (tok i.0 close_square ∷ us)) y) (λ us rest ps y. one_pred (x.deeper (tok i.0 close_square ∷ us)) y)
       (preds_deep n mid p r))
       (λ ps l x y. got-refused y))))
       (λ s k. got-refused k)
@@ -163,21 +163,21 @@ module _ (newer : Bool) (look : List ℕ → Option ℕ) (known : AllKnown look)
   after_test t p ts mid g f s here deeper x =
       deep_on (Tested newer look Inside) (Tested newer look More) d d p ts mid g (λ l. l) (λ ps. (t, ps)) f s (λ us rest ps y. (us, here us, y)) (λ us rest ps y. (us, deeper us, y)) x
 
-  call_deep : (x : ℕ) (w : List ℕ) (a : Axis) (t : Test) (ts : List Placed) (p : ℕ) → (sees openRound (drop 1 ts) && says (x ∷ w) ts) ≡ true
-      → then (pass closeRound t (drop 2 ts)) (read_tail newer look within a) ≡ refused 4 p
-      → ((i j k : ℕ) (us : List Placed) → TestIn newer look Inside (tok i (word (x ∷ w)) ∷ tok j openRound ∷ tok k closeRound ∷ us) t us)
-      → ((i j k : ℕ) (us : List Placed) → TestIn newer look More (tok i (word (x ∷ w)) ∷ tok j openRound ∷ tok k closeRound ∷ us) t us) → Deep (Tested newer look Inside) (Tested newer look More) d ts p
+  call_deep : (x : ℕ) (w : List ℕ) (a : Axis) (t : Test) (ts : List Placed) (p : ℕ) → (sees open_round (drop 1 ts) && says (x ∷ w) ts) ≡ true
+      → then (pass close_round t (drop 2 ts)) (read_tail newer look within a) ≡ refused 4 p
+      → ((i j k : ℕ) (us : List Placed) → TestIn newer look Inside (tok i (word (x ∷ w)) ∷ tok j open_round ∷ tok k close_round ∷ us) t us)
+      → ((i j k : ℕ) (us : List Placed) → TestIn newer look More (tok i (word (x ∷ w)) ∷ tok j open_round ∷ tok k close_round ∷ us) t us) → Deep (Tested newer look Inside) (Tested newer look More) d ts p
   call_deep x w a t ts p c h here deeper =
-      then-refused (pass closeRound t (drop 2 ts)) (read_tail newer look within a) h (λ r. pass-four closeRound t (drop 2 ts) r)
+      then-refused (pass close_round t (drop 2 ts)) (read_tail newer look within a) h (λ r. pass-four close_round t (drop 2 ts) r)
       (λ t' mid u v.
-      passed closeRound t (drop 2 ts) u
+      passed close_round t (drop 2 ts) u
       (λ z et el.
-      let b = and_true (sees openRound (drop 1 ts)) (says (x ∷ w) ts) c in
-      let two : drop 1 (drop 1 ts) ≡ tok (at (drop 2 ts)) closeRound ∷ mid = drop_two ts ∙ seen closeRound (drop 2 ts) refl z ∙ ap (λ l. tok (at (drop 2 ts)) closeRound ∷ l) el in
-      let one : drop 1 ts ≡ tok (at (drop 1 ts)) openRound ∷ tok (at (drop 2 ts)) closeRound ∷ mid =
-      seen openRound (drop 1 ts) refl b.0 ∙ ap (λ l. tok (at (drop 1 ts)) openRound ∷ l) two in
-      after_test t p ts mid (λ us. tok (at ts) (word (x ∷ w)) ∷ tok (at (drop 1 ts)) openRound ∷ tok (at (drop 2 ts)) closeRound ∷ us)
-      (λ g f. front_cons (tok (at ts) (word (x ∷ w))) refl refl (front_then (front_close (tok (at (drop 2 ts)) closeRound) refl refl (front_open (tok (at (drop 1 ts)) openRound) refl refl front_none)) f))
+      let b = and_true (sees open_round (drop 1 ts)) (says (x ∷ w) ts) c in
+      let two : drop 1 (drop 1 ts) ≡ tok (at (drop 2 ts)) close_round ∷ mid = drop_two ts ∙ seen close_round (drop 2 ts) refl z ∙ ap (λ l. tok (at (drop 2 ts)) close_round ∷ l) el in
+      let one : drop 1 ts ≡ tok (at (drop 1 ts)) open_round ∷ tok (at (drop 2 ts)) close_round ∷ mid =
+      seen open_round (drop 1 ts) refl b.0 ∙ ap (λ l. tok (at (drop 1 ts)) open_round ∷ l) two in
+      after_test t p ts mid (λ us. tok (at ts) (word (x ∷ w)) ∷ tok (at (drop 1 ts)) open_round ∷ tok (at (drop 2 ts)) close_round ∷ us)
+      (λ g f. front_cons (tok (at ts) (word (x ∷ w))) refl refl (front_then (front_close (tok (at (drop 2 ts)) close_round) refl refl (front_open (tok (at (drop 1 ts)) open_round) refl refl front_none)) f))
       (said x w ts b.1 ∙ ap (λ l. tok (at ts) (word (x ∷ w)) ∷ l) one) (here (at ts) (at (drop 1 ts)) (at (drop 2 ts))) (deeper (at ts) (at (drop 1 ts)) (at (drop 2 ts)))
       (tail_deep a t' mid p v)))
 
@@ -189,11 +189,11 @@ module _ (newer : Bool) (look : List ℕ → Option ℕ) (known : AllKnown look)
       after_test any_element p ts (drop 1 ts) (λ us. tok (at ts) star ∷ us) (λ g f. front_cons (tok (at ts) star) refl refl f) (seen star ts refl c) (λ us. star_test) (λ us. star_test)
       (tail_deep a any_element (drop 1 ts) p e))
       (λ c1 e1.
-      chosen (sees openRound (drop 1 ts) && says (ascii "node") ts) e1
-      (λ c e. call_deep 110 (ascii "ode") a anyNode ts p c e (λ i j k us. node_test) (λ i j k us. node_test))
+      chosen (sees open_round (drop 1 ts) && says (ascii "node") ts) e1
+      (λ c e. call_deep 110 (ascii "ode") a any_node ts p c e (λ i j k us. node_test) (λ i j k us. node_test))
       (λ c2 e2.
-      chosen (sees openRound (drop 1 ts) && says (ascii "text") ts) e2
-      (λ c e. call_deep 116 (ascii "ext") a textNode ts p c e (λ i j k us. text_test) (λ i j k us. text_test))
+      chosen (sees open_round (drop 1 ts) && says (ascii "text") ts) e2
+      (λ c e. call_deep 116 (ascii "ext") a text_node ts p c e (λ i j k us. text_test) (λ i j k us. text_test))
       (λ c3 e3. chosen (sees (word []) ts) e3 (λ c e. name (look (letters (next ts))) refl c e) (λ c e. three-four e))))
     where
       name : (o : Option ℕ) → look (letters (next ts)) ≡ o → sees (word []) ts ≡ true → read_name newer look within o a ts ≡ refused 4 p → Deep (Tested newer look Inside) (Tested newer look More) d ts p
@@ -207,7 +207,7 @@ module _ (newer : Bool) (look : List ℕ → Option ℕ) (known : AllKnown look)
       chosen newer h
       (λ n e.
       deep_on (DotIn newer look Inside) (DotIn newer look More) d d p ts ts (λ l. l) (λ l. l) (λ ps. ps) (λ g f. f) refl (λ us rest ps y. dot_preds n y) (λ us rest ps y. dot_preds n y)
-      (tail_deep a anyNode ts p e))
+      (tail_deep a any_node ts p e))
       (λ n e. got-refused e)
 
   step_deep : (ts : List Placed) (p : ℕ) → read_step newer look within ts ≡ refused 4 p → Deep (StepIn newer look Inside) (StepIn newer look More) d ts p
@@ -215,12 +215,12 @@ module _ (newer : Bool) (look : List ℕ → Option ℕ) (known : AllKnown look)
   step_deep ts p h =
       chosen (sees dot ts) h
       (λ c e.
-      deep_on (StepIn newer look Inside) (StepIn newer look More) d d p ts (drop 1 ts) (λ l. tok (at ts) dot ∷ l) (λ l. l) (λ ps. record { axis = self; test = anyNode; preds = ps })
+      deep_on (StepIn newer look Inside) (StepIn newer look More) d d p ts (drop 1 ts) (λ l. tok (at ts) dot ∷ l) (λ l. l) (λ ps. record { axis = self; test = any_node; preds = ps })
       (λ g f. front_cons (tok (at ts) dot) refl refl f) (seen dot ts refl c) (λ us rest ps y. dot_step y) (λ us rest ps y. dot_step y) (dot_deep self (drop 1 ts) p e))
       (λ c1 e1.
       chosen (sees dots ts) e1
       (λ c e.
-      deep_on (StepIn newer look Inside) (StepIn newer look More) d d p ts (drop 1 ts) (λ l. tok (at ts) dots ∷ l) (λ l. l) (λ ps. record { axis = parent; test = anyNode; preds = ps })
+      deep_on (StepIn newer look Inside) (StepIn newer look More) d d p ts (drop 1 ts) (λ l. tok (at ts) dots ∷ l) (λ l. l) (λ ps. record { axis = parent; test = any_node; preds = ps })
       (λ g f. front_cons (tok (at ts) dots) refl refl f) (seen dots ts refl c) (λ us rest ps y. dots_step y) (λ us rest ps y. dots_step y) (dot_deep parent (drop 1 ts) p e))
       (λ c e. full (axis_ahead ts) refl e))
     where
@@ -270,24 +270,24 @@ module _ (newer : Bool) (look : List ℕ → Option ℕ) (known : AllKnown look)
   operand_deep : (ts : List Placed) (p : ℕ) → read_operand newer look within ts ≡ refused 4 p → Deep (OperandIn newer look Inside) (OperandIn newer look More) d ts p
   unfolding read_operand
   operand_deep ts p h =
-      chosen (says (ascii "not") ts && sees openRound (drop 1 ts)) h
+      chosen (says (ascii "not") ts && sees open_round (drop 1 ts)) h
       (λ c e.
-      let b = and_true (says (ascii "not") ts) (sees openRound (drop 1 ts)) c in
-      let rest : drop 1 ts ≡ tok (at (drop 1 ts)) openRound ∷ drop 2 ts = seen openRound (drop 1 ts) refl b.1 ∙ ap (λ l. tok (at (drop 1 ts)) openRound ∷ l) (drop_two ts) in
-      let whole : ts ≡ tok (at ts) (word (ascii "not")) ∷ tok (at (drop 1 ts)) openRound ∷ drop 2 ts =
+      let b = and_true (says (ascii "not") ts) (sees open_round (drop 1 ts)) c in
+      let rest : drop 1 ts ≡ tok (at (drop 1 ts)) open_round ∷ drop 2 ts = seen open_round (drop 1 ts) refl b.1 ∙ ap (λ l. tok (at (drop 1 ts)) open_round ∷ l) (drop_two ts) in
+      let whole : ts ≡ tok (at ts) (word (ascii "not")) ∷ tok (at (drop 1 ts)) open_round ∷ drop 2 ts =
       said 110 (ascii "ot") ts b.0 ∙ ap (λ l. tok (at ts) (word (ascii "not")) ∷ l) rest in
       let name = name_operand (ascii "not") (at ts) in
       subst (λ l. Deep (OperandIn newer look Inside) (OperandIn newer look More) d l p) (sym whole)
-      (bracket_deep (OperandIn newer look Inside) (OperandIn newer look More) (λ l. tok (at ts) (word (ascii "not")) ∷ l) (front_cons (tok (at ts) (word (ascii "not"))) refl refl front_none) openRound closeRound (at (drop 1 ts)) refl refl negated
+      (bracket_deep (OperandIn newer look Inside) (OperandIn newer look More) (λ l. tok (at ts) (word (ascii "not")) ∷ l) (front_cons (tok (at ts) (word (ascii "not"))) refl refl front_none) open_round close_round (at (drop 1 ts)) refl refl negated
       (λ us r x i. not_operand i) (λ us r x i. not_operand i) (λ l. l, name.0, name.1) (drop 2 ts) p
-      (closed_four (within (at (drop 1 ts)) (drop 2 ts)) closeRound (then-refused (then (within (at (drop 1 ts)) (drop 2 ts)) (pass closeRound)) _ e (λ r. r) (λ a mid u v. got-refused v)))))
+      (closed_four (within (at (drop 1 ts)) (drop 2 ts)) close_round (then-refused (then (within (at (drop 1 ts)) (drop 2 ts)) (pass close_round)) _ e (λ r. r) (λ a mid u v. got-refused v)))))
       (λ c1 e1.
-      chosen (sees openRound ts) e1
+      chosen (sees open_round ts) e1
       (λ c e.
       let name = name_operand (ascii "a") 0 in
-      subst (λ l. Deep (OperandIn newer look Inside) (OperandIn newer look More) d l p) (sym (seen openRound ts refl c))
-      (bracket_deep (OperandIn newer look Inside) (OperandIn newer look More) (λ l. l) front_none openRound closeRound (at ts) refl refl (λ x. x)
-      (λ us r x i. round_operand i) (λ us r x i. round_operand i) (λ l. tok 0 (word (ascii "a")) ∷ l, name.0, name.1) (drop 1 ts) p (closed_four (within (at ts) (drop 1 ts)) closeRound e)))
+      subst (λ l. Deep (OperandIn newer look Inside) (OperandIn newer look More) d l p) (sym (seen open_round ts refl c))
+      (bracket_deep (OperandIn newer look Inside) (OperandIn newer look More) (λ l. l) front_none open_round close_round (at ts) refl refl (λ x. x)
+      (λ us r x i. round_operand i) (λ us r x i. round_operand i) (λ l. tok 0 (word (ascii "a")) ∷ l, name.0, name.1) (drop 1 ts) p (closed_four (within (at ts) (drop 1 ts)) close_round e)))
       (λ c e.
       then-refused (read_steps newer look within (length ts) ts) _ e
       (λ r.

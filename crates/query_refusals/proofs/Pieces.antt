@@ -7,7 +7,7 @@ use mathlib.Core.Bool.{Bool}
 use mathlib.Core.List.{List, [], ◌∷◌, ◌++◌, append_assoc}
 use mathlib.Core.Option.{Option}
 use Rattle.paper.specs.Tools.{ascii}
-use Rattle.paper.specs.Tokens.{slash, slashes, dot, dots, colons, openSquare, closeSquare, openRound, closeRound, star, word, Placed}
+use Rattle.paper.specs.Tokens.{slash, slashes, dot, dots, colons, open_square, close_square, open_round, close_round, star, word, Placed}
 use Rattle.paper.specs.Query.{Test, Expr, Steps, Preds}
 use Rattle.paper.specs.Reading.{Step}
 use Rattle.query_grammar.specs.Grammar.{tok, PredsIn, no_pred, one_pred, TestIn, star_test, node_test, text_test, name_test}
@@ -88,20 +88,20 @@ module _ (newer : Bool) (look : List ℕ → Option ℕ) (Inside More : List Pla
       let e = inside _ _ _ i in
       let f = preds_piece d in
       record {
-        put = λ us. tok p openSquare ∷ e.put (tok q closeSquare ∷ f.put us);
-        front = front_then (front_close (tok q closeSquare) refl refl (front_open (tok p openSquare) refl refl e.front)) f.front;
-        split = ap (λ l. tok p openSquare ∷ l) (e.split ∙ ap (λ l. e.put (tok q closeSquare ∷ l)) f.split);
-        here = λ us. one_pred (e.here (tok q closeSquare ∷ f.put us)) (f.here us);
-        deeper = λ us. one_pred (e.deeper (tok q closeSquare ∷ f.put us)) (f.deeper us);
+        put = λ us. tok p open_square ∷ e.put (tok q close_square ∷ f.put us);
+        front = front_then (front_close (tok q close_square) refl refl (front_open (tok p open_square) refl refl e.front)) f.front;
+        split = ap (λ l. tok p open_square ∷ l) (e.split ∙ ap (λ l. e.put (tok q close_square ∷ l)) f.split);
+        here = λ us. one_pred (e.here (tok q close_square ∷ f.put us)) (f.here us);
+        deeper = λ us. one_pred (e.deeper (tok q close_square ∷ f.put us)) (f.deeper us);
       }
 
-  call_piece : {rest : List Placed} {t : Test} (w : List ℕ) (p q r : ℕ) → ((us : List Placed) → TestIn newer look Inside (tok p (word w) ∷ tok q openRound ∷ tok r closeRound ∷ us) t us)
-      → ((us : List Placed) → TestIn newer look More (tok p (word w) ∷ tok q openRound ∷ tok r closeRound ∷ us) t us)
-      → Piece (TestIn newer look Inside) (TestIn newer look More) (tok p (word w) ∷ tok q openRound ∷ tok r closeRound ∷ rest) t rest
+  call_piece : {rest : List Placed} {t : Test} (w : List ℕ) (p q r : ℕ) → ((us : List Placed) → TestIn newer look Inside (tok p (word w) ∷ tok q open_round ∷ tok r close_round ∷ us) t us)
+      → ((us : List Placed) → TestIn newer look More (tok p (word w) ∷ tok q open_round ∷ tok r close_round ∷ us) t us)
+      → Piece (TestIn newer look Inside) (TestIn newer look More) (tok p (word w) ∷ tok q open_round ∷ tok r close_round ∷ rest) t rest
   call_piece w p q r here deeper =
       record {
-        put = λ us. tok p (word w) ∷ tok q openRound ∷ tok r closeRound ∷ us;
-        front = front_cons (tok p (word w)) refl refl (front_close (tok r closeRound) refl refl (front_open (tok q openRound) refl refl front_none));
+        put = λ us. tok p (word w) ∷ tok q open_round ∷ tok r close_round ∷ us;
+        front = front_cons (tok p (word w)) refl refl (front_close (tok r close_round) refl refl (front_open (tok q open_round) refl refl front_none));
         split = refl;
         here = here;
         deeper = deeper;
@@ -145,11 +145,11 @@ module _ (newer : Bool) (look : List ℕ → Option ℕ) (Inside More : List Pla
   pub operand_piece : {ts rest : List Placed} {e : Expr} → OperandIn newer look Inside ts e rest → Piece (OperandIn newer look Inside) (OperandIn newer look More) ts e rest
   operand_piece (path_operand d) = wrapped_piece (λ us. us) (λ us. us) (λ h f. f) (λ us vs a. path_operand a) (λ us vs a. path_operand a) (steps_piece d)
   operand_piece (round_operand {p = p} {q = q} i) =
-      wrapped_piece (λ us. tok p openRound ∷ us) (λ us. tok q closeRound ∷ us) (λ h f. front_close (tok q closeRound) refl refl (front_open (tok p openRound) refl refl f))
+      wrapped_piece (λ us. tok p open_round ∷ us) (λ us. tok q close_round ∷ us) (λ h f. front_close (tok q close_round) refl refl (front_open (tok p open_round) refl refl f))
       (λ us vs a. round_operand a) (λ us vs a. round_operand a) (inside _ _ _ i)
   operand_piece (not_operand {p = p} {q = q} {r = r} i) =
-      wrapped_piece (λ us. tok p (word (ascii "not")) ∷ tok q openRound ∷ us) (λ us. tok r closeRound ∷ us)
-      (λ h f. front_cons (tok p (word (ascii "not"))) refl refl (front_close (tok r closeRound) refl refl (front_open (tok q openRound) refl refl f)))
+      wrapped_piece (λ us. tok p (word (ascii "not")) ∷ tok q open_round ∷ us) (λ us. tok r close_round ∷ us)
+      (λ h f. front_cons (tok p (word (ascii "not"))) refl refl (front_close (tok r close_round) refl refl (front_open (tok q open_round) refl refl f)))
       (λ us vs a. not_operand a) (λ us vs a. not_operand a) (inside _ _ _ i)
 
   pub term_piece : {ts rest : List Placed} {e : Expr} → TermIn newer look Inside ts e rest → Piece (TermIn newer look Inside) (TermIn newer look More) ts e rest

@@ -9,8 +9,8 @@ use mathlib.Core.Logic.{◌⊎◌, inl, inr}
 use mathlib.Core.Option.{Option, none, some}
 use lib.ListN.{length, drop, length-append}
 use Rattle.paper.specs.Tools.{ascii, same}
-use Rattle.paper.specs.Tokens.{Token, slash, slashes, dot, dots, colons, bar, openSquare, closeSquare, openRound, closeRound, star, finish, stray, word, is, letters, Placed}
-use Rattle.paper.specs.Query.{Axis, self, child, parent, Test, anyNode, textNode, named, any_element}
+use Rattle.paper.specs.Tokens.{Token, slash, slashes, dot, dots, colons, bar, open_square, close_square, open_round, close_round, star, finish, stray, word, is, letters, Placed}
+use Rattle.paper.specs.Query.{Axis, self, child, parent, Test, any_node, text_node, named, any_element}
 use Rattle.paper.specs.Query.{Expr, path, negated, Steps, stop, Preds, bare, pred, Query, paths}
 use Rattle.paper.specs.Reading.{Got, got, refused, then, next, at, sees, says, wrong, pass, axis_named, axis_ahead, Step, before, deep, starts_step, joins}
 use Rattle.paper.specs.Reading.{read_tail, read_tested, read_dot, read_step, read_operand, read_term, read_expr, read_path}
@@ -27,10 +27,10 @@ use Rattle.query_refusals.proofs.Local.{Alike, Shuts, Follows, like, shut, Unend
 use Rattle.query_refusals.proofs.Local.{local_cons, local_same, local_when, local_got, local_then, local_map, local_pass, default_pass}
 
 -- Tokens that end whatever was read before them.
-square_shuts : (p : ℕ) (us : List Placed) → Shuts (tok p closeSquare ∷ us)
+square_shuts : (p : ℕ) (us : List Placed) → Shuts (tok p close_square ∷ us)
 square_shuts p us = record { done = square_done p us; no_step = refl }
 
-round_shuts : (p : ℕ) (us : List Placed) → Shuts (tok p closeRound ∷ us)
+round_shuts : (p : ℕ) (us : List Placed) → Shuts (tok p close_round ∷ us)
 round_shuts p us = record { done = round_done p us; no_step = refl }
 
 -- What the next token says stays so.
@@ -63,17 +63,17 @@ stuck t h =
     record { no_word = one.0; no_star = one.1; no_dot = two.1; no_dots = three.1 }
 
 -- What starts a step is not `(`, and no end.
-starts_plain : (t : Token) → starts_step t ≡ true → (is openRound t ≡ false) × (is finish t ≡ false)
+starts_plain : (t : Token) → starts_step t ≡ true → (is open_round t ≡ false) × (is finish t ≡ false)
 starts_plain slash h = (refl, refl)
 starts_plain slashes h = (refl, refl)
 starts_plain dot h = (refl, refl)
 starts_plain dots h = (refl, refl)
 starts_plain colons h = (refl, refl)
 starts_plain bar h = (refl, refl)
-starts_plain openSquare h = (refl, refl)
-starts_plain closeSquare h = (refl, refl)
-starts_plain openRound h = absurd (false≢true h)
-starts_plain closeRound h = (refl, refl)
+starts_plain open_square h = (refl, refl)
+starts_plain close_square h = (refl, refl)
+starts_plain open_round h = absurd (false≢true h)
+starts_plain close_round h = (refl, refl)
 starts_plain star h = (refl, refl)
 starts_plain finish h = absurd (false≢true h)
 starts_plain stray h = (refl, refl)
@@ -145,28 +145,28 @@ module _ (newer : Bool) (look : List ℕ → Option ℕ) (total : (w : List ℕ)
   default_preds = record { more = []; value = bare; open_end = λ us. refl; shuts = λ us s. s; reads = λ us s. preds_on newer look within Read sound leaves us ∙ rw s.done.over.stepped.square }
 
   preds-turn : (n : ℕ) → ((us : List Placed) → length us < n → Local true (all_preds newer look within) us) → (ts : List Placed) → length ts < suc n → Local true (all_preds newer look within) ts
-  preds-turn n rec ts l = go (sees openSquare ts) refl
+  preds-turn n rec ts l = go (sees open_square ts) refl
     where
       after : List Placed → Got Preds
-      after us = then (then (within (at ts) us) (pass closeSquare)) (λ e left. then (all_preds newer look within left) (λ ps. got (pred e ps)))
+      after us = then (then (within (at ts) us) (pass close_square)) (λ e left. then (all_preds newer look within left) (λ ps. got (pred e ps)))
 
-      go : (b : Bool) → sees openSquare ts ≡ b → Local true (all_preds newer look within) ts
+      go : (b : Bool) → sees open_square ts ≡ b → Local true (all_preds newer look within) ts
       go true h =
-          let head = seen openSquare ts refl h in
+          let head = seen open_square ts refl h in
           let one : length ts ≡ suc (length (drop 1 ts)) = ap length head in
           subst (λ m. Local true (all_preds newer look within) m) (sym head)
-          (local_bracket within after (at ts) openSquare (drop 1 ts) refl (λ us. preds_on newer look within Read sound leaves (tok (at ts) openSquare ∷ us))
+          (local_bracket within after (at ts) open_square (drop 1 ts) refl (λ us. preds_on newer look within Read sound leaves (tok (at ts) open_square ∷ us))
           (λ m.
           local_then (λ e left. then (all_preds newer look within left) (λ ps. got (pred e ps)))
-          (local_then (pass closeSquare) m (λ e used left s. local_pass closeSquare refl refl refl (λ w. refl) square_shuts e left)
-          (λ e. default_pass closeSquare refl refl refl (λ w. refl) square_shuts e))
+          (local_then (pass close_square) m (λ e used left s. local_pass close_square refl refl refl (λ w. refl) square_shuts e left)
+          (λ e. default_pass close_square refl refl refl (λ w. refl) square_shuts e))
           (λ e used left s. local_map (pred e) (rec left (omega (arith, shorter (drop 1 ts) used left s))))
           (λ e. default_map (pred e) default_preds))
           (λ us c. rw c)
           (inside (at ts) (drop 1 ts)))
       go false h =
           takes bare [] ts refl (λ us. refl)
-          (λ us f. preds_on newer look within Read sound leaves us ∙ rw (follow (is openSquare) f h (λ s. s.done.over.stepped.square)))
+          (λ us f. preds_on newer look within Read sound leaves us ∙ rw (follow (is open_square) f h (λ s. s.done.over.stepped.square)))
 
   local_preds_below : (n : ℕ) (ts : List Placed) → length ts < n → Local true (all_preds newer look within) ts
   local_preds_below zero ts l = absurd (omega arith)
@@ -181,39 +181,39 @@ module _ (newer : Bool) (look : List ℕ → Option ℕ) (total : (w : List ℕ)
   default_tail a t = default_map (λ ps. record { axis = a; test = t; preds = ps }) default_preds
 
   -- A test and what follows, where a word comes first.
-  local_call : (a : Axis) (t : Test) (ts : List Placed) → Local true (λ us. then (pass closeRound t us) (read_tail newer look within a)) ts
+  local_call : (a : Axis) (t : Test) (ts : List Placed) → Local true (λ us. then (pass close_round t us) (read_tail newer look within a)) ts
   local_call a t ts =
-      local_then (read_tail newer look within a) (local_pass closeRound refl refl refl (λ w. refl) round_shuts t ts) (λ x used left s. local_tail a x left) (λ x. default_tail a x)
+      local_then (read_tail newer look within a) (local_pass close_round refl refl refl (λ w. refl) round_shuts t ts) (λ x used left s. local_tail a x left) (λ x. default_tail a x)
 
   local_named : (a : Axis) (p : ℕ) (w : List ℕ) (ts : List Placed) → Local true (λ us. read_tested newer look within a (tok p (word w) ∷ us)) ts
   unfolding read_tested
-  local_named a p w ts = node (sees openRound ts && same (ascii "node") w) refl
+  local_named a p w ts = node (sees open_round ts && same (ascii "node") w) refl
     where
-      name : (sees openRound ts && same (ascii "node") w) ≡ false → (sees openRound ts && same (ascii "text") w) ≡ false
+      name : (sees open_round ts && same (ascii "node") w) ≡ false → (sees open_round ts && same (ascii "text") w) ≡ false
           → Local true (λ us. read_tested newer look within a (tok p (word w) ∷ us)) ts
       name h k =
           let v = total w in
           local_when (read_tail newer look within a (named v.0))
           (λ us f.
-          rw (follow (λ x. is openRound x && same (ascii "node") w) f h (λ s. rw s.done.over.stepped.round), follow (λ x. is openRound x && same (ascii "text") w) f k (λ s. rw s.done.over.stepped.round), v.1))
+          rw (follow (λ x. is open_round x && same (ascii "node") w) f h (λ s. rw s.done.over.stepped.round), follow (λ x. is open_round x && same (ascii "text") w) f k (λ s. rw s.done.over.stepped.round), v.1))
           (local_tail a (named v.0) ts)
 
-      text : (b : Bool) → (sees openRound ts && same (ascii "text") w) ≡ b → (sees openRound ts && same (ascii "node") w) ≡ false
+      text : (b : Bool) → (sees open_round ts && same (ascii "text") w) ≡ b → (sees open_round ts && same (ascii "node") w) ≡ false
           → Local true (λ us. read_tested newer look within a (tok p (word w) ∷ us)) ts
       text true h k =
-          let b = and_true (sees openRound ts) (same (ascii "text") w) h in
+          let b = and_true (sees open_round ts) (same (ascii "text") w) h in
           subst (λ x. Local true (λ us. read_tested newer look within a (tok p (word x) ∷ us)) ts) (same_equal (ascii "text") w b.1)
-          (subst (λ l. Local true (λ us. read_tested newer look within a (tok p (word (ascii "text")) ∷ us)) l) (sym (seen openRound ts refl b.0))
-          (local_cons (λ us. then (pass closeRound textNode us) (read_tail newer look within a)) (tok (at ts) openRound) refl (λ us. refl) (local_call a textNode (drop 1 ts))))
+          (subst (λ l. Local true (λ us. read_tested newer look within a (tok p (word (ascii "text")) ∷ us)) l) (sym (seen open_round ts refl b.0))
+          (local_cons (λ us. then (pass close_round text_node us) (read_tail newer look within a)) (tok (at ts) open_round) refl (λ us. refl) (local_call a text_node (drop 1 ts))))
       text false h k = name k h
 
-      node : (b : Bool) → (sees openRound ts && same (ascii "node") w) ≡ b → Local true (λ us. read_tested newer look within a (tok p (word w) ∷ us)) ts
+      node : (b : Bool) → (sees open_round ts && same (ascii "node") w) ≡ b → Local true (λ us. read_tested newer look within a (tok p (word w) ∷ us)) ts
       node true h =
-          let b = and_true (sees openRound ts) (same (ascii "node") w) h in
+          let b = and_true (sees open_round ts) (same (ascii "node") w) h in
           subst (λ x. Local true (λ us. read_tested newer look within a (tok p (word x) ∷ us)) ts) (same_equal (ascii "node") w b.1)
-          (subst (λ l. Local true (λ us. read_tested newer look within a (tok p (word (ascii "node")) ∷ us)) l) (sym (seen openRound ts refl b.0))
-          (local_cons (λ us. then (pass closeRound anyNode us) (read_tail newer look within a)) (tok (at ts) openRound) refl (λ us. refl) (local_call a anyNode (drop 1 ts))))
-      node false h = text (sees openRound ts && same (ascii "text") w) refl h
+          (subst (λ l. Local true (λ us. read_tested newer look within a (tok p (word (ascii "node")) ∷ us)) l) (sym (seen open_round ts refl b.0))
+          (local_cons (λ us. then (pass close_round any_node us) (read_tail newer look within a)) (tok (at ts) open_round) refl (λ us. refl) (local_call a any_node (drop 1 ts))))
+      node false h = text (sees open_round ts && same (ascii "text") w) refl h
 
   -- A name that completes a step.
   name_reads : (a : Axis) (us : List Placed) → Shuts us → read_tested newer look within a (tok 0 (word (ascii "a")) ∷ us) ≡ got (record { axis = a; test = named (total (ascii "a")).0; preds = bare }) us
@@ -224,8 +224,8 @@ module _ (newer : Bool) (look : List ℕ → Option ℕ) (total : (w : List ℕ)
   unfolding read_tested
   no_test a us s w =
       let n : letters (next us) ≡ [] = not_word (next us) w in
-      let node : (sees openRound (drop 1 us) && says (ascii "node") us) ≡ false = rw n (and_false (sees openRound (drop 1 us))) in
-      let text : (sees openRound (drop 1 us) && says (ascii "text") us) ≡ false = rw n (and_false (sees openRound (drop 1 us))) in
+      let node : (sees open_round (drop 1 us) && says (ascii "node") us) ≡ false = rw n (and_false (sees open_round (drop 1 us))) in
+      let text : (sees open_round (drop 1 us) && says (ascii "text") us) ≡ false = rw n (and_false (sees open_round (drop 1 us))) in
       rw (s, node, text, w)
 
   -- Test and predicates.
@@ -268,8 +268,8 @@ module _ (newer : Bool) (look : List ℕ → Option ℕ) (total : (w : List ℕ)
   local_dot a ts = go newer refl
     where
       go : (b : Bool) → newer ≡ b → Local true (read_dot newer look within a) ts
-      go true n = local_same (read_tail newer look within a anyNode) (λ us. rw n) (local_tail a anyNode ts)
-      go false n = local_same (got (record { axis = a; test = anyNode; preds = bare })) (λ us. rw n) (local_got (record { axis = a; test = anyNode; preds = bare }) ts)
+      go true n = local_same (read_tail newer look within a any_node) (λ us. rw n) (local_tail a any_node ts)
+      go false n = local_same (got (record { axis = a; test = any_node; preds = bare })) (λ us. rw n) (local_got (record { axis = a; test = any_node; preds = bare }) ts)
 
   local_step : (p : ℕ) (t : Token) (ts : List Placed) → starts_step t ≡ true → Local true (λ us. read_step newer look within (tok p t ∷ us)) ts
   unfolding read_step read_tested
@@ -279,10 +279,10 @@ module _ (newer : Bool) (look : List ℕ → Option ℕ) (total : (w : List ℕ)
   local_step p dots ts h = local_dot parent ts
   local_step p colons ts h = absurd (false≢true h)
   local_step p bar ts h = absurd (false≢true h)
-  local_step p openSquare ts h = absurd (false≢true h)
-  local_step p closeSquare ts h = absurd (false≢true h)
-  local_step p openRound ts h = absurd (false≢true h)
-  local_step p closeRound ts h = absurd (false≢true h)
+  local_step p open_square ts h = absurd (false≢true h)
+  local_step p close_square ts h = absurd (false≢true h)
+  local_step p open_round ts h = absurd (false≢true h)
+  local_step p close_round ts h = absurd (false≢true h)
   local_step p star ts h = local_same (read_tail newer look within child any_element) (λ us. rw (no_axis (sees colons us))) (local_tail child any_element ts)
   local_step p finish ts h = absurd (false≢true h)
   local_step p stray ts h = absurd (false≢true h)
@@ -367,7 +367,7 @@ module _ (newer : Bool) (look : List ℕ → Option ℕ) (total : (w : List ℕ)
   local_steps_from p t ts h = steps_from (length ts) (λ us m. local_steps_below (length ts) us m) p t ts h (omega arith)
 
   -- An operand.
-  operand_steps : (us : List Placed) → (says (ascii "not") us && sees openRound (drop 1 us)) ≡ false → sees openRound us ≡ false
+  operand_steps : (us : List Placed) → (says (ascii "not") us && sees open_round (drop 1 us)) ≡ false → sees open_round us ≡ false
       → read_operand newer look within us ≡ then (all_steps newer look within us) (λ s. got (path s))
   unfolding read_operand all_steps
   operand_steps us h k = rw (h, k)
@@ -375,58 +375,58 @@ module _ (newer : Bool) (look : List ℕ → Option ℕ) (total : (w : List ℕ)
   operand_name : (us : List Placed) → Shuts us → read_operand newer look within (tok 0 (word (ascii "a")) ∷ us) ≡ got (path name_steps) us
   operand_name us s = operand_steps (tok 0 (word (ascii "a")) ∷ us) refl refl ∙ rw (steps_name us s)
 
-  no_operand : (us : List Placed) → starts_step (next us) ≡ false → sees openRound us ≡ false → read_operand newer look within us ≡ wrong us
+  no_operand : (us : List Placed) → starts_step (next us) ≡ false → sees open_round us ≡ false → read_operand newer look within us ≡ wrong us
   no_operand us h k =
-      let n : (says (ascii "not") us && sees openRound (drop 1 us)) ≡ false = rw (not_word (next us) (stuck (next us) h).no_word) in
+      let n : (says (ascii "not") us && sees open_round (drop 1 us)) ≡ false = rw (not_word (next us) (stuck (next us) h).no_word) in
       operand_steps us n k ∙ rw (no_steps us h)
 
-  local_denied : (p : ℕ) (ts : List Placed) → sees openRound ts ≡ true → Local true (λ us. read_operand newer look within (tok p (word (ascii "not")) ∷ us)) ts
+  local_denied : (p : ℕ) (ts : List Placed) → sees open_round ts ≡ true → Local true (λ us. read_operand newer look within (tok p (word (ascii "not")) ∷ us)) ts
   unfolding read_operand
   local_denied p ts h =
-      subst (λ m. Local true (λ us. read_operand newer look within (tok p (word (ascii "not")) ∷ us)) m) (sym (seen openRound ts refl h))
-      (local_bracket within (λ us. then (then (within (at ts) us) (pass closeRound)) (λ e. got (negated e))) (at ts) openRound (drop 1 ts) refl (λ us. refl)
+      subst (λ m. Local true (λ us. read_operand newer look within (tok p (word (ascii "not")) ∷ us)) m) (sym (seen open_round ts refl h))
+      (local_bracket within (λ us. then (then (within (at ts) us) (pass close_round)) (λ e. got (negated e))) (at ts) open_round (drop 1 ts) refl (λ us. refl)
       (λ m.
       local_map negated
-      (local_then (pass closeRound) m (λ e used left s. local_pass closeRound refl refl refl (λ w. refl) round_shuts e left)
-      (λ e. default_pass closeRound refl refl refl (λ w. refl) round_shuts e)))
+      (local_then (pass close_round) m (λ e used left s. local_pass close_round refl refl refl (λ w. refl) round_shuts e left)
+      (λ e. default_pass close_round refl refl refl (λ w. refl) round_shuts e)))
       (λ us c. rw c)
       (inside (at ts) (drop 1 ts)))
 
-  local_round : (p : ℕ) (ts : List Placed) → Local true (read_operand newer look within) (tok p openRound ∷ ts)
+  local_round : (p : ℕ) (ts : List Placed) → Local true (read_operand newer look within) (tok p open_round ∷ ts)
   unfolding read_operand
   local_round p ts =
-      local_bracket within (λ us. then (within p us) (pass closeRound)) p openRound ts refl (λ us. refl)
+      local_bracket within (λ us. then (within p us) (pass close_round)) p open_round ts refl (λ us. refl)
       (λ m.
-      local_then (pass closeRound) m (λ e used left s. local_pass closeRound refl refl refl (λ w. refl) round_shuts e left)
-      (λ e. default_pass closeRound refl refl refl (λ w. refl) round_shuts e))
+      local_then (pass close_round) m (λ e used left s. local_pass close_round refl refl refl (λ w. refl) round_shuts e left)
+      (λ e. default_pass close_round refl refl refl (λ w. refl) round_shuts e))
       (λ us c. rw c)
       (inside p ts)
 
   local_operand : (ts : List Placed) → Local false (read_operand newer look within) ts
-  local_operand [] = refuses [] (λ us e. no_operand us (ap starts_step e) (ap (is openRound) e)) (word (ascii "a")) (path name_steps) refl (λ us s. operand_name us s)
+  local_operand [] = refuses [] (λ us e. no_operand us (ap starts_step e) (ap (is open_round) e)) (word (ascii "a")) (path name_steps) refl (λ us s. operand_name us s)
   local_operand (t ∷ ts) = go (starts_step t.token) refl
     where
-      steps : (b : Bool) → (says (ascii "not") (t ∷ ts) && sees openRound ts) ≡ b → starts_step t.token ≡ true → Local false (read_operand newer look within) (t ∷ ts)
+      steps : (b : Bool) → (says (ascii "not") (t ∷ ts) && sees open_round ts) ≡ b → starts_step t.token ≡ true → Local false (read_operand newer look within) (t ∷ ts)
       steps true k h =
-          let b = and_true (says (ascii "not") (t ∷ ts)) (sees openRound ts) k in
+          let b = and_true (says (ascii "not") (t ∷ ts)) (sees open_round ts) k in
           subst (λ m. Local false (read_operand newer look within) m) (sym (said 110 (ascii "ot") (t ∷ ts) b.0))
           (local_cons (λ us. read_operand newer look within (tok t.place (word (ascii "not")) ∷ us)) (tok t.place (word (ascii "not"))) refl (λ us. refl) (local_denied t.place ts b.1))
       steps false k h =
           local_cons (λ us. read_operand newer look within (t ∷ us)) t (starts_plain t.token h).1 (λ us. refl)
           (local_when {gentle = true} (λ us. then (all_steps newer look within (t ∷ us)) (λ s. got (path s)))
           (λ us f.
-          operand_steps (t ∷ us) (follow (λ x. says (ascii "not") (t ∷ []) && is openRound x) f k (λ s. rw s.done.over.stepped.round (and_false (says (ascii "not") (t ∷ []))))) (starts_plain t.token h).0)
+          operand_steps (t ∷ us) (follow (λ x. says (ascii "not") (t ∷ []) && is open_round x) f k (λ s. rw s.done.over.stepped.round (and_false (says (ascii "not") (t ∷ []))))) (starts_plain t.token h).0)
           (local_map path (local_steps_from t.place t.token ts h)))
 
-      other : (b : Bool) → is openRound t.token ≡ b → starts_step t.token ≡ false → Local false (read_operand newer look within) (t ∷ ts)
+      other : (b : Bool) → is open_round t.token ≡ b → starts_step t.token ≡ false → Local false (read_operand newer look within) (t ∷ ts)
       other true k h =
-          subst (λ m. Local false (read_operand newer look within) m) (sym (seen openRound (t ∷ ts) refl k)) (local_when (read_operand newer look within) (λ us f. refl) (local_round t.place ts))
+          subst (λ m. Local false (read_operand newer look within) m) (sym (seen open_round (t ∷ ts) refl k)) (local_when (read_operand newer look within) (λ us f. refl) (local_round t.place ts))
       other false k h =
-          refuses (t ∷ ts) (λ us e. no_operand us (ap starts_step e ∙ h) (ap (is openRound) e ∙ k)) (word (ascii "a")) (path name_steps) refl (λ us s. operand_name us s)
+          refuses (t ∷ ts) (λ us e. no_operand us (ap starts_step e ∙ h) (ap (is open_round) e ∙ k)) (word (ascii "a")) (path name_steps) refl (λ us s. operand_name us s)
 
       go : (b : Bool) → starts_step t.token ≡ b → Local false (read_operand newer look within) (t ∷ ts)
-      go true h = steps (says (ascii "not") (t ∷ ts) && sees openRound ts) refl h
-      go false h = other (is openRound t.token) refl h
+      go true h = steps (says (ascii "not") (t ∷ ts) && sees open_round ts) refl h
+      go false h = other (is open_round t.token) refl h
 
   -- A term, and an expression: an operand and the run after it.
   module _ (run : Run) (on : (a : Expr) (us : List Placed) → all_run run a us ≡ run_turn run (all_run run) a us) (local-one : (ts : List Placed) → Local false run.one ts)

@@ -2,7 +2,7 @@
 use Rattle.std.specs.Prelude.{ℕ, suc, ◌+◌, ◌<◌, ◌≡◌, Bool, true, List, [], ◌∷◌, ◌++◌, ◌↔◌, ◌⊎◌}
 use Rattle.std.proofs.Math.Option.{Option, some}
 use Rattle.paper.specs.Limits.{bracket_limit}
-use Rattle.paper.specs.Tokens.{Token, slash, slashes, dot, dots, colons, bar, openSquare, closeSquare, openRound, closeRound, star, finish, stray, word, Placed, tokens}
+use Rattle.paper.specs.Tokens.{Token, slash, slashes, dot, dots, colons, bar, open_square, close_square, open_round, close_round, star, finish, stray, word, Placed, tokens}
 use Rattle.paper.specs.Query.{Query}
 use Rattle.paper.specs.Answers.{any_name}
 use Rattle.paper.specs.Reading.{got, refused, read_text}
@@ -46,10 +46,10 @@ opening dot = 0
 opening dots = 0
 opening colons = 0
 opening bar = 0
-opening openSquare = 1
-opening closeSquare = 0
-opening openRound = 1
-opening closeRound = 0
+opening open_square = 1
+opening close_square = 0
+opening open_round = 1
+opening close_round = 0
 opening star = 0
 opening finish = 0
 opening stray = 0
@@ -62,10 +62,10 @@ closing dot = 0
 closing dots = 0
 closing colons = 0
 closing bar = 0
-closing openSquare = 0
-closing closeSquare = 1
-closing openRound = 0
-closing closeRound = 1
+closing open_square = 0
+closing close_square = 1
+closing open_round = 0
+closing close_round = 1
 closing star = 0
 closing finish = 0
 closing stray = 0

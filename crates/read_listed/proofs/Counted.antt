@@ -139,8 +139,8 @@ module _ (long : ℕ) (list : List ℕ) (cols new : Columns) (p : Progress) wher
 -- PIECES. Where they end, and that there is room for them.
 module _ (text list begins : List ℕ) (cols : Columns) (p : Progress) where
   -- There is room for the place of an element more.
-  pub start_room : (nameEnd : ℕ) (next : Cursor) → Facing text list begins cols (Start nameEnd next) p → length text ≤ text_limit → p.depth < open_limit
-  start_room nameEnd next h short =
+  pub start_room : (name_end : ℕ) (next : Cursor) → Facing text list begins cols (Start name_end next) p → length text ≤ text_limit → p.depth < open_limit
+  start_room name_end next h short =
       let t = h.moves.1 in omega (arith, t.1, t.2, h.moves.0.inside, h.counts.room, h.counts.depth)
 
   -- Where an end tag stands an element is open, and it ends within the text.
@@ -172,10 +172,10 @@ module _ (text list begins : List ℕ) (cols new : Columns) (p : Progress) where
   abbrev name : List ℕ
   name = name_at text (suc p.at)
 
-  pub start_comes : (nameEnd : ℕ) (next : Cursor) → Facing text list begins cols (Start nameEnd next) p → length text ≤ text_limit → (u v n k : ℕ) → v ≡ p.at → n ≡ p.nodes → Lacks look name p.at p.unnamed u
+  pub start_comes : (name_end : ℕ) (next : Cursor) → Facing text list begins cols (Start name_end next) p → length text ≤ text_limit → (u v n k : ℕ) → v ≡ p.at → n ≡ p.nodes → Lacks look name p.at p.unnamed u
       → k ≡ name_kind (look name) → (p.nodes < node_limit → new ≡ line_set p.nodes p.inner k p.at 0 cols)
       → Standing text list (set begins p.depth v) new (progress next.at (p.depth + 1) n (p.nodes + 1) u) × (p.at < next.at)
-  start_comes nameEnd next h short u v n k e number lacks kind wrote =
+  start_comes name_end next h short u v n k e number lacks kind wrote =
       let t = h.moves.1 in
       let same = length_lines (length text) h.frames in (
         record {
@@ -191,10 +191,10 @@ module _ (text list begins : List ℕ) (cols new : Columns) (p : Progress) where
         omega (arith, t.1, t.2),
       )
 
-  pub empty_comes : (nameEnd : ℕ) (next : Cursor) → Facing text list begins cols (Empty nameEnd next) p → (u k : ℕ) → Lacks look name p.at p.unnamed u
+  pub empty_comes : (name_end : ℕ) (next : Cursor) → Facing text list begins cols (Empty name_end next) p → (u k : ℕ) → Lacks look name p.at p.unnamed u
       → k ≡ name_kind (look name) → (p.nodes < node_limit → new ≡ line_set p.nodes p.inner k p.at next.at cols)
       → Standing text list begins new (progress next.at p.depth p.inner (p.nodes + 1) u) × (p.at < next.at)
-  empty_comes nameEnd next h u k lacks kind wrote =
+  empty_comes name_end next h u k lacks kind wrote =
       let t = h.moves.1 in
       let node = element name p.at next.at nothing nothing in
       let r = row (innermost h.frames) (named name) p.at next.at in

@@ -27,9 +27,9 @@ module _ (text : List ℕ) where
 
   -- How a start tag, an empty element and the others lead on.
   module _ (at : ℕ) (s : State) (frames : List Frame) (names : Names text frames) (from : read_xml text ≡ judge at s (drop at text)) where
-    starts : (nameEnd next : ℕ) → Tagged text at nameEnd next → next ≤ length text → judge at s (drop at text) ≡ judge next (state content (opened (name_at text (suc at)) at ∷ frames)) (drop next text)
+    starts : (name_end next : ℕ) → Tagged text at name_end next → next ≤ length text → judge at s (drop at text) ≡ judge next (state content (opened (name_at text (suc at)) at ∷ frames)) (drop next text)
         → Stands text next (within (opened (name_at text (suc at)) at) frames)
-    starts nameEnd next tagged most goes =
+    starts name_end next tagged most goes =
         let long : Named text at = omega (arith, tagged.0.0, tagged.2) in record { judged = from ∙ goes; named = (refl, long, names); inside = most }
 
     joins : (node : Nodes) (next : ℕ) → next ≤ length text → judge at s (drop at text) ≡ judge next (added node frames) (drop next text) → Stands text next (joined node frames)
@@ -42,16 +42,16 @@ module _ (text : List ℕ) where
 
   -- A piece inside an element.
   pub take_moves : (at : ℕ) (f : Frame) (fs : List Frame) (r : Piece) → Stands text at (within f fs) → Takes text at f.begin r → Moves text at (f ∷ fs) r
-  take_moves at f fs (Start nameEnd next) h t =
+  take_moves at f fs (Start name_end next) h t =
       let b = t.bounds in
-      let tagged : Tagged text at nameEnd next.at = ((b.0, omega arith, b.1), b.1, b.2) in (
-        starts at (state content (f ∷ fs)) (f ∷ fs) h.named h.judged nameEnd next.at tagged b.3
+      let tagged : Tagged text at name_end next.at = ((b.0, omega arith, b.1), b.1, b.2) in (
+        starts at (state content (f ∷ fs)) (f ∷ fs) h.named h.judged name_end next.at tagged b.3
             (judged_next_on text at next.at (state content (f ∷ fs)) (state content (opened (name_at text (suc at)) at ∷ f ∷ fs)) refl (t.goes f fs h.named.0)),
         tagged,
       )
-  take_moves at f fs (Empty nameEnd next) h t =
+  take_moves at f fs (Empty name_end next) h t =
       let b = t.bounds in
-      let tagged : Tagged text at nameEnd next.at = ((b.0, omega arith, b.1), b.1, b.2) in (
+      let tagged : Tagged text at name_end next.at = ((b.0, omega arith, b.1), b.1, b.2) in (
         joins at (state content (f ∷ fs)) (f ∷ fs) h.named h.judged (element (name_at text (suc at)) at next.at nothing nothing) next.at b.3
             (judged_next_on text at next.at (state content (f ∷ fs)) _ refl (t.goes f fs h.named.0)),
         tagged,
@@ -84,15 +84,15 @@ module _ (text : List ℕ) where
 
   -- Its start tag.
   pub root_moves : (at : ℕ) (r : Piece) → read_xml text ≡ judge at (state ahead []) (drop at text) → Roots text at r → Moves text at [] r
-  root_moves at (Start nameEnd next) h t =
+  root_moves at (Start name_end next) h t =
       let b = t.bounds in
-      let tagged : Tagged text at nameEnd next.at = ((b.0, omega (arith, b.0, b.1, b.2), omega (arith, b.0, t.named)), omega (arith, b.0, t.named), omega (arith, b.0, b.1)) in (
-        starts at (state ahead []) [] tt h nameEnd next.at tagged b.2 (judged_on text at next.at (state ahead []) (state content (opened (name_at text (suc at)) at ∷ [])) t.goes),
+      let tagged : Tagged text at name_end next.at = ((b.0, omega (arith, b.0, b.1, b.2), omega (arith, b.0, t.named)), omega (arith, b.0, t.named), omega (arith, b.0, b.1)) in (
+        starts at (state ahead []) [] tt h name_end next.at tagged b.2 (judged_on text at next.at (state ahead []) (state content (opened (name_at text (suc at)) at ∷ [])) t.goes),
         tagged,
       )
-  root_moves at (Empty nameEnd next) h t =
+  root_moves at (Empty name_end next) h t =
       let b = t.bounds in
-      let tagged : Tagged text at nameEnd next.at = ((b.0, omega (arith, b.0, b.1, b.2), omega (arith, b.0, t.named)), omega (arith, b.0, t.named), omega (arith, b.0, b.1)) in (
+      let tagged : Tagged text at name_end next.at = ((b.0, omega (arith, b.0, b.1, b.2), omega (arith, b.0, t.named)), omega (arith, b.0, t.named), omega (arith, b.0, b.1)) in (
         joins at (state ahead []) [] tt h (element (name_at text (suc at)) at next.at nothing nothing) next.at b.2 (judged_on text at next.at (state ahead []) _ t.goes),
         tagged,
       )

@@ -75,7 +75,7 @@ module _ (newer : Bool) (look : List ℕ → Option ℕ) (within : ℕ → List 
 
   module _ (out : List ℕ) (here filled taken : ℕ) (l : PredRow newer look within text old out from slot here filled taken) where
     -- A `[` comes next.
-    module _ (mid bracket : ℕ) (s : sees paper.openSquare (tokens_at text here) ≡ true) (e : bracket ≡ at (tokens_at text here)) (p : Past text here mid) where
+    module _ (mid bracket : ℕ) (s : sees paper.open_square (tokens_at text here) ≡ true) (e : bracket ≡ at (tokens_at text here)) (p : Past text here mid) where
       abbrev inner : Got Expr
       inner = then (within bracket (tokens_at text mid)) (pass_sort 7)
 
@@ -117,7 +117,7 @@ module _ (newer : Bool) (look : List ℕ → Option ℕ) (within : ℕ → List 
           (l.goes_on ∙ ap (λ o. then o (λ ps. got (l.build ps))) (there f z ∙ ap (λ o. then o (λ e left. then (read_preds newer look within f left) (λ ps. got (pred e ps)))) h)))
 
     -- None comes: the step's item is put before its predicates.
-    pub preds_done : (new : List ℕ) (axis test made : ℕ) (a : Axis) (t : Test) → axis ≡ axis_number a → test ≡ test_number t → sees paper.openSquare (tokens_at text here) ≡ false
+    pub preds_done : (new : List ℕ) (axis test made : ℕ) (a : Axis) (t : Test) → axis ≡ axis_number a → test ≡ test_number t → sees paper.open_square (tokens_at text here) ≡ false
         → (taken < count_bound → made ≡ packed (record { axis = axis; test = test; count = taken })) → Wrote out new slot (made ∷ [])
         → Gives text old new from slot (3 * from) (slot + 1) (read_tail newer look within a t (tokens_at text from)) step_items here filled
     unfolding read_tail

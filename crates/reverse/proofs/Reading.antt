@@ -3,7 +3,7 @@ use Prim.Native.Nat.{ℕ}
 use native.Mathlib.Omega.{arith}
 use mathlib.Core.Path.{◌≡◌, refl, sym, ◌∙◌, ap}
 use mathlib.Core.List.{[], ◌∷◌}
-use Rattle.paper.specs.Query.{self, anyNode}
+use Rattle.paper.specs.Query.{self, any_node}
 use Rattle.paper.specs.Items.{Head}
 use Rattle.paper.proofs.Tests.{some_inj, none-some}
 use Rattle.paper.proofs.Fields.{step_found}
@@ -39,7 +39,7 @@ pub said_none : (w : ℕ) (i : Item) → i ≡ unpacked w → OneOf (0 ∷ 2 ∷
 said_none w i e k =
     record {
       axis = self;
-      test = anyNode;
+      test = any_node;
       axis_is = refl;
       test_is = refl;
       fine = refl;

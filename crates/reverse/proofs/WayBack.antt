@@ -7,7 +7,7 @@ use mathlib.Core.Bool.{true}
 use mathlib.Core.List.{List, [], ◌∷◌, ◌++◌, append_assoc}
 use lib.ListN.{length, get_or, take, drop, set, length-append, length-drop, length-set}
 use lib.Seq.{length-take-le, take-append_seam, drop-append_seam, drop-drop, take-take, take-append-le}
-use Rattle.paper.specs.Query.{Axis, self, Test, anyNode, Steps, stop, step, Preds, bare, pred}
+use Rattle.paper.specs.Query.{Axis, self, Test, any_node, Steps, stop, step, Preds, bare, pred}
 use Rattle.paper.specs.Items.{axis_number, test_number, pack_path, pack_step, step_at, step_count, pred_count, encode_expr, encode_steps, encode_preds, good_steps, count_bound}
 use Rattle.paper.specs.Composition.{turned, at_root, way_back, reversed}
 use Rattle.paper.proofs.Fields.{test_small, step-at}
@@ -37,10 +37,10 @@ way_count x ps back stop = omega arith
 way_count x ps back (step a y qs rest) = omega (arith, way_count y qs (step (turned a) x ps back) rest)
 
 abbrev pub whole_way : Steps → Steps
-whole_way s = way_back anyNode (pred at_root bare) stop s
+whole_way s = way_back any_node (pred at_root bare) stop s
 
 pub whole_length : (s : Steps) → length (encode_steps (whole_way s)) ≡ length (encode_steps s) + 4
-whole_length s = omega (arith, way_length anyNode (pred at_root bare) stop s)
+whole_length s = omega (arith, way_length any_node (pred at_root bare) stop s)
 
 pub reversed_length : (s : Steps) → length (encode_expr (reversed s)) ≡ length (encode_steps s) + 5
 unfolding reversed
@@ -90,7 +90,7 @@ turned_start steps e old at back eb l w =
       turns =
           λ s es g.
           record {
-            known = anyNode;
+            known = any_node;
             preds = pred at_root bare;
             after = stop;
             rest = s;
@@ -215,7 +215,7 @@ pub reverse_put : (steps old out : List ℕ) (at count head : ℕ) (s : Steps) �
     → out ≡ placed (encode_steps (whole_way s)) (at + 1) (set old at head) → out ≡ placed (encode_expr (reversed s)) at old
 unfolding reversed
 reverse_put steps old out at count head s l ec eh w =
-    let n : count + 1 ≡ step_count (whole_way s) = omega (arith, way_count anyNode (pred at_root bare) stop s) in
+    let n : count + 1 ≡ step_count (whole_way s) = omega (arith, way_count any_node (pred at_root bare) stop s) in
     w ∙ ap (placed (encode_steps (whole_way s)) (at + 1)) (ap (set old at) eh ∙ placed_one old at (pack_path (count + 1)) l) ∙
     placed_after (pack_path (count + 1) ∷ []) (encode_steps (whole_way s)) old at (at + 1) (omega arith) refl ∙
     ap (λ (k : ℕ). placed (pack_path k ∷ encode_steps (whole_way s)) at old) n

@@ -4,7 +4,7 @@
 
 ghost use Rattle.std.specs.Prelude.{◌≡◌, ◌+◌, ◌*◌, ◌≤◌, ◌<◌, true, length};
 ghost use Rattle.paper.specs.Limits.{item_limit};
-ghost use Rattle.paper.specs.Query.{Steps, anyNode, stop, bare, pred};
+ghost use Rattle.paper.specs.Query.{Steps, any_node, stop, bare, pred};
 ghost use Rattle.paper.specs.Items.{step_count, encode_expr, encode_steps, good_steps, decode, count_limit};
 ghost use Rattle.paper.specs.Composition.{at_root, way_back, reversed};
 ghost use Rattle.item.specs.Placed.{placed};
@@ -61,7 +61,7 @@ fn put_way_back(steps: &[u32], out: &mut [u32], at: usize)
     requires { (length steps.now ≤ item_limit) × (at + length steps.now + 4 ≤ length out.old) }
     ensures { (length out.new ≡ length out.old)
         × ((s : Steps) → steps.now ≡ encode_steps s → good_steps s ≡ true
-        → out.new ≡ placed (encode_steps (way_back anyNode (pred at_root bare) stop s)) at out.old) }
+        → out.new ≡ placed (encode_steps (way_back any_node (pred at_root bare) stop s)) at out.old) }
 {
     let mut back = at + 1 + steps.len();
     put_at_root(out, back);

@@ -9,15 +9,15 @@ use mathlib.Core.List.{List, [], ◌∷◌, ◌++◌, append_assoc, append-nil, 
 use mathlib.Core.Option.{Option, some}
 use lib.ListN.{length, get_or, drop, length-append}
 use Rattle.paper.specs.Tools.{ascii, same}
-use Rattle.paper.specs.Tokens.{Token, slash, slashes, colons, openSquare, closeSquare, openRound, closeRound, finish, word, is, Placed}
+use Rattle.paper.specs.Tokens.{Token, slash, slashes, colons, open_square, close_square, open_round, close_round, finish, word, is, Placed}
 use Rattle.paper.specs.Reading.{Got, got, then, next, at, sees, says, axis_named, Step, before, deep, starts_step}
 use Rattle.paper.specs.Reading.{read_preds, read_tail, read_tested, read_dot, read_step, read_steps, read_operand, read_term, read_expr, read_path, read_paths, read_within}
-use Rattle.paper.specs.Query.{Axis, self, child, Test, anyNode, textNode, named, any_element}
+use Rattle.paper.specs.Query.{Axis, self, child, Test, any_node, text_node, named, any_element}
 use Rattle.paper.specs.Query.{Expr, path, both, either, negated, Steps, stop, step, Preds, bare, pred}
 use Rattle.paper.specs.Items.{step_count, pred_count}
 use Rattle.paper.specs.Measures.{is_and, is_or, in_brackets, nest_expr, nest_steps, nest_preds, nest_paths}
-use Rattle.paper.specs.Printing.{Piece, closePred, openGroup, andWord, orWord, barSign, test_word}
-use Rattle.paper.specs.Printing.{closeRound as closeSign}
+use Rattle.paper.specs.Printing.{Piece, close_pred, open_group, and_word, or_word, bar_sign, test_word}
+use Rattle.paper.specs.Printing.{close_round as close_sign}
 use Rattle.paper.specs.Printing.{axis_text, grouped, head_pieces, expr_pieces, relative_pieces, later_pieces, preds_pieces, path_pieces, paths_pieces}
 use Rattle.paper.proofs.Same.{same_refl}
 use Rattle.paper.proofs.Axes.{axis-named}
@@ -29,8 +29,8 @@ use Rattle.round_trip.proofs.Spelling.{test_tokens, piece_tokens, tokens_of, fir
 
 -- The query with other numbers for its names.
 abbrev pub new_test : (ℕ → ℕ) → Test → Test
-new_test f anyNode = anyNode
-new_test f textNode = textNode
+new_test f any_node = any_node
+new_test f text_node = text_node
 new_test f (named v) = named (f v)
 new_test f any_element = any_element
 
@@ -94,10 +94,10 @@ laid_long places (t ∷ ts) rest = omega (arith, laid_long (drop 1 places) ts re
 
 -- What may follow a path: no predicate, no step, no bracket, no `::`.
 pub record Calm (ts : List Placed) : Type 0 where
-  pub no_square : sees openSquare ts ≡ false
+  pub no_square : sees open_square ts ≡ false
   pub no_slash : sees slash ts ≡ false
   pub no_slashes : sees slashes ts ≡ false
-  pub no_round : sees openRound ts ≡ false
+  pub no_round : sees open_round ts ≡ false
   pub no_colons : sees colons ts ≡ false
 
 -- How many operators a left-grouped run has.
@@ -198,7 +198,7 @@ module _ (P : ℕ → Type 0) (names : List (List ℕ)) (brief newer : Bool) (lo
   in_bracket e r (suc d) place places rest h c a o = whole_read d e (laid places (tokens_of names (expr_pieces brief e)) rest) rest (r.expr d places rest (omega arith) c a) o
 
   -- A closing round bracket follows calmly.
-  closes : (places : List ℕ) (rest : List Placed) → Calm (laid places (closeRound ∷ []) rest)
+  closes : (places : List ℕ) (rest : List Placed) → Calm (laid places (close_round ∷ []) rest)
   closes places rest = record { no_square = refl; no_slash = refl; no_slashes = refl; no_round = refl; no_colons = refl }
 
   -- What is no operator is read as an operand on each level.
@@ -223,14 +223,14 @@ module _ (P : ℕ → Type 0) (names : List (List ℕ)) (brief newer : Bool) (lo
   -- An operator in round brackets.
   group : (e : Expr) → ((d : ℕ) (places : List ℕ) (rest : List Placed) → nest_expr e ≤ d → Calm rest → says (ascii "and") rest ≡ false → OrsRead d e (laid places (tokens_of names (expr_pieces brief e)) rest) rest)
       → (d : ℕ) (places : List ℕ) (rest : List Placed) → 1 + nest_expr e ≤ d
-      → read_operand newer look (read_within newer look d) (laid places (tokens_of names (openGroup ∷ expr_pieces brief e ++ (closeSign ∷ []))) rest) ≡ got (new_expr f e) rest
+      → read_operand newer look (read_within newer look d) (laid places (tokens_of names (open_group ∷ expr_pieces brief e ++ (close_sign ∷ []))) rest) ≡ got (new_expr f e) rest
   unfolding read_operand
   group e r zero places rest h = absurd (omega arith)
   group e r (suc d) places rest h =
       let inner = after (drop 1 places) (tokens_of names (expr_pieces brief e)) in
-      let tail = laid inner (closeRound ∷ []) rest in
+      let tail = laid inner (close_round ∷ []) rest in
       rw (
-        shown names (drop 1 places) (expr_pieces brief e) (closeSign ∷ []) rest,
+        shown names (drop 1 places) (expr_pieces brief e) (close_sign ∷ []) rest,
         whole_read d e (laid (drop 1 places) (tokens_of names (expr_pieces brief e)) tail) tail (r d (drop 1 places) tail (omega arith) (closes inner rest) refl) refl,
       )
 
@@ -241,9 +241,9 @@ module _ (P : ℕ → Type 0) (names : List (List ℕ)) (brief newer : Bool) (lo
       plain (negated a) refl refl refl refl
       (λ d places rest h c.
       let inner = after (drop 1 (drop 1 places)) (tokens_of names (expr_pieces brief a)) in
-      let tail = laid inner (closeRound ∷ []) rest in
+      let tail = laid inner (close_round ∷ []) rest in
       rw (
-        shown names (drop 1 (drop 1 places)) (expr_pieces brief a) (closeSign ∷ []) rest,
+        shown names (drop 1 (drop 1 places)) (expr_pieces brief a) (close_sign ∷ []) rest,
         in_bracket a r d (first_place (drop 1 places)) (drop 1 (drop 1 places)) tail (omega arith) (closes inner rest) refl refl,
       ))
 
@@ -257,11 +257,11 @@ module _ (P : ℕ → Type 0) (names : List (List ℕ)) (brief newer : Bool) (lo
       whole_of : (d : ℕ) (places : List ℕ) (rest : List Placed) → nest_expr e ≤ d → Calm rest → says (ascii "and") rest ≡ false → OrsRead d e (laid places (tokens_of names (expr_pieces brief e)) rest) rest
       whole_of d places rest h c n =
           let there = after places (tokens_of names (expr_pieces brief a)) in
-          let tail = laid there (tokens_of names (orWord ∷ term_pieces brief b)) rest in
+          let tail = laid there (tokens_of names (or_word ∷ term_pieces brief b)) rest in
           let oa = ra.expr d places tail (omega arith) (record { no_square = refl; no_slash = refl; no_slashes = refl; no_round = refl; no_colons = refl }) refl in
           let tb = term_read d b (laid (drop 1 there) (tokens_of names (term_pieces brief b)) rest) rest (rb.term d (drop 1 there) rest (omega arith) c) n in
           let us = laid (drop 1 there) (tokens_of names (term_pieces brief b)) rest in
-          rw (shown names places (expr_pieces brief a) (orWord ∷ term_pieces brief b) rest)
+          rw (shown names places (expr_pieces brief a) (or_word ∷ term_pieces brief b) rest)
           (run_more (or_run newer look (read_within newer look d)) (or_count a) (first_place there) (new_expr f a) (new_expr f b) (laid places (tokens_of names (expr_pieces brief a)) tail) us rest oa tb
           (omega (arith, laid_long (drop 1 there) (tokens_of names (term_pieces brief b)) rest)))
 
@@ -278,11 +278,11 @@ module _ (P : ℕ → Type 0) (names : List (List ℕ)) (brief newer : Bool) (lo
       term_of : (d : ℕ) (places : List ℕ) (rest : List Placed) → nest_expr e ≤ d → Calm rest → AndsRead d e (laid places (tokens_of names (expr_pieces brief e)) rest) rest
       term_of d places rest h c =
           let there = after places (tokens_of names (term_pieces brief a)) in
-          let tail = laid there (tokens_of names (andWord ∷ operand_pieces brief b)) rest in
+          let tail = laid there (tokens_of names (and_word ∷ operand_pieces brief b)) rest in
           let oa = ra.term d places tail (omega arith) (record { no_square = refl; no_slash = refl; no_slashes = refl; no_round = refl; no_colons = refl }) in
           let ob = rb.operand d (drop 1 there) rest (omega arith) c in
           let us = laid (drop 1 there) (tokens_of names (operand_pieces brief b)) rest in
-          rw (shown names places (term_pieces brief a) (andWord ∷ operand_pieces brief b) rest)
+          rw (shown names places (term_pieces brief a) (and_word ∷ operand_pieces brief b) rest)
           (run_more (and_run newer look (read_within newer look d)) (and_count a) (first_place there) (new_expr f a) (new_expr f b) (laid places (tokens_of names (term_pieces brief a)) tail) us rest oa ob
           (omega (arith, laid_long (drop 1 there) (tokens_of names (operand_pieces brief b)) rest)))
 
@@ -292,7 +292,7 @@ module _ (P : ℕ → Type 0) (names : List (List ℕ)) (brief newer : Bool) (lo
   -- What reading makes of printed predicates and steps.
   abbrev ReadsPreds : Preds → Type 0
   ReadsPreds ps =
-      (d n : ℕ) (places : List ℕ) (rest : List Placed) → nest_preds ps ≤ d → pred_count ps ≤ n → sees openSquare rest ≡ false
+      (d n : ℕ) (places : List ℕ) (rest : List Placed) → nest_preds ps ≤ d → pred_count ps ≤ n → sees open_square rest ≡ false
       → read_preds newer look (read_within newer look d) n (laid places (tokens_of names (preds_pieces brief ps)) rest) ≡ got (new_preds f ps) rest
 
   -- What is read once a step is, by the `/` or `//` that follows it.
@@ -318,19 +318,19 @@ module _ (P : ℕ → Type 0) (names : List (List ℕ)) (brief newer : Bool) (lo
   read_pred e ps re rp d zero places rest h l c = absurd (omega arith)
   read_pred e ps re rp d (suc n) places rest h l c =
       let inner = after (drop 1 places) (tokens_of names (expr_pieces brief e)) in
-      let tail = laid inner (tokens_of names (closePred ∷ preds_pieces brief ps)) rest in
+      let tail = laid inner (tokens_of names (close_pred ∷ preds_pieces brief ps)) rest in
       rw (
-        shown names (drop 1 places) (expr_pieces brief e) (closePred ∷ preds_pieces brief ps) rest,
+        shown names (drop 1 places) (expr_pieces brief e) (close_pred ∷ preds_pieces brief ps) rest,
         in_bracket e re d (first_place places) (drop 1 places) tail (omega arith) (record { no_square = refl; no_slash = refl; no_slashes = refl; no_round = refl; no_colons = refl }) refl refl,
         rp d n (drop 1 inner) rest (omega arith) (omega arith) c,
       )
 
   -- A test, where no round bracket follows.
-  test_read : (a : Axis) (t : Test) (within : ℕ → List Placed → Got Expr) (places : List ℕ) (left : List Placed) → Spelt P t → sees openRound left ≡ false
+  test_read : (a : Axis) (t : Test) (within : ℕ → List Placed → Got Expr) (places : List ℕ) (left : List Placed) → Spelt P t → sees open_round left ≡ false
       → read_tested newer look within a (laid places (test_tokens names t) left) ≡ read_tail newer look within a (new_test f t) left
   unfolding read_tested
-  test_read a anyNode within places left k c = refl
-  test_read a textNode within places left k c = refl
+  test_read a any_node within places left k c = refl
+  test_read a text_node within places left k c = refl
   test_read a (named v) within places left k c = rw (c, finds v k)
   test_read a any_element within places left k c = refl
 
@@ -341,7 +341,7 @@ module _ (P : ℕ → Type 0) (names : List (List ℕ)) (brief newer : Bool) (lo
   later_apart x one two places (step a t ps s) rest c =
       by_later (λ qs. sees x (laid places (tokens_of names qs) rest) ≡ false) brief a t ps s (λ d. two) one
 
-  preds_apart : (x : Token) → is x openSquare ≡ false → (places : List ℕ) (ps : Preds) (left : List Placed) → sees x left ≡ false
+  preds_apart : (x : Token) → is x open_square ≡ false → (places : List ℕ) (ps : Preds) (left : List Placed) → sees x left ≡ false
       → sees x (laid places (tokens_of names (preds_pieces brief ps)) left) ≡ false
   preds_apart x one places bare left c = c
   preds_apart x one places (pred e ps) left c = one
@@ -350,11 +350,11 @@ module _ (P : ℕ → Type 0) (names : List (List ℕ)) (brief newer : Bool) (lo
   pred_tokens : (ps : Preds) → pred_count ps ≤ length (tokens_of names (preds_pieces brief ps))
   pred_tokens bare = omega arith
   pred_tokens (pred e ps) =
-      rw (tokens_append names (expr_pieces brief e) (closePred ∷ preds_pieces brief ps)) (omega (arith, pred_tokens ps, length-append (tokens_of names (expr_pieces brief e)) (closeSquare ∷ tokens_of names (preds_pieces brief ps))))
+      rw (tokens_append names (expr_pieces brief e) (close_pred ∷ preds_pieces brief ps)) (omega (arith, pred_tokens ps, length-append (tokens_of names (expr_pieces brief e)) (close_square ∷ tokens_of names (preds_pieces brief ps))))
 
   test-tokens : (t : Test) → 1 ≤ length (tokens_of names (test_word t ∷ []))
-  test-tokens anyNode = omega arith
-  test-tokens textNode = omega arith
+  test-tokens any_node = omega arith
+  test-tokens text_node = omega arith
   test-tokens (named v) = omega arith
   test-tokens any_element = omega arith
 
@@ -386,26 +386,26 @@ module _ (P : ℕ → Type 0) (names : List (List ℕ)) (brief newer : Bool) (lo
   -- How a head begins: with a token that a step begins with, no round bracket, and no `not(`.
   record Begins (ts : List Placed) : Type 0 where
     starts : starts_step (next ts) ≡ true
-    no_group : sees openRound ts ≡ false
-    no_not : says (ascii "not") ts && sees openRound (drop 1 ts) ≡ false
+    no_group : sees open_round ts ≡ false
+    no_not : says (ascii "not") ts && sees open_round (drop 1 ts) ≡ false
 
-  test_begins : (t : Test) (places : List ℕ) (left : List Placed) → sees openRound left ≡ false → Begins (laid places (tokens_of names (test_word t ∷ [])) left)
-  test_begins anyNode places left c = record { starts = refl; no_group = refl; no_not = refl }
-  test_begins textNode places left c = record { starts = refl; no_group = refl; no_not = refl }
+  test_begins : (t : Test) (places : List ℕ) (left : List Placed) → sees open_round left ≡ false → Begins (laid places (tokens_of names (test_word t ∷ [])) left)
+  test_begins any_node places left c = record { starts = refl; no_group = refl; no_not = refl }
+  test_begins text_node places left c = record { starts = refl; no_group = refl; no_not = refl }
   test_begins (named v) places left c = record { starts = refl; no_group = refl; no_not = rw c (and_false (same (ascii "not") (get_or names v []))) }
   test_begins any_element places left c = record { starts = refl; no_group = refl; no_not = refl }
 
-  head_begins : (a : Axis) (t : Test) (count : ℕ) (places : List ℕ) (left : List Placed) → sees openRound left ≡ false → Begins (laid places (tokens_of names (head_pieces brief a t count)) left)
+  head_begins : (a : Axis) (t : Test) (count : ℕ) (places : List ℕ) (left : List Placed) → sees open_round left ≡ false → Begins (laid places (tokens_of names (head_pieces brief a t count)) left)
   head_begins a t count places left c =
       by_head (λ hs. Begins (laid places (tokens_of names hs) left)) brief a t count (λ p. record { starts = refl; no_group = refl; no_not = refl }) (λ p. record { starts = refl; no_group = refl; no_not = refl })
       (λ e. test_begins t places left c) (record { starts = refl; no_group = refl; no_not = and_false (same (ascii "not") (axis_text a)) })
 
   -- A test with no axis before it, where no round bracket and no `::` follows.
-  child_read : (t : Test) (within : ℕ → List Placed → Got Expr) (places : List ℕ) (left : List Placed) → Spelt P t → sees openRound left ≡ false → sees colons left ≡ false
+  child_read : (t : Test) (within : ℕ → List Placed → Got Expr) (places : List ℕ) (left : List Placed) → Spelt P t → sees open_round left ≡ false → sees colons left ≡ false
       → read_step newer look within (laid places (tokens_of names (test_word t ∷ [])) left) ≡ read_tail newer look within child (new_test f t) left
   unfolding read_step
-  child_read anyNode within places left k c n = test_read child anyNode within places left k c
-  child_read textNode within places left k c n = test_read child textNode within places left k c
+  child_read any_node within places left k c n = test_read child any_node within places left k c
+  child_read text_node within places left k c n = test_read child text_node within places left k c
   child_read (named v) within places left k c n = rw n (test_read child (named v) within places left k c)
   child_read any_element within places left k c n = rw n (test_read child any_element within places left k c)
 
@@ -416,7 +416,7 @@ module _ (P : ℕ → Type 0) (names : List (List ℕ)) (brief newer : Bool) (lo
 
     abbrev HeadReads : List Piece → Type 0
     HeadReads hs =
-        (places : List ℕ) (left : List Placed) → Spelt P t → sees openRound left ≡ false → sees colons left ≡ false → (ps ≡ bare → left ≡ follow)
+        (places : List ℕ) (left : List Placed) → Spelt P t → sees open_round left ≡ false → sees colons left ≡ false → (ps ≡ bare → left ≡ follow)
         → read_tail newer look (read_within newer look d) a (new_test f t) left ≡ got whole follow
         → read_step newer look (read_within newer look d) (laid places (tokens_of names hs) left) ≡ got whole follow
 
@@ -427,9 +427,9 @@ module _ (P : ℕ → Type 0) (names : List (List ℕ)) (brief newer : Bool) (lo
         none : ps ≡ bare
         none = none_there ps p.none
 
-        go : (b : Bool) → read_tail newer look (read_within newer look d) along anyNode left ≡ got (record { axis = along; test = anyNode; preds = new_preds f ps }) follow
-            → cond b (read_tail newer look (read_within newer look d) along anyNode left) (got (record { axis = along; test = anyNode; preds = bare }) left)
-            ≡ got (record { axis = along; test = anyNode; preds = new_preds f ps }) follow
+        go : (b : Bool) → read_tail newer look (read_within newer look d) along any_node left ≡ got (record { axis = along; test = any_node; preds = new_preds f ps }) follow
+            → cond b (read_tail newer look (read_within newer look d) along any_node left) (got (record { axis = along; test = any_node; preds = bare }) left)
+            ≡ got (record { axis = along; test = any_node; preds = new_preds f ps }) follow
         go true g = g
         go false g = rw (none, e none)
 
@@ -461,8 +461,8 @@ module _ (P : ℕ → Type 0) (names : List (List ℕ)) (brief newer : Bool) (lo
         shown names places (head_pieces brief a t (pred_count ps)) (preds_pieces brief ps ++ later_pieces brief s) rest ∙
         ap (laid places (tokens_of names (head_pieces brief a t (pred_count ps)))) (shown names headed (preds_pieces brief ps) (later_pieces brief s) rest)
 
-    no_round : Calm rest → sees openRound predicates ≡ false
-    no_round c = preds_apart openRound refl headed ps follows (later_apart openRound refl refl (after headed (tokens_of names (preds_pieces brief ps))) s rest c.no_round)
+    no_round : Calm rest → sees open_round predicates ≡ false
+    no_round c = preds_apart open_round refl headed ps follows (later_apart open_round refl refl (after headed (tokens_of names (preds_pieces brief ps))) s rest c.no_round)
 
     no_colons : Calm rest → sees colons predicates ≡ false
     no_colons c = preds_apart colons refl headed ps follows (later_apart colons refl refl (after headed (tokens_of names (preds_pieces brief ps))) s rest c.no_colons)
@@ -479,8 +479,8 @@ module _ (P : ℕ → Type 0) (names : List (List ℕ)) (brief newer : Bool) (lo
         (head_read a t ps d follows places predicates k (no_round c) (no_colons c) (λ e. rw e)
         (rw (rp d (length predicates) headed follows h (omega (arith, pred_tokens ps, laid_long headed (tokens_of names (preds_pieces brief ps)) follows)) no_square)))
       where
-        no_square : sees openSquare follows ≡ false
-        no_square = later_apart openSquare refl refl (after headed (tokens_of names (preds_pieces brief ps))) s rest c.no_square
+        no_square : sees open_square follows ≡ false
+        no_square = later_apart open_square refl refl (after headed (tokens_of names (preds_pieces brief ps))) s rest c.no_square
 
   -- No step more, and one step more.
   read_stop : ReadsSteps stop
@@ -566,9 +566,9 @@ module _ (P : ℕ → Type 0) (names : List (List ℕ)) (brief newer : Bool) (lo
   reads_paths (q ∷ ps) p k ks d (suc n) places end h l =
       let last : List Placed = record { place = end; token = finish } ∷ [] in
       let there = after places (tokens_of names (path_pieces brief p)) in
-      let tail = laid there (tokens_of names (barSign ∷ path_pieces brief q ++ paths_pieces brief ps)) last in
+      let tail = laid there (tokens_of names (bar_sign ∷ path_pieces brief q ++ paths_pieces brief ps)) last in
       rw (
-        shown names places (path_pieces brief p) (barSign ∷ path_pieces brief q ++ paths_pieces brief ps) last,
+        shown names places (path_pieces brief p) (bar_sign ∷ path_pieces brief q ++ paths_pieces brief ps) last,
         read_top p k d places tail (omega arith) (record { no_square = refl; no_slash = refl; no_slashes = refl; no_round = refl; no_colons = refl }) refl,
         reads_paths ps q ks.0 ks.1 d n (drop 1 there) end (omega arith) (omega arith),
       )
@@ -592,8 +592,8 @@ module _ (P : ℕ → Type 0) (names : List (List ℕ)) (brief newer : Bool) (lo
 
 -- With the same numbers the query is the same.
 same_test : (t : Test) → new_test (λ v. v) t ≡ t
-same_test anyNode = refl
-same_test textNode = refl
+same_test any_node = refl
+same_test text_node = refl
 same_test (named v) = refl
 same_test any_element = refl
 

@@ -15,12 +15,12 @@ use Rattle.paper.specs.Limits.{text_limit, list_limit, item_limit, bracket_limit
 use Rattle.paper.specs.Names.{Line, lines_from, is_name, bad_line, first_bad, names_fault, names_of, number_from, number_of}
 use Rattle.paper.specs.Tokens.{Placed, finish, tokens}
 use Rattle.paper.specs.Reading.{got, read_paths, read_within, read_text}
-use Rattle.paper.specs.Query.{Axis, Test, anyNode, textNode, named, any_element}
+use Rattle.paper.specs.Query.{Axis, Test, any_node, text_node, named, any_element}
 use Rattle.paper.specs.Query.{Expr, path, both, either, negated, Steps, stop, step, Preds, bare, pred, Query, paths}
 use Rattle.paper.specs.Items.{step_at, step_count, pred_count, encode_expr, encode_steps, encode_preds, encode_paths, encode, decode, good_test, good_expr, good_steps, good_preds, good_paths, good, count_bound}
 use Rattle.paper.specs.Measures.{is_and, is_or, nest_paths, nesting}
-use Rattle.paper.specs.Printing.{Piece, closePred, andWord, orWord}
-use Rattle.paper.specs.Printing.{closeRound as closeSign}
+use Rattle.paper.specs.Printing.{Piece, close_pred, and_word, or_word}
+use Rattle.paper.specs.Printing.{close_round as close_sign}
 use Rattle.paper.specs.Printing.{grouped, head_pieces, expr_pieces, relative_pieces, later_pieces, preds_pieces, path_pieces, paths_pieces, pieces, printed}
 use Rattle.paper.specs.Answers.{value, line, line_query, too_long, short, unknown_test, unknown_item, unknown_from, print_answer, print_out, is_newer, any_name, read_answer, read_items}
 use Rattle.paper.specs.Answers.{Answer as Told}
@@ -57,8 +57,8 @@ module _ (count : ℕ) where
   Below v = v < count
 
   test_of : (t : Test) → unknown_test count t ≡ false → Spelt Below t
-  test_of anyNode u = tt
-  test_of textNode u = tt
+  test_of any_node u = tt
+  test_of text_node u = tt
   test_of (named v) u = leb-false count v u
   test_of any_element u = tt
 
@@ -102,7 +102,7 @@ module _ (P : ℕ → Type 0) (brief : Bool) where
   FineBefore ps = (qs : List Piece) → Soft qs → Fine P qs → Fine P (ps ++ qs)
 
   fine_group : (b : Bool) (ps : List Piece) → FineBefore ps → FineBefore (grouped b ps)
-  fine_group true ps k qs s g = rw (append_assoc ps (closeSign ∷ []) qs) (tt, k (closeSign ∷ qs) refl (tt, g))
+  fine_group true ps k qs s g = rw (append_assoc ps (close_sign ∷ []) qs) (tt, k (close_sign ∷ qs) refl (tt, g))
   fine_group false ps k qs s g = k qs s g
 
   later_soft : (s : Steps) (qs : List Piece) → Soft qs → Soft (later_pieces brief s ++ qs)
@@ -138,15 +138,15 @@ module _ (P : ℕ → Type 0) (brief : Bool) where
     fine_expr (path s) k = λ qs h g. fine_relative s k.1 qs h g
     fine_expr (both a b) k =
         λ qs h g.
-        rw (append_assoc (grouped (is_or a) (expr_pieces brief a)) (andWord ∷ grouped (is_or b || is_and b) (expr_pieces brief b)) qs)
-        (fine_group (is_or a) (expr_pieces brief a) (λ rs i j. fine_expr a k.0 rs i j) (andWord ∷ grouped (is_or b || is_and b) (expr_pieces brief b) ++ qs) refl
+        rw (append_assoc (grouped (is_or a) (expr_pieces brief a)) (and_word ∷ grouped (is_or b || is_and b) (expr_pieces brief b)) qs)
+        (fine_group (is_or a) (expr_pieces brief a) (λ rs i j. fine_expr a k.0 rs i j) (and_word ∷ grouped (is_or b || is_and b) (expr_pieces brief b) ++ qs) refl
         (tt, fine_group (is_or b || is_and b) (expr_pieces brief b) (λ rs i j. fine_expr b k.1 rs i j) qs h g))
     fine_expr (either a b) k =
         λ qs h g.
-        rw (append_assoc (expr_pieces brief a) (orWord ∷ grouped (is_or b) (expr_pieces brief b)) qs)
-        (fine_expr a k.0 (orWord ∷ grouped (is_or b) (expr_pieces brief b) ++ qs) refl
+        rw (append_assoc (expr_pieces brief a) (or_word ∷ grouped (is_or b) (expr_pieces brief b)) qs)
+        (fine_expr a k.0 (or_word ∷ grouped (is_or b) (expr_pieces brief b) ++ qs) refl
         (tt, fine_group (is_or b) (expr_pieces brief b) (λ rs i j. fine_expr b k.1 rs i j) qs h g))
-    fine_expr (negated a) k = λ qs h g. rw (append_assoc (expr_pieces brief a) (closeSign ∷ []) qs) (tt, fine_expr a k (closeSign ∷ qs) refl (tt, g))
+    fine_expr (negated a) k = λ qs h g. rw (append_assoc (expr_pieces brief a) (close_sign ∷ []) qs) (tt, fine_expr a k (close_sign ∷ qs) refl (tt, g))
 
     fine_relative : (s : Steps) → StepsOf P s → FineBefore (relative_pieces brief s)
     fine_relative stop k = λ qs h g. g
@@ -162,8 +162,8 @@ module _ (P : ℕ → Type 0) (brief : Bool) where
     fine_preds bare k = λ qs h g. g
     fine_preds (pred e ps) k =
         λ qs h g.
-        rw (append_assoc (expr_pieces brief e) (closePred ∷ preds_pieces brief ps) qs)
-        (tt, fine_expr e k.0 (closePred ∷ preds_pieces brief ps ++ qs) refl (tt, fine_preds ps k.1 qs h g))
+        rw (append_assoc (expr_pieces brief e) (close_pred ∷ preds_pieces brief ps) qs)
+        (tt, fine_expr e k.0 (close_pred ∷ preds_pieces brief ps ++ qs) refl (tt, fine_preds ps k.1 qs h g))
 
   fine_path : (s : Steps) → StepsOf P s → (qs : List Piece) → Soft qs → NoSlash qs → Fine P qs → Fine P (path_pieces brief s ++ qs)
   fine_path stop k qs h n g = (n, g)

@@ -12,7 +12,7 @@ use Rattle.paper.specs.Query.{Axis, Test, Expr, path, both, either, negated, Ste
 use Rattle.paper.specs.Names.{names_of}
 use Rattle.paper.specs.Items.{pred_count}
 use Rattle.paper.specs.Measures.{round_left_of_and, round_right_of_and, round_right_of_or}
-use Rattle.paper.specs.Printing.{long_form, short_form, Piece, slashesSign, closePred, closeRound, andWord, orWord, test_word}
+use Rattle.paper.specs.Printing.{long_form, short_form, Piece, slashes_sign, close_pred, close_round, and_word, or_word, test_word}
 use Rattle.paper.specs.Printing.{axis_text, grouped, head_pieces, deepened, expr_pieces, relative_pieces, later_pieces, preds_pieces, path_pieces, paths_pieces, pieces, text_of, piece_text, printed}
 use Rattle.paper.specs.Answers.{print_answer}
 use Rattle.paper.proofs.Abbreviating.{by_head, by_later}
@@ -32,7 +32,7 @@ module _ (names : List (List ℕ)) where
 
   -- Brackets are as long in either form.
   group_less : (b : Bool) (ps qs : List Piece) → long ps ≤ long qs → long (grouped b ps) ≤ long (grouped b qs)
-  group_less true ps qs l = omega (arith, joined ps (closeRound ∷ []), joined qs (closeRound ∷ []))
+  group_less true ps qs l = omega (arith, joined ps (close_round ∷ []), joined qs (close_round ∷ []))
   group_less false ps qs l = l
 
   -- A head: with its axis written out it has two bytes more than its test, at least, and the short form has no more than that.
@@ -65,7 +65,7 @@ module _ (names : List (List ℕ)) where
   later_more (step a t ps rest) = omega (arith, later_told a t ps rest)
 
   deep_less : (a : Axis) (t : Test) (ps : Preds) (rest : Steps) → long (relative_pieces short_form rest) ≤ long (relative_pieces long_form rest)
-      → long (slashesSign ∷ relative_pieces short_form rest) ≤ long (later_pieces long_form (step a t ps rest))
+      → long (slashes_sign ∷ relative_pieces short_form rest) ≤ long (later_pieces long_form (step a t ps rest))
   deep_less a t ps rest l = omega (arith, later_told a t ps rest, step_long long_form a t ps rest, head_told a t (pred_count ps), later_more rest)
 
   mutual
@@ -78,8 +78,8 @@ module _ (names : List (List ℕ)) where
           arith,
           group_less (round_left_of_and a) (expr_pieces short_form a) (expr_pieces long_form a) (expr_less a),
           group_less (round_right_of_and b) (expr_pieces short_form b) (expr_pieces long_form b) (expr_less b),
-          joined (l (expr_pieces short_form a)) (andWord ∷ r (expr_pieces short_form b)),
-          joined (l (expr_pieces long_form a)) (andWord ∷ r (expr_pieces long_form b)),
+          joined (l (expr_pieces short_form a)) (and_word ∷ r (expr_pieces short_form b)),
+          joined (l (expr_pieces long_form a)) (and_word ∷ r (expr_pieces long_form b)),
         )
     expr_less (either a b) =
         let r = grouped (round_right_of_or b) in
@@ -87,10 +87,10 @@ module _ (names : List (List ℕ)) where
           arith,
           expr_less a,
           group_less (round_right_of_or b) (expr_pieces short_form b) (expr_pieces long_form b) (expr_less b),
-          joined (expr_pieces short_form a) (orWord ∷ r (expr_pieces short_form b)),
-          joined (expr_pieces long_form a) (orWord ∷ r (expr_pieces long_form b)),
+          joined (expr_pieces short_form a) (or_word ∷ r (expr_pieces short_form b)),
+          joined (expr_pieces long_form a) (or_word ∷ r (expr_pieces long_form b)),
         )
-    expr_less (negated a) = omega (arith, expr_less a, joined (expr_pieces short_form a) (closeRound ∷ []), joined (expr_pieces long_form a) (closeRound ∷ []))
+    expr_less (negated a) = omega (arith, expr_less a, joined (expr_pieces short_form a) (close_round ∷ []), joined (expr_pieces long_form a) (close_round ∷ []))
 
     relative_less : (s : Steps) → long (relative_pieces short_form s) ≤ long (relative_pieces long_form s)
     relative_less stop = omega arith
@@ -105,7 +105,7 @@ module _ (names : List (List ℕ)) where
     preds_less : (ps : Preds) → long (preds_pieces short_form ps) ≤ long (preds_pieces long_form ps)
     preds_less bare = omega arith
     preds_less (pred e ps) =
-        omega (arith, expr_less e, preds_less ps, joined (expr_pieces short_form e) (closePred ∷ preds_pieces short_form ps), joined (expr_pieces long_form e) (closePred ∷ preds_pieces long_form ps))
+        omega (arith, expr_less e, preds_less ps, joined (expr_pieces short_form e) (close_pred ∷ preds_pieces short_form ps), joined (expr_pieces long_form e) (close_pred ∷ preds_pieces long_form ps))
 
   path_less : (s : Steps) → long (path_pieces short_form s) ≤ long (path_pieces long_form s)
   path_less stop = omega arith

@@ -12,11 +12,11 @@ use lib.Seq.{take-append_seam, drop-append_seam}
 use borrow.Author.Tests.{eqb-true, leb-true, ne_eqb}
 use Rattle.paper.specs.Tools.{ascii, begins}
 use Rattle.paper.specs.Names.{letter, name_start, name_part, name_parts, is_name}
-use Rattle.paper.specs.Tokens.{Token, slash, slashes, dot, dots, colons, bar, openSquare, closeSquare, openRound, closeRound, star, finish, word}
+use Rattle.paper.specs.Tokens.{Token, slash, slashes, dot, dots, colons, bar, open_square, close_square, open_round, close_round, star, finish, word}
 use Rattle.paper.specs.Tokens.{white, run, token_at, Placed, tokens_from}
-use Rattle.paper.specs.Query.{Test, anyNode, textNode, named, any_element}
-use Rattle.paper.specs.Printing.{Piece, slashSign, slashesSign, dotSign, dotsSign, colonsSign, barSign, openPred, closePred, openGroup, openNot, andWord, orWord, axis_word, test_word}
-use Rattle.paper.specs.Printing.{closeRound as closeSign}
+use Rattle.paper.specs.Query.{Test, any_node, text_node, named, any_element}
+use Rattle.paper.specs.Printing.{Piece, slash_sign, slashes_sign, dot_sign, dots_sign, colons_sign, bar_sign, open_pred, close_pred, open_group, open_not, and_word, or_word, axis_word, test_word}
+use Rattle.paper.specs.Printing.{close_round as close_sign}
 use Rattle.paper.specs.Printing.{axis_text, test_text, text_of}
 use Rattle.paper.proofs.Tests.{and_true, or_true}
 use Rattle.paper.proofs.Lexing.{passed}
@@ -24,25 +24,25 @@ use Rattle.paper.proofs.Axes.{axis_name}
 
 -- The tokens of a test and of a piece.
 abbrev pub test_tokens : List (List ℕ) → Test → List Token
-test_tokens names anyNode = word (ascii "node") ∷ openRound ∷ closeRound ∷ []
-test_tokens names textNode = word (ascii "text") ∷ openRound ∷ closeRound ∷ []
+test_tokens names any_node = word (ascii "node") ∷ open_round ∷ close_round ∷ []
+test_tokens names text_node = word (ascii "text") ∷ open_round ∷ close_round ∷ []
 test_tokens names (named v) = word (get_or names v []) ∷ []
 test_tokens names any_element = star ∷ []
 
 abbrev pub piece_tokens : List (List ℕ) → Piece → List Token
-piece_tokens names slashSign = slash ∷ []
-piece_tokens names slashesSign = slashes ∷ []
-piece_tokens names dotSign = dot ∷ []
-piece_tokens names dotsSign = dots ∷ []
-piece_tokens names colonsSign = colons ∷ []
-piece_tokens names barSign = bar ∷ []
-piece_tokens names openPred = openSquare ∷ []
-piece_tokens names closePred = closeSquare ∷ []
-piece_tokens names openGroup = openRound ∷ []
-piece_tokens names openNot = word (ascii "not") ∷ openRound ∷ []
-piece_tokens names closeSign = closeRound ∷ []
-piece_tokens names andWord = word (ascii "and") ∷ []
-piece_tokens names orWord = word (ascii "or") ∷ []
+piece_tokens names slash_sign = slash ∷ []
+piece_tokens names slashes_sign = slashes ∷ []
+piece_tokens names dot_sign = dot ∷ []
+piece_tokens names dots_sign = dots ∷ []
+piece_tokens names colons_sign = colons ∷ []
+piece_tokens names bar_sign = bar ∷ []
+piece_tokens names open_pred = open_square ∷ []
+piece_tokens names close_pred = close_square ∷ []
+piece_tokens names open_group = open_round ∷ []
+piece_tokens names open_not = word (ascii "not") ∷ open_round ∷ []
+piece_tokens names close_sign = close_round ∷ []
+piece_tokens names and_word = word (ascii "and") ∷ []
+piece_tokens names or_word = word (ascii "or") ∷ []
 piece_tokens names (axis_word a) = word (axis_text a) ∷ []
 piece_tokens names (test_word t) = test_tokens names t
 
@@ -61,36 +61,36 @@ laid places (t ∷ ts) rest = record { place = first_place places; token = t } �
 
 -- Does a piece begin with a byte of a name; does it begin with `/`?
 abbrev pub wordy : Piece → Bool
-wordy slashSign = false
-wordy slashesSign = false
-wordy dotSign = true
-wordy dotsSign = true
-wordy colonsSign = false
-wordy barSign = false
-wordy openPred = false
-wordy closePred = false
-wordy openGroup = false
-wordy openNot = true
-wordy closeSign = false
-wordy andWord = false
-wordy orWord = false
+wordy slash_sign = false
+wordy slashes_sign = false
+wordy dot_sign = true
+wordy dots_sign = true
+wordy colons_sign = false
+wordy bar_sign = false
+wordy open_pred = false
+wordy close_pred = false
+wordy open_group = false
+wordy open_not = true
+wordy close_sign = false
+wordy and_word = false
+wordy or_word = false
 wordy (axis_word a) = true
 wordy (test_word t) = true
 
 abbrev pub slashy : Piece → Bool
-slashy slashSign = true
-slashy slashesSign = true
-slashy dotSign = false
-slashy dotsSign = false
-slashy colonsSign = false
-slashy barSign = false
-slashy openPred = false
-slashy closePred = false
-slashy openGroup = false
-slashy openNot = false
-slashy closeSign = false
-slashy andWord = false
-slashy orWord = false
+slashy slash_sign = true
+slashy slashes_sign = true
+slashy dot_sign = false
+slashy dots_sign = false
+slashy colons_sign = false
+slashy bar_sign = false
+slashy open_pred = false
+slashy close_pred = false
+slashy open_group = false
+slashy open_not = false
+slashy close_sign = false
+slashy and_word = false
+slashy or_word = false
 slashy (axis_word a) = false
 slashy (test_word t) = false
 
@@ -104,26 +104,26 @@ NoSlash (p ∷ ps) = slashy p ≡ false
 
 -- A test whose name is one of the list.
 abbrev pub Spelt : (ℕ → Type 0) → Test → Type 0
-Spelt P anyNode = Unit {0}
-Spelt P textNode = Unit {0}
+Spelt P any_node = Unit {0}
+Spelt P text_node = Unit {0}
 Spelt P (named v) = P v
 Spelt P any_element = Unit {0}
 
 -- May this piece stand before those?
 abbrev pub Fits : (ℕ → Type 0) → Piece → List Piece → Type 0
-Fits P slashSign ps = NoSlash ps
-Fits P slashesSign ps = Unit {0}
-Fits P dotSign ps = Soft ps
-Fits P dotsSign ps = Unit {0}
-Fits P colonsSign ps = Unit {0}
-Fits P barSign ps = Unit {0}
-Fits P openPred ps = Unit {0}
-Fits P closePred ps = Unit {0}
-Fits P openGroup ps = Unit {0}
-Fits P openNot ps = Unit {0}
-Fits P closeSign ps = Unit {0}
-Fits P andWord ps = Unit {0}
-Fits P orWord ps = Unit {0}
+Fits P slash_sign ps = NoSlash ps
+Fits P slashes_sign ps = Unit {0}
+Fits P dot_sign ps = Soft ps
+Fits P dots_sign ps = Unit {0}
+Fits P colons_sign ps = Unit {0}
+Fits P bar_sign ps = Unit {0}
+Fits P open_pred ps = Unit {0}
+Fits P close_pred ps = Unit {0}
+Fits P open_group ps = Unit {0}
+Fits P open_not ps = Unit {0}
+Fits P close_sign ps = Unit {0}
+Fits P and_word ps = Unit {0}
+Fits P or_word ps = Unit {0}
 Fits P (axis_word a) ps = Soft ps
 Fits P (test_word t) ps = Soft ps × Spelt P t
 
@@ -171,19 +171,19 @@ name_token (b ∷ bs) tail at h s =
 -- After a word comes a byte that no name goes on with; after a `/` comes no `/`.
 soft_halts : (names : List (List ℕ)) (ps : List Piece) → Soft ps → Halts (text_of names ps)
 soft_halts names [] s = tt
-soft_halts names (slashSign ∷ ps) s = refl
-soft_halts names (slashesSign ∷ ps) s = refl
-soft_halts names (dotSign ∷ ps) s = absurd (false≢true (sym s))
-soft_halts names (dotsSign ∷ ps) s = absurd (false≢true (sym s))
-soft_halts names (colonsSign ∷ ps) s = refl
-soft_halts names (barSign ∷ ps) s = refl
-soft_halts names (openPred ∷ ps) s = refl
-soft_halts names (closePred ∷ ps) s = refl
-soft_halts names (openGroup ∷ ps) s = refl
-soft_halts names (openNot ∷ ps) s = absurd (false≢true (sym s))
-soft_halts names (closeSign ∷ ps) s = refl
-soft_halts names (andWord ∷ ps) s = refl
-soft_halts names (orWord ∷ ps) s = refl
+soft_halts names (slash_sign ∷ ps) s = refl
+soft_halts names (slashes_sign ∷ ps) s = refl
+soft_halts names (dot_sign ∷ ps) s = absurd (false≢true (sym s))
+soft_halts names (dots_sign ∷ ps) s = absurd (false≢true (sym s))
+soft_halts names (colons_sign ∷ ps) s = refl
+soft_halts names (bar_sign ∷ ps) s = refl
+soft_halts names (open_pred ∷ ps) s = refl
+soft_halts names (close_pred ∷ ps) s = refl
+soft_halts names (open_group ∷ ps) s = refl
+soft_halts names (open_not ∷ ps) s = absurd (false≢true (sym s))
+soft_halts names (close_sign ∷ ps) s = refl
+soft_halts names (and_word ∷ ps) s = refl
+soft_halts names (or_word ∷ ps) s = refl
 soft_halts names (axis_word a ∷ ps) s = absurd (false≢true (sym s))
 soft_halts names (test_word t ∷ ps) s = absurd (false≢true (sym s))
 
@@ -211,26 +211,26 @@ one {t} {ts} {found} {more} at e l =
 
 module _ (P : ℕ → Type 0) (names : List (List ℕ)) (spells : (v : ℕ) → P v → is_name (get_or names v []) ≡ true) where
   test_apart : (t : Test) (tail : List ℕ) → Spelt P t → begins 47 (test_text names t ++ tail) ≡ false
-  test_apart anyNode tail k = refl
-  test_apart textNode tail k = refl
+  test_apart any_node tail k = refl
+  test_apart text_node tail k = refl
   test_apart (named v) tail k = name_apart (get_or names v []) tail (spells v k)
   test_apart any_element tail k = refl
 
   no_slash : (ps : List Piece) → Fine P ps → NoSlash ps → begins 47 (text_of names ps) ≡ false
   no_slash [] f s = refl
-  no_slash (slashSign ∷ ps) f s = absurd (false≢true (sym s))
-  no_slash (slashesSign ∷ ps) f s = absurd (false≢true (sym s))
-  no_slash (dotSign ∷ ps) f s = refl
-  no_slash (dotsSign ∷ ps) f s = refl
-  no_slash (colonsSign ∷ ps) f s = refl
-  no_slash (barSign ∷ ps) f s = refl
-  no_slash (openPred ∷ ps) f s = refl
-  no_slash (closePred ∷ ps) f s = refl
-  no_slash (openGroup ∷ ps) f s = refl
-  no_slash (openNot ∷ ps) f s = refl
-  no_slash (closeSign ∷ ps) f s = refl
-  no_slash (andWord ∷ ps) f s = refl
-  no_slash (orWord ∷ ps) f s = refl
+  no_slash (slash_sign ∷ ps) f s = absurd (false≢true (sym s))
+  no_slash (slashes_sign ∷ ps) f s = absurd (false≢true (sym s))
+  no_slash (dot_sign ∷ ps) f s = refl
+  no_slash (dots_sign ∷ ps) f s = refl
+  no_slash (colons_sign ∷ ps) f s = refl
+  no_slash (bar_sign ∷ ps) f s = refl
+  no_slash (open_pred ∷ ps) f s = refl
+  no_slash (close_pred ∷ ps) f s = refl
+  no_slash (open_group ∷ ps) f s = refl
+  no_slash (open_not ∷ ps) f s = refl
+  no_slash (close_sign ∷ ps) f s = refl
+  no_slash (and_word ∷ ps) f s = refl
+  no_slash (or_word ∷ ps) f s = refl
   no_slash (axis_word a ∷ ps) f s = name_apart (axis_text a) (text_of names ps) (axis_name a)
   no_slash (test_word t ∷ ps) f s = test_apart t (text_of names ps) f.0.1
 
@@ -238,24 +238,24 @@ module _ (P : ℕ → Type 0) (names : List (List ℕ)) (spells : (v : ℕ) → 
   pub lexed : (ps : List Piece) → Fine P ps → (at : ℕ) → Lexed (tokens_of names ps) (tokens_from 0 at (text_of names ps))
   unfolding token_at
   lexed [] f at = record { places = []; end = at; are = refl }
-  lexed (slashSign ∷ ps) f at = one at (rw (no_slash ps f.1 f.0)) (lexed ps f.1 (suc at))
-  lexed (slashesSign ∷ ps) f at = one at refl (lexed ps f.1 (suc (suc at)))
-  lexed (dotSign ∷ ps) f at = one at (rw (halts_dot (text_of names ps) (soft_halts names ps f.0))) (lexed ps f.1 (suc at))
-  lexed (dotsSign ∷ ps) f at = one at refl (lexed ps f.1 (suc (suc at)))
-  lexed (colonsSign ∷ ps) f at = one at refl (lexed ps f.1 (suc (suc at)))
-  lexed (barSign ∷ ps) f at = one at refl (lexed ps f.1 (suc at))
-  lexed (openPred ∷ ps) f at = one at refl (lexed ps f.1 (suc at))
-  lexed (closePred ∷ ps) f at = one at refl (lexed ps f.1 (suc at))
-  lexed (openGroup ∷ ps) f at = one at refl (lexed ps f.1 (suc at))
-  lexed (openNot ∷ ps) f at =
+  lexed (slash_sign ∷ ps) f at = one at (rw (no_slash ps f.1 f.0)) (lexed ps f.1 (suc at))
+  lexed (slashes_sign ∷ ps) f at = one at refl (lexed ps f.1 (suc (suc at)))
+  lexed (dot_sign ∷ ps) f at = one at (rw (halts_dot (text_of names ps) (soft_halts names ps f.0))) (lexed ps f.1 (suc at))
+  lexed (dots_sign ∷ ps) f at = one at refl (lexed ps f.1 (suc (suc at)))
+  lexed (colons_sign ∷ ps) f at = one at refl (lexed ps f.1 (suc (suc at)))
+  lexed (bar_sign ∷ ps) f at = one at refl (lexed ps f.1 (suc at))
+  lexed (open_pred ∷ ps) f at = one at refl (lexed ps f.1 (suc at))
+  lexed (close_pred ∷ ps) f at = one at refl (lexed ps f.1 (suc at))
+  lexed (open_group ∷ ps) f at = one at refl (lexed ps f.1 (suc at))
+  lexed (open_not ∷ ps) f at =
       one at (name_token (ascii "not") (40 ∷ text_of names ps) at refl refl) (one (at + 3) refl (lexed ps f.1 (suc (at + 3))))
-  lexed (closeSign ∷ ps) f at = one at refl (lexed ps f.1 (suc at))
-  lexed (andWord ∷ ps) f at = one (suc at) (name_token (ascii "and") (32 ∷ text_of names ps) (suc at) refl refl) (lexed ps f.1 (suc (suc at + 3)))
-  lexed (orWord ∷ ps) f at = one (suc at) (name_token (ascii "or") (32 ∷ text_of names ps) (suc at) refl refl) (lexed ps f.1 (suc (suc at + 2)))
+  lexed (close_sign ∷ ps) f at = one at refl (lexed ps f.1 (suc at))
+  lexed (and_word ∷ ps) f at = one (suc at) (name_token (ascii "and") (32 ∷ text_of names ps) (suc at) refl refl) (lexed ps f.1 (suc (suc at + 3)))
+  lexed (or_word ∷ ps) f at = one (suc at) (name_token (ascii "or") (32 ∷ text_of names ps) (suc at) refl refl) (lexed ps f.1 (suc (suc at + 2)))
   lexed (axis_word a ∷ ps) f at = one at (name_token (axis_text a) (text_of names ps) at (axis_name a) (soft_halts names ps f.0)) (lexed ps f.1 (at + length (axis_text a)))
-  lexed (test_word anyNode ∷ ps) f at =
+  lexed (test_word any_node ∷ ps) f at =
       one at (name_token (ascii "node") (40 ∷ 41 ∷ text_of names ps) at refl refl) (one (at + 4) refl (one (suc (at + 4)) refl (lexed ps f.1 (suc (suc (at + 4))))))
-  lexed (test_word textNode ∷ ps) f at =
+  lexed (test_word text_node ∷ ps) f at =
       one at (name_token (ascii "text") (40 ∷ 41 ∷ text_of names ps) at refl refl) (one (at + 4) refl (one (suc (at + 4)) refl (lexed ps f.1 (suc (suc (at + 4))))))
   lexed (test_word (named v) ∷ ps) f at =
       one at (name_token (get_or names v []) (text_of names ps) at (spells v f.0.1) (soft_halts names ps f.0.0)) (lexed ps f.1 (at + length (get_or names v [])))

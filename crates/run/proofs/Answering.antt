@@ -43,10 +43,10 @@ pub shaped_some {ℓ} : {C : Type ℓ} (o : Option Query) (n h g : ℕ) → IsQu
 shaped_some none n h g e k = absurd (let z : ◌≡◌ {A = ℕ} 0 1 = cc in omega arith)
 shaped_some (some q) n h g e k = k q refl (cc)
 
-module _ (query : List ℕ) (t : Table) (given : List ℕ) (marksRoom scratch_room : ℕ) where
+module _ (query : List ℕ) (t : Table) (given : List ℕ) (marks_room scratch_room : ℕ) where
   -- Does line 1 hold?
   abbrev pub Long : Bool
-  Long = too_long query item_limit || ltb node_limit (nodes t) || not (eqb (length t.kinds) (nodes t)) || not (eqb (length given) (nodes t)) || not (eqb marksRoom (nodes t))
+  Long = too_long query item_limit || ltb node_limit (nodes t) || not (eqb (length t.kinds) (nodes t)) || not (eqb (length given) (nodes t)) || not (eqb marks_room (nodes t))
 
   -- All lengths are right.
   pub record Agree : Type 0 where
@@ -54,34 +54,34 @@ module _ (query : List ℕ) (t : Table) (given : List ℕ) (marksRoom scratch_ro
     pub nodes_few : nodes t ≤ node_limit
     pub kinds_all : length t.kinds ≡ nodes t
     pub given_all : length given ≡ nodes t
-    pub marks_all : marksRoom ≡ nodes t
+    pub marks_all : marks_room ≡ nodes t
 
-  pub judged_long : Long ≡ true → refusal 1 0 ≡ judgement query t given marksRoom scratch_room
+  pub judged_long : Long ≡ true → refusal 1 0 ≡ judgement query t given marks_room scratch_room
   unfolding judgement
   judged_long h = rw h
 
-  pub judged_agrees : Agree → judgement query t given marksRoom scratch_room
+  pub judged_agrees : Agree → judgement query t given marks_room scratch_room
       ≡ line_query 6 0 (decode query) (λ q. line 7 (table_fault t) (line 8 (marks_fault t given) (line 10 (short scratch_room (scratch_of t q)) (value (scratch_of t q)))))
   unfolding judgement
   judged_agrees a =
-      rw (le-ltb item_limit (length query) a.items_few, le-ltb node_limit (nodes t) a.nodes_few, eq-eqb (length t.kinds) (nodes t) a.kinds_all, eq-eqb (length given) (nodes t) a.given_all, eq-eqb marksRoom (nodes t) a.marks_all)
+      rw (le-ltb item_limit (length query) a.items_few, le-ltb node_limit (nodes t) a.nodes_few, eq-eqb (length t.kinds) (nodes t) a.kinds_all, eq-eqb (length given) (nodes t) a.given_all, eq-eqb marks_room (nodes t) a.marks_all)
 
   -- Each later line, where those before it do not hold.
-  pub judged_six : Agree → decode query ≡ none → refusal 6 0 ≡ judgement query t given marksRoom scratch_room
+  pub judged_six : Agree → decode query ≡ none → refusal 6 0 ≡ judgement query t given marks_room scratch_room
   judged_six a d = sym (judged_agrees a ∙ rw d)
 
-  pub judged_seven : (q : Query) (i : ℕ) → Agree → decode query ≡ some q → table_fault t ≡ some i → refusal 7 i ≡ judgement query t given marksRoom scratch_room
+  pub judged_seven : (q : Query) (i : ℕ) → Agree → decode query ≡ some q → table_fault t ≡ some i → refusal 7 i ≡ judgement query t given marks_room scratch_room
   judged_seven q i a d e = sym (judged_agrees a ∙ rw (d, e))
 
-  pub judged_eight : (q : Query) (i : ℕ) → Agree → decode query ≡ some q → table_fault t ≡ none → marks_fault t given ≡ some i → refusal 8 i ≡ judgement query t given marksRoom scratch_room
+  pub judged_eight : (q : Query) (i : ℕ) → Agree → decode query ≡ some q → table_fault t ≡ none → marks_fault t given ≡ some i → refusal 8 i ≡ judgement query t given marks_room scratch_room
   judged_eight q i a d e f = sym (judged_agrees a ∙ rw (d, e, f))
 
   pub judged_ten : (q : Query) → Agree → decode query ≡ some q → table_fault t ≡ none → marks_fault t given ≡ none → scratch_room < scratch_of t q
-      → refusal 10 (scratch_of t q) ≡ judgement query t given marksRoom scratch_room
+      → refusal 10 (scratch_of t q) ≡ judgement query t given marks_room scratch_room
   judged_ten q a d e f l = sym (judged_agrees a ∙ rw (d, e, f, lt-ltb scratch_room (scratch_of t q) l))
 
   pub judged_value : (q : Query) → Agree → decode query ≡ some q → table_fault t ≡ none → marks_fault t given ≡ none → scratch_of t q ≤ scratch_room
-      → value (scratch_of t q) ≡ judgement query t given marksRoom scratch_room
+      → value (scratch_of t q) ≡ judgement query t given marks_room scratch_room
   judged_value q a d e f l = sym (judged_agrees a ∙ rw (d, e, f, le-ltb scratch_room (scratch_of t q) l))
 
   -- Where a value is answered, nothing refuses.
@@ -96,7 +96,7 @@ module _ (query : List ℕ) (t : Table) (given : List ℕ) (marksRoom scratch_ro
 
   agrees : Long ≡ false → Agree
   agrees h =
-      let a = or_none (too_long query item_limit || ltb node_limit (nodes t) || not (eqb (length t.kinds) (nodes t)) || not (eqb (length given) (nodes t))) (not (eqb marksRoom (nodes t))) h in
+      let a = or_none (too_long query item_limit || ltb node_limit (nodes t) || not (eqb (length t.kinds) (nodes t)) || not (eqb (length given) (nodes t))) (not (eqb marks_room (nodes t))) h in
       let b = or_none (too_long query item_limit || ltb node_limit (nodes t) || not (eqb (length t.kinds) (nodes t))) (not (eqb (length given) (nodes t))) a.0 in
       let c = or_none (too_long query item_limit || ltb node_limit (nodes t)) (not (eqb (length t.kinds) (nodes t))) b.0 in
       let d = or_none (too_long query item_limit) (ltb node_limit (nodes t)) c.0 in
@@ -108,7 +108,7 @@ module _ (query : List ℕ) (t : Table) (given : List ℕ) (marksRoom scratch_ro
         marks_all = eqb-true _ _ (not-false _ a.1);
       }
 
-  pub accepted : (needed : ℕ) → judgement query t given marksRoom scratch_room ≡ value needed → Accepted needed
+  pub accepted : (needed : ℕ) → judgement query t given marks_room scratch_room ≡ value needed → Accepted needed
   unfolding judgement
   accepted needed h =
       let first = line_value 1 needed (when Long 0) _ h in
@@ -133,13 +133,13 @@ module _ (query : List ℕ) (t : Table) (given : List ℕ) (marksRoom scratch_ro
           }
 
   -- A run that nothing refuses answers the number of nodes kept,
-  pub runs : (needed : ℕ) (a : Accepted needed) → run_answer query t given marksRoom scratch_room ≡ value (marked_count t (kept t given a.query_is))
+  pub runs : (needed : ℕ) (a : Accepted needed) → run_answer query t given marks_room scratch_room ≡ value (marked_count t (kept t given a.query_is))
   unfolding run_answer
   runs needed a =
-      rw (le-ltb item_limit (length query) a.agree.items_few, le-ltb node_limit (nodes t) a.agree.nodes_few, eq-eqb (length t.kinds) (nodes t) a.agree.kinds_all, eq-eqb (length given) (nodes t) a.agree.given_all, eq-eqb marksRoom (nodes t) a.agree.marks_all, a.decodes, a.table_good, a.marks_good, le-ltb scratch_room (scratch_of t a.query_is) (omega (arith, a.room_enough, a.room_is)))
+      rw (le-ltb item_limit (length query) a.agree.items_few, le-ltb node_limit (nodes t) a.agree.nodes_few, eq-eqb (length t.kinds) (nodes t) a.agree.kinds_all, eq-eqb (length given) (nodes t) a.agree.given_all, eq-eqb marks_room (nodes t) a.agree.marks_all, a.decodes, a.table_good, a.marks_good, le-ltb scratch_room (scratch_of t a.query_is) (omega (arith, a.room_enough, a.room_is)))
 
   -- and one that something refuses answers that.
-  pub refuses : (number place : ℕ) → judgement query t given marksRoom scratch_room ≡ refusal number place → run_answer query t given marksRoom scratch_room ≡ refusal number place
+  pub refuses : (number place : ℕ) → judgement query t given marks_room scratch_room ≡ refusal number place → run_answer query t given marks_room scratch_room ≡ refusal number place
   unfolding judgement run_answer
   refuses number place h = go (when Long 0) refl (decode query) refl (table_fault t) refl (marks_fault t given) refl
     where
@@ -148,7 +148,7 @@ module _ (query : List ℕ) (t : Table) (given : List ℕ) (marksRoom scratch_ro
       same_line q (some p) e = e
 
       go : (l : Option ℕ) → when Long 0 ≡ l → (o : Option Query) → decode query ≡ o → (u : Option ℕ) → table_fault t ≡ u → (v : Option ℕ) → marks_fault t given ≡ v
-          → run_answer query t given marksRoom scratch_room ≡ refusal number place
+          → run_answer query t given marks_room scratch_room ≡ refusal number place
       go (some p) e o f u g v k = rw e (rw e at h)
       go none e none f u g v k = rw (e, f) (rw (e, f) at h)
       go none e (some q) f (some p) g v k = rw (e, f, g) (rw (e, f, g) at h)
@@ -212,7 +212,7 @@ marks_are_bits t marks e h =
     one_bit (get_or marks i 0) (marked marks (parent_of t i)) (good_marks t marks h i inside) ∙ sym (column_at (nodes t) (λ k. cond (marked marks k) 1 0) 0 i inside))
 
 -- Where nothing refuses, the document can be searched and half of the needed scratch is room for the query's sets.
-module _ (query parents kinds given : List ℕ) (marksRoom : ℕ) (scratch : List ℕ) (needed : ℕ) (a : Accepted query (table_of parents kinds) given marksRoom (length scratch) needed) where
+module _ (query parents kinds given : List ℕ) (marks_room : ℕ) (scratch : List ℕ) (needed : ℕ) (a : Accepted query (table_of parents kinds) given marks_room (length scratch) needed) where
   pub searchable : Ready parents kinds given
   searchable =
       record {

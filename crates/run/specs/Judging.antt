@@ -8,10 +8,10 @@ use Rattle.paper.specs.Answers.{Answer, value, line, line_query, too_long, short
 
 -- What a run answers, with the bytes of scratch needed in the place of the number of nodes kept.
 unfoldable pub judgement : List ℕ → Table → List ℕ → ℕ → ℕ → Answer
-judgement query t given marksRoom scratch_room =
+judgement query t given marks_room scratch_room =
     line 1
     (when
-    (too_long query item_limit || ltb node_limit (nodes t) || not (eqb (length t.kinds) (nodes t)) || not (eqb (length given) (nodes t)) || not (eqb marksRoom (nodes t)))
+    (too_long query item_limit || ltb node_limit (nodes t) || not (eqb (length t.kinds) (nodes t)) || not (eqb (length given) (nodes t)) || not (eqb marks_room (nodes t)))
     0)
     (line_query 6 0 (decode query)
     (λ q. line 7 (table_fault t) (line 8 (marks_fault t given) (line 10 (short scratch_room (scratch_of t q)) (value (scratch_of t q))))))

@@ -28,7 +28,7 @@ Operator w = (and_item ≤ w) × (w ≤ or_item)
 
 -- By the operator: the first for `or`, the second for `and`.
 abbrev pub by_operator : {A : Type 0} → ℕ → A → A → A
-by_operator operator ofOr ofAnd = cond (eqb operator or_item) ofOr ofAnd
+by_operator operator of_or of_and = cond (eqb operator or_item) of_or of_and
 
 -- A run with its parts; one part; so many more parts, each joined to an expression.
 abbrev pub take_run : ℕ → (List ℕ → Taken Expr) → List ℕ → Taken Expr
@@ -127,8 +127,8 @@ ors depth =
 
 -- What holds of both operators holds of each.
 pub each : (P : ℕ → Type 0) → P and_item → P or_item → (operator : ℕ) → Operator operator → P operator
-each P ofAnd ofOr operator o =
-    by_cases (ℕ_discrete operator or_item) (λ e. subst P (sym e) ofOr) (λ n. subst P (let e : and_item ≡ operator = omega arith in e) ofAnd)
+each P of_and of_or operator o =
+    by_cases (ℕ_discrete operator or_item) (λ e. subst P (sym e) of_or) (λ n. subst P (let e : and_item ≡ operator = omega arith in e) of_and)
 
 pub run : (depth operator : ℕ) → Operator operator → Run depth operator
 run depth = each (Run depth) (ands depth) (ors depth)

@@ -5,7 +5,7 @@ use Rattle.paper.specs.Limits.{bracket_limit}
 use Rattle.paper.specs.Query.{Expr, Steps, Preds, Query}
 use Rattle.paper.specs.Items.{and_item, or_item, leading, Taken}
 use Rattle.paper.specs.Measures.{is_or, is_and, in_brackets, nest_expr}
-use Rattle.paper.specs.Measures.{nesting as nestingOf, height as height_of}
+use Rattle.paper.specs.Measures.{nesting as nesting_of, height as height_of}
 use Rattle.paper.specs.Composition.{guard_depth_expr, guard_depth_steps, guard_depth_preds, guard_depth}
 use Rattle.shape.specs.declared.Walked.{Walked}
 use Rattle.shape.specs.declared.Walked.TheVariants.{Done, Malformed}
@@ -61,7 +61,7 @@ Walks items at depth taken nest_of height_of guard_of Malformed = taken ≡ none
 -- The shape of items: nesting and height of the query that they are, and how deep its guarded steps stand.
 abbrev pub shape_of : Option Query → Shape
 shape_of none = NoQuery
-shape_of (some q) = IsQuery (nestingOf q) (height_of q) (guard_depth q)
+shape_of (some q) = IsQuery (nesting_of q) (height_of q) (guard_depth q)
 
 -- The walk with more nesting and height.
 abbrev pub raised_by : Walked → ℕ → ℕ → Walked

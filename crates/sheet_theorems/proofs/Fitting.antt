@@ -31,9 +31,9 @@ abbrev Few : Outcome → Type 0
 Few o = (v : ℕ) → adds all_of v o ≤ node_limit
 
 -- A table that a run takes has at most 4,096 nodes.
-run_few : (view : List ℕ) (t : Table) (given : List ℕ) (marksRoom room n : ℕ) → run_answer view t given marksRoom room ≡ value n → nodes t ≤ node_limit
+run_few : (view : List ℕ) (t : Table) (given : List ℕ) (marks_room room n : ℕ) → run_answer view t given marks_room room ≡ value n → nodes t ≤ node_limit
 unfolding run_answer
-run_few view t given marksRoom room n h =
+run_few view t given marks_room room n h =
     let none = when_none _ 0 (line_value 1 n _ _ h).0 in
     ltb-false node_limit (nodes t) (or_none (too_long view item_limit) (ltb node_limit (nodes t)) (or_none _ _ (or_none _ _ (or_none _ _ none).0).0).0).1
 

@@ -11,7 +11,7 @@ use lib.Dec.{ltb, leb}
 use lib.ListN.{get_or, set}
 use borrow.Author.Tests.{lt-ltb, le-ltb, leb-true, le-leb}
 use Rattle.paper.specs.Tools.{some_below, column}
-use Rattle.paper.specs.Query.{precedingSibling}
+use Rattle.paper.specs.Query.{preceding_sibling}
 use Rattle.paper.specs.Document.{Table, nodes, parent_of}
 use Rattle.paper.specs.Selection.{child_of, sibling_after}
 use Rattle.paper.proofs.Tests.{and_true, true_and, or_true, or_left, or_right, agree}
@@ -30,7 +30,7 @@ module _ (t : Table) (f : ℕ → Bool) where
 
   -- Before the turn at i - 1 the nodes from i on are done, and the others say in their second bit whether a child from i on was in the set.
   pub ahead_state : ℕ → ℕ → ℕ
-  ahead_state i k = cond (ltb k i) (twin (f k) (child_from i k)) (bit (image t precedingSibling f k))
+  ahead_state i k = cond (ltb k i) (twin (f k) (child_from i k)) (bit (image t preceding_sibling f k))
 
 module _ (t : Table) (w : Tree t) (f : ℕ → Bool) where
   from_intro : (i k j : ℕ) → j < nodes t → i ≤ j → f j ≡ true → child_of t k j ≡ true → child_from t f i k ≡ true
@@ -65,19 +65,19 @@ module _ (t : Table) (w : Tree t) (f : ℕ → Bool) where
       (or_true (child_from t f (m + 1) k) (f m && child_of t k m) h))
 
   -- A node is reached if a child of its parent behind it was in the set.
-  ahead_image : (m : ℕ) → 0 < m → m < nodes t → image t precedingSibling f m ≡ child_from t f (m + 1) (parent_of t m)
+  ahead_image : (m : ℕ) → 0 < m → m < nodes t → image t preceding_sibling f m ≡ child_from t f (m + 1) (parent_of t m)
   ahead_image m z l =
-      agree (image t precedingSibling f m) (child_from t f (m + 1) (parent_of t m))
-      (λ h. image-elim t precedingSibling f m h
+      agree (image t preceding_sibling f m) (child_from t f (m + 1) (parent_of t m))
+      (λ h. image-elim t preceding_sibling f m h
       (λ j b p q. let r = sibling_elim t m j q in from_intro (m + 1) (parent_of t m) j b (omega (arith, r.0)) p (child_intro t (parent_of t m) j (omega (arith, r.0)) (sym r.1.1))))
       (λ h. from-elim (m + 1) (parent_of t m) h
-      (λ j b a p q. image_intro t precedingSibling f m j b p (sibling_intro t m j (omega arith) z (sym (child_elim t (parent_of t m) j q).1))))
+      (λ j b a p q. image_intro t preceding_sibling f m j b p (sibling_intro t m j (omega arith) z (sym (child_elim t (parent_of t m) j q).1))))
 
   ahead_left : (i k : ℕ) → k < i → ahead_state t f i k ≡ twin (f k) (child_from t f i k)
   unfolding ahead_state
   ahead_left i k l = rw (lt-ltb k i l)
 
-  ahead_done : (i k : ℕ) → i ≤ k → ahead_state t f i k ≡ bit (image t precedingSibling f k)
+  ahead_done : (i k : ℕ) → i ≤ k → ahead_state t f i k ≡ bit (image t preceding_sibling f k)
   unfolding ahead_state
   ahead_done i k l = rw (le-ltb k i l)
 
@@ -138,12 +138,12 @@ module _ (t : Table) (w : Tree t) (f : ℕ → Bool) where
       (λ k b d o. ahead_same m k here d o))
 
   -- The root comes before nobody that has its parent.
-  ahead_none : image t precedingSibling f 0 ≡ false
+  ahead_none : image t preceding_sibling f 0 ≡ false
   unfolding image
   ahead_none = some_none (nodes t) (λ j. f j && sibling_after t 0 j) (λ j _ h. omega (arith, (sibling_elim t 0 j (and_true (f j) (sibling_after t 0 j) h).1).1.0))
 
-  pub ahead_end : (list : List ℕ) (i : ℕ) → i ≡ 1 → list ≡ column (nodes t) (ahead_state t f i) → set list 0 0 ≡ bits (nodes t) (image t precedingSibling f)
+  pub ahead_end : (list : List ℕ) (i : ℕ) → i ≡ 1 → list ≡ column (nodes t) (ahead_state t f i) → set list 0 0 ≡ bits (nodes t) (image t preceding_sibling f)
   ahead_end list i z e =
       rw e
-      (set_one (nodes t) (ahead_state t f i) (λ k. bit (image t precedingSibling f k)) 0 0 w.rooted (ap bit (sym ahead_none))
+      (set_one (nodes t) (ahead_state t f i) (λ k. bit (image t preceding_sibling f k)) 0 0 w.rooted (ap bit (sym ahead_none))
       (λ k b d. ahead_done i k (by_cases (ℕ_discrete k 0) (λ q. absurd (d q)) (λ q. omega arith))))

@@ -12,7 +12,7 @@ use lib.ListN.{length, get_or, set}
 use lib.Seq.{get_or-set_same, get_or-set_other}
 use borrow.Author.Tests.{eq-eqb, ne_eqb, lt-ltb, le-ltb}
 use Rattle.paper.specs.Tools.{some_below, column}
-use Rattle.paper.specs.Query.{followingSibling}
+use Rattle.paper.specs.Query.{following_sibling}
 use Rattle.paper.specs.Document.{Table, nodes, parent_of}
 use Rattle.paper.specs.Selection.{child_of, sibling_after}
 use Rattle.paper.proofs.Tests.{and_true, true_and, agree}
@@ -28,20 +28,20 @@ use Rattle.sideways.proofs.Twins.{twin, first_bit, second_bit, tells, set_two}
 module _ (t : Table) (f : ℕ → Bool) where
   -- Before the turn at i the nodes before i are done but for the root, which has no turn.
   behind_first : ℕ → ℕ → Bool
-  behind_first i k = cond (ltb 0 k && ltb k i) (image t followingSibling f k) (f k)
+  behind_first i k = cond (ltb 0 k && ltb k i) (image t following_sibling f k) (f k)
 
   -- A node says in its second bit whether a child before i was in the set.
   pub behind_state : ℕ → ℕ → ℕ
   behind_state i k = twin (behind_first i k) (some_below i (λ j. f j && child_of t k j))
 
 module _ (t : Table) (w : Tree t) (f : ℕ → Bool) where
-  behind_done : (i k : ℕ) → 0 < k → k < i → behind_first t f i k ≡ image t followingSibling f k
+  behind_done : (i k : ℕ) → 0 < k → k < i → behind_first t f i k ≡ image t following_sibling f k
   unfolding behind_first
   behind_done i k z l = rw (lt-ltb 0 k z, lt-ltb k i l)
 
   behind_left : (i k : ℕ) → i ≤ k → behind_first t f i k ≡ f k
   unfolding behind_first
-  behind_left i k l = ap (λ b. cond b (image t followingSibling f k) (f k)) (and_none (ltb 0 k) (le-ltb k i l))
+  behind_left i k l = ap (λ b. cond b (image t following_sibling f k) (f k)) (and_none (ltb 0 k) (le-ltb k i l))
 
   behind_root : (i : ℕ) → behind_first t f i 0 ≡ f 0
   unfolding behind_first
@@ -49,20 +49,20 @@ module _ (t : Table) (w : Tree t) (f : ℕ → Bool) where
 
   behind_other : (i k : ℕ) → (k ≡ i → ⊥) → behind_first t f i k ≡ behind_first t f (i + 1) k
   unfolding behind_first
-  behind_other i k d = ap (λ b. cond (ltb 0 k && b) (image t followingSibling f k) (f k)) (ltb_next k i d)
+  behind_other i k d = ap (λ b. cond (ltb 0 k && b) (image t following_sibling f k) (f k)) (ltb_next k i d)
 
   -- A node is reached if a child of its parent before it was in the set.
-  behind_image : (i : ℕ) → 0 < i → i < nodes t → image t followingSibling f i ≡ some_below i (λ j. f j && child_of t (parent_of t i) j)
+  behind_image : (i : ℕ) → 0 < i → i < nodes t → image t following_sibling f i ≡ some_below i (λ j. f j && child_of t (parent_of t i) j)
   behind_image i z l =
       let test : ℕ → Bool = λ j. f j && child_of t (parent_of t i) j in
-      agree (image t followingSibling f i) (some_below i test)
-      (λ h. image-elim t followingSibling f i h
+      agree (image t following_sibling f i) (some_below i test)
+      (λ h. image-elim t following_sibling f i h
       (λ j b p q. let r = sibling_elim t j i q in some_intro i test j r.0 (true_and p (child_intro t (parent_of t i) j r.1.0 r.1.1))))
       (λ h. some-elim i test h
       (λ j b q.
       let r = and_true (f j) (child_of t (parent_of t i) j) q in
       let u = child_elim t (parent_of t i) j r.1 in
-      image_intro t followingSibling f i j (omega arith) r.0 (sibling_intro t j i b u.0 u.1)))
+      image_intro t following_sibling f i j (omega arith) r.0 (sibling_intro t j i b u.0 u.1)))
 
   pub behind_start : bits (nodes t) f ≡ column (nodes t) (behind_state t f 1)
   unfolding behind_state
@@ -120,21 +120,21 @@ module _ (t : Table) (w : Tree t) (f : ℕ → Bool) where
       (λ k b d o. behind_same i k z d o))
 
   -- Nobody comes before the root.
-  behind_none : image t followingSibling f 0 ≡ false
+  behind_none : image t following_sibling f 0 ≡ false
   unfolding image
   behind_none = some_none (nodes t) (λ j. f j && sibling_after t j 0) (λ j _ h. omega (arith, (sibling_elim t j 0 (and_true (f j) (sibling_after t j 0) h).1).0))
 
   pub behind_end : (list : List ℕ) (i : ℕ) → i ≡ nodes t → list ≡ column (nodes t) (behind_state t f i)
-      → column (nodes t) (λ k. get_or (set list 0 0) k 0 % 2) ≡ bits (nodes t) (image t followingSibling f)
+      → column (nodes t) (λ k. get_or (set list 0 0) k 0 % 2) ≡ bits (nodes t) (image t following_sibling f)
   unfolding behind_state
   behind_end list i s e =
-      column_same (nodes t) 0 (λ k. get_or (set list 0 0) k 0 % 2) (λ k. bit (image t followingSibling f k))
+      column_same (nodes t) 0 (λ k. get_or (set list 0 0) k 0 % 2) (λ k. bit (image t following_sibling f k))
       (λ k _ l.
       by_cases (ℕ_discrete k 0)
       (λ z.
       ap (λ x. get_or (set list 0 0) x 0 % 2) z
       ∙ ap (λ x. x % 2) (get_or-set_same list 0 0 0 (omega (arith, w.rooted, ap length e, length_column (nodes t) 0 (behind_state t f i))))
-      ∙ ap bit (sym (ap (image t followingSibling f) z ∙ behind_none)))
+      ∙ ap bit (sym (ap (image t following_sibling f) z ∙ behind_none)))
       (λ z.
       ap (λ x. x % 2) (get_or-set_other list 0 k 0 0 z ∙ ap (λ x. get_or x k 0) e ∙ column_at (nodes t) (behind_state t f i) 0 k (omega arith))
       ∙ first_bit (behind_first t f i k) (some_below i (λ j. f j && child_of t k j))

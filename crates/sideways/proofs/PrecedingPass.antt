@@ -10,7 +10,7 @@ use mir.Val.{bool_byte}
 use lib.Dec.{eqb, ltb}
 use lib.ListN.{length, get_or, set}
 use borrow.Author.Tests.{ltb-true, ltb-false, lt-ltb, le-ltb}
-use Rattle.paper.specs.Query.{ancestorOrSelf, preceding}
+use Rattle.paper.specs.Query.{ancestor_or_self, preceding}
 use Rattle.paper.specs.Document.{Table, nodes, parent_of, over, table_of}
 use Rattle.paper.specs.Selection.{after}
 use Rattle.paper.proofs.Tests.{and_true, agree}
@@ -23,22 +23,22 @@ use Rattle.vertical.proofs.Leading.{image_intro, image-elim, after_intro, after_
 module _ (t : Table) (f : ℕ → Bool) where
   -- The least parent of the nodes from i on that are in the set or above a node of it; no node where there are none.
   pub record Lowest (low i : ℕ) : Type 0 where
-    pub upto : (c : ℕ) → i ≤ c → c < nodes t → image t ancestorOrSelf f c ≡ true → low ≤ parent_of t c
-    pub is : (nodes t ≤ low) ⊎ ((c : ℕ) × ((i ≤ c) × ((c < nodes t) × ((image t ancestorOrSelf f c ≡ true) × (parent_of t c ≡ low)))))
+    pub upto : (c : ℕ) → i ≤ c → c < nodes t → image t ancestor_or_self f c ≡ true → low ≤ parent_of t c
+    pub is : (nodes t ≤ low) ⊎ ((c : ℕ) × ((i ≤ c) × ((c < nodes t) × ((image t ancestor_or_self f c ≡ true) × (parent_of t c ≡ low)))))
 
   -- Before the turn at i - 1 the nodes from i on are done.
   pub precede_state : ℕ → ℕ → Bool
-  precede_state i k = cond (ltb k i) (image t ancestorOrSelf f k) (image t preceding f k)
+  precede_state i k = cond (ltb k i) (image t ancestor_or_self f k) (image t preceding f k)
 
   -- Before the first turn no node is passed.
   pub lowest_start : (low i : ℕ) → low ≡ nodes t → i ≡ nodes t → Lowest low i
   lowest_start low i e s = record { upto = λ c a b h. absurd (omega arith); is = inl (omega arith) }
 
   -- A node that is not in the set changes nothing;
-  lowest_same : (low m : ℕ) → image t ancestorOrSelf f m ≡ false → Lowest low (m + 1) → Lowest low m
+  lowest_same : (low m : ℕ) → image t ancestor_or_self f m ≡ false → Lowest low (m + 1) → Lowest low m
   lowest_same low m e p =
       record {
-        upto = λ c a b h. by_cases (ℕ_discrete c m) (λ s. absurd (false≢true (sym e ∙ subst (λ x. image t ancestorOrSelf f x ≡ true) s h))) (λ s. p.upto c (omega arith) b h);
+        upto = λ c a b h. by_cases (ℕ_discrete c m) (λ s. absurd (false≢true (sym e ∙ subst (λ x. image t ancestor_or_self f x ≡ true) s h))) (λ s. p.upto c (omega arith) b h);
         is = ⊎_elim (λ s. inl s) (λ s. inr (s.0, (omega (arith, s.1.0), s.1.1))) p.is;
       }
 
@@ -51,14 +51,14 @@ module _ (t : Table) (f : ℕ → Bool) where
       }
 
   -- another's parent is the least from its turn on.
-  lowest_new : (low m : ℕ) → m < nodes t → image t ancestorOrSelf f m ≡ true → parent_of t m < low → Lowest low (m + 1) → Lowest (parent_of t m) m
+  lowest_new : (low m : ℕ) → m < nodes t → image t ancestor_or_self f m ≡ true → parent_of t m < low → Lowest low (m + 1) → Lowest (parent_of t m) m
   lowest_new low m b e l p =
       record {
         upto = λ c a u h. by_cases (ℕ_discrete c m) (λ s. subst (λ x. parent_of t m ≤ parent_of t x) (sym s) (omega arith)) (λ s. omega (arith, p.upto c (omega arith) u h));
         is = inr (m, (omega arith, (b, (e, refl))));
       }
 
-  lowest_next : (low m : ℕ) (b c : Bool) → m < nodes t → image t ancestorOrSelf f m ≡ b → ltb (parent_of t m) low ≡ c → Lowest low (m + 1)
+  lowest_next : (low m : ℕ) (b c : Bool) → m < nodes t → image t ancestor_or_self f m ≡ b → ltb (parent_of t m) low ≡ c → Lowest low (m + 1)
       → Lowest (cond (eqb (bit b) 1 && c) (parent_of t m) low) m
   lowest_next low m true true l e s p = lowest_new low m l e (ltb-true (parent_of t m) low s) p
   lowest_next low m true false l e s p = lowest_above low m (ltb-false (parent_of t m) low s) p
@@ -69,11 +69,11 @@ pub record Heading (parents old list : List ℕ) (low i : ℕ) : Type 0 where
   pub least : 1 ≤ i
   pub most : i ≤ length parents
   pub sizes : length list ≡ length parents
-  pub stands : (kinds : List ℕ) (f : ℕ → Bool) → old ≡ bits (length parents) (image (table_of parents kinds) ancestorOrSelf f)
+  pub stands : (kinds : List ℕ) (f : ℕ → Bool) → old ≡ bits (length parents) (image (table_of parents kinds) ancestor_or_self f)
       → (list ≡ bits (length parents) (precede_state (table_of parents kinds) f i)) × Lowest (table_of parents kinds) f low i
 
 module _ (t : Table) (w : Tree t) (f : ℕ → Bool) where
-  precede_left : (i k : ℕ) → k < i → precede_state t f i k ≡ image t ancestorOrSelf f k
+  precede_left : (i k : ℕ) → k < i → precede_state t f i k ≡ image t ancestor_or_self f k
   unfolding precede_state
   precede_left i k l = rw (lt-ltb k i l)
 
@@ -95,7 +95,7 @@ module _ (t : Table) (w : Tree t) (f : ℕ → Bool) where
       let r = after_elim t m j v in
       crossing t w m j b r.0
       (λ c k a p o.
-      let least = lowest.upto c (omega arith) k (image_intro t ancestorOrSelf f c j b u o) in
+      let least = lowest.upto c (omega arith) k (image_intro t ancestor_or_self f c j b u o) in
       lt-ltb low m
       (by_cases (ℕ_discrete (parent_of t c) m)
       (λ e. absurd (r.1 (over_trans t w c m j b o (over_parent t w c m k (ap (λ x. over t x m) e ∙ over_self t w m l)))))
@@ -108,7 +108,7 @@ module _ (t : Table) (w : Tree t) (f : ℕ → Bool) where
       let behind : m + 1 ≤ c = s.1.0 in
       let inside : c < nodes t = s.1.1.0 in
       let parent_low : parent_of t c ≡ low = s.1.1.1.1 in
-      image-elim t ancestorOrSelf f c s.1.1.1.0
+      image-elim t ancestor_or_self f c s.1.1.1.0
       (λ j b u o.
       image_intro t preceding f m j b u
       (after_intro t m j (omega (arith, over_le t w c j b o))
@@ -118,8 +118,8 @@ module _ (t : Table) (w : Tree t) (f : ℕ → Bool) where
       (over_row t w c m j b o a)))))
       lowest.is)
 
-  pub precede_start : (i : ℕ) → i ≡ nodes t → bits (nodes t) (image t ancestorOrSelf f) ≡ bits (nodes t) (precede_state t f i)
-  precede_start i e = bits_same (nodes t) (image t ancestorOrSelf f) (precede_state t f i) (λ k l. sym (precede_left i k (omega arith)))
+  pub precede_start : (i : ℕ) → i ≡ nodes t → bits (nodes t) (image t ancestor_or_self f) ≡ bits (nodes t) (precede_state t f i)
+  precede_start i e = bits_same (nodes t) (image t ancestor_or_self f) (precede_state t f i) (λ k l. sym (precede_left i k (omega arith)))
 
   pub precede_turn : (list : List ℕ) (i low : ℕ) → 1 < i → i ≤ nodes t → list ≡ bits (nodes t) (precede_state t f i) → Lowest t f low i
       → set list (i - 1) (bool_byte (ltb low (i - 1))) ≡ bits (nodes t) (precede_state t f (i - 1))
@@ -139,9 +139,9 @@ module _ (t : Table) (w : Tree t) (f : ℕ → Bool) where
   lowest_turn list i low next z l e lowest s =
       let m = i - 1 in
       let q : i ≡ m + 1 = omega arith in
-      let own : get_or list m 0 ≡ bit (image t ancestorOrSelf f m) = bits_at (nodes t) (precede_state t f i) e m (omega arith) ∙ ap bit (precede_left i m (omega arith)) in
+      let own : get_or list m 0 ≡ bit (image t ancestor_or_self f m) = bits_at (nodes t) (precede_state t f i) e m (omega arith) ∙ ap bit (precede_left i m (omega arith)) in
       subst (λ x. Lowest t f x m) (sym (s ∙ ap (λ x. cond (eqb x 1 && ltb (parent_of t m) low) (parent_of t m) low) own))
-      (lowest_next t f low m (image t ancestorOrSelf f m) (ltb (parent_of t m) low) (omega arith) refl refl (subst (Lowest t f low) q lowest))
+      (lowest_next t f low m (image t ancestor_or_self f m) (ltb (parent_of t m) low) (omega arith) refl refl (subst (Lowest t f low) q lowest))
 
   pub precede_end : (list : List ℕ) (i : ℕ) → i ≡ 1 → list ≡ bits (nodes t) (precede_state t f i) → set list 0 0 ≡ bits (nodes t) (image t preceding f)
   precede_end list i z e =

@@ -4,7 +4,7 @@
 ghost use Rattle.std.specs.Prelude.{◌≡◌, Bool, cond, List, ℕ, ◌+◌, ◌%◌, ◌<◌, length, get_or};
 ghost use Rattle.paper.specs.Tools.{column};
 ghost use Rattle.paper.specs.Document.{table_of};
-ghost use Rattle.paper.specs.Query.{Axis, ancestorOrSelf, followingSibling, precedingSibling};
+ghost use Rattle.paper.specs.Query.{Axis, ancestor_or_self, following_sibling, preceding_sibling};
 ghost use Rattle.paper.proofs.Trees.{Tree};
 ghost use Rattle.sets.specs.Sets.{bits, image};
 
@@ -24,7 +24,7 @@ fn first_bits(set: &mut [u8])
 // Puts into the first bit of each node whether a sibling before it was in the set: the second bit of their parent says it, once the sibling's turn has come.
 fn behind_siblings(parent: &[u16], set: &mut [u8])
     requires { (length parent.now ≡ length set.old) × ((kinds : List ℕ) → Tree (table_of parent.now kinds)) }
-    ensures { (kinds : List ℕ) (f : ℕ → Bool) → set.old ≡ bits (length set.old) f → column (length set.old) (λ k. get_or set.new k 0 % 2) ≡ bits (length set.old) (image (table_of parent.now kinds) followingSibling f) }
+    ensures { (kinds : List ℕ) (f : ℕ → Bool) → set.old ≡ bits (length set.old) f → column (length set.old) (λ k. get_or set.new k 0 % 2) ≡ bits (length set.old) (image (table_of parent.now kinds) following_sibling f) }
 {
     let mut younger = 1;
     while younger < set.len() {
@@ -41,7 +41,7 @@ fn behind_siblings(parent: &[u16], set: &mut [u8])
 // Moves the set to the siblings behind its nodes.
 pub fn following_siblings(parent: &[u16], set: &mut [u8])
     requires { (length parent.now ≡ length set.old) × ((kinds : List ℕ) → Tree (table_of parent.now kinds)) }
-    ensures { (kinds : List ℕ) (f : ℕ → Bool) → set.old ≡ bits (length set.old) f → set.new ≡ bits (length set.old) (image (table_of parent.now kinds) followingSibling f) }
+    ensures { (kinds : List ℕ) (f : ℕ → Bool) → set.old ≡ bits (length set.old) f → set.new ≡ bits (length set.old) (image (table_of parent.now kinds) following_sibling f) }
 {
     behind_siblings(parent, set);
     first_bits(set);
@@ -50,7 +50,7 @@ pub fn following_siblings(parent: &[u16], set: &mut [u8])
 // Moves the set to the siblings before its nodes: from the last node on, the second bit of a parent says whether a child was in the set, and is dropped with the parent's turn.
 pub fn preceding_siblings(parent: &[u16], set: &mut [u8])
     requires { (length parent.now ≡ length set.old) × ((kinds : List ℕ) → Tree (table_of parent.now kinds)) }
-    ensures { (kinds : List ℕ) (f : ℕ → Bool) → set.old ≡ bits (length set.old) f → set.new ≡ bits (length set.old) (image (table_of parent.now kinds) precedingSibling f) }
+    ensures { (kinds : List ℕ) (f : ℕ → Bool) → set.old ≡ bits (length set.old) f → set.new ≡ bits (length set.old) (image (table_of parent.now kinds) preceding_sibling f) }
 {
     let mut elder = set.len();
     while elder > 1 {
@@ -91,7 +91,7 @@ pub fn following(parent: &[u16], set: &mut [u8])
 // Moves a set, given with all above its nodes, to what precedes them: from the last node on, a node precedes one of the set if the way up from that one passes it by, from a node behind it to a parent before it.
 fn passed_by(parent: &[u16], set: &mut [u8])
     requires { (length parent.now ≡ length set.old) × ((kinds : List ℕ) → Tree (table_of parent.now kinds)) }
-    ensures { (kinds : List ℕ) (f : ℕ → Bool) → set.old ≡ bits (length set.old) (image (table_of parent.now kinds) ancestorOrSelf f) → set.new ≡ bits (length set.old) (image (table_of parent.now kinds) Axis.preceding f) }
+    ensures { (kinds : List ℕ) (f : ℕ → Bool) → set.old ≡ bits (length set.old) (image (table_of parent.now kinds) ancestor_or_self f) → set.new ≡ bits (length set.old) (image (table_of parent.now kinds) Axis.preceding f) }
 {
     let mut low = set.len();
     let mut at = set.len();

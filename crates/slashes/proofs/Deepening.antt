@@ -9,7 +9,7 @@ use mathlib.Core.Option.{Option, none, some}
 use lib.Dec.{eqb, ltb}
 use lib.ListN.{length, get_or, get_or-eq_default}
 use borrow.Author.Tests.{eqb-true, ltb-true, ltb-false, lt-ltb}
-use Rattle.paper.specs.Query.{descendantOrSelf, anyNode}
+use Rattle.paper.specs.Query.{descendant_or_self, any_node}
 use Rattle.paper.specs.Items.{axis_number, test_number, Head, step_at}
 use Rattle.paper.specs.Printing.{plain, deepened}
 use Rattle.paper.proofs.Tests.{decide, and_true}
@@ -28,8 +28,8 @@ pub record Asked (brief : Bool) (h : Head) (left : ℕ) : Type 0 where
 pub deep_asked : (brief : Bool) (left : ℕ) (h : Head) → deepened brief h.axis h.test h.count (left - 1) ≡ true → Asked brief h left
 unfolding deepened
 deep_asked brief left h e =
-    let p = and_true (brief && plain descendantOrSelf h.axis h.test h.count) (ltb 0 (left - 1)) e in
-    let q = and_true brief (plain descendantOrSelf h.axis h.test h.count) p.0 in
+    let p = and_true (brief && plain descendant_or_self h.axis h.test h.count) (ltb 0 (left - 1)) e in
+    let q = and_true brief (plain descendant_or_self h.axis h.test h.count) p.0 in
     let c = eqb-true h.count 0 (and_true (eqb (axis_number h.axis) 3 && eqb (test_number h.test) 0) (eqb h.count 0) q.1).1 in
     record { brief_one = q.0; no_preds = c; two = omega (arith, ltb-true 0 (left - 1) p.1) }
 
@@ -68,7 +68,7 @@ module _ (brief : Bool) (items : List ℕ) (at left : ℕ) where
   -- and otherwise the fields of the item decide.
   module _ (h : Head) (stands : step_at (get_or items at 0) ≡ some h) (w : Worth true) where
     abbrev fields : Bool
-    fields = eqb (axis_number h.axis) (axis_number descendantOrSelf) && eqb (test_number h.test) (test_number anyNode) && eqb h.count 0
+    fields = eqb (axis_number h.axis) (axis_number descendant_or_self) && eqb (test_number h.test) (test_number any_node) && eqb h.count 0
 
     by_fields : deep_head brief left (step_at (get_or items at 0)) ≡ fields
     unfolding deepened

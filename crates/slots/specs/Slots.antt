@@ -2,7 +2,7 @@
 use Rattle.std.specs.Prelude.{ℕ, ◌+◌, ◌≤◌, ◌≡◌, Bool, true, false, List, [], ◌∷◌, ◌++◌, length, replicate}
 use Rattle.paper.specs.Limits.{item_limit}
 use Rattle.paper.specs.Tokens as paper
-use Rattle.paper.specs.Query.{descendantOrSelf, anyNode}
+use Rattle.paper.specs.Query.{descendant_or_self, any_node}
 use Rattle.paper.specs.Items.{pack_step}
 
 -- ITEMS. Where there is room for the items and they are no more than a query has, they stand from `slot` on and all else is as it was.
@@ -21,7 +21,7 @@ slot_bound = 200000
 
 -- The item of the step that `//` stands for, where it is written.
 abbrev pub deep_item : ℕ
-deep_item = pack_step descendantOrSelf anyNode 0
+deep_item = pack_step descendant_or_self any_node 0
 
 abbrev pub deep_items : Bool → List ℕ
 deep_items true = deep_item ∷ []

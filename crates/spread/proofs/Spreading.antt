@@ -5,7 +5,7 @@ use mathlib.Core.Bool.{Bool, true, false, ◌&&◌, ◌||◌}
 use mathlib.Core.List.{List}
 use mathlib.Core.Logic.{⊎_elim}
 use Rattle.paper.specs.Tools.{some_below}
-use Rattle.paper.specs.Query.{descendantOrSelf, ancestorOrSelf}
+use Rattle.paper.specs.Query.{descendant_or_self, ancestor_or_self}
 use Rattle.paper.specs.Document.{Table, nodes, marked, over}
 use Rattle.paper.proofs.Tests.{and_true, true_and, or_true, or_left, or_right, agree}
 use Rattle.paper.proofs.Searches.{some_intro, some-elim}
@@ -34,6 +34,6 @@ and_comm false true = refl
 and_comm false false = refl
 
 -- What is above or below the set, and marked, is what the subtree rule keeps.
-pub spreads : (t : Table) (m : List ℕ) (f : ℕ → Bool) (i : ℕ) → ((image t ancestorOrSelf f i || image t descendantOrSelf f i) && marked m i) ≡ keeps_by t m f i
+pub spreads : (t : Table) (m : List ℕ) (f : ℕ → Bool) (i : ℕ) → ((image t ancestor_or_self f i || image t descendant_or_self f i) && marked m i) ≡ keeps_by t m f i
 unfolding image keeps_by
 spreads t m f i = and_comm (some_below (nodes t) (λ k. f k && over t k i) || some_below (nodes t) (λ k. f k && over t i k)) (marked m i) ∙ ap (λ b. marked m i && b) (split_or (nodes t) f (over t i) (λ k. over t k i))

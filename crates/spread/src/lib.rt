@@ -2,7 +2,7 @@
 #![tactic(auto)]
 
 ghost use Rattle.std.specs.Prelude.{ℕ, ◌≡◌, Bool, true, ◌&&◌, length, get_or};
-ghost use Rattle.paper.specs.Query.{Test, descendantOrSelf};
+ghost use Rattle.paper.specs.Query.{Test, descendant_or_self};
 ghost use Rattle.paper.specs.Document.{marked, table_of};
 ghost use Rattle.paper.specs.Items.{test_number, good_test};
 ghost use Rattle.paper.specs.Selection.{meets};
@@ -23,7 +23,7 @@ pub fn spread(parent: &[u16], kind: &[u16], given: &[u8], marks: &mut [u8], set:
     requires ready { Ready parent.now kind.now given.now }
     requires marks_len { (length marks.old ≡ length parent.now) × (length set.old ≡ length parent.now) }
     ensures by_index { (f : ℕ → Bool) → marks.old ≡ bits (length parent.now) f → marks.new ≡ bits (length parent.now) (keeps_by (table_of parent.now kind.now) given.now f) }
-    ensures by_index_2 { (f : ℕ → Bool) → marks.old ≡ bits (length parent.now) f → set.new ≡ bits (length parent.now) (image (table_of parent.now kind.now) descendantOrSelf f) }
+    ensures by_index_2 { (f : ℕ → Bool) → marks.old ≡ bits (length parent.now) f → set.new ≡ bits (length parent.now) (image (table_of parent.now kind.now) descendant_or_self f) }
 {
     sets::copy(marks, set);
     axes::along(parent, item::DESCENDANT_OR_SELF, set);

@@ -5,7 +5,7 @@ use mathlib.Core.Bool.{true, not, false≢true}
 use mathlib.Core.List.{List}
 use lib.Dec.{eqb}
 use borrow.Author.Tests.{eqb-true}
-use Rattle.paper.specs.Query.{Axis, self, child, parent, descendantOrSelf, ancestorOrSelf, descendant, ancestor, followingSibling, precedingSibling, following, preceding}
+use Rattle.paper.specs.Query.{Axis, self, child, parent, descendant_or_self, ancestor_or_self, descendant, ancestor, following_sibling, preceding_sibling, following, preceding}
 use Rattle.paper.specs.Document.{Table, nodes, parent_of, over, marked}
 use Rattle.paper.specs.Selection.{leads}
 use Rattle.paper.specs.Extraction.{rank, extracted}
@@ -25,12 +25,12 @@ pub leads_inside : (t : Table) → Tree t → (m : List ℕ) → Closed t m → 
 leads_inside t w m c self r i j l h d = subst (λ k. marked m k ≡ true) (eqb-true i j d) h
 leads_inside t w m c child r i j l h d = absurd (false≢true r)
 leads_inside t w m c parent r i j l h d = subst (λ k. marked m k ≡ true) (eqb-true (parent_of t i) j (and_true (not (eqb i 0)) (eqb (parent_of t i) j) d).1) (c i l h)
-leads_inside t w m c descendantOrSelf r i j l h d = absurd (false≢true r)
-leads_inside t w m c ancestorOrSelf r i j l h d = over_marked t w m c j i l h d
+leads_inside t w m c descendant_or_self r i j l h d = absurd (false≢true r)
+leads_inside t w m c ancestor_or_self r i j l h d = over_marked t w m c j i l h d
 leads_inside t w m c descendant r i j l h d = absurd (false≢true r)
 leads_inside t w m c ancestor r i j l h d = over_marked t w m c j i l h (and_true (over t i j) (not (eqb j i)) d).0
-leads_inside t w m c followingSibling r i j l h d = absurd (false≢true r)
-leads_inside t w m c precedingSibling r i j l h d = absurd (false≢true r)
+leads_inside t w m c following_sibling r i j l h d = absurd (false≢true r)
+leads_inside t w m c preceding_sibling r i j l h d = absurd (false≢true r)
 leads_inside t w m c following r i j l h d = absurd (false≢true r)
 leads_inside t w m c preceding r i j l h d = absurd (false≢true r)
 
@@ -42,12 +42,12 @@ pub unguarded : Unguarded
 unguarded self = refl
 unguarded child = refl
 unguarded parent = refl
-unguarded descendantOrSelf = refl
-unguarded ancestorOrSelf = refl
+unguarded descendant_or_self = refl
+unguarded ancestor_or_self = refl
 unguarded descendant = refl
 unguarded ancestor = refl
-unguarded followingSibling = refl
-unguarded precedingSibling = refl
+unguarded following_sibling = refl
+unguarded preceding_sibling = refl
 unguarded following = refl
 unguarded preceding = refl
 
@@ -57,12 +57,12 @@ pub leads_renumbered : (t : Table) → Tree t → (m : List ℕ) → Closed t m 
 leads_renumbered t w m c root self i j li lj hi hj = rank_same m i j hi hj
 leads_renumbered t w m c root child i j li lj hi hj = child_renumbered t w m c root i j lj hi hj
 leads_renumbered t w m c root parent i j li lj hi hj = child_renumbered t w m c root j i li hj hi
-leads_renumbered t w m c root descendantOrSelf i j li lj hi hj = over_renumbered t w m c root i hi j lj hj
-leads_renumbered t w m c root ancestorOrSelf i j li lj hi hj = over_renumbered t w m c root j hj i li hi
+leads_renumbered t w m c root descendant_or_self i j li lj hi hj = over_renumbered t w m c root i hi j lj hj
+leads_renumbered t w m c root ancestor_or_self i j li lj hi hj = over_renumbered t w m c root j hj i li hi
 leads_renumbered t w m c root descendant i j li lj hi hj = below_renumbered t w m c root i j lj hi hj
 leads_renumbered t w m c root ancestor i j li lj hi hj = below_renumbered t w m c root j i li hj hi
-leads_renumbered t w m c root followingSibling i j li lj hi hj = sibling_renumbered t w m c root i j li lj hi hj
-leads_renumbered t w m c root precedingSibling i j li lj hi hj = sibling_renumbered t w m c root j i lj li hj hi
+leads_renumbered t w m c root following_sibling i j li lj hi hj = sibling_renumbered t w m c root i j li lj hi hj
+leads_renumbered t w m c root preceding_sibling i j li lj hi hj = sibling_renumbered t w m c root j i lj li hj hi
 leads_renumbered t w m c root following i j li lj hi hj = after_renumbered t w m c root i j lj hi hj
 leads_renumbered t w m c root preceding i j li lj hi hj = after_renumbered t w m c root j i li hj hi
 

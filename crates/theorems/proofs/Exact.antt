@@ -11,7 +11,7 @@ use mathlib.Core.Option.{none}
 use lib.Dec.{eqb}
 use borrow.Author.Tests.{eqb-true, eq-eqb}
 use Rattle.paper.specs.Tools.{some_of}
-use Rattle.paper.specs.Query.{descendantOrSelf, ancestorOrSelf, anyNode, Steps, bare, pred, Query, paths}
+use Rattle.paper.specs.Query.{descendant_or_self, ancestor_or_self, any_node, Steps, bare, pred, Query, paths}
 use Rattle.paper.specs.Document.{Table, nodes, over, marked, table_fault, marks_fault}
 use Rattle.paper.specs.Selection.{holds, arrives, selects, keeps, kept}
 use Rattle.paper.specs.Composition.{selected_by, some_node, visible, guard_steps, last_step, composed_path, composed}
@@ -36,20 +36,20 @@ module _ (t : Table) (m : List ℕ) (inner : Query) (ft : table_fault t ≡ none
   unfolding last_step
   last_to j k s lk ls h o u p =
       let hs = (selects_marked t (tree t ft) m inner s p).1 in
-      let e = some-node t m ancestorOrSelf (selected_by inner) k s ls hs u (selected t m inner s ft fm ls hs ∙ p) in
-      goes t m descendantOrSelf anyNode (pred (some_node ancestorOrSelf (selected_by inner)) bare) (λ i. eqb i k) j k
+      let e = some-node t m ancestor_or_self (selected_by inner) k s ls hs u (selected t m inner s ft fm ls hs ∙ p) in
+      goes t m descendant_or_self any_node (pred (some_node ancestor_or_self (selected_by inner)) bare) (λ i. eqb i k) j k
       (record { inside = lk; there = h; along = o; met = refl; fine = true_and e refl }) (eq-eqb k k refl)
 
   pub last-from {ℓ} : {C : Type ℓ} (j k : ℕ) → arrives t m (last_step inner) j k ≡ true
       → (over t k j ≡ true → (s : ℕ) → s < nodes t → over t k s ≡ true → selects t m inner s ≡ true → C) → C
   unfolding last_step
   last-from j k h next =
-      let e = some_node ancestorOrSelf (selected_by inner) in
-      went t m descendantOrSelf anyNode (pred e bare) (λ i. eqb i k) j h
+      let e = some_node ancestor_or_self (selected_by inner) in
+      went t m descendant_or_self any_node (pred e bare) (λ i. eqb i k) j h
       (λ i g r.
       let z = eqb-true i k r in
       let f = subst (λ i. holds t m e i ≡ true) z (and_true (holds t m e i) true g.fine).0 in
-      node-some t m ancestorOrSelf (selected_by inner) k f
+      node-some t m ancestor_or_self (selected_by inner) k f
       (λ s ls hs o p. next (subst (λ i. over t i j ≡ true) z g.along) s ls o (sym (selected t m inner s ft fm ls hs) ∙ p)))
 
   -- The root is kept where the inner query selects something.

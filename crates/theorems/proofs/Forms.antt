@@ -4,10 +4,10 @@ use native.Mathlib.Omega.{arith}
 use mathlib.Core.Path.{◌≡◌, refl, ap}
 use mathlib.Core.Bool.{Bool, true, false, cond, ◌&&◌}
 use mathlib.Core.List.{List, [], ◌∷◌, map}
-use Rattle.paper.specs.Query.{Axis, Test, anyNode, Expr, path, both, either, negated, Steps, stop, step, Preds, bare, pred, Query, paths}
+use Rattle.paper.specs.Query.{Axis, Test, any_node, Expr, path, both, either, negated, Steps, stop, step, Preds, bare, pred, Query, paths}
 use lib.Dec.{leb, ltb}
 use borrow.Author.Tests.{leb-true, le-leb, lt-ltb}
-use Rattle.paper.specs.Query.{ancestorOrSelf}
+use Rattle.paper.specs.Query.{ancestor_or_self}
 use Rattle.paper.specs.Limits.{item_limit}
 use Rattle.paper.specs.Items.{step_count, pred_count, good_test, good_expr, good_steps, good_preds, good_paths, good, count_bound}
 use Rattle.paper.specs.Measures.{size_expr, size_steps, size_preds, size_paths, size}
@@ -24,7 +24,7 @@ way_proper x ps back (step a y qs rest) hx hp hb hs = way_proper y qs (step (tur
 
 reversed_proper : (p : Steps) → ProperSteps p → ProperExpr (reversed p)
 unfolding reversed
-reversed_proper p h = way_proper anyNode (pred at_root bare) stop p refl ((omega arith, (refl, (tt, tt))), tt) tt h
+reversed_proper p h = way_proper any_node (pred at_root bare) stop p refl ((omega arith, (refl, (tt, tt))), tt) tt h
 
 joined_proper : (e : Expr) (ps : List Steps) → ProperExpr e → ProperPaths ps → ProperExpr (joined e ps)
 joined_proper e [] he hs = he
@@ -43,7 +43,7 @@ visible_proper q h = ((omega arith, (refl, ((selected_proper q h, tt), tt))), (o
 
 pub last_proper : (q : Query) → Proper q → ProperSteps (last_step q)
 unfolding last_step
-last_proper q h = (refl, ((some_node_proper ancestorOrSelf (selected_by q) (selected_proper q h), tt), tt))
+last_proper q h = (refl, ((some_node_proper ancestor_or_self (selected_by q) (selected_proper q h), tt), tt))
 
 pub append_proper : (s last : Steps) → ProperSteps s → ProperSteps last → ProperSteps (append s last)
 append_proper stop last hs hl = hl

@@ -8,7 +8,7 @@ use mathlib.Core.Bool.{true, not, ◌&&◌, false≢true}
 use mathlib.Core.List.{List}
 use mathlib.Core.Logic.{⊎_elim, by_cases}
 use borrow.Author.Tests.{eqb-true, eq-eqb, ne_eqb, not-true}
-use Rattle.paper.specs.Query.{self, parent, Test, anyNode, Steps, stop, step, Preds, bare, pred}
+use Rattle.paper.specs.Query.{self, parent, Test, any_node, Steps, stop, step, Preds, bare, pred}
 use Rattle.paper.specs.Document.{Table, nodes, parent_of, kind_of, marked}
 use Rattle.paper.specs.Selection.{leads, meets, holds, finds, all_hold, arrives}
 use Rattle.paper.specs.Composition.{turned, at_root, way_back, reversed}
@@ -51,8 +51,8 @@ module _ (t : Table) (m : List ℕ) where
   -- The root test holds at the root,
   root_passes : holds t m at_root 0 ≡ true
   root_passes =
-      ⊎_elim (λ h. went t m parent anyNode bare (λ j. true) 0 h (λ j g r. absurd (false≢true g.along))) (λ h. ap not h)
-      (decide (finds t m (step parent anyNode bare stop) 0))
+      ⊎_elim (λ h. went t m parent any_node bare (λ j. true) 0 h (λ j g r. absurd (false≢true g.along))) (λ h. ap not h)
+      (decide (finds t m (step parent any_node bare stop) 0))
 
   -- and at no other marked node, for that has a marked parent.
   root_alone : Tree t → Closed t m → (i : ℕ) → i < nodes t → marked m i ≡ true → holds t m at_root i ≡ true → i ≡ 0
@@ -62,8 +62,8 @@ module _ (t : Table) (m : List ℕ) where
       let up : leads t parent i (parent_of t i) ≡ true = true_and (ap not (ne_eqb i 0 e)) (eq-eqb (parent_of t i) (parent_of t i) refl) in
       absurd
       (false≢true
-      (sym (not-true (finds t m (step parent anyNode bare stop) i) p) ∙
-      goes t m parent anyNode bare (λ j. true) i (parent_of t i)
+      (sym (not-true (finds t m (step parent any_node bare stop) i) p) ∙
+      goes t m parent any_node bare (λ j. true) i (parent_of t i)
       (record {
         inside = omega (arith, parent_le t w i l);
         there = leads_inside t w m c parent refl i (parent_of t i) l h up;
@@ -81,10 +81,10 @@ reverse t m p k ft fm l h =
     let c = closed t m fm in
     agree (holds t m (reversed p) k) (marked m 0 && arrives t m p 0 k)
     (λ r.
-    way-from t m p anyNode (pred at_root bare) stop k r
+    way-from t m p any_node (pred at_root bare) stop k r
     (λ i li u q s.
     let z = root_alone t m w c i li u (and_true (holds t m at_root i) true q).0 in
     true_and (subst (λ i. marked m i ≡ true) z u) (subst (λ i. arrives t m p i k ≡ true) z s)))
     (λ r.
     let b = and_true (marked m 0) (arrives t m p 0 k) r in
-    way_to t m p anyNode (pred at_root bare) stop 0 k w.rooted b.0 refl (true_and (root_passes t m) refl) refl b.1)
+    way_to t m p any_node (pred at_root bare) stop 0 k w.rooted b.0 refl (true_and (root_passes t m) refl) refl b.1)

@@ -5,7 +5,7 @@ use mathlib.Core.Bool.{Bool, true, ◌&&◌}
 use mathlib.Core.List.{List}
 use borrow.Author.Tests.{eqb-true, eq-eqb}
 use Rattle.paper.specs.Tools.{some_below}
-use Rattle.paper.specs.Query.{Axis, Test, anyNode, Expr, Steps, stop, step, Preds, bare, pred}
+use Rattle.paper.specs.Query.{Axis, Test, any_node, Expr, Steps, stop, step, Preds, bare, pred}
 use Rattle.paper.specs.Document.{Table, nodes, kind_of, marked}
 use Rattle.paper.specs.Selection.{leads, meets, reaches, holds, all_hold, arrives}
 use Rattle.paper.specs.Composition.{append, some_node}
@@ -66,9 +66,9 @@ module _ (t : Table) (m : List ℕ) where
   -- A path of one step with `node()` and one predicate.
   pub some-node : (a : Axis) (e : Expr) (i j : ℕ) → j < nodes t → marked m j ≡ true → leads t a i j ≡ true → holds t m e j ≡ true → holds t m (some_node a e) i ≡ true
   some-node a e i j l h d p =
-      goes a anyNode (pred e bare) (λ j. true) i j (record { inside = l; there = h; along = d; met = refl; fine = true_and p refl }) refl
+      goes a any_node (pred e bare) (λ j. true) i j (record { inside = l; there = h; along = d; met = refl; fine = true_and p refl }) refl
 
   pub node-some {ℓ} : {C : Type ℓ} (a : Axis) (e : Expr) (i : ℕ) → holds t m (some_node a e) i ≡ true
       → ((j : ℕ) → j < nodes t → marked m j ≡ true → leads t a i j ≡ true → holds t m e j ≡ true → C) → C
   node-some a e i h next =
-      went a anyNode (pred e bare) (λ j. true) i h (λ j g r. next j g.inside g.there g.along (and_true (holds t m e j) true g.fine).0)
+      went a any_node (pred e bare) (λ j. true) i h (λ j g r. next j g.inside g.there g.along (and_true (holds t m e j) true g.fine).0)

@@ -7,7 +7,7 @@ use mathlib.Core.List.{List, [], ◌∷◌}
 use mathlib.Core.Logic.{⊎_elim}
 use mathlib.Core.Option.{none}
 use Rattle.paper.specs.Tools.{some_of}
-use Rattle.paper.specs.Query.{descendantOrSelf, ancestorOrSelf, Expr, either, Steps, Query, paths}
+use Rattle.paper.specs.Query.{descendant_or_self, ancestor_or_self, Expr, either, Steps, Query, paths}
 use Rattle.paper.specs.Document.{Table, nodes, over, marked, table_fault, marks_fault}
 use Rattle.paper.specs.Selection.{holds, arrives, selects, keeps}
 use Rattle.paper.specs.Composition.{reversed, joined, selected_by, some_node, visible}
@@ -70,13 +70,13 @@ visible_keeps t m q i ft fm l h =
     agree (holds t m (visible q) i) (keeps t m q i)
     (λ r.
     ⊎_elim
-    (λ d. node-some t m descendantOrSelf s i d (λ k lk hk o p. keeps_intro t m q i k lk h (sym (selected t m q k ft fm lk hk) ∙ p) (or_right (over t i k) o)))
-    (λ d. node-some t m ancestorOrSelf s i d (λ k lk hk o p. keeps_intro t m q i k lk h (sym (selected t m q k ft fm lk hk) ∙ p) (or_left (over t k i) o)))
-    (or_true (holds t m (some_node descendantOrSelf s) i) (holds t m (some_node ancestorOrSelf s) i) r))
+    (λ d. node-some t m descendant_or_self s i d (λ k lk hk o p. keeps_intro t m q i k lk h (sym (selected t m q k ft fm lk hk) ∙ p) (or_right (over t i k) o)))
+    (λ d. node-some t m ancestor_or_self s i d (λ k lk hk o p. keeps_intro t m q i k lk h (sym (selected t m q k ft fm lk hk) ∙ p) (or_left (over t k i) o)))
+    (or_true (holds t m (some_node descendant_or_self s) i) (holds t m (some_node ancestor_or_self s) i) r))
     (λ r.
     keeps-elim t m q i r
     (λ hi k lk p o.
     let hk = (selects_marked t w m q k p).1 in
     let e = selected t m q k ft fm lk hk ∙ p in
-    ⊎_elim (λ u. or_right (holds t m (some_node descendantOrSelf s) i) (some-node t m ancestorOrSelf s i k lk hk u e))
-    (λ u. or_left (holds t m (some_node ancestorOrSelf s) i) (some-node t m descendantOrSelf s i k lk hk u e)) o))
+    ⊎_elim (λ u. or_right (holds t m (some_node descendant_or_self s) i) (some-node t m ancestor_or_self s i k lk hk u e))
+    (λ u. or_left (holds t m (some_node ancestor_or_self s) i) (some-node t m descendant_or_self s i k lk hk u e)) o))

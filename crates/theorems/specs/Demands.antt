@@ -2,7 +2,7 @@
 use Rattle.std.specs.Prelude.{ℕ, ◌≤◌, ◌<◌, ◌≡◌, Bool, true, false, not, ◌&&◌, List, [], ◌∷◌, replicate}
 use Rattle.std.proofs.Math.Option.{none, some}
 use Rattle.paper.specs.Limits.{item_limit, bracket_limit}
-use Rattle.paper.specs.Query.{Axis, self, child, parent, descendantOrSelf, ancestorOrSelf, descendant, ancestor, followingSibling, precedingSibling, following, preceding}
+use Rattle.paper.specs.Query.{Axis, self, child, parent, descendant_or_self, ancestor_or_self, descendant, ancestor, following_sibling, preceding_sibling, following, preceding}
 use Rattle.paper.specs.Query.{Expr, path, both, either, negated, Steps, stop, step, Preds, bare, pred, Query, paths}
 use Rattle.paper.specs.Document.{Table, nodes, table_fault, marked, marks_fault}
 use Rattle.paper.specs.Selection.{leads, holds, arrives, keeps, kept}
@@ -52,12 +52,12 @@ abbrev pub rises : Axis → Bool
 rises self = true
 rises child = false
 rises parent = true
-rises descendantOrSelf = false
-rises ancestorOrSelf = true
+rises descendant_or_self = false
+rises ancestor_or_self = true
 rises descendant = false
 rises ancestor = true
-rises followingSibling = false
-rises precedingSibling = false
+rises following_sibling = false
+rises preceding_sibling = false
 rises following = false
 rises preceding = false
 

@@ -10,15 +10,15 @@ use lib.ListN.{length, get_or, drop, drop_of_length-le}
 use lib.Seq.{drop-cons}
 use borrow.Author.Tests.{lt-ltb, le-leb, lt-leb, leb-true, ltb-true}
 use Rattle.paper.specs.Limits.{names_limit}
-use Rattle.paper.specs.Query.{Test, anyNode, textNode, named, any_element}
+use Rattle.paper.specs.Query.{Test, any_node, text_node, named, any_element}
 use Rattle.paper.specs.Items.{test_number, step_at, good_test, named_from}
 use Rattle.paper.specs.Answers.{unknown_test, unknown_item, unknown_from}
 use Rattle.paper.proofs.Tests.{agree, none-some}
 
 -- A test by its number.
 pub unknown-test : (count : ℕ) (t : Test) → good_test t ≡ true → (ltb (test_number t) (test_number any_element) && leb (count + named_from) (test_number t)) ≡ unknown_test count t
-unknown-test count anyNode g = rw (lt-leb (count + named_from) 0 (omega arith))
-unknown-test count textNode g = rw (lt-leb (count + named_from) 1 (omega arith))
+unknown-test count any_node g = rw (lt-leb (count + named_from) 0 (omega arith))
+unknown-test count text_node g = rw (lt-leb (count + named_from) 1 (omega arith))
 unknown-test count (named v) g =
     let few : v < names_limit = ltb-true v names_limit g in
     rw (lt-ltb (named_from + v) (test_number any_element) (omega arith))

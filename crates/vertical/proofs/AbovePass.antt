@@ -11,7 +11,7 @@ use lib.Dec.{leb}
 use lib.ListN.{get_or, set}
 use borrow.Author.Tests.{leb-true, le-leb}
 use Rattle.paper.specs.Tools.{some_below}
-use Rattle.paper.specs.Query.{ancestorOrSelf}
+use Rattle.paper.specs.Query.{ancestor_or_self}
 use Rattle.paper.specs.Document.{Table, nodes, parent_of, over}
 use Rattle.paper.specs.Selection.{child_of}
 use Rattle.paper.proofs.Tests.{and_true, true_and, or_true, or_left, or_right, agree}
@@ -24,29 +24,29 @@ use Rattle.vertical.proofs.Axes.{child_intro, child_elim, not_child}
 module _ (t : Table) (f : ℕ → Bool) where
   -- Ancestor or self: before the turn at i - 1 the nodes from i on have handed on what they have, which is theirs for good.
   pub above_state : ℕ → ℕ → Bool
-  above_state i k = f k || some_below (nodes t) (λ j. leb i j && (child_of t k j && image t ancestorOrSelf f j))
+  above_state i k = f k || some_below (nodes t) (λ j. leb i j && (child_of t k j && image t ancestor_or_self f j))
 
 module _ (t : Table) (w : Tree t) (f : ℕ → Bool) where
   -- Ancestor or self: a node has what it had and what its children have.
-  above_intro : (i k j : ℕ) → j < nodes t → i ≤ j → child_of t k j ≡ true → image t ancestorOrSelf f j ≡ true → above_state t f i k ≡ true
+  above_intro : (i k j : ℕ) → j < nodes t → i ≤ j → child_of t k j ≡ true → image t ancestor_or_self f j ≡ true → above_state t f i k ≡ true
   unfolding above_state
   above_intro i k j l b h g =
-      or_right (f k) (some_intro (nodes t) (λ j. leb i j && (child_of t k j && image t ancestorOrSelf f j)) j l (true_and (le-leb i j b) (true_and h g)))
+      or_right (f k) (some_intro (nodes t) (λ j. leb i j && (child_of t k j && image t ancestor_or_self f j)) j l (true_and (le-leb i j b) (true_and h g)))
 
   above_self : (i k : ℕ) → f k ≡ true → above_state t f i k ≡ true
   unfolding above_state
-  above_self i k h = or_left (some_below (nodes t) (λ j. leb i j && (child_of t k j && image t ancestorOrSelf f j))) h
+  above_self i k h = or_left (some_below (nodes t) (λ j. leb i j && (child_of t k j && image t ancestor_or_self f j))) h
 
   above-elim {ℓ} : {C : Type ℓ} (i k : ℕ) → above_state t f i k ≡ true → (f k ≡ true → C)
-      → ((j : ℕ) → j < nodes t → i ≤ j → child_of t k j ≡ true → image t ancestorOrSelf f j ≡ true → C) → C
+      → ((j : ℕ) → j < nodes t → i ≤ j → child_of t k j ≡ true → image t ancestor_or_self f j ≡ true → C) → C
   unfolding above_state
   above-elim i k h own of-child =
-      let test : ℕ → Bool = λ j. leb i j && (child_of t k j && image t ancestorOrSelf f j) in
+      let test : ℕ → Bool = λ j. leb i j && (child_of t k j && image t ancestor_or_self f j) in
       ⊎_elim own
       (λ s. some-elim (nodes t) test s
       (λ j l q.
-      let r = and_true (leb i j) (child_of t k j && image t ancestorOrSelf f j) q in
-      let u = and_true (child_of t k j) (image t ancestorOrSelf f j) r.1 in
+      let r = and_true (leb i j) (child_of t k j && image t ancestor_or_self f j) q in
+      let u = and_true (child_of t k j) (image t ancestor_or_self f j) r.1 in
       of-child j l (leb-true i j r.0) u.0 u.1))
       (or_true (f k) (some_below (nodes t) test) h)
 
@@ -59,18 +59,18 @@ module _ (t : Table) (w : Tree t) (f : ℕ → Bool) where
       over-cases t w j k l h same
       (λ z p. up z p (λ e. step j l (child_intro t k j z e) (over_self t w j l)) (λ c b g o. step c b g (over_parent t w j c l o))))
 
-  above_found : (k j : ℕ) → j < nodes t → f j ≡ true → over t j k ≡ true → image t ancestorOrSelf f k ≡ true
+  above_found : (k j : ℕ) → j < nodes t → f j ≡ true → over t j k ≡ true → image t ancestor_or_self f k ≡ true
   unfolding image
   above_found k j l h o = some_intro (nodes t) (λ j. f j && over t j k) j l (true_and h o)
 
-  above-whence {ℓ} : {C : Type ℓ} (k : ℕ) → image t ancestorOrSelf f k ≡ true → ((j : ℕ) → j < nodes t → f j ≡ true → over t j k ≡ true → C) → C
+  above-whence {ℓ} : {C : Type ℓ} (k : ℕ) → image t ancestor_or_self f k ≡ true → ((j : ℕ) → j < nodes t → f j ≡ true → over t j k ≡ true → C) → C
   unfolding image
   above-whence k h next = some-elim (nodes t) (λ j. f j && over t j k) h (λ j l q. let r = and_true (f j) (over t j k) q in next j l r.0 r.1)
 
   -- Once all children of k have handed on, k is done.
-  above_done : (i k : ℕ) → i ≤ k + 1 → k < nodes t → above_state t f i k ≡ image t ancestorOrSelf f k
+  above_done : (i k : ℕ) → i ≤ k + 1 → k < nodes t → above_state t f i k ≡ image t ancestor_or_self f k
   above_done i k b l =
-      agree (above_state t f i k) (image t ancestorOrSelf f k)
+      agree (above_state t f i k) (image t ancestor_or_self f k)
       (λ h. above-elim i k h (λ s. above_found k k l s (over_self t w k l))
       (λ c m _ g s. above-whence c s
       (λ j u q o.
@@ -83,11 +83,11 @@ module _ (t : Table) (w : Tree t) (f : ℕ → Bool) where
   -- What m hands on goes to its parent alone.
   above_more : (m k : ℕ) → m < nodes t → above_state t f m k ≡ (above_state t f (m + 1) k || (child_of t k m && above_state t f (m + 1) m))
   above_more m k l =
-      let final : above_state t f (m + 1) m ≡ image t ancestorOrSelf f m = above_done (m + 1) m (omega arith) l in
+      let final : above_state t f (m + 1) m ≡ image t ancestor_or_self f m = above_done (m + 1) m (omega arith) l in
       agree (above_state t f m k) (above_state t f (m + 1) k || (child_of t k m && above_state t f (m + 1) m))
       (λ h. above-elim m k h (λ s. or_left (child_of t k m && above_state t f (m + 1) m) (above_self (m + 1) k s))
       (λ j u b g s. by_cases (ℕ_discrete j m)
-      (λ e. or_right (above_state t f (m + 1) k) (true_and (subst (λ x. child_of t k x ≡ true) e g) (final ∙ subst (λ x. image t ancestorOrSelf f x ≡ true) e s)))
+      (λ e. or_right (above_state t f (m + 1) k) (true_and (subst (λ x. child_of t k x ≡ true) e g) (final ∙ subst (λ x. image t ancestor_or_self f x ≡ true) e s)))
       (λ e. or_left (child_of t k m && above_state t f (m + 1) m) (above_intro (m + 1) k j u (omega arith) g s))))
       (λ h. ⊎_elim (λ s. above-elim (m + 1) k s (above_self m k) (λ j u b g v. above_intro m k j u (omega arith) g v))
       (λ s. let r = and_true (child_of t k m) (above_state t f (m + 1) m) s in above_intro m k m l (omega arith) r.0 (sym final ∙ r.1))
@@ -115,5 +115,5 @@ module _ (t : Table) (w : Tree t) (f : ℕ → Bool) where
       (λ k b d.
       sym (more k ∙ ap (λ x. above_state t f i k || (x && above_state t f i m)) (not_child t k m (λ s. d (sym s))) ∙ or_none (above_state t f i k) refl)))
 
-  pub above_end : (i : ℕ) → i ≡ 1 → bits (nodes t) (above_state t f i) ≡ bits (nodes t) (image t ancestorOrSelf f)
-  above_end i e = bits_same (nodes t) (above_state t f i) (image t ancestorOrSelf f) (λ k l. above_done i k (omega arith) l)
+  pub above_end : (i : ℕ) → i ≡ 1 → bits (nodes t) (above_state t f i) ≡ bits (nodes t) (image t ancestor_or_self f)
+  above_end i e = bits_same (nodes t) (above_state t f i) (image t ancestor_or_self f) (λ k l. above_done i k (omega arith) l)

@@ -11,7 +11,7 @@ use lib.Dec.{ltb}
 use lib.ListN.{get_or, set}
 use borrow.Author.Tests.{eqb-true, lt-ltb, le-ltb}
 use Rattle.paper.specs.Tools.{some_below}
-use Rattle.paper.specs.Query.{descendantOrSelf}
+use Rattle.paper.specs.Query.{descendant_or_self}
 use Rattle.paper.specs.Document.{Table, nodes, parent_of, over}
 use Rattle.paper.proofs.Tests.{and_true, true_and, or_true, or_left, or_right, agree}
 use Rattle.paper.proofs.Searches.{some_intro, some-elim}
@@ -23,15 +23,15 @@ use Rattle.vertical.proofs.Axes.{some_one}
 module _ (t : Table) (f : ℕ → Bool) where
   -- Descendant or self: before the turn at i the nodes below i are done.
   pub below_state : ℕ → ℕ → Bool
-  below_state i k = cond (ltb k i) (image t descendantOrSelf f k) (f k)
+  below_state i k = cond (ltb k i) (image t descendant_or_self f k) (f k)
 
 module _ (t : Table) (w : Tree t) (f : ℕ → Bool) where
   -- Descendant or self: a node takes what its parent has, too.
-  below_root : image t descendantOrSelf f 0 ≡ f 0
+  below_root : image t descendant_or_self f 0 ≡ f 0
   unfolding image
   below_root = some_one (nodes t) 0 f (λ j. over t 0 j) w.rooted (over_self t w 0 w.rooted) (λ j e. eqb-true 0 j (sym (over_root_alone t w j) ∙ e))
 
-  below_image : (i : ℕ) → i < nodes t → image t descendantOrSelf f i ≡ (f i || image t descendantOrSelf f (parent_of t i))
+  below_image : (i : ℕ) → i < nodes t → image t descendant_or_self f i ≡ (f i || image t descendant_or_self f (parent_of t i))
   unfolding image
   below_image i l =
       let at : ℕ → ℕ → Bool = λ i j. f j && over t i j in
@@ -47,7 +47,7 @@ module _ (t : Table) (w : Tree t) (f : ℕ → Bool) where
       (λ j b s. let r = and_true (f j) (over t p j) s in some_intro (nodes t) (at i) j b (true_and r.0 (over_parent t w i j l r.1))))
       (or_true (f i) (some_below (nodes t) (at p)) h))
 
-  below_done : (i k : ℕ) → k < i → below_state t f i k ≡ image t descendantOrSelf f k
+  below_done : (i k : ℕ) → k < i → below_state t f i k ≡ image t descendant_or_self f k
   unfolding below_state
   below_done i k l = rw (lt-ltb k i l)
 
@@ -60,7 +60,7 @@ module _ (t : Table) (w : Tree t) (f : ℕ → Bool) where
       bits_same (nodes t) f (below_state t f 1)
       (λ k l.
       ⊎_elim
-      (λ s. let e : k ≡ 0 = omega arith in sym (below_done 1 k s ∙ ap (image t descendantOrSelf f) e ∙ below_root ∙ ap f (sym e)))
+      (λ s. let e : k ≡ 0 = omega arith in sym (below_done 1 k s ∙ ap (image t descendant_or_self f) e ∙ below_root ∙ ap f (sym e)))
       (λ s. sym (below_left 1 k s))
       (side k 1))
 
@@ -80,5 +80,5 @@ module _ (t : Table) (w : Tree t) (f : ℕ → Bool) where
       (λ s. below_left i k s ∙ sym (below_left (i + 1) k (by_cases (ℕ_discrete k i) (λ q. absurd (d q)) (λ q. omega arith))))
       (side k i)))
 
-  pub below_end : (i : ℕ) → i ≡ nodes t → bits (nodes t) (below_state t f i) ≡ bits (nodes t) (image t descendantOrSelf f)
-  below_end i e = bits_same (nodes t) (below_state t f i) (image t descendantOrSelf f) (λ k l. below_done i k (omega arith))
+  pub below_end : (i : ℕ) → i ≡ nodes t → bits (nodes t) (below_state t f i) ≡ bits (nodes t) (image t descendant_or_self f)
+  below_end i e = bits_same (nodes t) (below_state t f i) (image t descendant_or_self f) (λ k l. below_done i k (omega arith))

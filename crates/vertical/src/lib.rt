@@ -3,7 +3,7 @@
 
 ghost use Rattle.std.specs.Prelude.{◌≡◌, Bool, List, ℕ, ◌+◌, ◌<◌, length};
 ghost use Rattle.paper.specs.Document.{table_of};
-ghost use Rattle.paper.specs.Query.{Axis, child, descendantOrSelf, ancestorOrSelf, descendant, ancestor};
+ghost use Rattle.paper.specs.Query.{Axis, child, descendant_or_self, ancestor_or_self, descendant, ancestor};
 ghost use Rattle.paper.proofs.Trees.{Tree};
 ghost use Rattle.sets.specs.Sets.{bits, image};
 
@@ -39,7 +39,7 @@ pub fn parents(parent: &[u16], set: &mut [u8])
 // Adds all below the nodes of the set: each node takes what its parent has, which is done before it.
 pub fn below(parent: &[u16], set: &mut [u8])
     requires { (length parent.now ≡ length set.old) × ((kinds : List ℕ) → Tree (table_of parent.now kinds)) }
-    ensures { (kinds : List ℕ) (f : ℕ → Bool) → set.old ≡ bits (length set.old) f → set.new ≡ bits (length set.old) (image (table_of parent.now kinds) descendantOrSelf f) }
+    ensures { (kinds : List ℕ) (f : ℕ → Bool) → set.old ≡ bits (length set.old) f → set.new ≡ bits (length set.old) (image (table_of parent.now kinds) descendant_or_self f) }
 {
     let mut i = 1;
     while i < set.len() {
@@ -51,7 +51,7 @@ pub fn below(parent: &[u16], set: &mut [u8])
 // Adds all above the nodes of the set: from the last node on, each hands what it has to its parent.
 pub fn above(parent: &[u16], set: &mut [u8])
     requires { (length parent.now ≡ length set.old) × ((kinds : List ℕ) → Tree (table_of parent.now kinds)) }
-    ensures { (kinds : List ℕ) (f : ℕ → Bool) → set.old ≡ bits (length set.old) f → set.new ≡ bits (length set.old) (image (table_of parent.now kinds) ancestorOrSelf f) }
+    ensures { (kinds : List ℕ) (f : ℕ → Bool) → set.old ≡ bits (length set.old) f → set.new ≡ bits (length set.old) (image (table_of parent.now kinds) ancestor_or_self f) }
 {
     let mut giver = set.len();
     while giver > 1 {

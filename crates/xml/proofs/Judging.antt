@@ -11,7 +11,7 @@ use lib.Dec.{eqb}
 use lib.ListN.{drop}
 use lib.Seq.{drop-drop}
 use Rattle.paper.proofs.Tests.{none-some}
-use Rattle.paper.specs.Xml.{nothing, chars, Frame, Mode, start, first, heading, ahead, opening, inName, inTag, emptied, content, run, partly, closing, ended, State, with, step, left_out, Judged, unwanted, at_end, onward, judge}
+use Rattle.paper.specs.Xml.{nothing, chars, Frame, Mode, start, first, heading, ahead, opening, in_name, in_tag, emptied, content, run, partly, closing, ended, State, with, step, left_out, Judged, unwanted, at_end, onward, judge}
 use Rattle.xml_bytes.specs.Seeking.{Sought, stops, refused, settled, unless, onwards, seek, seek_next}
 use Rattle.xml_bytes.specs.Promised.{state, seek_at}
 
@@ -27,8 +27,8 @@ cut first at frames h = refl
 cut (heading p) at frames h = refl
 cut ahead at frames h = refl
 cut (opening begin) at frames h = refl
-cut (inName begin name) at frames h = refl
-cut (inTag begin name) at frames h = refl
+cut (in_name begin name) at frames h = refl
+cut (in_tag begin name) at frames h = refl
 cut (emptied begin name) at frames h = refl
 cut content at frames h = refl
 cut (run begin k) at frames h = refl
@@ -52,8 +52,8 @@ module _ (text : List ℕ) where
     settles (heading p) frames bs e h = h refl
     settles ahead frames bs e h = h refl
     settles (opening begin) frames bs e h = h refl
-    settles (inName begin name) frames bs e h = h refl
-    settles (inTag begin name) frames bs e h = h refl
+    settles (in_name begin name) frames bs e h = h refl
+    settles (in_tag begin name) frames bs e h = h refl
     settles (emptied begin name) frames bs e h = h refl
     settles content frames bs e h = ap (judge at (state content frames)) (sym e)
     settles (run begin k) [] bs e h = h refl

@@ -15,7 +15,7 @@ use lib.Seq.{drop-cons, drop-drop}
 use Rattle.paper.specs.Tools.{run_of}
 use Rattle.paper.specs.Names.{name_start, name_part}
 use Rattle.paper.specs.Tokens.{white}
-use Rattle.paper.specs.Xml.{nothing, element, xml_start, xml_part, Frame, State, opening, inName, inTag, emptied, content, tag_goes_on, step_mode, left_out, left_out_anywhere}
+use Rattle.paper.specs.Xml.{nothing, element, xml_start, xml_part, Frame, State, opening, in_name, in_tag, emptied, content, tag_goes_on, step_mode, left_out, left_out_anywhere}
 use Rattle.paper.proofs.Axes.{same_turned}
 use Rattle.paper.proofs.Tests.{decide}
 use Rattle.paper.proofs.Lexing.{run_more}
@@ -41,52 +41,52 @@ content_stops at frames (b ∷ bs) = refl
 -- NAMES.
 module _ (begin : ℕ) (frames : List Frame) where
   -- A name is read to its end.
-  pub name_run : (at : ℕ) (w bs : List ℕ) → seek at (state (inName begin w) frames) bs
-      ≡ seek (at + run_of name_part bs) (state (inName begin (w ++ take (run_of name_part bs) bs)) frames) (drop (run_of name_part bs) bs)
+  pub name_run : (at : ℕ) (w bs : List ℕ) → seek at (state (in_name begin w) frames) bs
+      ≡ seek (at + run_of name_part bs) (state (in_name begin (w ++ take (run_of name_part bs) bs)) frames) (drop (run_of name_part bs) bs)
   unfolding left_out
   name_run at w [] = rw (add-zero at)
   name_run at w (b ∷ bs) = go (name_part b) refl (name_run (suc at) (w ++ (b ∷ [])) bs)
     where
       go : (t : Bool) → name_part b ≡ t
-          → seek (suc at) (state (inName begin (w ++ (b ∷ []))) frames) bs
-          ≡ seek (suc at + run_of name_part bs) (state (inName begin ((w ++ (b ∷ [])) ++ take (run_of name_part bs) bs)) frames) (drop (run_of name_part bs) bs)
-          → seek at (state (inName begin w) frames) (b ∷ bs)
-          ≡ seek (at + run_of name_part (b ∷ bs)) (state (inName begin (w ++ take (run_of name_part (b ∷ bs)) (b ∷ bs))) frames) (drop (run_of name_part (b ∷ bs)) (b ∷ bs))
+          → seek (suc at) (state (in_name begin (w ++ (b ∷ []))) frames) bs
+          ≡ seek (suc at + run_of name_part bs) (state (in_name begin ((w ++ (b ∷ [])) ++ take (run_of name_part bs) bs)) frames) (drop (run_of name_part bs) bs)
+          → seek at (state (in_name begin w) frames) (b ∷ bs)
+          ≡ seek (at + run_of name_part (b ∷ bs)) (state (in_name begin (w ++ take (run_of name_part (b ∷ bs)) (b ∷ bs))) frames) (drop (run_of name_part (b ∷ bs)) (b ∷ bs))
       go true h later =
           let opens = calm_opens b bs (part_calm b h).calm in
           let e : suc at + run_of name_part bs ≡ at + suc (run_of name_part bs) = omega arith in
           let f : (w ++ (b ∷ [])) ++ take (run_of name_part bs) bs ≡ w ++ (b ∷ take (run_of name_part bs) bs) = append_assoc w (b ∷ []) (take (run_of name_part bs) bs) in
-          rw (h, opens) (later ∙ ap (λ n. seek n (state (inName begin ((w ++ (b ∷ [])) ++ take (run_of name_part bs) bs)) frames) (drop (run_of name_part bs) bs)) e
-          ∙ ap (λ (v : List ℕ). seek (at + suc (run_of name_part bs)) (state (inName begin v) frames) (drop (run_of name_part bs) bs)) f)
+          rw (h, opens) (later ∙ ap (λ n. seek n (state (in_name begin ((w ++ (b ∷ [])) ++ take (run_of name_part bs) bs)) frames) (drop (run_of name_part bs) bs)) e
+          ∙ ap (λ (v : List ℕ). seek (at + suc (run_of name_part bs)) (state (in_name begin v) frames) (drop (run_of name_part bs) bs)) f)
       go false h later = rw (h, add-zero at, append-nil w, h)
 
   -- White space in a start tag.
-  pub tag_gap : (at : ℕ) (w bs : List ℕ) → seek at (state (inTag begin w) frames) bs ≡ seek (at + run_of white bs) (state (inTag begin w) frames) (drop (run_of white bs) bs)
+  pub tag_gap : (at : ℕ) (w bs : List ℕ) → seek at (state (in_tag begin w) frames) bs ≡ seek (at + run_of white bs) (state (in_tag begin w) frames) (drop (run_of white bs) bs)
   unfolding left_out
   tag_gap at w [] = rw (add-zero at)
   tag_gap at w (b ∷ bs) = go (white b) refl (tag_gap (suc at) w bs)
     where
-      go : (t : Bool) → white b ≡ t → seek (suc at) (state (inTag begin w) frames) bs ≡ seek (suc at + run_of white bs) (state (inTag begin w) frames) (drop (run_of white bs) bs)
-          → seek at (state (inTag begin w) frames) (b ∷ bs) ≡ seek (at + run_of white (b ∷ bs)) (state (inTag begin w) frames) (drop (run_of white (b ∷ bs)) (b ∷ bs))
+      go : (t : Bool) → white b ≡ t → seek (suc at) (state (in_tag begin w) frames) bs ≡ seek (suc at + run_of white bs) (state (in_tag begin w) frames) (drop (run_of white bs) bs)
+          → seek at (state (in_tag begin w) frames) (b ∷ bs) ≡ seek (at + run_of white (b ∷ bs)) (state (in_tag begin w) frames) (drop (run_of white (b ∷ bs)) (b ∷ bs))
       go true h later =
           let s = white_calm b h in
           let e : suc at + run_of white bs ≡ at + suc (run_of white bs) = omega arith in
-          rw (h, calm_opens b bs s.calm, s.no_xml_start) (later ∙ ap (λ n. seek n (state (inTag begin w) frames) (drop (run_of white bs) bs)) e)
+          rw (h, calm_opens b bs s.calm, s.no_xml_start) (later ∙ ap (λ n. seek n (state (in_tag begin w) frames) (drop (run_of white bs) bs)) e)
       go false h later = rw (h, add-zero at, h)
 
-  pub name_gap : (at : ℕ) (w bs : List ℕ) → seek at (state (inName begin w) frames) bs
+  pub name_gap : (at : ℕ) (w bs : List ℕ) → seek at (state (in_name begin w) frames) bs
       ≡ seek (at + run_of white bs) (state (tag_mode (ltb at (at + run_of white bs)) begin w) frames) (drop (run_of white bs) bs)
   unfolding left_out
   name_gap at w [] = rw (add-zero at, le-ltb at at (omega arith))
   name_gap at w (b ∷ bs) = go (white b) refl
     where
-      go : (t : Bool) → white b ≡ t → seek at (state (inName begin w) frames) (b ∷ bs)
+      go : (t : Bool) → white b ≡ t → seek at (state (in_name begin w) frames) (b ∷ bs)
           ≡ seek (at + run_of white (b ∷ bs)) (state (tag_mode (ltb at (at + run_of white (b ∷ bs))) begin w) frames) (drop (run_of white (b ∷ bs)) (b ∷ bs))
       go true h =
           let s = white_calm b h in
           let e : suc at + run_of white bs ≡ at + suc (run_of white bs) = omega arith in
           rw (h, calm_opens b bs s.calm, s.no_xml_part, s.no_part, lt-ltb at (at + suc (run_of white bs)) (omega arith))
-          (tag_gap (suc at) w bs ∙ ap (λ n. seek n (state (inTag begin w) frames) (drop (run_of white bs) bs)) e)
+          (tag_gap (suc at) w bs ∙ ap (λ n. seek n (state (in_tag begin w) frames) (drop (run_of white bs) bs)) e)
       go false h = rw (h, add-zero at, le-ltb at at (omega arith), h)
 
 -- THE STATES THAT WAIT IN TAGS.
@@ -128,37 +128,37 @@ module _ (m : Bool) (begin at b : ℕ) (name bs : List ℕ) (frames : List Frame
       go false = refl
 
 -- AT THE END OF A START TAG.
-module _ (text : List ℕ) (nameEnd at : ℕ) (inside : at < length text) (past : Past text nameEnd at) (least : nameEnd ≤ at) where
-  not_part : ltb nameEnd at ≡ false → name_part (get_or text at 0) ≡ false
-  not_part h = past.no_part (let l : at ≤ nameEnd = ltb-false nameEnd at h in omega arith)
+module _ (text : List ℕ) (name_end at : ℕ) (inside : at < length text) (past : Past text name_end at) (least : name_end ≤ at) where
+  not_part : ltb name_end at ≡ false → name_part (get_or text at 0) ≡ false
+  not_part h = past.no_part (let l : at ≤ name_end = ltb-false name_end at h in omega arith)
 
   -- What opens here.
   opens_by : (begin : ℕ) (name : List ℕ) (frames : List Frame)
-      → left_out (tag_mode (ltb nameEnd at) begin name) (drop at text) ≡ (left_out_anywhere (drop at text) || foreign_in (ltb nameEnd at) (get_or text at 0))
+      → left_out (tag_mode (ltb name_end at) begin name) (drop at text) ≡ (left_out_anywhere (drop at text) || foreign_in (ltb name_end at) (get_or text at 0))
   opens_by begin name frames =
-      rw (drop-cons text at 0 inside) (tag_opens (ltb nameEnd at) begin at (get_or text at 0) name (drop (suc at) text) frames not_part)
+      rw (drop-cons text at 0 inside) (tag_opens (ltb name_end at) begin at (get_or text at 0) name (drop (suc at) text) frames not_part)
 
   -- Nothing does at a calm byte that no name of XML 1.0 has.
-  opens_nothing : Calm (get_or text at 0) → foreign_in (ltb nameEnd at) (get_or text at 0) ≡ false → (begin : ℕ) (name : List ℕ) (frames : List Frame)
-      → left_out (tag_mode (ltb nameEnd at) begin name) (drop at text) ≡ false
+  opens_nothing : Calm (get_or text at 0) → foreign_in (ltb name_end at) (get_or text at 0) ≡ false → (begin : ℕ) (name : List ℕ) (frames : List Frame)
+      → left_out (tag_mode (ltb name_end at) begin name) (drop at text) ≡ false
   opens_nothing calm f begin name frames = opens_by begin name frames ∙ rw (opens_not text at inside calm, f)
 
-  go_by : (begin : ℕ) (name : List ℕ) (frames : List Frame) (s : State) → Calm (get_or text at 0) → foreign_in (ltb nameEnd at) (get_or text at 0) ≡ false
-      → tag_goes_on begin name frames (get_or text at 0) ≡ some s → seek_at text at (state (tag_mode (ltb nameEnd at) begin name) frames) ≡ seek_at text (suc at) s
+  go_by : (begin : ℕ) (name : List ℕ) (frames : List Frame) (s : State) → Calm (get_or text at 0) → foreign_in (ltb name_end at) (get_or text at 0) ≡ false
+      → tag_goes_on begin name frames (get_or text at 0) ≡ some s → seek_at text at (state (tag_mode (ltb name_end at) begin name) frames) ≡ seek_at text (suc at) s
   go_by begin name frames s calm f e =
-      steps_on text at (state (tag_mode (ltb nameEnd at) begin name) frames) inside
-      (tag_unsettled (ltb nameEnd at) begin at (get_or text at 0) name [] frames not_part (drop at text)) s (opens_nothing calm f begin name frames)
-      (tag_step (ltb nameEnd at) begin at (get_or text at 0) name [] frames not_part ∙ e)
+      steps_on text at (state (tag_mode (ltb name_end at) begin name) frames) inside
+      (tag_unsettled (ltb name_end at) begin at (get_or text at 0) name [] frames not_part (drop at text)) s (opens_nothing calm f begin name frames)
+      (tag_step (ltb name_end at) begin at (get_or text at 0) name [] frames not_part ∙ e)
 
-  no_name : (n : ℕ) → xml_start n ≡ false → xml_part n ≡ false → get_or text at 0 ≡ n → foreign_in (ltb nameEnd at) (get_or text at 0) ≡ false
-  no_name n s p e = ap (foreign_in (ltb nameEnd at)) e ∙ go (ltb nameEnd at)
+  no_name : (n : ℕ) → xml_start n ≡ false → xml_part n ≡ false → get_or text at 0 ≡ n → foreign_in (ltb name_end at) (get_or text at 0) ≡ false
+  no_name n s p e = ap (foreign_in (ltb name_end at)) e ∙ go (ltb name_end at)
     where
       go : (t : Bool) → foreign_in t n ≡ false
       go true = s
       go false = p
 
   -- `>` opens the element.
-  pub tag_closes : (to : ℕ) → get_or text at 0 ≡ 62 → to ≡ at + 1 → TagEnds text nameEnd at (Start nameEnd (record { at = to }))
+  pub tag_closes : (to : ℕ) → get_or text at 0 ≡ 62 → to ≡ at + 1 → TagEnds text name_end at (Start name_end (record { at = to }))
   tag_closes to e f =
       let next : suc at ≡ to = omega arith in
       record {
@@ -168,7 +168,7 @@ module _ (text : List ℕ) (nameEnd at : ℕ) (inside : at < length text) (past 
       }
 
   -- `/` goes on with the end of an empty element.
-  pub tag_empties : (r : Piece) → get_or text at 0 ≡ 47 → EmptyEnds text nameEnd (at + 1) r → TagEnds text nameEnd at r
+  pub tag_empties : (r : Piece) → get_or text at 0 ≡ 47 → EmptyEnds text name_end (at + 1) r → TagEnds text name_end at r
   tag_empties r e h =
       let next : suc at ≡ at + 1 = omega arith in
       record {
@@ -178,11 +178,11 @@ module _ (text : List ℕ) (nameEnd at : ℕ) (inside : at < length text) (past 
       }
 
   -- A name of XML 1.0 opens what is left out.
-  pub tag_foreign : foreign_in (ltb nameEnd at) (get_or text at 0) ≡ true → TagEnds text nameEnd at (piece.LeftOut at)
+  pub tag_foreign : foreign_in (ltb name_end at) (get_or text at 0) ≡ true → TagEnds text name_end at (piece.LeftOut at)
   tag_foreign f =
       record {
-        goes = λ begin name frames. opens_here text at (state (tag_mode (ltb nameEnd at) begin name) frames) inside
-            (tag_unsettled (ltb nameEnd at) begin at (get_or text at 0) name [] frames not_part (drop at text)) (opens_by begin name frames ∙ rw f (or_last (left_out_anywhere (drop at text))));
+        goes = λ begin name frames. opens_here text at (state (tag_mode (ltb name_end at) begin name) frames) inside
+            (tag_unsettled (ltb name_end at) begin at (get_or text at 0) name [] frames not_part (drop at text)) (opens_by begin name frames ∙ rw f (or_last (left_out_anywhere (drop at text))));
         bounds = omega arith;
       }
     where
@@ -191,14 +191,14 @@ module _ (text : List ℕ) (nameEnd at : ℕ) (inside : at < length text) (past 
       or_last false = refl
 
   -- No tag goes on with any other byte.
-  pub tag_refused : (r : Piece) → foreign_in (ltb nameEnd at) (get_or text at 0) ≡ false → (get_or text at 0 ≡ 62 → ⊥) → (get_or text at 0 ≡ 47 → ⊥)
-      → r ≡ refused_piece (refusal_at (left_out_anywhere (drop at text)) at) → TagEnds text nameEnd at r
+  pub tag_refused : (r : Piece) → foreign_in (ltb name_end at) (get_or text at 0) ≡ false → (get_or text at 0 ≡ 62 → ⊥) → (get_or text at 0 ≡ 47 → ⊥)
+      → r ≡ refused_piece (refusal_at (left_out_anywhere (drop at text)) at) → TagEnds text name_end at r
   tag_refused r f no_end no_slash e =
       record {
-        goes = λ begin name frames. refused_here text at (state (tag_mode (ltb nameEnd at) begin name) frames) inside
-            (tag_unsettled (ltb nameEnd at) begin at (get_or text at 0) name [] frames not_part (drop at text)) (state content [])
+        goes = λ begin name frames. refused_here text at (state (tag_mode (ltb name_end at) begin name) frames) inside
+            (tag_unsettled (ltb name_end at) begin at (get_or text at 0) name [] frames not_part (drop at text)) (state content [])
             (opens_by begin name frames ∙ rw f (or_false' (left_out_anywhere (drop at text))))
-            (tag_step (ltb nameEnd at) begin at (get_or text at 0) name [] frames not_part ∙ rw (past.no_space, ne_eqb (get_or text at 0) 47 no_slash, ne_eqb (get_or text at 0) 62 no_end))
+            (tag_step (ltb name_end at) begin at (get_or text at 0) name [] frames not_part ∙ rw (past.no_space, ne_eqb (get_or text at 0) 47 no_slash, ne_eqb (get_or text at 0) 62 no_end))
             ∙ as_piece begin name frames (left_out_anywhere (drop at text)) ∙ ap (tag_took begin name frames) (sym e);
         bounds = rw e (within (left_out_anywhere (drop at text)));
       }
@@ -211,26 +211,26 @@ module _ (text : List ℕ) (nameEnd at : ℕ) (inside : at < length text) (past 
       as_piece begin name frames true = refl
       as_piece begin name frames false = refl
 
-      within : (t : Bool) → TagBounds nameEnd (length text) (refused_piece (refusal_at t at))
+      within : (t : Bool) → TagBounds name_end (length text) (refused_piece (refusal_at t at))
       within true = omega arith
       within false = omega arith
 
 -- The text ends in a start tag.
-pub tag_cut : (text : List ℕ) (nameEnd at : ℕ) → length text ≤ at → at ≤ length text → TagEnds text nameEnd at (piece.Wrong at)
-tag_cut text nameEnd at l m =
-    record { goes = λ begin name frames. text_ends text at (state (tag_mode (ltb nameEnd at) begin name) frames) l (go begin name frames (ltb nameEnd at)); bounds = m }
+pub tag_cut : (text : List ℕ) (name_end at : ℕ) → length text ≤ at → at ≤ length text → TagEnds text name_end at (piece.Wrong at)
+tag_cut text name_end at l m =
+    record { goes = λ begin name frames. text_ends text at (state (tag_mode (ltb name_end at) begin name) frames) l (go begin name frames (ltb name_end at)); bounds = m }
   where
     go : (begin : ℕ) (name : List ℕ) (frames : List Frame) (t : Bool) → settled (tag_mode t begin name) at frames [] ≡ none
     go begin name frames true = refl
     go begin name frames false = refl
 
 -- The `>` of an empty element.
-module _ (text : List ℕ) (nameEnd at : ℕ) where
+module _ (text : List ℕ) (name_end at : ℕ) where
   empty_goes : (r : Reach) → Reads text at (eqb 62 ∷ []) r → (begin : ℕ) (name : List ℕ) (frames : List Frame)
       → seek_at text at (state (emptied begin name) frames) ≡ reached text (added (element name begin (suc at) nothing nothing) frames) r
   empty_goes r h begin name frames = wait_read text at (eqb 62) (state (emptied begin name) frames) (added (element name begin (suc at) nothing nothing) frames) r (wait_empty begin at name frames) (byte_calm 62 refl) h
 
-  pub empty_read : (to : ℕ) → nameEnd < at → at ≤ length text → Reads text at (eqb 62 ∷ []) (At to) → EmptyEnds text nameEnd at (Empty nameEnd (record { at = to }))
+  pub empty_read : (to : ℕ) → name_end < at → at ≤ length text → Reads text at (eqb 62 ∷ []) (At to) → EmptyEnds text name_end at (Empty name_end (record { at = to }))
   empty_read to l m h =
       let end = reads_bounds text at (eqb 62 ∷ []) (At to) m h in
       let e : suc at ≡ to = omega (arith, end.0) in
@@ -240,7 +240,7 @@ module _ (text : List ℕ) (nameEnd at : ℕ) where
         bounds = (refl, omega arith, end.1);
       }
 
-  pub empty_refused : (r : Reach) (q : Piece) → Refused r → at ≤ length text → Reads text at (eqb 62 ∷ []) r → q ≡ refused_piece r → EmptyEnds text nameEnd at q
+  pub empty_refused : (r : Reach) (q : Piece) → Refused r → at ≤ length text → Reads text at (eqb 62 ∷ []) r → q ≡ refused_piece r → EmptyEnds text name_end at q
   empty_refused (At to) q stuck m h e = absurd (miss (1 ∷ 2 ∷ []) 0 tt stuck)
   empty_refused (Wrong place) q stuck m h e =
       record { goes = λ begin name frames. empty_goes (Wrong place) h begin name frames ∙ ap (tag_took begin name frames) (sym e); bounds = rw e (reads_bounds text at (eqb 62 ∷ []) (Wrong place) m h) }
@@ -299,18 +299,18 @@ module _ (text : List ℕ) (at : ℕ) where
         within false = omega arith
 
     -- It begins a name: then the tag goes on past the name and the white space behind it.
-    pub start_names : (nameEnd to : ℕ) (r : Piece) → name_start (get_or text at 0) ≡ true → nameEnd ≡ at + 1 + run_of name_part (drop (at + 1) text)
-        → to ≡ nameEnd + run_of white (drop nameEnd text) → TagEnds text nameEnd to r → Tags text at r
+    pub start_names : (name_end to : ℕ) (r : Piece) → name_start (get_or text at 0) ≡ true → name_end ≡ at + 1 + run_of name_part (drop (at + 1) text)
+        → to ≡ name_end + run_of white (drop name_end text) → TagEnds text name_end to r → Tags text at r
     unfolding left_out
-    start_names nameEnd to r n e f h =
+    start_names name_end to r n e f h =
         record {
-          goes = λ begin frames s. steps_on text at (state (opening begin) frames) inside refl (state (inName begin (get_or text at 0 ∷ [])) frames) opens (rw n)
+          goes = λ begin frames s. steps_on text at (state (opening begin) frames) inside refl (state (in_name begin (get_or text at 0 ∷ [])) frames) opens (rw n)
               ∙ name_run begin frames (suc at) (get_or text at 0 ∷ []) (drop (suc at) text)
-              ∙ ap (λ (l : List ℕ). seek (suc at + long) (state (inName begin (get_or text at 0 ∷ take long (drop (suc at) text))) frames) l) (drop-drop long (suc at) text)
-              ∙ ap (λ m. seek_at text m (state (inName begin (get_or text at 0 ∷ take long (drop (suc at) text))) frames)) ends
-              ∙ name_gap begin frames nameEnd (get_or text at 0 ∷ take long (drop (suc at) text)) (drop nameEnd text)
-              ∙ ap (λ (l : List ℕ). seek (nameEnd + gap) (state (tag_mode (ltb nameEnd (nameEnd + gap)) begin (get_or text at 0 ∷ take long (drop (suc at) text))) frames) l) (drop-drop gap nameEnd text)
-              ∙ ap (λ m. seek_at text m (state (tag_mode (ltb nameEnd m) begin (get_or text at 0 ∷ take long (drop (suc at) text))) frames)) (sym f)
+              ∙ ap (λ (l : List ℕ). seek (suc at + long) (state (in_name begin (get_or text at 0 ∷ take long (drop (suc at) text))) frames) l) (drop-drop long (suc at) text)
+              ∙ ap (λ m. seek_at text m (state (in_name begin (get_or text at 0 ∷ take long (drop (suc at) text))) frames)) ends
+              ∙ name_gap begin frames name_end (get_or text at 0 ∷ take long (drop (suc at) text)) (drop name_end text)
+              ∙ ap (λ (l : List ℕ). seek (name_end + gap) (state (tag_mode (ltb name_end (name_end + gap)) begin (get_or text at 0 ∷ take long (drop (suc at) text))) frames) l) (drop-drop gap name_end text)
+              ∙ ap (λ m. seek_at text m (state (tag_mode (ltb name_end m) begin (get_or text at 0 ∷ take long (drop (suc at) text))) frames)) (sym f)
               ∙ h.goes begin (get_or text at 0 ∷ take long (drop (suc at) text)) frames
               ∙ ap (λ (w : List ℕ). tag_took begin w frames r) (sym whole);
           bounds = subst (λ m. TagBounds m (length text) r) reaches h.bounds;
@@ -324,18 +324,18 @@ module _ (text : List ℕ) (at : ℕ) where
         long = run_of name_part (drop (suc at) text)
 
         gap : ℕ
-        gap = run_of white (drop nameEnd text)
+        gap = run_of white (drop name_end text)
 
         opens : left_out (opening 0) (drop at text) ≡ false
         opens = rw (drop-cons text at 0 inside, calm_opens (get_or text at 0) (drop (suc at) text) (part_calm (get_or text at 0) part).calm, n)
 
-        ends : suc at + long ≡ nameEnd
+        ends : suc at + long ≡ name_end
         ends = let one : at + 1 ≡ suc at = omega arith in sym (e ∙ ap (λ m. m + run_of name_part (drop m text)) one)
 
         whole : name_at text at ≡ get_or text at 0 ∷ take long (drop (suc at) text)
         whole = rw (drop-cons text at 0 inside, part)
 
-        reaches : nameEnd ≡ at + run_of name_part (drop at text)
+        reaches : name_end ≡ at + run_of name_part (drop at text)
         reaches = let m : run_of name_part (drop at text) ≡ suc long = run_more text at inside name_part part in omega (arith, ends, m)
 
         has-name : (q : Piece) → HasName text at q

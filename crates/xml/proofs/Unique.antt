@@ -8,7 +8,7 @@ use lib.Dec.{eqb}
 use lib.ListN.{length, drop}
 use Rattle.paper.specs.Tools.{run_of}
 use Rattle.paper.specs.Names.{name_part}
-use Rattle.paper.specs.Xml.{Nodes, nothing, element, chars, Frame, Mode, start, first, heading, ahead, opening, inName, inTag, emptied, content, run, partly, closing, ended, Judged, wanted, unwanted}
+use Rattle.paper.specs.Xml.{Nodes, nothing, element, chars, Frame, Mode, start, first, heading, ahead, opening, in_name, in_tag, emptied, content, run, partly, closing, ended, Judged, wanted, unwanted}
 use Rattle.xml_bytes.specs.Seeking.{Sought, stops, refused}
 use Rattle.end_tags.specs.Renaming.{name_at}
 use Rattle.xml.specs.Pieces.{opened, took, TookBounds, Takes, tag_took, TagBounds, Roots, finished, FinishBounds, Finishes}
@@ -24,34 +24,34 @@ cursor at = record { at = at }
 
 -- What was read inside the one element says which piece it was.
 abbrev inner_piece : ℕ → ℕ → Nodes → Piece
-inner_piece nameEnd to nothing = Wrong 0
-inner_piece nameEnd to (element name begin end inside rest) = Empty nameEnd (cursor to)
-inner_piece nameEnd to (chars begin end rest) = Text (cursor to)
+inner_piece name_end to nothing = Wrong 0
+inner_piece name_end to (element name begin end inside rest) = Empty name_end (cursor to)
+inner_piece name_end to (chars begin end rest) = Text (cursor to)
 
 abbrev open_piece : ℕ → ℕ → List Frame → Piece
-open_piece nameEnd to [] = Wrong 0
-open_piece nameEnd to (f ∷ []) = inner_piece nameEnd to f.inside
-open_piece nameEnd to (f ∷ g ∷ fs) = Start nameEnd (cursor to)
+open_piece name_end to [] = Wrong 0
+open_piece name_end to (f ∷ []) = inner_piece name_end to f.inside
+open_piece name_end to (f ∷ g ∷ fs) = Start name_end (cursor to)
 
 abbrev piece_by : ℕ → ℕ → List Frame → Mode → Piece
-piece_by nameEnd to frames start = Wrong 0
-piece_by nameEnd to frames first = Wrong 0
-piece_by nameEnd to frames (heading p) = Wrong 0
-piece_by nameEnd to frames ahead = Wrong 0
-piece_by nameEnd to frames (opening begin) = Wrong 0
-piece_by nameEnd to frames (inName begin name) = Wrong 0
-piece_by nameEnd to frames (inTag begin name) = Wrong 0
-piece_by nameEnd to frames (emptied begin name) = Wrong 0
-piece_by nameEnd to frames content = open_piece nameEnd to frames
-piece_by nameEnd to frames (run begin k) = Wrong 0
-piece_by nameEnd to frames (partly begin p) = Wrong 0
-piece_by nameEnd to frames (closing name) = Wrong 0
-piece_by nameEnd to frames (ended tree) = End (cursor to)
+piece_by name_end to frames start = Wrong 0
+piece_by name_end to frames first = Wrong 0
+piece_by name_end to frames (heading p) = Wrong 0
+piece_by name_end to frames ahead = Wrong 0
+piece_by name_end to frames (opening begin) = Wrong 0
+piece_by name_end to frames (in_name begin name) = Wrong 0
+piece_by name_end to frames (in_tag begin name) = Wrong 0
+piece_by name_end to frames (emptied begin name) = Wrong 0
+piece_by name_end to frames content = open_piece name_end to frames
+piece_by name_end to frames (run begin k) = Wrong 0
+piece_by name_end to frames (partly begin p) = Wrong 0
+piece_by name_end to frames (closing name) = Wrong 0
+piece_by name_end to frames (ended tree) = End (cursor to)
 
 -- The piece that was taken, by where reading stands.
 abbrev back : ℕ → Sought → Piece
-back nameEnd (stops to s) = piece_by nameEnd to s.frames s.mode
-back nameEnd (refused number place) = cond (eqb number 11) (Wrong place) (LeftOut place)
+back name_end (stops to s) = piece_by name_end to s.frames s.mode
+back name_end (refused number place) = cond (eqb number 11) (Wrong place) (LeftOut place)
 
 -- An element with nothing inside.
 abbrev bare : List ℕ → ℕ → Frame
@@ -73,37 +73,37 @@ take_unique text at inner r s p q =
 
 -- THE ONE ELEMENT. It is open past its start tag, or read.
 abbrev root_by : ℕ → ℕ → Mode → Piece
-root_by nameEnd to start = Wrong 0
-root_by nameEnd to first = Wrong 0
-root_by nameEnd to (heading p) = Wrong 0
-root_by nameEnd to ahead = Wrong 0
-root_by nameEnd to (opening begin) = Wrong 0
-root_by nameEnd to (inName begin name) = Wrong 0
-root_by nameEnd to (inTag begin name) = Wrong 0
-root_by nameEnd to (emptied begin name) = Wrong 0
-root_by nameEnd to content = Start nameEnd (cursor to)
-root_by nameEnd to (run begin k) = Wrong 0
-root_by nameEnd to (partly begin p) = Wrong 0
-root_by nameEnd to (closing name) = Wrong 0
-root_by nameEnd to (ended tree) = Empty nameEnd (cursor to)
+root_by name_end to start = Wrong 0
+root_by name_end to first = Wrong 0
+root_by name_end to (heading p) = Wrong 0
+root_by name_end to ahead = Wrong 0
+root_by name_end to (opening begin) = Wrong 0
+root_by name_end to (in_name begin name) = Wrong 0
+root_by name_end to (in_tag begin name) = Wrong 0
+root_by name_end to (emptied begin name) = Wrong 0
+root_by name_end to content = Start name_end (cursor to)
+root_by name_end to (run begin k) = Wrong 0
+root_by name_end to (partly begin p) = Wrong 0
+root_by name_end to (closing name) = Wrong 0
+root_by name_end to (ended tree) = Empty name_end (cursor to)
 
 abbrev root_back : ℕ → Sought → Piece
-root_back nameEnd (stops to s) = root_by nameEnd to s.mode
-root_back nameEnd (refused number place) = cond (eqb number 11) (Wrong place) (LeftOut place)
+root_back name_end (stops to s) = root_by name_end to s.mode
+root_back name_end (refused number place) = cond (eqb number 11) (Wrong place) (LeftOut place)
 
-root_answer : (nameEnd most begin : ℕ) (name : List ℕ) (r : Piece) → TagBounds nameEnd most r → root_back nameEnd (tag_took begin name [] r) ≡ r
-root_answer nameEnd most begin name (Start end next) b = ap (λ n. Start n next) (sym b.0)
-root_answer nameEnd most begin name (Empty end next) b = ap (λ n. Empty n next) (sym b.0)
-root_answer nameEnd most begin name (End next) b = absurd b
-root_answer nameEnd most begin name (Text next) b = absurd b
-root_answer nameEnd most begin name (Wrong place) b = refl
-root_answer nameEnd most begin name (LeftOut place) b = refl
+root_answer : (name_end most begin : ℕ) (name : List ℕ) (r : Piece) → TagBounds name_end most r → root_back name_end (tag_took begin name [] r) ≡ r
+root_answer name_end most begin name (Start end next) b = ap (λ n. Start n next) (sym b.0)
+root_answer name_end most begin name (Empty end next) b = ap (λ n. Empty n next) (sym b.0)
+root_answer name_end most begin name (End next) b = absurd b
+root_answer name_end most begin name (Text next) b = absurd b
+root_answer name_end most begin name (Wrong place) b = refl
+root_answer name_end most begin name (LeftOut place) b = refl
 
 pub root_unique : (text : List ℕ) (at : ℕ) (r s : Piece) → Roots text at r → Roots text at s → r ≡ s
 root_unique text at r s p q =
-    let nameEnd = suc at + run_of name_part (drop (suc at) text) in
-    sym (root_answer nameEnd (length text) at (name_at text (suc at)) r p.bounds) ∙ ap (root_back nameEnd) (sym p.goes ∙ q.goes)
-    ∙ root_answer nameEnd (length text) at (name_at text (suc at)) s q.bounds
+    let name_end = suc at + run_of name_part (drop (suc at) text) in
+    sym (root_answer name_end (length text) at (name_at text (suc at)) r p.bounds) ∙ ap (root_back name_end) (sym p.goes ∙ q.goes)
+    ∙ root_answer name_end (length text) at (name_at text (suc at)) s q.bounds
 
 -- THE END. The judgement says how it was left.
 abbrev finish_back : ℕ → Judged → Reach

@@ -3,7 +3,7 @@ use Rattle.std.specs.Prelude.{ℕ, suc, ◌+◌, ◌≤◌, ◌<◌, ◌≡◌, 
 use Rattle.paper.specs.Tools.{run_of}
 use Rattle.paper.specs.Names.{name_part}
 use Rattle.paper.specs.Tokens.{white}
-use Rattle.paper.specs.Xml.{Nodes, nothing, element, chars, xml_start, xml_part, Frame, Mode, with, opening, inName, inTag, emptied, content, ended, ahead, Judged, wanted, unwanted, judge}
+use Rattle.paper.specs.Xml.{Nodes, nothing, element, chars, xml_start, xml_part, Frame, Mode, with, opening, in_name, in_tag, emptied, content, ended, ahead, Judged, wanted, unwanted, judge}
 use Rattle.xml_bytes.specs.Seeking.{Sought, stops, refused, seek_next}
 use Rattle.xml_bytes.specs.Promised.{state, seek_at}
 use Rattle.xml_bytes.specs.declared.Reach.{Reach}
@@ -19,13 +19,13 @@ opened name begin = record { name = name; begin = begin; inside = nothing }
 
 -- TAGS. In the name of a start tag, or past white space behind it.
 abbrev pub tag_mode : Bool → ℕ → List ℕ → Mode
-tag_mode true begin name = inTag begin name
-tag_mode false begin name = inName begin name
+tag_mode true begin name = in_tag begin name
+tag_mode false begin name = in_name begin name
 
 -- Where a start tag ends, its element is open, or read if it is empty.
 abbrev pub tag_took : ℕ → List ℕ → List Frame → Piece → Sought
-tag_took begin name frames (Start nameEnd next) = stops next.at (state content (opened name begin ∷ frames))
-tag_took begin name frames (Empty nameEnd next) = stops next.at (added (element name begin next.at nothing nothing) frames)
+tag_took begin name frames (Start name_end next) = stops next.at (state content (opened name begin ∷ frames))
+tag_took begin name frames (Empty name_end next) = stops next.at (added (element name begin next.at nothing nothing) frames)
 tag_took begin name frames (End next) = refused 11 begin
 tag_took begin name frames (Text next) = refused 11 begin
 tag_took begin name frames (piece.Wrong place) = refused 11 place
@@ -43,26 +43,26 @@ foreign_in true b = xml_start b
 foreign_in false b = xml_part b
 
 -- No white space stands at a place past a name, nor a byte that goes on with it right behind.
-pub record Past (text : List ℕ) (nameEnd at : ℕ) : Type 0 where
+pub record Past (text : List ℕ) (name_end at : ℕ) : Type 0 where
   pub no_space : white (get_or text at 0) ≡ false
-  pub no_part : nameEnd ≡ at → name_part (get_or text at 0) ≡ false
+  pub no_part : name_end ≡ at → name_part (get_or text at 0) ≡ false
 
 -- A start tag says where its name ends; the place past a tag lies behind it.
 abbrev pub TagBounds : ℕ → ℕ → Piece → Type 0
-TagBounds nameEnd most (Start end next) = (end ≡ nameEnd) × (nameEnd < next.at) × (next.at ≤ most)
-TagBounds nameEnd most (Empty end next) = (end ≡ nameEnd) × (nameEnd < next.at) × (next.at ≤ most)
-TagBounds nameEnd most (End next) = ⊥
-TagBounds nameEnd most (Text next) = ⊥
-TagBounds nameEnd most (piece.Wrong place) = place ≤ most
-TagBounds nameEnd most (piece.LeftOut place) = place ≤ most
+TagBounds name_end most (Start end next) = (end ≡ name_end) × (name_end < next.at) × (next.at ≤ most)
+TagBounds name_end most (Empty end next) = (end ≡ name_end) × (name_end < next.at) × (next.at ≤ most)
+TagBounds name_end most (End next) = ⊥
+TagBounds name_end most (Text next) = ⊥
+TagBounds name_end most (piece.Wrong place) = place ≤ most
+TagBounds name_end most (piece.LeftOut place) = place ≤ most
 
-pub record TagEnds (text : List ℕ) (nameEnd at : ℕ) (r : Piece) : Type 0 where
-  pub goes : (begin : ℕ) (name : List ℕ) (frames : List Frame) → seek_at text at (state (tag_mode (ltb nameEnd at) begin name) frames) ≡ tag_took begin name frames r
-  pub bounds : TagBounds nameEnd (length text) r
+pub record TagEnds (text : List ℕ) (name_end at : ℕ) (r : Piece) : Type 0 where
+  pub goes : (begin : ℕ) (name : List ℕ) (frames : List Frame) → seek_at text at (state (tag_mode (ltb name_end at) begin name) frames) ≡ tag_took begin name frames r
+  pub bounds : TagBounds name_end (length text) r
 
-pub record EmptyEnds (text : List ℕ) (nameEnd at : ℕ) (r : Piece) : Type 0 where
+pub record EmptyEnds (text : List ℕ) (name_end at : ℕ) (r : Piece) : Type 0 where
   pub goes : (begin : ℕ) (name : List ℕ) (frames : List Frame) → seek_at text at (state (emptied begin name) frames) ≡ tag_took begin name frames r
-  pub bounds : TagBounds nameEnd (length text) r
+  pub bounds : TagBounds name_end (length text) r
 
 -- A tag that is read has a name of at least one byte.
 abbrev pub HasName : List ℕ → ℕ → Piece → Type 0
@@ -80,8 +80,8 @@ pub record Tags (text : List ℕ) (at : ℕ) (r : Piece) : Type 0 where
 
 -- PIECES. Where a piece that begins at `at` inside the element f ends.
 abbrev pub took : List ℕ → ℕ → Frame → List Frame → Piece → Sought
-took text at f fs (Start nameEnd next) = stops next.at (state content (opened (name_at text (suc at)) at ∷ f ∷ fs))
-took text at f fs (Empty nameEnd next) = stops next.at (state content (with f (element (name_at text (suc at)) at next.at nothing nothing) ∷ fs))
+took text at f fs (Start name_end next) = stops next.at (state content (opened (name_at text (suc at)) at ∷ f ∷ fs))
+took text at f fs (Empty name_end next) = stops next.at (state content (with f (element (name_at text (suc at)) at next.at nothing nothing) ∷ fs))
 took text at f fs (End next) = stops next.at (added (element f.name f.begin next.at f.inside nothing) fs)
 took text at f fs (Text next) = stops next.at (state content (with f (chars at next.at nothing) ∷ fs))
 took text at f fs (piece.Wrong place) = refused 11 place

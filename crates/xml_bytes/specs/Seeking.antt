@@ -2,7 +2,7 @@
 use Rattle.std.specs.Prelude.{ℕ, suc, cond, List, [], ◌∷◌}
 use Rattle.std.proofs.Math.Option.{Option, none, some}
 use Rattle.paper.specs.Tools.{begins}
-use Rattle.paper.specs.Xml.{nothing, chars, Frame, Mode, start, first, heading, ahead, opening, inName, inTag, emptied, content, run, partly, closing, ended, State, stands, with, step, left_out}
+use Rattle.paper.specs.Xml.{nothing, chars, Frame, Mode, start, first, heading, ahead, opening, in_name, in_tag, emptied, content, run, partly, closing, ended, State, stands, with, step, left_out}
 
 -- Where the piece ends and how reading then stands, or a refusal number with a place.
 pub data Sought : Type 0 where
@@ -21,8 +21,8 @@ settled first at frames bs = none
 settled (heading p) at frames bs = none
 settled ahead at frames bs = none
 settled (opening begin) at frames bs = none
-settled (inName begin name) at frames bs = none
-settled (inTag begin name) at frames bs = none
+settled (in_name begin name) at frames bs = none
+settled (in_tag begin name) at frames bs = none
 settled (emptied begin name) at frames bs = none
 settled content at frames bs = stands content frames
 settled (run begin k) at frames bs = run_stops begin at frames bs

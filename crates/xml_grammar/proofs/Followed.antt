@@ -12,7 +12,7 @@ use borrow.Author.Tests.{eqb-true, eq-eqb, ne_eqb, ltb-true, ltb-false, not-true
 use Rattle.paper.specs.Names.{name_start, name_part}
 use Rattle.paper.specs.Tokens.{white}
 use Rattle.paper.specs.Xml.{Nodes, nothing, element, chars, beside, from, plain, Pattern, after, wide}
-use Rattle.paper.specs.Xml.{Frame, start, first, ahead, opening, inName, inTag, emptied, content, run, partly, closing, ended, State, with}
+use Rattle.paper.specs.Xml.{Frame, start, first, ahead, opening, in_name, in_tag, emptied, content, run, partly, closing, ended, State, with}
 use Rattle.paper.specs.Xml.{goes_on, char_goes_on, step}
 use Rattle.paper.proofs.Tests.{and_true, or_true, or_left, or_right, none-some, decide}
 use Rattle.xml_grammar.specs.Productions.{SayIn, said, saying, ManyIn, no_more, one_more, PartsIn, name_ends, name_goes_on, NameIn, name-starts}
@@ -174,24 +174,24 @@ pub white_no_part : (b : ℕ) → white b ≡ true → name_part b ≡ false
 white_no_part b h = whites (λ x. name_part x ≡ false) b h refl refl refl refl
 
 parts_goes : {at to begin : ℕ} {bs rest front name : List ℕ} {fs : List Frame} → PartsIn at bs name to rest
-    → Goes at (state (inName begin front) fs) bs to (state (inName begin (front ++ name)) fs) rest
+    → Goes at (state (in_name begin front) fs) bs to (state (in_name begin (front ++ name)) fs) rest
 parts_goes {begin = begin} {front = front} {fs = fs} (name_ends {at = at} {bs = bs}) =
-    subst (λ n. Goes at (state (inName begin front) fs) bs at (state (inName begin n) fs) bs) (sym (append-nil front)) stays
+    subst (λ n. Goes at (state (in_name begin front) fs) bs at (state (in_name begin n) fs) bs) (sym (append-nil front)) stays
 parts_goes {to = to} {begin = begin} {rest = rest} {front = front} {fs = fs} (name_goes_on {b = b} {at = at} {bs = bs} {name = name} h p) =
     goes (part_there h)
-    (subst (λ n. Goes (suc at) (state (inName begin (front ++ (b ∷ []))) fs) bs to (state (inName begin n) fs) rest) (append_assoc front (b ∷ []) name) (parts_goes p))
+    (subst (λ n. Goes (suc at) (state (in_name begin (front ++ (b ∷ []))) fs) bs to (state (in_name begin n) fs) rest) (append_assoc front (b ∷ []) name) (parts_goes p))
   where
-    part_there : name_part b ≡ true → step at (state (inName begin front) fs) b ≡ some (state (inName begin (front ++ (b ∷ []))) fs)
+    part_there : name_part b ≡ true → step at (state (in_name begin front) fs) b ≡ some (state (in_name begin (front ++ (b ∷ []))) fs)
     part_there h = rw h
 
 -- Reading stands where a name of a start tag may begin.
 abbrev pub Enters : ℕ → List Frame → State → Type 0
-Enters begin fs s = (n b : ℕ) → name_start b ≡ true → step n s b ≡ some (state (inName begin (b ∷ [])) fs)
+Enters begin fs s = (n b : ℕ) → name_start b ≡ true → step n s b ≡ some (state (in_name begin (b ∷ [])) fs)
 
 -- Reading stands in a start tag, behind its name.
 pub data Tagged (begin : ℕ) (name : List ℕ) (fs : List Frame) : State → Type 0 where
-  named : Tagged begin name fs (state (inName begin name) fs)
-  spaced : Tagged begin name fs (state (inTag begin name) fs)
+  named : Tagged begin name fs (state (in_name begin name) fs)
+  spaced : Tagged begin name fs (state (in_tag begin name) fs)
 
 tag-goes {ℓ} : {C : Type ℓ} {begin p q : ℕ} {bs cs ds name : List ℕ} {fs : List Frame} (s : State) → Enters begin fs s → NameIn (suc begin) bs name p cs → ManyIn white p cs q ds
     → ((t : State) → Tagged begin name fs t → Goes (suc begin) s bs q t ds → C) → C
@@ -199,12 +199,12 @@ tag-goes {begin = begin} {fs = fs} s e (name-starts {b = b} h n) no_more k = k _
 tag-goes {begin = begin} {name = name} {fs = fs} s e (name-starts {b = b} h n) (one_more {b = c} {at = p} i m) k =
     k _ spaced
     (goes (e (suc begin) b h)
-    (goes_then (parts_goes n) (goes (white_there i) (many_goes (state (inTag begin name) fs) (λ n x j. more_white x j) m))))
+    (goes_then (parts_goes n) (goes (white_there i) (many_goes (state (in_tag begin name) fs) (λ n x j. more_white x j) m))))
   where
-    white_there : white c ≡ true → step p (state (inName begin name) fs) c ≡ some (state (inTag begin name) fs)
+    white_there : white c ≡ true → step p (state (in_name begin name) fs) c ≡ some (state (in_tag begin name) fs)
     white_there i = rw (white_no_part c i, i)
 
-    more_white : (x : ℕ) → white x ≡ true → step p (state (inTag begin name) fs) x ≡ some (state (inTag begin name) fs)
+    more_white : (x : ℕ) → white x ≡ true → step p (state (in_tag begin name) fs) x ≡ some (state (in_tag begin name) fs)
     more_white x j = rw j
 
 tag_empties : {begin : ℕ} {name : List ℕ} {fs : List Frame} {t : State} (n : ℕ) → Tagged begin name fs t → step n t 47 ≡ some (state (emptied begin name) fs)

@@ -13,7 +13,7 @@ use Rattle.paper.specs.Tools.{ascii}
 use Rattle.paper.specs.Names.{name_start, name_part}
 use Rattle.paper.specs.Tokens.{white}
 use Rattle.paper.specs.Xml.{Nodes, nothing, element, chars, beside, from, plain, Pattern, done, one, many, fork, encoding, after, is_done, say, declaration, wide}
-use Rattle.paper.specs.Xml.{Frame, Mode, start, first, heading, ahead, opening, inName, inTag, emptied, content, run, partly, closing, ended, State, stands}
+use Rattle.paper.specs.Xml.{Frame, Mode, start, first, heading, ahead, opening, in_name, in_tag, emptied, content, run, partly, closing, ended, State, stands}
 use Rattle.paper.specs.Xml.{add, close, run_ends, name_or_slash, tag_goes_on, goes_on, char_goes_on, heading_goes_on, step_mode}
 use Rattle.paper.proofs.Tests.{or_true, some_inj, none-some}
 use Rattle.xml_grammar.specs.Productions.{SayIn, said, saying, ManyIn, no_more, one_more, SomeIn, at_least, PartsIn, name_ends, name_goes_on, NameIn, name-starts}
@@ -160,10 +160,10 @@ pub data Reached : List ℕ → Mode → List Frame → ℕ → List ℕ → Typ
   in_heading : {p : Pattern} {at : ℕ} {cs bs : List ℕ} → Passed (say (ascii "xml") declaration) 2 cs p at bs → Live p → is_done p ≡ false → Reached (60 ∷ 63 ∷ cs) (heading p) [] at bs
   at_ahead : {whole bs : List ℕ} {at : ℕ} → Open whole [] false at bs → Reached whole ahead [] at bs
   at_opening : {whole bs : List ℕ} {begin : ℕ} {older : Bool} {fs : List Frame} → Left whole (60 ∷ bs) → Open whole fs older begin (60 ∷ bs) → Reached whole (opening begin) fs (suc begin) bs
-  in_name : {whole cs bs name : List ℕ} {begin at : ℕ} {older : Bool} {fs : List Frame} → Left whole (60 ∷ cs) → Open whole fs older begin (60 ∷ cs) → NameIn (suc begin) cs name at bs
-      → Reached whole (inName begin name) fs at bs
-  in_tag : {whole cs ds bs name : List ℕ} {begin p at : ℕ} {older : Bool} {fs : List Frame} → Left whole (60 ∷ cs) → Open whole fs older begin (60 ∷ cs) → NameIn (suc begin) cs name p ds
-      → SomeIn white p ds at bs → Reached whole (inTag begin name) fs at bs
+  in_name_lem : {whole cs bs name : List ℕ} {begin at : ℕ} {older : Bool} {fs : List Frame} → Left whole (60 ∷ cs) → Open whole fs older begin (60 ∷ cs) → NameIn (suc begin) cs name at bs
+      → Reached whole (in_name begin name) fs at bs
+  in_tag_lem : {whole cs ds bs name : List ℕ} {begin p at : ℕ} {older : Bool} {fs : List Frame} → Left whole (60 ∷ cs) → Open whole fs older begin (60 ∷ cs) → NameIn (suc begin) cs name p ds
+      → SomeIn white p ds at bs → Reached whole (in_tag begin name) fs at bs
   at_emptied : {whole cs ds bs name : List ℕ} {begin p q : ℕ} {older : Bool} {fs : List Frame} → Open whole fs older begin (60 ∷ cs) → NameIn (suc begin) cs name p ds
       → ManyIn white p ds q (47 ∷ bs) → Reached whole (emptied begin name) fs (suc q) bs
   at_content : {whole bs : List ℕ} {at : ℕ} {f : Frame} {fs : List Frame} → Open whole (f ∷ fs) true at bs → Reached whole content (f ∷ fs) at bs
@@ -201,14 +201,14 @@ module _ {whole : List ℕ} where
   name-or-slash : {fs : List Frame} {older : Bool} {begin b : ℕ} {bs : List ℕ} {s : State} → Left whole (60 ∷ b ∷ bs) → Open whole fs older begin (60 ∷ b ∷ bs) → name_or_slash begin fs b ≡ some s
       → There whole s (suc (suc begin)) bs
   name-or-slash {fs} {older} {begin} {b} {bs} {s} l o h =
-      chosen (name_start b) h (λ k e. stands_there e (in_name l o (name-starts k name_ends)))
+      chosen (name_start b) h (λ k e. stands_there e (in_name_lem l o (name-starts k name_ends)))
       (λ k e. chosen (eqb b 47) e (λ k e. slash_there (subst (λ x. Open whole fs older begin (60 ∷ x ∷ bs)) (eqb-true b 47 k) o) (subst (λ x. name_or_slash begin fs x ≡ some s) (eqb-true b 47 k) h)) (λ k e. none-some e))
 
   -- White space in a start tag, or its end.
   tag-goes-on : {fs : List Frame} {older : Bool} {begin b p at : ℕ} {cs ds bs name : List ℕ} {s : State} → Left whole (60 ∷ cs) → Open whole fs older begin (60 ∷ cs) → NameIn (suc begin) cs name p ds
       → ManyIn white p ds at (b ∷ bs) → tag_goes_on begin name fs b ≡ some s → There whole s (suc at) bs
   tag-goes-on {b = b} {p} {at} {cs} {ds} {bs} l o n m h =
-      chosen (white b) h (λ k e. stands_there e (in_tag l o n (many_some m k)))
+      chosen (white b) h (λ k e. stands_there e (in_tag_lem l o n (many_some m k)))
       (λ k e.
       chosen (eqb b 47) e (λ k e. stands_there e (at_emptied o n (subst (λ x. ManyIn white p ds at (x ∷ bs)) (eqb-true b 47 k) m)))
       (λ k e.
@@ -321,9 +321,9 @@ reached_step {whole = whole} {bs = bs} {b = b} {at = at} l (at_ahead o) h =
     stands_there e (at_opening (subst (λ x. Left whole (x ∷ bs)) (eqb-true b 60 k) l) (subst (λ x. Open whole [] false at (x ∷ bs)) (eqb-true b 60 k) o)))
     (λ k e. none-some e))
 reached_step l (at_opening t o) h = name-or-slash t o h
-reached_step {b = b} l (in_name t o n) h =
-    chosen (name_part b) h (λ k e. stands_there e (in_name t o (name-more n k))) (λ k e. tag-goes-on t o n no_more e)
-reached_step l (in_tag t o n w) h = tag-goes-on t o n (some_many w) h
+reached_step {b = b} l (in_name_lem t o n) h =
+    chosen (name_part b) h (λ k e. stands_there e (in_name_lem t o (name-more n k))) (λ k e. tag-goes-on t o n no_more e)
+reached_step l (in_tag_lem t o n w) h = tag-goes-on t o n (some_many w) h
 reached_step {bs = bs} {b = b} l (at_emptied {ds = ds} {p = p} {q = q} o n m) h =
     chosen (eqb b 62) h (λ k e. add_there o (empty_element n (subst (λ x. ManyIn white p ds q (47 ∷ x ∷ bs)) (eqb-true b 62 k) m)) e) (λ k e. none-some e)
 reached_step {whole = whole} {bs = bs} {b = b} {at = at} l (at_content {f = f} {fs = fs} o) h =
@@ -361,8 +361,8 @@ derived_there at_first e = absurd (let z : ◌≡◌ {A = ℕ} 0 1 = cc in omega
 derived_there (in_heading pass live d) e = absurd (let z : ◌≡◌ {A = ℕ} 0 1 = cc in omega arith)
 derived_there (at_ahead o) e = absurd (let z : ◌≡◌ {A = ℕ} 0 1 = cc in omega arith)
 derived_there (at_opening l o) e = absurd (let z : ◌≡◌ {A = ℕ} 0 1 = cc in omega arith)
-derived_there (in_name l o n) e = absurd (let z : ◌≡◌ {A = ℕ} 0 1 = cc in omega arith)
-derived_there (in_tag l o n w) e = absurd (let z : ◌≡◌ {A = ℕ} 0 1 = cc in omega arith)
+derived_there (in_name_lem l o n) e = absurd (let z : ◌≡◌ {A = ℕ} 0 1 = cc in omega arith)
+derived_there (in_tag_lem l o n w) e = absurd (let z : ◌≡◌ {A = ℕ} 0 1 = cc in omega arith)
 derived_there (at_emptied o n m) e = absurd (let z : ◌≡◌ {A = ℕ} 0 1 = cc in omega arith)
 derived_there (at_content o) e = absurd (let z : ◌≡◌ {A = ℕ} 0 1 = cc in omega arith)
 derived_there (in_run o g r) e = absurd (let z : ◌≡◌ {A = ℕ} 0 1 = cc in omega arith)

@@ -124,37 +124,37 @@ refused_exit text list old a h =
     refl
 
 -- LINES 1 AND 2.
-module _ (text list : List ℕ) (parentRoom kindRoom beginRoom endRoom : ℕ) where
+module _ (text list : List ℕ) (parent_room kind_room begin_room end_room : ℕ) where
   abbrev pub wrong : Bool
-  wrong = too_long text text_limit || too_long list list_limit || not (eqb kindRoom parentRoom) || not (eqb beginRoom parentRoom) || not (eqb endRoom parentRoom)
+  wrong = too_long text text_limit || too_long list list_limit || not (eqb kind_room parent_room) || not (eqb begin_room parent_room) || not (eqb end_room parent_room)
 
-  pub too_long_lem : wrong ≡ true → refusal 1 0 ≡ read_xml_answer text list parentRoom kindRoom beginRoom endRoom
+  pub too_long_lem : wrong ≡ true → refusal 1 0 ≡ read_xml_answer text list parent_room kind_room begin_room end_room
   unfolding read_xml_answer
-  too_long_lem h = sym (ap (λ b. line 1 (when b 0) (line 2 (names_fault list) (xml_answer text list parentRoom))) h)
+  too_long_lem h = sym (ap (λ b. line 1 (when b 0) (line 2 (names_fault list) (xml_answer text list parent_room))) h)
 
-  pub bad_list : (start : ℕ) → wrong ≡ false → some start ≡ names_fault list → refusal 2 start ≡ read_xml_answer text list parentRoom kindRoom beginRoom endRoom
+  pub bad_list : (start : ℕ) → wrong ≡ false → some start ≡ names_fault list → refusal 2 start ≡ read_xml_answer text list parent_room kind_room begin_room end_room
   unfolding read_xml_answer
-  bad_list start h e = sym (ap (λ b. line 1 (when b 0) (line 2 (names_fault list) (xml_answer text list parentRoom))) h ∙ ap (λ o. line 2 o (xml_answer text list parentRoom)) (sym e))
+  bad_list start h e = sym (ap (λ b. line 1 (when b 0) (line 2 (names_fault list) (xml_answer text list parent_room))) h ∙ ap (λ o. line 2 o (xml_answer text list parent_room)) (sym e))
 
-  pub good_list : wrong ≡ false → none ≡ names_fault list → xml_answer text list parentRoom ≡ read_xml_answer text list parentRoom kindRoom beginRoom endRoom
+  pub good_list : wrong ≡ false → none ≡ names_fault list → xml_answer text list parent_room ≡ read_xml_answer text list parent_room kind_room begin_room end_room
   unfolding read_xml_answer
-  good_list h e = sym (ap (λ b. line 1 (when b 0) (line 2 (names_fault list) (xml_answer text list parentRoom))) h ∙ ap (λ o. line 2 o (xml_answer text list parentRoom)) (sym e))
+  good_list h e = sym (ap (λ b. line 1 (when b 0) (line 2 (names_fault list) (xml_answer text list parent_room))) h ∙ ap (λ o. line 2 o (xml_answer text list parent_room)) (sym e))
 
   -- The lengths are right, as line 1 asks.
   pub record Agree : Type 0 where
     pub text_short : length text ≤ text_limit
     pub list_short : length list ≤ list_limit
-    pub kinds : kindRoom ≡ parentRoom
-    pub begins : beginRoom ≡ parentRoom
-    pub ends : endRoom ≡ parentRoom
+    pub kinds : kind_room ≡ parent_room
+    pub begins : begin_room ≡ parent_room
+    pub ends : end_room ≡ parent_room
 
   pub agree : wrong ≡ false → Agree
   agree h =
       let a = too_long text text_limit in
       let b = too_long list list_limit in
-      let k = not (eqb kindRoom parentRoom) in
-      let m = not (eqb beginRoom parentRoom) in
-      let e = not (eqb endRoom parentRoom) in
+      let k = not (eqb kind_room parent_room) in
+      let m = not (eqb begin_room parent_room) in
+      let e = not (eqb end_room parent_room) in
       let p = or_none (a || b || k || m) e h in
       let q = or_none (a || b || k) m p.0 in
       let r = or_none (a || b) k q.0 in
@@ -162,7 +162,7 @@ module _ (text list : List ℕ) (parentRoom kindRoom beginRoom endRoom : ℕ) wh
       record {
         text_short = ltb-false text_limit (length text) s.0;
         list_short = ltb-false list_limit (length list) s.1;
-        kinds = eqb-true kindRoom parentRoom (not-false (eqb kindRoom parentRoom) r.1);
-        begins = eqb-true beginRoom parentRoom (not-false (eqb beginRoom parentRoom) q.1);
-        ends = eqb-true endRoom parentRoom (not-false (eqb endRoom parentRoom) p.1);
+        kinds = eqb-true kind_room parent_room (not-false (eqb kind_room parent_room) r.1);
+        begins = eqb-true begin_room parent_room (not-false (eqb begin_room parent_room) q.1);
+        ends = eqb-true end_room parent_room (not-false (eqb end_room parent_room) p.1);
       }

@@ -23,9 +23,9 @@ use Rattle.xml_lines.specs.Judges.{place_of}
 use Rattle.xml_lines.proofs.Lacking.{stays_first, comes_first}
 
 -- The bytes from behind the `<` to where the name ends.
-pub name_there : (text : List ℕ) (begin nameEnd : ℕ) → NameEnds text begin nameEnd → take (nameEnd - (begin + 1)) (drop (begin + 1) text) ≡ name_at text (suc begin)
-name_there text begin nameEnd h =
-    let n : nameEnd - (begin + 1) ≡ run_of name_part (drop (suc begin) text) = omega (arith, h.0) in
+pub name_there : (text : List ℕ) (begin name_end : ℕ) → NameEnds text begin name_end → take (name_end - (begin + 1)) (drop (begin + 1) text) ≡ name_at text (suc begin)
+name_there text begin name_end h =
+    let n : name_end - (begin + 1) ≡ run_of name_part (drop (suc begin) text) = omega (arith, h.0) in
     let b : begin + 1 ≡ suc begin = omega arith in
     rw (n, b)
 

@@ -67,11 +67,11 @@ pub record Stands (text : List ℕ) (at : ℕ) (stand : Stand) : Type 0 where
 
 -- PIECES. The name of the tag that begins at a place ends there, within the text, and has one byte at least.
 abbrev pub NameEnds : List ℕ → ℕ → ℕ → Type 0
-NameEnds text at nameEnd = (nameEnd ≡ suc at + run_of name_part (drop (suc at) text)) × (nameEnd ≤ length text) × (suc at < nameEnd)
+NameEnds text at name_end = (name_end ≡ suc at + run_of name_part (drop (suc at) text)) × (name_end ≤ length text) × (suc at < name_end)
 
 -- A tag goes on past its name.
 abbrev pub Tagged : List ℕ → ℕ → ℕ → ℕ → Type 0
-Tagged text at nameEnd next = NameEnds text at nameEnd × (suc at < nameEnd) × (nameEnd < next)
+Tagged text at name_end next = NameEnds text at name_end × (suc at < name_end) × (name_end < next)
 
 -- An end tag and a run of characters stand inside an element alone.
 abbrev pub Closes : List ℕ → ℕ → List Frame → ℕ → Type 0
@@ -84,9 +84,9 @@ Extends text at (f ∷ fs) next = Stands text next (within (with f (chars at nex
 
 -- Where the piece that begins at a place leads from inside these open elements.
 abbrev pub Moves : List ℕ → ℕ → List Frame → Piece → Type 0
-Moves text at frames (Start nameEnd next) = Stands text next.at (within (opened (name_at text (suc at)) at) frames) × Tagged text at nameEnd next.at
-Moves text at frames (Empty nameEnd next) =
-    Stands text next.at (joined (element (name_at text (suc at)) at next.at nothing nothing) frames) × Tagged text at nameEnd next.at
+Moves text at frames (Start name_end next) = Stands text next.at (within (opened (name_at text (suc at)) at) frames) × Tagged text at name_end next.at
+Moves text at frames (Empty name_end next) =
+    Stands text next.at (joined (element (name_at text (suc at)) at next.at nothing nothing) frames) × Tagged text at name_end next.at
 Moves text at frames (End next) = Closes text at frames next.at
 Moves text at frames (Text next) = Extends text at frames next.at
 Moves text at frames (Wrong place) = read_xml text ≡ unwanted 11 place

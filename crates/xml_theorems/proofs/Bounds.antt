@@ -10,7 +10,7 @@ use lib.Dec.{eqb, ltb}
 use lib.ListN.{length, length-append}
 use Rattle.paper.specs.Limits.{text_limit, list_limit, node_limit}
 use Rattle.paper.specs.Names.{names_fault, names_of, number_of}
-use Rattle.paper.specs.Xml.{Nodes, nothing, element, chars, Mode, start, first, heading, ahead, opening, inName, inTag, emptied, content, run, partly, closing, ended, State, step, left_out, Judged, wanted, unwanted, at_end, onward, judge, read_xml, What, Row, row, rows, table, count, lacks, unnamed}
+use Rattle.paper.specs.Xml.{Nodes, nothing, element, chars, Mode, start, first, heading, ahead, opening, in_name, in_tag, emptied, content, run, partly, closing, ended, State, step, left_out, Judged, wanted, unwanted, at_end, onward, judge, read_xml, What, Row, row, rows, table, count, lacks, unnamed}
 use Rattle.paper.specs.Answers.{Answer, value, line, too_long, line_xml, short_of_nodes, read_xml_last, read_xml_answer}
 use Rattle.paper.proofs.Tests.{none-some, some_inj}
 use Rattle.paper.proofs.Refusing.{or_none}
@@ -32,8 +32,8 @@ end_placed first at = omega arith
 end_placed (heading p) at = omega arith
 end_placed ahead at = omega arith
 end_placed (opening begin) at = omega arith
-end_placed (inName begin name) at = omega arith
-end_placed (inTag begin name) at = omega arith
+end_placed (in_name begin name) at = omega arith
+end_placed (in_tag begin name) at = omega arith
 end_placed (emptied begin name) at = omega arith
 end_placed content at = omega arith
 end_placed (run begin k) at = omega arith
@@ -86,14 +86,14 @@ lacking_begins look (r ∷ rs) most place h e =
     chosen (lacks look r.what) e (λ c f. subst (λ p. p ≤ suc most) (some_inj f) (omega (arith, h.0))) (λ c f. lacking_begins look rs most place h.1 f)
 
 -- THE ANSWER.
-pub read_xml_small : (text list : List ℕ) (parentRoom kindRoom beginRoom endRoom : ℕ) → Small (read_xml_answer text list parentRoom kindRoom beginRoom endRoom)
+pub read_xml_small : (text list : List ℕ) (parent_room kind_room begin_room end_room : ℕ) → Small (read_xml_answer text list parent_room kind_room begin_room end_room)
 unfolding read_xml_answer read_xml
-read_xml_small text list parentRoom kindRoom beginRoom endRoom =
+read_xml_small text list parent_room kind_room begin_room end_room =
     let long = too_long text text_limit in
     let many = too_long list list_limit in
-    let kinds = not (eqb kindRoom parentRoom) in
-    let begins = not (eqb beginRoom parentRoom) in
-    let ends = not (eqb endRoom parentRoom) in
+    let kinds = not (eqb kind_room parent_room) in
+    let begins = not (eqb begin_room parent_room) in
+    let ends = not (eqb end_room parent_room) in
     small_when 1 0 (long || many || kinds || begins || ends) _ (omega arith)
     (λ h.
     let two = or_none long many (or_none (long || many) kinds (or_none (long || many || kinds) begins (or_none (long || many || kinds || begins) ends h).0).0).0 in
@@ -102,12 +102,12 @@ read_xml_small text list parentRoom kindRoom beginRoom endRoom =
     small_line 2 (names_fault list) _ (λ p e. omega (arith, fault_within list p e))
     (judged short (read_xml text) refl (judge_placed text 0 (length text) (record { mode = start; frames = [] }) (omega arith))))
   where
-    judged : length text ≤ text_limit → (j : Judged) → read_xml text ≡ j → Placed (length text) j → Small (line_xml j (λ tree. read_xml_last list parentRoom (table (length text) tree)))
+    judged : length text ≤ text_limit → (j : Judged) → read_xml text ≡ j → Placed (length text) j → Small (line_xml j (λ tree. read_xml_last list parent_room (table (length text) tree)))
     judged short (unwanted number place) e h = omega arith
     judged short (wanted tree) e h =
         let nests = tree_nests text tree e in
         let lines = table (length text) tree in
         let few : length lines < 4294967296 = omega (arith, few_nodes tree 0 (length text) nests, many_rows tree 0 1) in
-        small_line 5 (unnamed (number_of (names_of list)) lines) (line 10 (short_of_nodes parentRoom (length lines)) (value (length lines)))
+        small_line 5 (unnamed (number_of (names_of list)) lines) (line 10 (short_of_nodes parent_room (length lines)) (value (length lines)))
         (λ p f. omega (arith, lacking_begins (number_of (names_of list)) lines (length text) p (omega arith, rows_begin tree 0 (length text) (length text) 0 1 (omega arith) nests) f))
-        (small_room (length lines) (ltb parentRoom (length lines) || ltb node_limit (length lines)) few)
+        (small_room (length lines) (ltb parent_room (length lines) || ltb node_limit (length lines)) few)

@@ -45,18 +45,18 @@ judged text list room n (wanted tree) e f h =
     let c = or_none (ltb room (length lines)) (ltb node_limit (length lines)) (when_none (ltb room (length lines) || ltb node_limit (length lines)) (length lines) b.0) in
     record { tree = tree; read = e; names_fine = f; named = a.0; many = many; few = omega (arith, ltb-false node_limit (length lines) c.1) }
 
-pub taken : (text list : List ℕ) (parentRoom kindRoom beginRoom endRoom n : ℕ) → read_xml_answer text list parentRoom kindRoom beginRoom endRoom ≡ value n → Taken text list n
+pub taken : (text list : List ℕ) (parent_room kind_room begin_room end_room n : ℕ) → read_xml_answer text list parent_room kind_room begin_room end_room ≡ value n → Taken text list n
 unfolding read_xml_answer
-taken text list parentRoom kindRoom beginRoom endRoom n h =
-    let later = line_xml (read_xml text) (λ tree. read_xml_last list parentRoom (table (length text) tree)) in
+taken text list parent_room kind_room begin_room end_room n h =
+    let later = line_xml (read_xml text) (λ tree. read_xml_last list parent_room (table (length text) tree)) in
     let a =
     line_value 1 n
     (when
-    (too_long text text_limit || too_long list list_limit || not (eqb kindRoom parentRoom) || not (eqb beginRoom parentRoom) || not (eqb endRoom parentRoom))
+    (too_long text text_limit || too_long list list_limit || not (eqb kind_room parent_room) || not (eqb begin_room parent_room) || not (eqb end_room parent_room))
     0)
     (line 2 (names_fault list) later) h in
     let b = line_value 2 n (names_fault list) later a.1 in
-    judged text list parentRoom n (read_xml text) refl b.0 b.1
+    judged text list parent_room n (read_xml text) refl b.0 b.1
 
 pub take_front : (xs ys : List ℕ) → take (length xs) (xs ++ ys) ≡ xs
 take_front [] ys = refl

@@ -9,14 +9,14 @@ use lib.Dec.{eqb}
 use lib.ListN.{length}
 use borrow.Author.Tests.{eq-eqb}
 use Rattle.paper.specs.Xml.{Nodes, nothing, element, chars, Pattern}
-use Rattle.paper.specs.Xml.{Frame, Mode, start, ahead, opening, inName, emptied, content, run, partly, closing, ended, State, with, goes_on, step}
+use Rattle.paper.specs.Xml.{Frame, Mode, start, ahead, opening, in_name, emptied, content, run, partly, closing, ended, State, with, goes_on, step}
 use Rattle.xml_grammar.specs.Productions.{SayIn, said, saying}
 use Rattle.xml_verdicts.specs.Owed.{Begins}
 use Rattle.xml_grammar.proofs.Moves.{state, Runs, still, onto, runs_then, runs_cut, goes_runs}
 use Rattle.xml_grammar.proofs.Live.{Finishes, last, further, live_finishes}
 use Rattle.xml_grammar.proofs.Heading.{head}
 use Rattle.xml_grammar.proofs.Followed.{finish_goes, followed}
-use Rattle.xml_grammar.proofs.Reached.{Reached, reached, derived, at-start, at_first, in_heading, at_ahead, at_opening, in_name, in_tag, at_emptied}
+use Rattle.xml_grammar.proofs.Reached.{Reached, reached, derived, at-start, at_first, in_heading, at_ahead, at_opening, in_name_lem, in_tag_lem, at_emptied}
 use Rattle.xml_grammar.proofs.Reached.{at_content, in_run, in_part, in_closing, at_closing, at_ended}
 
 -- Some bytes lead to the end.
@@ -64,7 +64,7 @@ emptied_closes : (begin : ℕ) (name : List ℕ) (fs : List Frame) (at : ℕ) �
 emptied_closes begin name [] at = byte_first 62 refl (record { bytes = []; tree = element name begin (suc at) nothing nothing; runs = still })
 emptied_closes begin name (f ∷ fs) at = byte_first 62 refl (content_closes fs (with f (element name begin (suc at) nothing nothing)) (suc at))
 
-name_closes : (begin : ℕ) (name : List ℕ) (fs : List Frame) (at : ℕ) → Completes at (state (inName begin name) fs)
+name_closes : (begin : ℕ) (name : List ℕ) (fs : List Frame) (at : ℕ) → Completes at (state (in_name begin name) fs)
 name_closes begin name fs at = byte_first 47 refl (emptied_closes begin name fs (suc at))
 
 ahead_closes : (at : ℕ) → Completes at (state ahead [])
@@ -95,8 +95,8 @@ completes at_first at = byte_first 97 refl (name_closes 0 (97 ∷ []) [] (suc at
 completes (in_heading pass live d) at = head_closes at (live_finishes live d).1
 completes (at_ahead o) at = ahead_closes at
 completes (at_opening {begin = begin} {fs = fs} l o) at = byte_first 97 refl (name_closes begin (97 ∷ []) fs (suc at))
-completes (in_name {name = name} {begin = begin} {fs = fs} l o n) at = name_closes begin name fs at
-completes (in_tag {name = name} {begin = begin} {fs = fs} l o n w) at = byte_first 47 refl (emptied_closes begin name fs (suc at))
+completes (in_name_lem {name = name} {begin = begin} {fs = fs} l o n) at = name_closes begin name fs at
+completes (in_tag_lem {name = name} {begin = begin} {fs = fs} l o n w) at = byte_first 47 refl (emptied_closes begin name fs (suc at))
 completes (at_emptied {name = name} {begin = begin} {fs = fs} o n m) at = emptied_closes begin name fs at
 completes (at_content {f = f} {fs = fs} o) at = content_closes fs f at
 completes (in_run {begin = begin} {k = k} {f = f} {fs = fs} o g r) at = run_closes begin k fs f at

@@ -17,7 +17,7 @@ use Rattle.paper.proofs.Tests.{and_true, or_true, or_left, some_inj, none-some, 
 use Rattle.xml_grammar.specs.Productions.{PartsIn, name_ends, name_goes_on, NameIn, name-starts}
 use Rattle.xml_grammar.proofs.Moves.{state, Runs, onto}
 use Rattle.xml_grammar.proofs.Live.{live_no}
-use Rattle.xml_grammar.proofs.Reached.{Reached, Open, within, at-start, at_first, in_heading, at_ahead, at_opening, in_name, in_tag, at_emptied}
+use Rattle.xml_grammar.proofs.Reached.{Reached, Open, within, at-start, at_first, in_heading, at_ahead, at_opening, in_name_lem, in_tag_lem, at_emptied}
 use Rattle.xml_grammar.proofs.Reached.{at_content, in_run, in_part, in_closing, at_closing, at_ended}
 use Rattle.paper.specs.Xml as Xml
 
@@ -59,8 +59,8 @@ less_read at at_first h = none-some h
 less_read at (in_heading pass live d) h = none-some (rw (live_no live).0 at h)
 less_read at (at_ahead o) h = tag_there h tag_later
 less_read at (at_opening l o) h = none-some h
-less_read at (in_name l o n) h = none-some h
-less_read at (in_tag l o n w) h = none-some h
+less_read at (in_name_lem l o n) h = none-some h
+less_read at (in_tag_lem l o n w) h = none-some h
 less_read at (at_emptied o n m) h = none-some h
 less_read at (at_content o) h = tag_there h tag_later
 less_read at (in_run o g r) h = tag_there h tag_later
@@ -79,8 +79,8 @@ amp_read at at_first h = none-some h
 amp_read at (in_heading pass live d) h = none-some (rw (live_no live).1 at h)
 amp_read at (at_ahead o) h = none-some h
 amp_read at (at_opening l o) h = none-some h
-amp_read at (in_name l o n) h = none-some h
-amp_read at (in_tag l o n w) h = none-some h
+amp_read at (in_name_lem l o n) h = none-some h
+amp_read at (in_tag_lem l o n w) h = none-some h
 amp_read at (at_emptied o n m) h = none-some h
 amp_read at (at_content o) h = subst Referring (some_inj h) referring
 amp_read at (in_run o g r) h = subst Referring (some_inj h) referring

@@ -12,7 +12,7 @@ use Rattle.paper.specs.Tools.{ascii}
 use Rattle.paper.specs.Names.{name_start, name_part}
 use Rattle.paper.specs.Tokens.{white}
 use Rattle.paper.specs.Xml.{xml_start, xml_part, Pattern, done, one, many, fork, encoding, quote_of, say, declaration}
-use Rattle.paper.specs.Xml.{Frame, Mode, start, inName, inTag, State, step}
+use Rattle.paper.specs.Xml.{Frame, Mode, start, in_name, in_tag, State, step}
 use Rattle.paper.specs.Xml.{starts, first_is, other_encoding, left_out_anywhere, declares, left_out}
 use Rattle.paper.proofs.Tests.{and_true, or_true, or_left, or_right, true_and}
 use Rattle.xml_grammar.specs.Productions.{ManyIn, no_more, one_more, SomeIn, at_least, PartsIn, name_ends, name_goes_on, NameIn, name-starts}
@@ -25,7 +25,7 @@ use Rattle.xml_grammar.proofs.Heading.{head, value_goes}
 use Rattle.xml_grammar.proofs.Followed.{Enters, white_no_part, no_question}
 use Rattle.xml_grammar.proofs.Declared.{value-passed}
 use Rattle.xml_verdicts.proofs.Marks.{starts-two, Tag, tag_first, tag_later, less_read}
-use Rattle.xml_grammar.proofs.Reached.{Reached, Passed, Left, left-of, reached, at_first, in_heading, at_ahead, at_opening, in_name, in_tag, at_emptied}
+use Rattle.xml_grammar.proofs.Reached.{Reached, Passed, Left, left-of, reached, at_first, in_heading, at_ahead, at_opening, in_name_lem, in_tag_lem, at_emptied}
 use Rattle.xml_grammar.proofs.Reached.{at_content, in_run, in_part, in_closing, at_closing, at_ended}
 
 -- SEEN, SO IT OPENS.
@@ -74,8 +74,8 @@ later_opens {bs = bs} at_first h = or_opens (first_is (λ b. xml_start b && not 
 later_opens {bs = bs} (in_heading {p = p} pass live d) h = or_opens (other_encoding (quote_of p) bs) (λ k. encoding_opens p pass k) h
 later_opens (at_ahead o) h = anywhere_opens h
 later_opens {bs = bs} (at_opening l o) h = or_opens (first_is (λ b. xml_start b && not (name_start b)) bs) (λ k. name-start (tag_of l) k) h
-later_opens {bs = bs} (in_name l o n) h = or_opens (first_is (λ b. xml_part b && not (name_part b)) bs) (λ k. name-part (name_of l n) k) h
-later_opens {bs = bs} (in_tag l o n w) h = or_opens (first_is xml_start bs) (λ k. attribute (gap_of l n w) k) h
+later_opens {bs = bs} (in_name_lem l o n) h = or_opens (first_is (λ b. xml_part b && not (name_part b)) bs) (λ k. name-part (name_of l n) k) h
+later_opens {bs = bs} (in_tag_lem l o n w) h = or_opens (first_is xml_start bs) (λ k. attribute (gap_of l n w) k) h
 later_opens (at_emptied o n m) h = anywhere_opens h
 later_opens (at_content o) h = anywhere_opens h
 later_opens (in_run o g r) h = anywhere_opens h
@@ -111,29 +111,29 @@ less-behind {C = C} u {cs} {s} r k = let c = runs_cut u r in go c.0 (0 + length 
     go : (t : State) (n : ℕ) → Runs 0 (state start []) u t → Runs n t (60 ∷ cs) s → C
     go t n p (onto {t = v} h q) = k t.mode (suc n) v (less_read n (reached p).1 h) q
 
-parts_runs : {at to begin : ℕ} {bs name front : List ℕ} {fs : List Frame} (n : ℕ) → PartsIn at bs name to [] → Runs n (state (inName begin front) fs) bs (state (inName begin (front ++ bs)) fs)
-parts_runs {begin = begin} {front = front} {fs = fs} n name_ends = subst (λ l. Runs n (state (inName begin front) fs) [] (state (inName begin l) fs)) (sym (append-nil front)) still
+parts_runs : {at to begin : ℕ} {bs name front : List ℕ} {fs : List Frame} (n : ℕ) → PartsIn at bs name to [] → Runs n (state (in_name begin front) fs) bs (state (in_name begin (front ++ bs)) fs)
+parts_runs {begin = begin} {front = front} {fs = fs} n name_ends = subst (λ l. Runs n (state (in_name begin front) fs) [] (state (in_name begin l) fs)) (sym (append-nil front)) still
 parts_runs {begin = begin} {front = front} {fs = fs} n (name_goes_on {b = b} {bs = bs} h p) =
-    onto (here h) (subst (λ l. Runs (suc n) (state (inName begin (front ++ (b ∷ []))) fs) bs (state (inName begin l) fs)) (append_assoc front (b ∷ []) bs) (parts_runs (suc n) p))
+    onto (here h) (subst (λ l. Runs (suc n) (state (in_name begin (front ++ (b ∷ []))) fs) bs (state (in_name begin l) fs)) (append_assoc front (b ∷ []) bs) (parts_runs (suc n) p))
   where
-    here : name_part b ≡ true → step n (state (inName begin front) fs) b ≡ some (state (inName begin (front ++ (b ∷ []))) fs)
+    here : name_part b ≡ true → step n (state (in_name begin front) fs) b ≡ some (state (in_name begin (front ++ (b ∷ []))) fs)
     here h = rw h
 
 name_runs {ℓ} : {C : Type ℓ} {at to : ℕ} {bs name : List ℕ} {m : Mode} {t : State} (n : ℕ) → Tag m t → NameIn at bs name to []
-    → ((begin : ℕ) (fs : List Frame) → Runs n t bs (state (inName begin bs) fs) → C) → C
+    → ((begin : ℕ) (fs : List Frame) → Runs n t bs (state (in_name begin bs) fs) → C) → C
 name_runs n g (name-starts {b = b} h p) k = tag-enters g (λ begin fs e. k begin fs (onto (e n b h) (parts_runs (suc n) p)))
 
 white_runs : {set : ℕ → Bool} {at to : ℕ} {bs : List ℕ} (s : State) → ((n b : ℕ) → set b ≡ true → step n s b ≡ some s) → (n : ℕ) → ManyIn set at bs to [] → Runs n s bs s
 white_runs s loop n no_more = still
 white_runs s loop n (one_more {b = b} h m) = onto (loop n b h) (white_runs s loop (suc n) m)
 
-gap_runs : {at to begin : ℕ} {bs name : List ℕ} {fs : List Frame} (n : ℕ) → SomeIn white at bs to [] → Runs n (state (inName begin name) fs) bs (state (inTag begin name) fs)
-gap_runs {begin = begin} {name = name} {fs = fs} n (at_least {b = b} h m) = onto (here h) (white_runs (state (inTag begin name) fs) stay (suc n) m)
+gap_runs : {at to begin : ℕ} {bs name : List ℕ} {fs : List Frame} (n : ℕ) → SomeIn white at bs to [] → Runs n (state (in_name begin name) fs) bs (state (in_tag begin name) fs)
+gap_runs {begin = begin} {name = name} {fs = fs} n (at_least {b = b} h m) = onto (here h) (white_runs (state (in_tag begin name) fs) stay (suc n) m)
   where
-    here : white b ≡ true → step n (state (inName begin name) fs) b ≡ some (state (inTag begin name) fs)
+    here : white b ≡ true → step n (state (in_name begin name) fs) b ≡ some (state (in_tag begin name) fs)
     here h = rw (white_no_part b h, h)
 
-    stay : (n b : ℕ) → white b ≡ true → step n (state (inTag begin name) fs) b ≡ some (state (inTag begin name) fs)
+    stay : (n b : ℕ) → white b ≡ true → step n (state (in_tag begin name) fs) b ≡ some (state (in_tag begin name) fs)
     stay n b h = rw h
 
 -- The bytes at which it opens.
@@ -144,8 +144,8 @@ module _ (bs : List ℕ) where
   later_seen (in_heading {p = p} pass live d) h = or_left (other_encoding (quote_of p) bs) h
   later_seen (at_ahead o) h = h
   later_seen (at_opening l o) h = or_left (first_is (λ b. xml_start b && not (name_start b)) bs) h
-  later_seen (in_name l o n) h = or_left (first_is (λ b. xml_part b && not (name_part b)) bs) h
-  later_seen (in_tag l o n w) h = or_left (first_is xml_start bs) h
+  later_seen (in_name_lem l o n) h = or_left (first_is (λ b. xml_part b && not (name_part b)) bs) h
+  later_seen (in_tag_lem l o n w) h = or_left (first_is xml_start bs) h
   later_seen (at_emptied o n m) h = h
   later_seen (at_content o) h = h
   later_seen (in_run o g r) h = h
@@ -172,11 +172,11 @@ module _ (bs : List ℕ) where
   tag_seen tag_first h = or_right (left_out_anywhere bs) h
   tag_seen tag_later h = or_right (left_out_anywhere bs) h
 
-  name_seen : {name : List ℕ} {begin : ℕ} {fs : List Frame} {s : State} → state (inName begin name) fs ≡ s → first_is (λ b. xml_part b && not (name_part b)) bs ≡ true → left_out s.mode bs ≡ true
+  name_seen : {name : List ℕ} {begin : ℕ} {fs : List Frame} {s : State} → state (in_name begin name) fs ≡ s → first_is (λ b. xml_part b && not (name_part b)) bs ≡ true → left_out s.mode bs ≡ true
   unfolding left_out
   name_seen e h = subst (λ s. left_out s.mode bs ≡ true) e (or_right (left_out_anywhere bs) h)
 
-  gap_seen : {name : List ℕ} {begin : ℕ} {fs : List Frame} {s : State} → state (inTag begin name) fs ≡ s → first_is xml_start bs ≡ true → left_out s.mode bs ≡ true
+  gap_seen : {name : List ℕ} {begin : ℕ} {fs : List Frame} {s : State} → state (in_tag begin name) fs ≡ s → first_is xml_start bs ≡ true → left_out s.mode bs ≡ true
   unfolding left_out
   gap_seen e h = subst (λ s. left_out s.mode bs ≡ true) e (or_right (left_out_anywhere bs) h)
 

@@ -13,7 +13,7 @@ use Rattle.paper.specs.Tools.{ascii}
 use Rattle.paper.specs.Names.{name_start, name_part}
 use Rattle.paper.specs.Tokens.{white}
 use Rattle.paper.specs.Xml.{Nodes, xml_start, xml_part, Pattern, done, one, many, fork, encoding, after, is_done, quote_of, say, declaration, any_case, after_encoding}
-use Rattle.paper.specs.Xml.{Frame, Mode, start, first, opening, inName, inTag, ended, State, step, heading_goes_on, name_or_slash, tag_goes_on}
+use Rattle.paper.specs.Xml.{Frame, Mode, start, first, opening, in_name, in_tag, ended, State, step, heading_goes_on, name_or_slash, tag_goes_on}
 use Rattle.paper.specs.Xml.{starts, first_is, other_encoding, left_out_anywhere, declares, left_out}
 use Rattle.paper.proofs.Tests.{and_true, or_true, some_inj, none-some, decide}
 use Rattle.xml_grammar.specs.Productions.{is_quote, GivenIn, gives}
@@ -24,7 +24,7 @@ use Rattle.xml_grammar.proofs.Heading.{head, quotes}
 use Rattle.xml_grammar.proofs.Followed.{whites}
 use Rattle.xml_grammar.proofs.Declared.{value-passed}
 use Rattle.xml_verdicts.proofs.Marks.{starts-two, not_anywhere}
-use Rattle.xml_grammar.proofs.Reached.{Reached, Passed, at-start, at_first, in_heading, at_ahead, at_opening, in_name, in_tag, at_emptied}
+use Rattle.xml_grammar.proofs.Reached.{Reached, Passed, at-start, at_first, in_heading, at_ahead, at_opening, in_name_lem, in_tag_lem, at_emptied}
 use Rattle.xml_grammar.proofs.Reached.{at_content, in_run, in_part, in_closing, at_closing, at_ended}
 
 -- Reading stands past the element.
@@ -133,14 +133,14 @@ none_opening : {at begin : ℕ} {bs : List ℕ} {fs : List Frame} {u : State} �
 none_opening h still = false≢true h
 none_opening {begin = begin} {fs = fs} h (onto {b = b} k r) = name-byte begin fs b k (λ j. no_new b h j) (λ j. false≢true (subst (λ x. New x ≡ true) j h))
 
-none_name : {at begin : ℕ} {bs name : List ℕ} {fs : List Frame} {u : State} → first_is (λ b. xml_part b && not (name_part b)) bs ≡ true → Runs at (state (inName begin name) fs) bs u → ⊥
+none_name : {at begin : ℕ} {bs name : List ℕ} {fs : List Frame} {u : State} → first_is (λ b. xml_part b && not (name_part b)) bs ≡ true → Runs at (state (in_name begin name) fs) bs u → ⊥
 none_name h still = false≢true h
 none_name {begin = begin} {name = name} {fs = fs} h (onto {b = b} k r) =
     let (i, j) = and_true (xml_part b) (not (name_part b)) h in
     chosen (name_part b) k (λ l e. false≢true (sym (not-true (name_part b) j) ∙ l))
     (λ l e. tag-byte (λ x. xml_part x ≡ true → ⊥) begin name fs b e (λ m. false≢true m) (λ m. false≢true m) (λ m. false≢true m) (λ m. false≢true m) (λ m. false≢true m) (λ m. false≢true m) i)
 
-none_tag : {at begin : ℕ} {bs name : List ℕ} {fs : List Frame} {u : State} → first_is xml_start bs ≡ true → Runs at (state (inTag begin name) fs) bs u → ⊥
+none_tag : {at begin : ℕ} {bs name : List ℕ} {fs : List Frame} {u : State} → first_is xml_start bs ≡ true → Runs at (state (in_tag begin name) fs) bs u → ⊥
 none_tag h still = false≢true h
 none_tag {begin = begin} {name = name} {fs = fs} h (onto {b = b} k r) =
     tag-byte (λ x. xml_start x ≡ true → ⊥) begin name fs b k (λ m. false≢true m) (λ m. false≢true m) (λ m. false≢true m) (λ m. false≢true m) (λ m. false≢true m) (λ m. false≢true m) h
@@ -211,8 +211,8 @@ unending {bs = bs} (at_first {bs = left}) h q e = or_more (at_first {bs = left})
 unending {bs = bs} (in_heading {p = p} pass live d) h q e = or_more (in_heading pass live d) (λ k. let z : ◌≡◌ {A = ℕ} 0 1 = cc in omega arith) q (other_encoding (quote_of p) bs) (λ k. heading_unending p pass k q e) h
 unending (at_ahead o) h q e = nothing_more (at_ahead o) (λ k. let z : ◌≡◌ {A = ℕ} 0 1 = cc in omega arith) q h
 unending {bs = bs} (at_opening l o) h q e = or_more (at_opening l o) (λ k. let z : ◌≡◌ {A = ℕ} 0 1 = cc in omega arith) q (first_is New bs) (λ k. none_opening k q) h
-unending {bs = bs} (in_name l o n) h q e = or_more (in_name l o n) (λ k. let z : ◌≡◌ {A = ℕ} 0 1 = cc in omega arith) q (first_is (λ b. xml_part b && not (name_part b)) bs) (λ k. none_name k q) h
-unending {bs = bs} (in_tag l o n w) h q e = or_more (in_tag l o n w) (λ k. let z : ◌≡◌ {A = ℕ} 0 1 = cc in omega arith) q (first_is xml_start bs) (λ k. none_tag k q) h
+unending {bs = bs} (in_name_lem l o n) h q e = or_more (in_name_lem l o n) (λ k. let z : ◌≡◌ {A = ℕ} 0 1 = cc in omega arith) q (first_is (λ b. xml_part b && not (name_part b)) bs) (λ k. none_name k q) h
+unending {bs = bs} (in_tag_lem l o n w) h q e = or_more (in_tag_lem l o n w) (λ k. let z : ◌≡◌ {A = ℕ} 0 1 = cc in omega arith) q (first_is xml_start bs) (λ k. none_tag k q) h
 unending (at_emptied o n m) h q e = nothing_more (at_emptied o n m) (λ k. let z : ◌≡◌ {A = ℕ} 0 1 = cc in omega arith) q h
 unending (at_content o) h q e = nothing_more (at_content o) (λ k. let z : ◌≡◌ {A = ℕ} 0 1 = cc in omega arith) q h
 unending (in_run o g r) h q e = nothing_more (in_run o g r) (λ k. let z : ◌≡◌ {A = ℕ} 0 1 = cc in omega arith) q h

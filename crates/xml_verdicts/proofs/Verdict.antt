@@ -8,7 +8,7 @@ use mathlib.Core.List.{List, [], ◌∷◌, ◌++◌, append-nil}
 use mathlib.Core.Option.{Option, none, some}
 use lib.ListN.{length, take, drop, take-append-drop}
 use lib.Seq.{take-append-le}
-use Rattle.paper.specs.Xml.{Nodes, quote_of, other_encoding, State, Frame, Mode, start, first, heading, ahead, opening, inName, inTag, emptied, content, run, partly, closing, ended}
+use Rattle.paper.specs.Xml.{Nodes, quote_of, other_encoding, State, Frame, Mode, start, first, heading, ahead, opening, in_name, in_tag, emptied, content, run, partly, closing, ended}
 use Rattle.paper.specs.Xml.{step, left_out, Judged, wanted, unwanted, at_end, onward, judge, read_xml}
 use Rattle.paper.proofs.Tests.{some_inj, none-some}
 use Rattle.xml_grammar.proofs.Moves.{state, Runs, still, onto, runs_cut}
@@ -45,8 +45,8 @@ verdict_end at first fs = short {place = at} calm_still (λ e. let k = e.1 in le
 verdict_end at (heading p) fs = short {place = at} calm_still (λ e. let k = e.1 in let z : ◌≡◌ {A = ℕ} 0 1 = cc in omega arith) (omega arith)
 verdict_end at ahead fs = short {place = at} calm_still (λ e. let k = e.1 in let z : ◌≡◌ {A = ℕ} 0 1 = cc in omega arith) (omega arith)
 verdict_end at (opening begin) fs = short {place = at} calm_still (λ e. let k = e.1 in let z : ◌≡◌ {A = ℕ} 0 1 = cc in omega arith) (omega arith)
-verdict_end at (inName begin name) fs = short {place = at} calm_still (λ e. let k = e.1 in let z : ◌≡◌ {A = ℕ} 0 1 = cc in omega arith) (omega arith)
-verdict_end at (inTag begin name) fs = short {place = at} calm_still (λ e. let k = e.1 in let z : ◌≡◌ {A = ℕ} 0 1 = cc in omega arith) (omega arith)
+verdict_end at (in_name begin name) fs = short {place = at} calm_still (λ e. let k = e.1 in let z : ◌≡◌ {A = ℕ} 0 1 = cc in omega arith) (omega arith)
+verdict_end at (in_tag begin name) fs = short {place = at} calm_still (λ e. let k = e.1 in let z : ◌≡◌ {A = ℕ} 0 1 = cc in omega arith) (omega arith)
 verdict_end at (emptied begin name) fs = short {place = at} calm_still (λ e. let k = e.1 in let z : ◌≡◌ {A = ℕ} 0 1 = cc in omega arith) (omega arith)
 verdict_end at content fs = short {place = at} calm_still (λ e. let k = e.1 in let z : ◌≡◌ {A = ℕ} 0 1 = cc in omega arith) (omega arith)
 verdict_end at (run begin k) fs = short {place = at} calm_still (λ e. let k = e.1 in let z : ◌≡◌ {A = ℕ} 0 1 = cc in omega arith) (omega arith)
@@ -104,8 +104,8 @@ nothing_left (heading p) = no_encoding (quote_of p)
     no_encoding (some q) = refl
 nothing_left ahead = refl
 nothing_left (opening begin) = refl
-nothing_left (inName begin name) = refl
-nothing_left (inTag begin name) = refl
+nothing_left (in_name begin name) = refl
+nothing_left (in_tag begin name) = refl
 nothing_left (emptied begin name) = refl
 nothing_left content = refl
 nothing_left (run begin k) = refl

@@ -4,7 +4,7 @@ use mathlib.Core.Path.{sym, ◌∙◌}
 use lib.ListN.{length}
 use borrow.Author.Rules.{rules}
 use Rattle.paper.specs.Document.{table_of}
-use Rattle.paper.specs.Query.{Axis, self, child, descendantOrSelf, ancestorOrSelf, descendant, ancestor, followingSibling, precedingSibling}
+use Rattle.paper.specs.Query.{Axis, self, child, descendant_or_self, ancestor_or_self, descendant, ancestor, following_sibling, preceding_sibling}
 use Rattle.paper.proofs.Axes.{no_axis}
 use Rattle.sets.specs.Sets.{image}
 use Rattle.sets.proofs.Bits.{bits_same}
@@ -74,7 +74,7 @@ same-length-3 c = search rules
 returns-4 : tie.Need-returns-in-3
 returns-4 c = λ kinds a f e s.
     let d = c.args in
-    same_image (table_of d.parent.now kinds) f (length d.set.now) d.axis descendantOrSelf a (omega arith) e (c.below.ensures kinds f s)
+    same_image (table_of d.parent.now kinds) f (length d.set.now) d.axis descendant_or_self a (omega arith) e (c.below.ensures kinds f s)
 
 same-length-4 : tie.Need-shape_of-set-in-4
 same-length-4 c = search rules
@@ -82,7 +82,7 @@ same-length-4 c = search rules
 returns-5 : tie.Need-returns-in-4
 returns-5 c = λ kinds a f e s.
     let d = c.args in
-    same_image (table_of d.parent.now kinds) f (length d.set.now) d.axis ancestorOrSelf a (omega arith) e (c.above.ensures kinds f s)
+    same_image (table_of d.parent.now kinds) f (length d.set.now) d.axis ancestor_or_self a (omega arith) e (c.above.ensures kinds f s)
 
 same-length-5 : tie.Need-shape_of-set-in-5
 same-length-5 c = search rules
@@ -106,7 +106,7 @@ same-length-7 c = search rules
 returns-8 : tie.Need-returns-in-7
 returns-8 c = λ kinds a f e s.
     let d = c.args in
-    same_image (table_of d.parent.now kinds) f (length d.set.now) d.axis followingSibling a (omega arith) e (c.following_siblings.ensures kinds f s)
+    same_image (table_of d.parent.now kinds) f (length d.set.now) d.axis following_sibling a (omega arith) e (c.following_siblings.ensures kinds f s)
 
 same-length-8 : tie.Need-shape_of-set-in-8
 same-length-8 c = search rules
@@ -114,7 +114,7 @@ same-length-8 c = search rules
 returns-9 : tie.Need-returns-in-8
 returns-9 c = λ kinds a f e s.
     let d = c.args in
-    same_image (table_of d.parent.now kinds) f (length d.set.now) d.axis precedingSibling a (omega arith) e (c.preceding_siblings.ensures kinds f s)
+    same_image (table_of d.parent.now kinds) f (length d.set.now) d.axis preceding_sibling a (omega arith) e (c.preceding_siblings.ensures kinds f s)
 
 same-length-9 : tie.Need-shape_of-set-in-9
 same-length-9 c = search rules

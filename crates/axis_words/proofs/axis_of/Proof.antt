@@ -4,7 +4,7 @@ use mathlib.Core.Path.{sym, ◌∙◌}
 use mathlib.Core.List.{List}
 use lib.ListN.{take, drop}
 use borrow.Author.Rules.{rules}
-use Rattle.paper.specs.Query.{Axis, self, child, descendantOrSelf, ancestorOrSelf, descendant, ancestor, followingSibling, precedingSibling, following, preceding}
+use Rattle.paper.specs.Query.{Axis, self, child, descendant_or_self, ancestor_or_self, descendant, ancestor, following_sibling, preceding_sibling, following, preceding}
 use Rattle.axis_words.proofs.Words.{in_order, Left, all_left, passed, named_so, none_left}
 use Rattle.axis_words.proofs.axis_of.Statement.{statement}
 use Rattle.axis_words.proofs.axis_of.Tie as tie
@@ -16,6 +16,7 @@ word start = take start.args.len (drop start.args.start start.args.text.now)
 -- What is left where the first word has been compared,
 abbrev start-1 : tie.After-is_self → tie.Start
 start-1 c = c.before.before
+
 left_1 : (c : tie.After-is_self) → Left (word (start-1 c)) in_order
 left_1 c = all_left (word (start-1 c))
 
@@ -42,13 +43,13 @@ abbrev start-5 : tie.After-is_ancestor_or_self → tie.Start
 start-5 c = start-4 c.before.before
 
 left_5 : (c : tie.After-is_ancestor_or_self) → Left (word (start-5 c)) (drop 4 in_order)
-left_5 c = let one = c in passed (word (start-5 c)) descendantOrSelf (drop 4 in_order) (left_4 one.before.before) (sym one.is_descendant_or_self.ensures ∙ c.if-is_descendant_or_self.false)
+left_5 c = let one = c in passed (word (start-5 c)) descendant_or_self (drop 4 in_order) (left_4 one.before.before) (sym one.is_descendant_or_self.ensures ∙ c.if-is_descendant_or_self.false)
 
 abbrev start-6 : tie.After-is_descendant → tie.Start
 start-6 c = start-5 c.before.before
 
 left_6 : (c : tie.After-is_descendant) → Left (word (start-6 c)) (drop 5 in_order)
-left_6 c = let one = c in passed (word (start-6 c)) ancestorOrSelf (drop 5 in_order) (left_5 one.before.before) (sym one.is_ancestor_or_self.ensures ∙ c.if-is_ancestor_or_self.false)
+left_6 c = let one = c in passed (word (start-6 c)) ancestor_or_self (drop 5 in_order) (left_5 one.before.before) (sym one.is_ancestor_or_self.ensures ∙ c.if-is_ancestor_or_self.false)
 
 abbrev start-7 : tie.After-is_ancestor → tie.Start
 start-7 c = start-6 c.before.before
@@ -66,13 +67,13 @@ abbrev start-9 : tie.After-is_preceding_sibling → tie.Start
 start-9 c = start-8 c.before.before
 
 left_9 : (c : tie.After-is_preceding_sibling) → Left (word (start-9 c)) (drop 8 in_order)
-left_9 c = let one = c in passed (word (start-9 c)) followingSibling (drop 8 in_order) (left_8 one.before.before) (sym one.is_following_sibling.ensures ∙ c.if-is_following_sibling.false)
+left_9 c = let one = c in passed (word (start-9 c)) following_sibling (drop 8 in_order) (left_8 one.before.before) (sym one.is_following_sibling.ensures ∙ c.if-is_following_sibling.false)
 
 abbrev start-10 : tie.After-is_following → tie.Start
 start-10 c = start-9 c.before.before
 
 left_10 : (c : tie.After-is_following) → Left (word (start-10 c)) (drop 9 in_order)
-left_10 c = let one = c in passed (word (start-10 c)) precedingSibling (drop 9 in_order) (left_9 one.before.before) (sym one.is_preceding_sibling.ensures ∙ c.if-is_preceding_sibling.false)
+left_10 c = let one = c in passed (word (start-10 c)) preceding_sibling (drop 9 in_order) (left_9 one.before.before) (sym one.is_preceding_sibling.ensures ∙ c.if-is_preceding_sibling.false)
 
 abbrev start-11 : tie.After-is_preceding → tie.Start
 start-11 c = start-10 c.before.before
@@ -102,13 +103,13 @@ is-descendant-or-self-requires : tie.Need-is_descendant_or_self-requires
 is-descendant-or-self-requires c κs = (start-3 c.before).requires
 
 returns-4 : tie.Need-returns-then-is_descendant_or_self
-returns-4 c = named_so (word (start-4 c.before)) descendantOrSelf (drop 4 in_order) (left_4 c.before) (sym c.is_descendant_or_self.ensures ∙ c.if-is_descendant_or_self.true)
+returns-4 c = named_so (word (start-4 c.before)) descendant_or_self (drop 4 in_order) (left_4 c.before) (sym c.is_descendant_or_self.ensures ∙ c.if-is_descendant_or_self.true)
 
 is-ancestor-or-self-requires : tie.Need-is_ancestor_or_self-requires
 is-ancestor-or-self-requires c κs = (start-4 c.before).requires
 
 returns-5 : tie.Need-returns-then-is_ancestor_or_self
-returns-5 c = named_so (word (start-5 c.before)) ancestorOrSelf (drop 5 in_order) (left_5 c.before) (sym c.is_ancestor_or_self.ensures ∙ c.if-is_ancestor_or_self.true)
+returns-5 c = named_so (word (start-5 c.before)) ancestor_or_self (drop 5 in_order) (left_5 c.before) (sym c.is_ancestor_or_self.ensures ∙ c.if-is_ancestor_or_self.true)
 
 is-descendant-requires : tie.Need-is_descendant-requires
 is-descendant-requires c κs = (start-5 c.before).requires
@@ -126,13 +127,13 @@ is-following-sibling-requires : tie.Need-is_following_sibling-requires
 is-following-sibling-requires c κs = (start-7 c.before).requires
 
 returns-8 : tie.Need-returns-then-is_following_sibling
-returns-8 c = named_so (word (start-8 c.before)) followingSibling (drop 8 in_order) (left_8 c.before) (sym c.is_following_sibling.ensures ∙ c.if-is_following_sibling.true)
+returns-8 c = named_so (word (start-8 c.before)) following_sibling (drop 8 in_order) (left_8 c.before) (sym c.is_following_sibling.ensures ∙ c.if-is_following_sibling.true)
 
 is-preceding-sibling-requires : tie.Need-is_preceding_sibling-requires
 is-preceding-sibling-requires c κs = (start-8 c.before).requires
 
 returns-9 : tie.Need-returns-then-is_preceding_sibling
-returns-9 c = named_so (word (start-9 c.before)) precedingSibling (drop 9 in_order) (left_9 c.before) (sym c.is_preceding_sibling.ensures ∙ c.if-is_preceding_sibling.true)
+returns-9 c = named_so (word (start-9 c.before)) preceding_sibling (drop 9 in_order) (left_9 c.before) (sym c.is_preceding_sibling.ensures ∙ c.if-is_preceding_sibling.true)
 
 is-following-requires : tie.Need-is_following-requires
 is-following-requires c κs = (start-9 c.before).requires

@@ -29,6 +29,7 @@ old start = start.args.out.now
 -- Past line 1 both queries are short enough.
 abbrev begun : tie.Else-inner-gt-ITEM_LIMIT → tie.Start
 begun c = c.before.before.before.before.before
+
 outer_few : (c : tie.Else-inner-gt-ITEM_LIMIT) → length (outer (begun c)) ≤ item_limit
 outer_few c = omega (arith, c.if-outer-gt-ITEM_LIMIT.false)
 
@@ -38,6 +39,7 @@ inner_few c = omega (arith, c.if-inner-gt-ITEM_LIMIT.false)
 -- Halfway through line 6 the outer items are a query.
 abbrev outer-read : tie.In-Query → tie.Else-inner-gt-ITEM_LIMIT
 outer-read c = c.before.before
+
 abbrev outer-nesting : tie.In-Query → ℕ
 outer-nesting c = c.in-Query.outer_nesting
 
@@ -50,6 +52,7 @@ outer_shaped c = shape_some _ c.measure-outer_shape.result (outer-nesting c) _ (
 -- Past line 6 the inner items are one too.
 abbrev inner-read : tie.In-Query-inner_shape → tie.In-Query
 inner-read c = c.before.before
+
 abbrev past-1 : tie.In-Query-inner_shape → tie.Else-inner-gt-ITEM_LIMIT
 past-1 c = outer-read (inner-read c)
 
@@ -113,6 +116,7 @@ returns-4 c =
 -- Both are known.
 abbrev told-all : tie.After-compose_by-arg-1 → tie.In-Query-inner_shape
 told-all c = c.before
+
 abbrev said : (c : tie.In-Query-inner_shape) → Says (outer (begun (past-1 c))) (outer (begun (past-1 c)))
 said c = own_axes (outer (begun (past-1 c))) (outer-nesting (inner-read c)) (outer-guards (inner-read c)) (outer_shaped (inner-read c))
 

@@ -39,6 +39,7 @@ shallow start =
 -- With the brackets counted line 9 is judged.
 abbrev begun : tie.After-larger → tie.Start
 begun c = c.before.before.before.before.before
+
 deep : (c : tie.After-larger-nesting)
     → c.larger-nesting.result ≡ max (begun c.before).args.outer_nesting ((begun c.before).args.outer_guards + 2 + c.larger.result)
 deep c = omega (arith, c.larger-nesting.ensures)
@@ -46,6 +47,7 @@ deep c = omega (arith, c.larger-nesting.ensures)
 -- With the items counted only line 10 is left.
 abbrev past-9 : tie.After-composed_size-size → tie.Else-nesting-gt-BRACKET_LIMIT
 past-9 c = c.before.before.before
+
 abbrev start_of : tie.After-composed_size-size → tie.Start
 start_of c = begun (past-9 c).before.before
 

@@ -25,6 +25,7 @@ old start = start.args.out.now
 -- Past line 1 both queries are short enough.
 abbrev begun : tie.Else-inner-gt-ITEM_LIMIT → tie.Start
 begun c = c.before.before.before.before.before
+
 outer_few : (c : tie.Else-inner-gt-ITEM_LIMIT) → length (outer (begun c)) ≤ item_limit
 outer_few c = omega (arith, c.if-outer-gt-ITEM_LIMIT.false)
 
@@ -34,6 +35,7 @@ inner_few c = omega (arith, c.if-inner-gt-ITEM_LIMIT.false)
 -- Halfway through line 6 the outer items are a query.
 abbrev outer-read : tie.In-Query → tie.Else-inner-gt-ITEM_LIMIT
 outer-read c = c.before.before
+
 abbrev outer-nesting : tie.In-Query → ℕ
 outer-nesting c = c.in-Query.outer_nesting
 
@@ -46,6 +48,7 @@ outer_shaped c = shape_some _ c.measure-outer_shape.result (outer-nesting c) _ (
 -- Past line 6 the inner items are one too.
 abbrev inner-read : tie.In-Query-inner_shape → tie.In-Query
 inner-read c = c.before.before
+
 abbrev past-1 : tie.In-Query-inner_shape → tie.Else-inner-gt-ITEM_LIMIT
 past-1 c = outer-read (inner-read c)
 

@@ -21,6 +21,7 @@ outer start = start.args.outer.now
 -- The copy is marked.
 abbrev begun : tie.After-mark_query → tie.Start
 begun c = c.before.before.before.before.before
+
 abbrev copy : tie.After-mark_query → List ℕ
 copy c = c.mark_query.new.marks
 
@@ -33,6 +34,7 @@ marks c = copy_marked (outer (begun c)) (copy c) _ _ (begun c).requires.0 c.mark
 -- Its steps are measured.
 abbrev marked : tie.After-guards_of-guards → tie.After-mark_query
 marked c = c.before.before.before
+
 abbrev said : (c : tie.After-guards_of-guards) → Says (outer (begun (marked c))) (says (marked c))
 said c = marked_says (outer (begun (marked c))) (says (marked c)) (begun (marked c)).args.outer_nesting (marks (marked c))
 

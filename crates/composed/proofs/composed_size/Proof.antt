@@ -10,6 +10,7 @@ use Rattle.composed.proofs.composed_size.Tie as tie
 -- Guards and paths are counted.
 abbrev begun-of : tie.After-count_paths-paths → tie.Start
 begun-of c = c.before.before.before.before
+
 count-guards-requires : tie.Need-count_guards-guards-requires
 count-guards-requires c κs =
     let start = c in

@@ -44,12 +44,14 @@ Turn = tie.At-loop-place invariant-loop decreases-loop
 
 abbrev begun : Turn → Start
 begun c = c.before.before.before.before
+
 -- The end of a path is found.
 abbrev Found : Type 0
 Found = tie.After-skip-next invariant-loop decreases-loop
 
 abbrev turn : Found → Turn
 turn c = c.before.before.before.before
+
 guards : (c : Found) (g : Said (begun (turn c)))
     → Guards g.decides (outer (begun (turn c))) (says (begun (turn c))) (old (begun (turn c))) (turn c).loop-place.out (begun (turn c)).args.from (begun (turn c)).args.count (turn c).loop-place.place (turn c).loop-place.at c.skip-next.result c.owes-steps.result
 guards c g =
@@ -96,6 +98,7 @@ Guarded = tie.After-guard_steps-end invariant-loop decreases-loop
 
 abbrev packed : Guarded → Packed
 packed c = c.before.before.before.before
+
 loop-holds : tie.Need-loop-place-init invariant-loop decreases-loop
 loop-holds c =
     let start = c in

@@ -51,6 +51,7 @@ fits start = omega (arith, least start, start.requires.5, start.requires.7)
 -- S is written.
 abbrev begun : tie.After-put_selected → tie.Start
 begun c = c.before.before.before.before.before.before
+
 abbrev mid : tie.After-put_selected → List ℕ
 mid c = c.put_selected.new.out
 

@@ -32,6 +32,7 @@ numbers start = start.args.cut_node.now
 -- Past the five tests of line 1 the lengths are right.
 abbrev begun : tie.Else-cut_node-cut_parent → tie.Start
 begun c = c.before.before.before.before.before.before.before.before.before.before
+
 agree : (c : tie.Else-cut_node-cut_parent) → Agree (ours (begun c)) (theirs (begun c)) (numbers (begun c))
 agree c =
     record {
@@ -45,6 +46,7 @@ agree c =
 -- Past line 7 our table is good,
 abbrev past-1 : tie.In_default → tie.Else-cut_node-cut_parent
 past-1 c = c.before.before
+
 sound : (c : tie.In_default) → none ≡ table_fault (ours (begun (past-1 c)))
 sound c = ap fault_of (sym c.in_default.is) ∙ c.table_fault.ensures
 

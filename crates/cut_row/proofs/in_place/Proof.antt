@@ -23,15 +23,16 @@ theirs start kinds = table_of start.args.cut_parent.now kinds
 -- Past the first row the parent is read.
 abbrev begun : tie.After-wide-above → tie.Start
 begun c = c.before.before.before.before.before.before
+
 later : (c : tie.After-wide-above) → 0 < (begun c).args.r
 later c = omega (arith, c.if-r-eq0.false)
 
 returns : tie.Need-returns-then-r-eq0
 returns c =
     let start = c in
-    λ kinds kindsOfCut.
+    λ kinds kinds_of_cut.
     sym
-    (ap (λ r. rising (ours start.before.before.before.before kinds) (theirs start.before.before.before.before kindsOfCut) start.args.cut_node.now r && parent_stands (ours start.before.before.before.before kinds) (theirs start.before.before.before.before kindsOfCut) start.args.cut_node.now r)
+    (ap (λ r. rising (ours start.before.before.before.before kinds) (theirs start.before.before.before.before kinds_of_cut) start.args.cut_node.now r && parent_stands (ours start.before.before.before.before kinds) (theirs start.before.before.before.before kinds_of_cut) start.args.cut_node.now r)
     c.if-r-eq0.true)
 
 mul_wide : tie.Need-offset_bounds-cut_parent-r
@@ -46,9 +47,9 @@ wide-requires c κs = search rules
 returns-2 : tie.Need-returns-then-cut_node-above
 returns-2 c =
     let start = begun c.before in
-    λ kinds kindsOfCut.
+    λ kinds kinds_of_cut.
     sym
-    (outside (ours start kinds) (theirs start kindsOfCut) start.args.cut_node.now start.args.r start.args.n c.wide-above.result (later c.before) start.requires.1.0
+    (outside (ours start kinds) (theirs start kinds_of_cut) start.args.cut_node.now start.args.r start.args.n c.wide-above.result (later c.before) start.requires.1.0
     c.wide-above.ensures (omega (arith, start.requires.0, c.if-cut_node-above.true)))
 
 sub_wide : tie.Need-overflow_sub-r
@@ -87,11 +88,11 @@ returns-3 c =
     let start = begun read.before.before.before.before.before.before.before in
     let numbers = start.args.cut_node.now in
     let n = start.args.n in
-    λ kinds kindsOfCut.
+    λ kinds kinds_of_cut.
     ap₂ (λ b i. ltb b n && eqb i c.wide.result) c.wide-before.ensures c.wide-image.ensures
     ∙ ap (λ p. ltb (get_or numbers (start.args.r - 1) 0) n && eqb (get_or numbers read.wide-above.result 0) p) c.wide.ensures
     ∙ sym
-    (within (ours start kinds) (theirs start kindsOfCut) numbers start.args.r n read.wide-above.result (later read.before.before.before.before.before.before.before) start.requires.1.0 read.wide-above.ensures
+    (within (ours start kinds) (theirs start kinds_of_cut) numbers start.args.r n read.wide-above.result (later read.before.before.before.before.before.before.before) start.requires.1.0 read.wide-above.ensures
     (omega (arith, start.requires.0, c.if-cut_node-above.false)))
 
 pub in_place_spec : {M : Type 1} → statement M

@@ -29,9 +29,11 @@ numbers start = start.args.cut_node.now
 -- The number is read,
 abbrev begun : tie.After-wide-n → tie.Start
 begun c = c.before.before.before.before.before.before.before
+
 -- and it is a node's: the two kinds are read.
 abbrev read : tie.After-wide → tie.After-wide-n
 read c = c.before.before.before.before.before
+
 inside : (c : tie.Else-parent-n) → c.wide-n.result < nodes (ours (begun c.before))
 inside c = omega (arith, c.if-parent-n.false)
 

@@ -38,6 +38,7 @@ numbers start = start.args.cut_node.now
 -- There is a row.
 abbrev begun : tie.After-same_root invariant-loop decreases-loop → Begin
 begun c = c.before.before.before.before.before.before.before
+
 some_row : (c : tie.After-same_root invariant-loop decreases-loop) → 0 < nodes (theirs (begun c))
 some_row c = omega (arith, c.if-cut_node-eq0.false, (begun c).requires.1.0)
 
@@ -54,6 +55,7 @@ Turn = tie.At-loop-r invariant-loop decreases-loop
 
 abbrev rooted : Turn → tie.After-same_root invariant-loop decreases-loop
 rooted c = c.before.before
+
 returns : tie.Need-returns-then-cut_node-eq0 invariant-loop decreases-loop
 returns c =
     let start = c in

@@ -56,6 +56,7 @@ returns c =
 -- The text was read, and found to be wanted: the columns of parents and of kinds begin with its nodes.
 abbrev read : tie.In-Value → tie.After-read_xml-said
 read c = c.before.before.before.before.before
+
 abbrev start : tie.In-Value → tie.Start
 start c = (read c).before.before.before.before.before.before.before.before.before.before.before.before
 

@@ -10,6 +10,7 @@ use Rattle.end_tags.proofs.end_tag.Tie as tie
 -- The name came again.
 abbrev sought : tie.In-At → tie.After-same_name-named
 sought c = c.before
+
 abbrev begun : tie.In-At → tie.Start
 begun c = (sought c).before.before
 
@@ -19,6 +20,7 @@ name_read c = let s = begun c in subst (Renames s.args.text.now s.args.at s.args
 -- Behind it and white space stands a byte.
 abbrev past-space : tie.After-shared_slice_known-2-1 → tie.After-skip-place
 past-space c = c.before.before
+
 same-name-requires : tie.Need-same_name-named-requires
 same-name-requires c κs = search rules
 

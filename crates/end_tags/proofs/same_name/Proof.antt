@@ -34,20 +34,24 @@ letter t = get_or (text t) t.loop-one.letter 0
 
 abbrev turn : tie.In-loop-one invariant-loop decreases-loop → Turn
 turn c = c.before.before.before
+
 part : (c : tie.In-loop-one invariant-loop decreases-loop) → name_part (letter (turn c)) ≡ true
 part c = sym c.name_part.ensures ∙ c.loop-one-test.true
 
 -- The way back from where it came again.
 abbrev sought : tie.After-byte-one invariant-loop decreases-loop → tie.In-loop-one invariant-loop decreases-loop
 sought c = c.before.before
+
 abbrev found : tie.In-At invariant-loop decreases-loop → tie.After-byte-one invariant-loop decreases-loop
 found c = c.before
+
 abbrev found_in : tie.In-At invariant-loop decreases-loop → Turn
 found_in c = turn (sought (found c))
 
 -- The letters that were looked at together have come again.
 abbrev begun : tie.After-same_letters-passed invariant-loop decreases-loop → tie.Start invariant-loop decreases-loop
 begun c = c.before.before
+
 so_far : (c : tie.After-same_letters-passed invariant-loop decreases-loop) →
     let a = (begun c).args in
     Renaming a.text.now a.at a.inner (a.at + c.same_letters-passed.result) (a.inner + 1 + c.same_letters-passed.result)

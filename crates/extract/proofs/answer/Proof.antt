@@ -21,27 +21,35 @@ use Rattle.extract.proofs.answer.Tie as tie
 -- Of what is lent nothing is examined yet.
 abbrev begun-of : tie.After-shared_slice_known-3-1 → tie.Start
 begun-of c = c.before.before.before
+
 -- Past line 1 the nodes are few enough,
 abbrev lent_of : tie.Else-parent-gt-NODE_LIMIT → tie.After-shared_slice_known-3-1
 lent_of c = c.before
+
 -- and the columns are as long as each other.
 abbrev few-of : tie.Else-parent_room-kind_room → tie.Else-parent-gt-NODE_LIMIT
 few-of c = c.before.before.before
+
 -- The table is examined,
 abbrev alike_of : tie.After-table_fault → tie.Else-parent_room-kind_room
 alike_of c = c.before
+
 -- and past line 7 it is one.
 abbrev examined-of : tie.In_default → tie.After-table_fault
 examined-of c = c.before
+
 -- The marks are examined,
 abbrev sound-of : tie.After-marks_fault → tie.In_default
 sound-of c = c.before
+
 -- and past line 8 they are closed.
 abbrev judged-of : tie.In_default-marks_fault → tie.After-marks_fault
 judged-of c = c.before
+
 -- They are counted.
 abbrev closed_of : tie.After-count-needed → tie.In_default-marks_fault
 closed_of c = c.before
+
 -- The table lent, as the clauses name it.
 abbrev lent : tie.Start → Table
 lent start = table_of start.args.parent.now start.args.kind.now
@@ -49,6 +57,7 @@ lent start = table_of start.args.parent.now start.args.kind.now
 -- Past the four tests of line 1 the lengths are right.
 abbrev begun : tie.Else-parent_room-kind_room → tie.Start
 begun c = c.before.before.before.before.before.before.before
+
 agree : (c : tie.Else-parent_room-kind_room) → Agree (lent (begun c)) (begun c).args.marks.now (begun c).args.parent_room (begun c).args.kind_room
 agree c = record { few = (few-of c).if-parent-gt-NODE_LIMIT.false; kinds_long = c.if-kind-parent.false; marks_long = c.if-marks-parent.false; rooms = c.if-parent_room-kind_room.false }
 

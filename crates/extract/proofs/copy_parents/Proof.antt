@@ -28,24 +28,28 @@ Lent = tie.After-slice_known-1 invariant-loop decreases-loop
 
 abbrev begun-of : Lent → Start
 begun-of c = c.before.before.before
+
 -- The marked nodes before this one are copied.
 abbrev Turn : Type 0
 Turn = tie.At-loop-i invariant-loop decreases-loop
 
 abbrev lent_of : Turn → Lent
 lent_of c = c.before
+
 -- There is one more,
 abbrev Inside : Type 0
 Inside = tie.In-loop-i invariant-loop decreases-loop
 
 abbrev turn-of : Inside → Turn
 turn-of c = c.before
+
 -- of which the new parent is known.
 abbrev Found : Type 0
 Found = tie.After-new_parent invariant-loop decreases-loop
 
 abbrev inside_of : Found → Inside
 inside_of c = c.before.before.before
+
 -- There is room for the parent of a marked node.
 fits : (c : tie.Then-marks-i-eq1 invariant-loop decreases-loop) → (turn-of c.before.before).loop-i.n < length (begun-of (lent_of (turn-of c.before.before))).args.out.now
 fits c =

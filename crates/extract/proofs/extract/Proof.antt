@@ -16,18 +16,23 @@ use Rattle.extract.proofs.extract.Tie as tie
 -- Of what is lent nothing is examined yet.
 abbrev begun-of : tie.After-slice_known-2-1 → tie.Start
 begun-of c = c.before.before.before.before.before
+
 -- It is judged,
 abbrev lent_of : tie.After-answer-said → tie.After-slice_known-2-1
 lent_of c = c.before
+
 -- and good.
 abbrev answered-of : tie.In-Value → tie.After-answer-said
 answered-of c = c.before
+
 -- The parents are copied,
 abbrev good_of : tie.After-copy_parents → tie.In-Value
 good_of c = c.before.before
+
 -- and the kinds.
 abbrev parents-of : tie.After-copy_kinds → tie.After-copy_parents
 parents-of c = c.before.before.before.before
+
 -- The table lent, as the clauses name it.
 abbrev lent : tie.Start → Table
 lent start = table_of start.args.parent.now start.args.kind.now
@@ -35,6 +40,7 @@ lent start = table_of start.args.parent.now start.args.kind.now
 -- Where the answer is a value, the function began here.
 abbrev begun : tie.In-Value → tie.Start
 begun c = c.before.before.before.before.before.before.before
+
 -- The lines of 01 answer that value, so all that they ask was found.
 valued : (c : tie.In-Value)
     → extract_answer (lent (begun c)) (begun c).args.marks.now (length (begun c).args.out_parent.now) (length (begun c).args.out_kind.now) ≡ value c.in-Value.field-0

@@ -29,18 +29,21 @@ Lent = tie.After-shared_slice_known-3-1 invariant-loop decreases-loop
 
 abbrev begun-of : Lent → Start
 begun-of c = c.before.before.before
+
 -- The marked nodes between are not counted yet.
 abbrev Turn : Type 0
 Turn = tie.At-loop-at invariant-loop decreases-loop
 
 abbrev lent_of : Turn → Lent
 lent_of c = c.before
+
 -- The node above is known.
 abbrev Sought : Type 0
 Sought = tie.After-wide-at invariant-loop decreases-loop
 
 abbrev turn-of : Sought → Turn
 turn-of c = c.before.before.before
+
 -- The new number of a marked node no greater than `from` is a place of what is written.
 inside : (c : tie.In-loop-at invariant-loop decreases-loop) → c.loop-at.new < length (begun-of (lent_of c.before)).args.out.now
 inside c =

@@ -17,12 +17,15 @@ use Rattle.extract.proofs.new_parent.Tie as tie
 -- Of what is lent nothing is read yet.
 abbrev begun-of : tie.After-shared_slice_known-3-1 → tie.Start
 begun-of c = c.before.before.before
+
 -- The parent is read,
 abbrev lent_of : tie.After-wide-above → tie.After-shared_slice_known-3-1
 lent_of c = c.before.before.before
+
 -- and its new number is known.
 abbrev read_of : tie.After-new_number → tie.After-wide-above
 read_of c = c.before
+
 -- A marked node that is not the root comes after the root, which is marked.
 after_root : (c : tie.Else-i-eq0) → 0 < (begun-of c.before).args.n
 after_root c =

@@ -16,6 +16,7 @@ use Rattle.follow.proofs.follow.Tie as tie
 -- Where nothing refuses.
 abbrev begun : tie.In-Value → tie.Start
 begun c = c.before.before.before.before.before.before.before
+
 agreed : (c : tie.In-Value) → Accepted (begun c).args.query.now (table_of (begun c).args.parent.now (begun c).args.kind.now) (begun c).args.given.now (length (begun c).args.marks.now)
 agreed c = accepted _ _ _ _ _ (sym c.judge-said.ensures ∙ ap told c.in-Value.is)
 

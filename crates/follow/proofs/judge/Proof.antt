@@ -34,6 +34,7 @@ given start = start.args.given.now
 -- Past line 1 the lengths are right.
 abbrev begun : tie.Else-marks_room-n → tie.Start
 begun c = c.before.before.before.before.before.before.before.before.before
+
 agree : (c : tie.Else-marks_room-n) → Agree (query (begun c)) (table (begun c)) (given (begun c)) (begun c).args.marks_room
 agree c =
     record { items_few = omega (arith, c.if-query-gt-ITEM_LIMIT.false); nodes_few = omega (arith, c.if-n-gt-NODE_LIMIT.false); kinds_all = c.if-kind-n.false; given_all = c.if-given-n.false; marks_all = c.if-marks_room-n.false }
@@ -41,18 +42,21 @@ agree c =
 -- Past line 6 the items are a query.
 abbrev past-1 : tie.In-Query → tie.Else-marks_room-n
 past-1 c = c.before.before
+
 is_query : (c : tie.In-Query) → (q : Query) × (decode (query (begun (past-1 c))) ≡ some q)
 is_query c = shaped_some (decode (query (begun (past-1 c)))) _ _ _ (sym c.in-Query.is ∙ c.measure-shaped.ensures) (λ q d. (q, d))
 
 -- Past line 7 the table is good.
 abbrev past-6 : tie.In_default-table_fault → tie.In-Query
 past-6 c = c.before.before
+
 sound : (c : tie.In_default-table_fault) → table_fault (table (begun (past-1 (past-6 c)))) ≡ none
 sound c = sym c.table_fault.ensures ∙ ap fault_of c.in_default-table_fault.is
 
 -- Past line 8 the marks are good.
 abbrev past-7 : tie.In_default-marks_fault → tie.In_default-table_fault
 past-7 c = c.before.before
+
 closed : (c : tie.In_default-marks_fault) → marks_fault (table (begun (past-1 (past-6 (past-7 c))))) (given (begun (past-1 (past-6 (past-7 c))))) ≡ none
 closed c = sym (c.marks_fault.ensures (begun (past-1 (past-6 (past-7 c)))).args.kind.now) ∙ ap fault_of c.in_default-marks_fault.is
 

@@ -44,12 +44,14 @@ module _ (start : tie.Start) (stays : items start ≡ start.args.w ∷ []) where
 -- It is not named.
 abbrev unnamed : tie.Then-guards-eq0 → tie.Start
 unnamed c = c.before.before.before
+
 unnamed_same : (c : tie.Then-guards-eq0) → items (unnamed c) ≡ (unnamed c).args.w ∷ []
 unnamed_same c = unnamed_stays (chosen (unnamed c)) (flag (unnamed c)) _ (omega (arith, c.one_guard-guards.ensures, c.if-guards-eq0.true))
 
 -- It is named.
 abbrev begun : tie.Else-guards-eq0 → tie.Start
 begun c = c.before.before.before
+
 named : (c : tie.Else-guards-eq0) → flag (begun c) ≡ 0 → ⊥
 named c e = omega (arith, c.one_guard-guards.ensures, c.if-guards-eq0.false, e)
 
@@ -63,6 +65,7 @@ other_stays c = no_step_guarded (chosen (other c)) (flag (other c)) _ _ c.unpack
 -- A step is written with V.
 abbrev named_step : tie.In-Step → tie.Else-guards-eq0
 named_step c = c.before.before
+
 abbrev step_start : tie.In-Step → tie.Start
 step_start c = begun (named_step c)
 
@@ -75,6 +78,7 @@ room c = guarded_room (chosen (step_start c)) (flag (step_start c)) _ _ (same_it
 
 abbrev said : tie.After-guard_step → tie.In-Step
 said c = c.before.before
+
 wrote : (c : tie.After-guard_step) → c.guard_step.new.out ≡ placed (items (step_start (said c))) (step_start (said c)).args.at (old (step_start (said c)))
 wrote c =
     let start = step_start (said c) in

@@ -4,7 +4,7 @@ use native.Mathlib.Omega.{arith}
 use mathlib.Core.Path.{◌≡◌, refl, ◌∙◌, ap}
 use mathlib.Core.List.{List, [], ◌∷◌}
 use lib.ListN.{take, drop, set, length-set, length-append}
-use Rattle.paper.specs.Query.{descendantOrSelf, ancestorOrSelf}
+use Rattle.paper.specs.Query.{descendant_or_self, ancestor_or_self}
 use Rattle.paper.specs.Items.{axis_number}
 use Rattle.item.specs.Unpacked.{packed}
 use Rattle.item.specs.Placed.{placed}
@@ -26,6 +26,7 @@ chosen start = take start.args.count (drop start.args.from (old start))
 -- After both are written.
 abbrev begun : tie.After-put_visible → tie.Start
 begun c = c.before.before.before.before.before
+
 abbrev new : tie.After-put_visible → List ℕ
 new c = c.put_visible.new.out
 
@@ -64,7 +65,7 @@ same_length c =
     let start = begun put.before.before in
     let len = part_length (old start) start.args.from start.args.count (omega arith) in
     same_size (guarded_step (chosen start) start.args.step) (old start) _ start.args.at (wrote put.before.before)
-    (omega (arith, length-append (some_node_items (axis_number descendantOrSelf) (chosen start)) (some_node_items (axis_number ancestorOrSelf) (chosen start))))
+    (omega (arith, length-append (some_node_items (axis_number descendant_or_self) (chosen start)) (some_node_items (axis_number ancestor_or_self) (chosen start))))
 
 returns : tie.Need-returns
 returns c = (wrote c.before.before, omega (arith, c.put_visible.ensures.1))

@@ -32,6 +32,7 @@ Turn = tie.In-loop-place invariant-loop decreases-loop
 
 abbrev begun : Turn → Start
 begun c = c.before.before.before.before.before
+
 beside : (c : Turn) → c.loop-place.place < length (says (begun c))
 beside c = omega (arith, (begun c).requires.1, c.loop-place-test.true)
 

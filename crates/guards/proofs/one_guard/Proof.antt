@@ -8,6 +8,7 @@ use Rattle.guards.proofs.one_guard.Tie as tie
 -- The item is a step.
 abbrev step : tie.After-guarded → tie.In-Step
 step c = c.before
+
 unpack-requires : tie.Need-unpack-item-requires
 unpack-requires c κs = search rules
 

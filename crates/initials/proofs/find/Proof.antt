@@ -31,36 +31,42 @@ Begun = tie.After-at-1 invariant-loop decreases-loop
 
 abbrev lent_of : Begun → Start
 lent_of c = c.before.before.before.before.before
+
 -- The names of the chain before this one are others.
 abbrev Turn : Type 0
 Turn = tie.At-loop-at invariant-loop decreases-loop
 
 abbrev first_of : Turn → Begun
 first_of c = c.before
+
 -- There is one more,
 abbrev Inside : Type 0
 Inside = tie.In-loop-at invariant-loop decreases-loop
 
 abbrev turn-of : Inside → Turn
 turn-of c = c.before
+
 -- its place in the list is known,
 abbrev Spelt : Type 0
 Spelt = tie.After-spell-name invariant-loop decreases-loop
 
 abbrev inside_of : Spelt → Inside
 inside_of c = c.before
+
 -- it is compared,
 abbrev Compared : Type 0
 Compared = tie.After-same_bytes invariant-loop decreases-loop
 
 abbrev spelt_of : Compared → Spelt
 spelt_of c = c.before.before.before.before
+
 -- and the next one is known.
 abbrev Linked : Type 0
 Linked = tie.After-at-in-loop-at-1 invariant-loop decreases-loop
 
 abbrev compared_of : Linked → Compared
 compared_of c = c.before.before.before
+
 abbrev begun : Turn → Start
 begun l = lent_of (first_of l)
 

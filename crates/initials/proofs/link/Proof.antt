@@ -24,8 +24,10 @@ Spelled = tie.After-spell-name invariant-loop decreases-loop
 
 abbrev begun : Spelled → Start
 begun c = c.before.before.before.before
+
 abbrev turn : Spelled → tie.At-loop-v invariant-loop decreases-loop
 turn c = c.before.before
+
 -- The name starts within the list, and its first byte is small.
 inside : (c : Spelled) → c.spell-name.result.start < length (begun c).args.list.now
 inside c = start_inside _ _ (begun c).requires.0 ((turn c).loop-v.v - 1) _ (omega (arith, (turn c).loop-v.invariant.most)) c.spell-name.ensures.part

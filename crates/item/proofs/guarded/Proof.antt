@@ -1,5 +1,5 @@
 -- `item::guarded` meets its contract: each arm names an axis, and says whether that one is guarded. Assumes nothing.
-use Rattle.paper.specs.Query.{Axis, self, child, descendantOrSelf, ancestorOrSelf, descendant, ancestor, followingSibling, precedingSibling, following, preceding}
+use Rattle.paper.specs.Query.{Axis, self, child, descendant_or_self, ancestor_or_self, descendant, ancestor, following_sibling, preceding_sibling, following, preceding}
 use Rattle.item.proofs.GuardedAxes.{guarded-number, guarded_none}
 use Rattle.item.proofs.guarded.Statement.{statement}
 use Rattle.item.proofs.guarded.Tie as tie
@@ -14,10 +14,10 @@ returns-3 : tie.Need-returns-in-2
 returns-3 c = guarded-number Axis.parent _ c.in-2.is
 
 returns-4 : tie.Need-returns-in-3
-returns-4 c = guarded-number descendantOrSelf _ c.in-3.is
+returns-4 c = guarded-number descendant_or_self _ c.in-3.is
 
 returns-5 : tie.Need-returns-in-4
-returns-5 c = guarded-number ancestorOrSelf _ c.in-4.is
+returns-5 c = guarded-number ancestor_or_self _ c.in-4.is
 
 returns-6 : tie.Need-returns-in-5
 returns-6 c = guarded-number descendant _ c.in-5.is
@@ -26,10 +26,10 @@ returns-7 : tie.Need-returns-in-6
 returns-7 c = guarded-number ancestor _ c.in-6.is
 
 returns-8 : tie.Need-returns-in-7
-returns-8 c = guarded-number followingSibling _ c.in-7.is
+returns-8 c = guarded-number following_sibling _ c.in-7.is
 
 returns-9 : tie.Need-returns-in-8
-returns-9 c = guarded-number precedingSibling _ c.in-8.is
+returns-9 c = guarded-number preceding_sibling _ c.in-8.is
 
 returns-10 : tie.Need-returns-in-9
 returns-10 c = guarded-number following _ c.in-9.is

@@ -13,6 +13,7 @@ kept-none c = c.write-Kept.new.1.1.1.1.1.1.0
 
 abbrev begun : tie.After-write_kept-needed → tie.Start
 begun c = c.before.before.before.before.before.before.before.before.before
+
 slice-relend-prefix-write-kept : tie.Need-slice_bounds-write_kept-end
 slice-relend-prefix-write-kept c = search rules
 

@@ -2,7 +2,7 @@
 use mathlib.Core.Path.{◌≡◌, refl}
 use lib.Dec.{eqb}
 use Rattle.paper.specs.Document.{table_of}
-use Rattle.paper.specs.Query.{Axis, self, child, descendantOrSelf, ancestorOrSelf, descendant, ancestor, followingSibling, precedingSibling, following, preceding}
+use Rattle.paper.specs.Query.{Axis, self, child, descendant_or_self, ancestor_or_self, descendant, ancestor, following_sibling, preceding_sibling, following, preceding}
 use Rattle.paper.specs.Selection.{leads}
 use Rattle.paper.proofs.Axes.{of_number, no_axis}
 use borrow.Author.Rules.{rules}
@@ -58,13 +58,13 @@ returns-4 : tie.Need-returns-in-3
 returns-4 c =
     let d = c.args in
     λ kinds a e.
-    of_number (λ b. c.is_over.result ≡ leads (table_of d.parent.now kinds) b d.i d.j) descendantOrSelf a c.in-3.is e (c.is_over.ensures kinds)
+    of_number (λ b. c.is_over.result ≡ leads (table_of d.parent.now kinds) b d.i d.j) descendant_or_self a c.in-3.is e (c.is_over.ensures kinds)
 
 returns-5 : tie.Need-returns-in-4
 returns-5 c =
     let d = c.args in
     λ kinds a e.
-    of_number (λ b. c.is_over-in-4.result ≡ leads (table_of d.parent.now kinds) b d.i d.j) ancestorOrSelf a c.in-4.is e (c.is_over-in-4.ensures kinds)
+    of_number (λ b. c.is_over-in-4.result ≡ leads (table_of d.parent.now kinds) b d.i d.j) ancestor_or_self a c.in-4.is e (c.is_over-in-4.ensures kinds)
 
 returns-6 : tie.Need-returns-in-5
 returns-6 c =
@@ -82,13 +82,13 @@ returns-8 : tie.Need-returns-in-7
 returns-8 c =
     let d = c.args in
     λ kinds a e.
-    of_number (λ b. c.is_sibling.result ≡ leads (table_of d.parent.now kinds) b d.i d.j) followingSibling a c.in-7.is e (c.is_sibling.ensures kinds)
+    of_number (λ b. c.is_sibling.result ≡ leads (table_of d.parent.now kinds) b d.i d.j) following_sibling a c.in-7.is e (c.is_sibling.ensures kinds)
 
 returns-9 : tie.Need-returns-in-8
 returns-9 c =
     let d = c.args in
     λ kinds a e.
-    of_number (λ b. c.is_sibling-in-8.result ≡ leads (table_of d.parent.now kinds) b d.i d.j) precedingSibling a c.in-8.is e (c.is_sibling-in-8.ensures kinds)
+    of_number (λ b. c.is_sibling-in-8.result ≡ leads (table_of d.parent.now kinds) b d.i d.j) preceding_sibling a c.in-8.is e (c.is_sibling-in-8.ensures kinds)
 
 returns-10 : tie.Need-returns-in-9
 returns-10 c =

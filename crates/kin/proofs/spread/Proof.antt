@@ -33,24 +33,28 @@ Lent = tie.After-slice_known-1 invariant-loop decreases-loop
 
 abbrev begun-of : Lent → Start
 begun-of c = c.before.before.before
+
 -- The marks before this node are as they should be.
 abbrev Turn : Type 0
 Turn = tie.At-loop-i invariant-loop decreases-loop
 
 abbrev lent_of : Turn → Lent
 lent_of c = c.before
+
 -- There is one more,
 abbrev Inside : Type 0
 Inside = tie.In-loop-i invariant-loop decreases-loop
 
 abbrev turn-of : Inside → Turn
 turn-of c = c.before
+
 -- and how it stands to the node is known.
 abbrev Placed : Type 0
 Placed = tie.After-is_over-in-loop-i invariant-loop decreases-loop
 
 abbrev inside_of : Placed → Inside
 inside_of c = c.before.before.before
+
 loop-holds : tie.Need-loop-i-init invariant-loop decreases-loop
 loop-holds c = λ kinds. none_passed
 

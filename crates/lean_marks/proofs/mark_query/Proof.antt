@@ -26,6 +26,7 @@ fits start = omega (arith, long start, start.requires.1, length-set (marks start
 -- The turns are done.
 abbrev begun : tie.After-mark → tie.Start
 begun c = c.before.before.before.before
+
 part_length : (c : tie.After-mark) → length c.mark.new.marks ≡ length (take (length (items (begun c))) (set (marks (begun c)) 0 1))
 part_length c = c.mark.auto.1.0
 

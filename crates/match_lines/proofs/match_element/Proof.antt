@@ -11,8 +11,10 @@ use mathlib.Core.Path.{◌≡◌, refl, sym, ◌∙◌, ap, subst}
 -- The root's line is compared first, then the start tag is taken.
 abbrev begun : tie.After-root-root → tie.Start
 begun c = c.before.before.before.before.before.before.before.before.before.before
+
 abbrev rooted : tie.After-match_piece-begun → tie.After-root-root
 rooted c = c.before.before
+
 begins-line-requires : tie.Need-begins_line-requires
 begins-line-requires c κs = search rules
 

@@ -22,9 +22,11 @@ Turn = tie.At-loop-so_far invariant-loop decreases-loop
 
 abbrev begun : Turn → tie.Start invariant-loop decreases-loop
 begun c = c.before.before.before.before.before.before.before
+
 -- The turn in which a piece was compared.
 abbrev turn : tie.After-next_piece-step invariant-loop decreases-loop → Turn
 turn c = c.before.before.before.before
+
 loop-holds : tie.Need-loop-so_far-init invariant-loop decreases-loop
 loop-holds c = c.requires.1.1
 

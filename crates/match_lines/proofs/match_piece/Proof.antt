@@ -31,33 +31,39 @@ small s r e = let h = faced s r e in omega (arith, h.counts.nodes, h.counts.few,
 -- A START TAG.
 abbrev at-start : tie.In-Start → tie.Start
 at-start c = c.before.before.before.before.before.before.before
+
 start : (c : tie.In-Start) → let s = at-start c in Facing s.args.text.now s.args.list.now s.args.open.now (lent s) (Start c.in-Start.name_end c.in-Start.next) s.args.so_far
 start c = faced (at-start c) _ c.in-Start.is
 
 -- It is looked at, and its place is kept.
 abbrev looked : tie.After-kind_is → tie.After-find_name-found
 looked c = c.before.before
+
 -- AN EMPTY ELEMENT.
 abbrev at-empty : tie.In-Empty → tie.Start
 at-empty c = c.before.before.before.before.before.before.before
+
 empty : (c : tie.In-Empty) → let s = at-empty c in Facing s.args.text.now s.args.list.now s.args.open.now (lent s) (Empty c.in-Empty.name_end c.in-Empty.next) s.args.so_far
 empty c = faced (at-empty c) _ c.in-Empty.is
 
 -- AN END TAG.
 abbrev at-end : tie.In-End → tie.Start
 at-end c = c.before.before.before.before.before.before.before
+
 end : (c : tie.In-End) → let s = at-end c in Facing s.args.text.now s.args.list.now s.args.open.now (lent s) (End c.in-End.next) s.args.so_far
 end c = faced (at-end c) _ c.in-End.is
 
 -- What the columns say of it.
 abbrev closed : tie.After-parent_of-up → tie.In-End
 closed c = c.before.before.before
+
 ended : (c : tie.After-parent_of-up) → let d = closed c in let s = at-end d in Tells c.says-ended-in-End.result (Has s.args.end.now s.args.so_far.inner d.in-End.next.at)
 ended c = subst (λ k. Tells c.says-ended-in-End.result (Has (at-end (closed c)).args.end.now k (closed c).in-End.next.at)) c.wide.ensures c.says-ended-in-End.ensures
 
 -- A RUN OF CHARACTERS.
 abbrev at-text : tie.In-Text → tie.Start
 at-text c = c.before.before.before.before.before.before.before
+
 text : (c : tie.In-Text) → let s = at-text c in Facing s.args.text.now s.args.list.now s.args.open.now (lent s) (Text c.in-Text.next) s.args.so_far
 text c = faced (at-text c) _ c.in-Text.is
 

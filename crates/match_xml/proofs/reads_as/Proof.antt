@@ -18,6 +18,7 @@ fit s =
 
 abbrev begun : tie.After-outcome → tie.Start
 begun c = c.before.before.before.before.before.before.before
+
 outcome-requires : tie.Need-outcome-requires
 outcome-requires c κs =
     let s = c in

@@ -29,24 +29,28 @@ Turn = tie.At-loop-start invariant-loop decreases-loop
 
 abbrev begun-of : Turn → Start
 begun-of c = c.before.before.before
+
 -- There is one more, and where it ends is known.
 abbrev Ended : Type 0
 Ended = tie.After-line_end-end invariant-loop decreases-loop
 
 abbrev turn-of : Ended → Turn
 turn-of c = c.before.before
+
 -- It is judged.
 abbrev Judged : Type 0
 Judged = tie.After-bad_line invariant-loop decreases-loop
 
 abbrev ended_of : Judged → Ended
 ended_of c = c.before.before
+
 -- It is good, and its key is known.
 abbrev Measured : Type 0
 Measured = tie.After-key invariant-loop decreases-loop
 
 abbrev judged-of : Measured → Judged
 judged-of c = c.before.before.before
+
 element-write-starts : tie.Need-bounds-starts-0 invariant-loop decreases-loop
 element-write-starts c = search rules
 

@@ -7,6 +7,6 @@ pub returns : goal.returns
 returns c =
     let a = c.args in
     elim c.if-pen-out.branch [
-      then-pen-out w ↦ puts_byte a.b a.pen a.out.now c.if-pen-out.out w.out-is
+      | then-pen-out w ↦ puts_byte a.b a.pen a.out.now c.if-pen-out.out w.out-is
       | else-pen-out w ↦ puts_past a.b a.pen a.out.now c.if-pen-out.out w.if-pen-out.false w.out-is
     ]

@@ -20,33 +20,43 @@ use Rattle.print.proofs.print_form.Tie as tie
 -- Of what is lent nothing is examined yet.
 abbrev begun-of : tie.After-slice_known-1 → tie.Start
 begun-of c = c.before.before.before
+
 -- Past line 1 query and list are short enough.
 abbrev lent_of : tie.Else-list-gt-LIST_LIMIT → tie.After-slice_known-1
 lent_of c = c.before.before
+
 -- The list is examined,
 abbrev short-of : tie.After-index-listed → tie.Else-list-gt-LIST_LIMIT
 short-of c = c.before.before
+
 -- and past line 2 its names are counted.
 abbrev indexed_of : tie.In-Good → tie.After-index-listed
 indexed_of c = c.before
+
 -- The items are measured,
 abbrev listed_of : tie.After-measure-shape → tie.In-Good
 listed_of c = c.before
+
 -- and past line 6 a name that the list lacks is looked for.
 abbrev measured-of : tie.After-first_unknown-at → tie.After-measure-shape
 measured-of c = c.before.before
+
 -- Past line 5 there is none.
 abbrev looked-of : tie.Else-at-query → tie.After-first_unknown-at
 looked-of c = c.before
+
 -- The bytes are counted,
 abbrev known_of : tie.After-paths-needed → tie.Else-at-query
 known_of c = c.before.before.before
+
 -- past line 10 there is room for them,
 abbrev counted_of : tie.Else-out-needed → tie.After-paths-needed
 counted_of c = c.before.before.before
+
 -- and they are put.
 abbrev roomy_of : tie.After-paths → tie.Else-out-needed
 roomy_of c = c.before.before.before
+
 returns : tie.Need-returns-then-query-gt-ITEM_LIMIT
 returns c =
     let a = (begun-of c.before).args in

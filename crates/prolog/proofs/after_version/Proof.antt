@@ -16,6 +16,7 @@ use Rattle.prolog.proofs.after_version.Tie as tie
 -- White space is skipped up to a place, and it is known what stands there.
 abbrev past-space : tie.After-stands → tie.After-skip-place
 past-space c = c.before
+
 abbrev begun : tie.After-stands → tie.Start
 begun c = (past-space c).before.before
 

@@ -15,6 +15,7 @@ use Rattle.prolog.proofs.any_case.Tie as tie
 -- A byte stands at the place; the code's test of it is that of the letter.
 abbrev begun : tie.After-shared_slice_known-2-1 → tie.Start
 begun c = c.before.before.before
+
 abbrev here : tie.Start → ℕ
 here s = get_or s.args.text.now s.args.at 0
 

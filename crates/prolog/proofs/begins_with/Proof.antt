@@ -28,6 +28,7 @@ word t = t.args.word.now
 -- Neither the word nor the text ends at the bytes of a turn.
 abbrev turn : tie.After-shared_slice_known-in-loop-done-1 invariant-loop decreases-loop → Turn
 turn c = c.before.before.before.before
+
 in_word : (c : tie.After-shared_slice_known-in-loop-done-1 invariant-loop decreases-loop) → (turn c).loop-done.done < length (word (turn c))
 in_word c = c.loop-done-test.true
 

@@ -15,6 +15,7 @@ use Rattle.prolog.proofs.declaration_end.Tie as tie
 -- White space is skipped up to a place of the text.
 abbrev begun : tie.After-skip → tie.Start
 begun c = c.before.before
+
 inside : (c : tie.After-skip) → c.skip.result ≤ length (begun c).args.text.now
 inside c = run_inside white _ _ _ c.skip.ensures (begun c).requires
 

@@ -27,6 +27,7 @@ text t = t.args.text.now
 -- A byte stands at the place of a turn.
 abbrev turn : tie.After-shared_slice_known-1 invariant-loop decreases-loop → Turn
 turn c = c.before.before
+
 inside : (c : tie.After-shared_slice_known-1 invariant-loop decreases-loop) → (turn c).loop-at.at < length (text (turn c))
 inside c = c.loop-at-test.true
 

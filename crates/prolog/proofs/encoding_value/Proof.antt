@@ -15,12 +15,14 @@ use Rattle.prolog.proofs.encoding_value.Tie as tie
 -- No other encoding is named.
 abbrev begun : tie.Else-other_encoding → tie.Start
 begun c = c.before.before.before
+
 no_other : (c : tie.Else-other_encoding) → let s = begun c in other_encoding (some s.args.closing) (drop s.args.at s.args.text.now) ≡ false
 no_other c = sym c.other_encoding.ensures ∙ c.if-other_encoding.false
 
 -- UTF-8 is read.
 abbrev sought : tie.In-At → tie.After-utf_8-value
 sought c = c.before
+
 value_read : (c : tie.In-At) → let s = begun (sought c).before in Heads s.args.text.now s.args.at (utf8 s.args.closing) after_encoding (At c.in-At.next)
 value_read c =
     let s = begun (sought c).before in

@@ -31,6 +31,7 @@ mark c p r h = byte_heads _ _ 61 r refl (inside c) h (many white p)
 
 abbrev sought : tie.In-At → tie.After-byte-mark
 sought c = c.before
+
 mark_read : (c : tie.In-At) → let b = (sought c).before in Reads (text b) b.skip.result (eqb 61 ∷ []) (At c.in-At.next)
 mark_read c = let b = (sought c).before in subst (Reads (text b) b.skip.result (eqb 61 ∷ [])) c.in-At.is (sought c).byte-mark.ensures
 

@@ -25,11 +25,13 @@ Mark s from r = (p : Pattern) → is_done p ≡ false → quote_of p ≡ none �
 -- The name is read.
 abbrev begun : tie.After-say-named → tie.Start
 begun c = c.before.before.before
+
 name_sought : (c : tie.After-say-named) → Name (begun c) c.say-named.result
 name_sought c = let s = begun c in word_heads _ _ s.args.name.now c.say-named.result s.requires.1 s.requires.0 c.say-named.ensures
 
 abbrev found_name : tie.In-At → tie.After-say-named
 found_name c = c.before
+
 abbrev name-end : tie.In-At → ℕ
 name-end c = c.in-At.name_end
 
@@ -39,6 +41,7 @@ name_read c = subst (Name (begun (found_name c))) c.in-At.is (name_sought (found
 -- `=` is read.
 abbrev found-mark : tie.In-At-marked → tie.After-equals-marked
 found-mark c = c.before
+
 mark_read : (c : tie.In-At-marked) → let n = (found-mark c).before in Mark (begun (found_name n)) (name-end n) (At c.in-At-marked.place)
 mark_read c = let n = (found-mark c).before in subst (Mark (begun (found_name n)) (name-end n)) c.in-At-marked.is (found-mark c).equals-marked.ensures
 

@@ -12,6 +12,7 @@ use Rattle.prolog.proofs.land.Tie as tie
 -- White space is skipped up to a place, and it is known whether `<` stands there.
 abbrev past-space : tie.After-stands → tie.After-skip-place
 past-space c = c.before
+
 abbrev begun : tie.After-stands → tie.Start
 begun c = (past-space c).before.before
 

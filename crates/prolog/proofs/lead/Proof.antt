@@ -25,8 +25,10 @@ not_declared c = sym c.declared.ensures ∙ c.if-declared.false
 -- The declaration is read, from its version on.
 abbrev declaring : tie.After-version-declaration → tie.Then-declared
 declaring c = c.before.before
+
 abbrev sought : tie.In-At → tie.After-version-declaration
 sought c = c.before
+
 declaration_read : (c : tie.In-At) → let v = sought c in
     Heads (text (declaring v).before) v.skip.result (say (ascii "version") (valued version_value)) done (At c.in-At.end)
 declaration_read c =
@@ -36,6 +38,7 @@ declaration_read c =
 -- Without a declaration a byte order mark is looked for.
 abbrev plain : tie.After-begins_with → tie.Else-declared
 plain c = c.before.before.before
+
 declared-requires : tie.Need-declared-requires
 declared-requires c κs = search rules
 

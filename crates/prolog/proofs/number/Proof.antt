@@ -12,6 +12,7 @@ use Rattle.prolog.proofs.number.Tie as tie
 -- The digits end at a place of the text.
 abbrev begun : tie.After-digits_end-end → tie.Start
 begun c = c.before.before
+
 inside : (c : tie.After-digits_end-end) → c.digits_end-end.result ≤ length (begun c).args.text.now
 inside c = run_inside digit _ _ _ c.digits_end-end.ensures (begun c).requires.0
 

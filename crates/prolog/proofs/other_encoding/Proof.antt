@@ -19,6 +19,7 @@ text s = s.args.text.now
 -- The name ends, and whether the quote stands there is known.
 abbrev named : tie.After-stands → tie.After-run_end-end
 named c = c.before
+
 abbrev letter-first : tie.After-stands → tie.Else-not-b
 letter-first c = (named c).before
 

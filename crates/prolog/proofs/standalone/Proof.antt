@@ -31,8 +31,10 @@ Read s p r = Heads (text s) s.args.at (named standalone_value) p r
 -- The name is read up to its quote.
 abbrev begun : tie.After-given-behind → tie.Start
 begun c = c.before.before.before.before
+
 abbrev found_name : tie.In-At → tie.After-given-behind
 found_name c = c.before
+
 abbrev value-start : tie.In-At → ℕ
 value-start c = c.in-At.from
 
@@ -58,12 +60,14 @@ word_sought c = given_then _ _ named standalone_value _ _ _ (name_read c.before)
 
 abbrev found_word : tie.In-At-word → tie.After-yes_no-word
 found_word c = c.before
+
 word_read : (c : tie.In-At-word) → let w = found_word c in Read (start_word w) (quote-next w.before) (At c.in-At-word.end)
 word_read c = let w = found_word c in subst (Read (start_word w) (quote-next w.before)) c.in-At-word.is (word_sought w)
 
 -- The quote.
 abbrev at-quote : tie.After-byte-closed → tie.In-At-word
 at-quote c = c.before.before
+
 abbrev start-quote : tie.After-byte-closed → tie.Start
 start-quote c = start_word (found_word (at-quote c))
 
@@ -74,6 +78,7 @@ quote_sought c =
 
 abbrev found-quote : tie.In-At-closed → tie.After-byte-closed
 found-quote c = c.before
+
 quote_read : (c : tie.In-At-closed) → Read (start-quote (found-quote c)) declaration_end (At c.in-At-closed.next)
 quote_read c = subst (Read (start-quote (found-quote c)) declaration_end) c.in-At-closed.is (quote_sought (found-quote c))
 

@@ -42,11 +42,13 @@ letter_read s from small r l inside h p = row_heads s.args.text.now from (any_ca
 -- The `u`: what looking for it came to, and that it was read.
 abbrev start-u : tie.After-any_case-u → tie.Start
 start-u c = c.before.before
+
 u_sought : (c : tie.After-any_case-u) → Read (start-u c) (past-u (start-u c)) c.any_case-u.result
 u_sought c = letter_read (start-u c) (start-u c).args.at 117 c.any_case-u.result (omega arith) (start-u c).requires.0 c.any_case-u.ensures (past-u (start-u c))
 
 abbrev found-u : tie.In-At → tie.After-any_case-u
 found-u c = c.before
+
 u_read : (c : tie.In-At) → let s = start-u (found-u c) in Read s (past-u s) (At c.in-At.past_u)
 u_read c = let s = start-u (found-u c) in subst (Read s (past-u s)) c.in-At.is (u_sought (found-u c))
 
@@ -61,6 +63,7 @@ t_sought c =
 
 abbrev found-t : tie.In-At-t → tie.After-any_case-t
 found-t c = c.before
+
 t_read : (c : tie.In-At-t) → let s = start-t (found-t c) in Read s (past-t s) (At c.in-At-t.past_t)
 t_read c = let s = start-t (found-t c) in subst (Read s (past-t s)) c.in-At-t.is (t_sought (found-t c))
 
@@ -75,6 +78,7 @@ f_sought c =
 
 abbrev found-f : tie.In-At-f → tie.After-any_case-f
 found-f c = c.before
+
 f_read : (c : tie.In-At-f) → let s = start-f (found-f c) in Read s (past-f s) (At c.in-At-f.past_f)
 f_read c = let s = start-f (found-f c) in subst (Read s (past-f s)) c.in-At-f.is (f_sought (found-f c))
 
@@ -89,6 +93,7 @@ rest_sought c =
 
 abbrev found-8 : tie.In-At-rest → tie.After-say-rest
 found-8 c = c.before
+
 rest_read : (c : tie.In-At-rest) → let s = start-8 (found-8 c) in Read s (past-8 s) (At c.in-At-rest.end)
 rest_read c = let s = start-8 (found-8 c) in subst (Read s (past-8 s)) c.in-At-rest.is (rest_sought (found-8 c))
 

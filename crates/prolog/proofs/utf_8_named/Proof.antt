@@ -13,6 +13,7 @@ text s = s.args.text.now
 -- The name has five bytes.
 abbrev begun : tie.Else-end-at-ne5 → tie.Start
 begun c = c.before.before
+
 sub-if1 : tie.Need-overflow_sub-end
 sub-if1 c = search rules
 

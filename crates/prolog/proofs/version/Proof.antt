@@ -23,6 +23,7 @@ named value = say (ascii "version") (valued value)
 -- It is read up to its quote.
 abbrev found_name : tie.In-At → tie.After-given-behind
 found_name c = c.before
+
 abbrev begun : tie.In-At → tie.Start
 begun c = (found_name c).before.before.before
 

@@ -20,11 +20,13 @@ digits-next s = numbered s.args.closing after_version
 
 abbrev begun : tie.After-say-one → tie.Start
 begun c = c.before.before.before.before
+
 one : (c : tie.After-say-one) → Read (begun c) (digits-next (begun c)) c.say-one.result
 one c = word_heads _ _ (ascii "1.") c.say-one.result refl (begun c).requires.0 c.say-one.ensures (digits-next (begun c))
 
 abbrev past_one : tie.In-At → tie.After-say-one
 past_one c = c.before
+
 one_read : (c : tie.In-At) → let s = begun (past_one c) in Read s (digits-next s) (At c.in-At.from)
 one_read c = let s = begun (past_one c) in subst (Read s (digits-next s)) c.in-At.is (one (past_one c))
 
@@ -37,6 +39,7 @@ digits c = heads_then _ _ _ _ _ _ _ (one_read c.before) (c.number-digits.ensures
 
 abbrev past-digits : tie.In-At-digits → tie.After-number-digits
 past-digits c = c.before
+
 digits_read : (c : tie.In-At-digits) → Read (start_of (past-digits c)) after_version (At c.in-At-digits.next)
 digits_read c = subst (Read (start_of (past-digits c)) after_version) c.in-At-digits.is (digits (past-digits c))
 

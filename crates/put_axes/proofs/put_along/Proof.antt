@@ -14,8 +14,10 @@ returns c =
 -- Past the test the axis is put, and then two bytes.
 abbrev named : tie.After-slice_known-4-1 → tie.After-put_axis-named
 named c = c.before.before.before.before.before.before.before.before.before.before
+
 abbrev start : tie.After-put_axis-named → tie.Start
 start c = c.before.before.before.before
+
 put-axis-requires : tie.Need-put_axis-named-requires
 put-axis-requires c κs = search rules
 

@@ -4,7 +4,7 @@ use Prim.Native.Nat.{ℕ}
 use mathlib.Core.Path.{◌≡◌}
 use mathlib.Core.List.{List}
 use borrow.Author.Rules.{rules}
-use Rattle.paper.specs.Query.{Axis, self, child, descendantOrSelf, ancestorOrSelf, descendant, ancestor, followingSibling, precedingSibling, following, preceding}
+use Rattle.paper.specs.Query.{Axis, self, child, descendant_or_self, ancestor_or_self, descendant, ancestor, following_sibling, preceding_sibling, following, preceding}
 use Rattle.paper.specs.Items.{axis_number}
 use Rattle.paper.specs.Printing.{axis_text}
 use Rattle.paper.proofs.Axes.{of_number, no_axis}
@@ -71,13 +71,13 @@ same-length-4 : tie.Need-shape_of-out-in-3
 same-length-4 c = search rules
 
 returns-4 : tie.Need-returns-in-3
-returns-4 c = (λ a e. word_put descendantOrSelf a c.in-3.is e c.put-in-3.ensures, omega (arith, c.put-in-3.ensures.moved))
+returns-4 c = (λ a e. word_put descendant_or_self a c.in-3.is e c.put-in-3.ensures, omega (arith, c.put-in-3.ensures.moved))
 
 same-length-5 : tie.Need-shape_of-out-in-4
 same-length-5 c = search rules
 
 returns-5 : tie.Need-returns-in-4
-returns-5 c = (λ a e. word_put ancestorOrSelf a c.in-4.is e c.put-in-4.ensures, omega (arith, c.put-in-4.ensures.moved))
+returns-5 c = (λ a e. word_put ancestor_or_self a c.in-4.is e c.put-in-4.ensures, omega (arith, c.put-in-4.ensures.moved))
 
 same-length-6 : tie.Need-shape_of-out-in-5
 same-length-6 c = search rules
@@ -95,13 +95,13 @@ same-length-8 : tie.Need-shape_of-out-in-7
 same-length-8 c = search rules
 
 returns-8 : tie.Need-returns-in-7
-returns-8 c = (λ a e. word_put followingSibling a c.in-7.is e c.put-in-7.ensures, omega (arith, c.put-in-7.ensures.moved))
+returns-8 c = (λ a e. word_put following_sibling a c.in-7.is e c.put-in-7.ensures, omega (arith, c.put-in-7.ensures.moved))
 
 same-length-9 : tie.Need-shape_of-out-in-8
 same-length-9 c = search rules
 
 returns-9 : tie.Need-returns-in-8
-returns-9 c = (λ a e. word_put precedingSibling a c.in-8.is e c.put-in-8.ensures, omega (arith, c.put-in-8.ensures.moved))
+returns-9 c = (λ a e. word_put preceding_sibling a c.in-8.is e c.put-in-8.ensures, omega (arith, c.put-in-8.ensures.moved))
 
 same-length-10 : tie.Need-shape_of-out-in-9
 same-length-10 c = search rules

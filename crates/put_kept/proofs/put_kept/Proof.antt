@@ -25,6 +25,7 @@ Turn = tie.At-loop-i invariant-loop decreases-loop
 
 abbrev start : Turn → tie.Start invariant-loop decreases-loop
 start t = t.before.before.before.before.before.before.before.before
+
 -- The columns as they were checked.
 abbrev lent : (t : Turn)
     → Lent (start t).args.text.now (start t).args.parent.now (start t).args.kind.now (start t).args.begin.now (start t).args.end.now (start t).args.marks.now
@@ -32,6 +33,7 @@ lent t = (start t).requires.0
 
 abbrev within : tie.After-shared_slice_known-in-loop-i-1 invariant-loop decreases-loop → Turn
 within c = c.before.before
+
 loop-holds : tie.Need-loop-i-init invariant-loop decreases-loop
 loop-holds c g =
     let a = c.args in
@@ -77,8 +79,10 @@ close-requires c κs =
 -- The end of the walk, where what is open is closed.
 abbrev closing : tie.After-slice_known-2-1 invariant-loop decreases-loop → tie.After-close invariant-loop decreases-loop
 closing c = c.before.before
+
 abbrev after : tie.After-close invariant-loop decreases-loop → tie.After-loop-i invariant-loop decreases-loop
 after c = c.before.before
+
 done : (c : tie.After-slice_known-2-1 invariant-loop decreases-loop)
     → Puts (kept_xml (start (after (closing c)).before).args.text.now (start (after (closing c)).before).args.marks.now) (start (after (closing c)).before).args.pen
     (start (after (closing c)).before).args.out.now (closing c).close.new.out (closing c).close.result

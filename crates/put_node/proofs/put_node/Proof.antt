@@ -8,15 +8,19 @@ use Rattle.put_node.proofs.put_node.Tie as tie
 -- Where what is open is closed, where the node is put, and the end.
 abbrev start : tie.After-shared_slice_known-6-1 → tie.Start
 start c = c.before.before.before.before.before.before.before
+
 abbrev closing : tie.After-close-closed → tie.Start
 closing c = start c.before.before.before.before.before
 
 abbrev counting : tie.After-past_tags-squares → tie.After-close-closed
 counting c = c.before.before.before
+
 abbrev putting : tie.After-put_piece-point → tie.After-past_tags-squares
 putting c = c.before.before
+
 abbrev last : tie.After-inner_by → tie.After-put_piece-point
 last c = c.before.before.before
+
 mul-up : tie.Need-offset_bounds-parent-node
 mul-up c = search rules
 

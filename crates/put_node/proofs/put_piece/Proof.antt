@@ -9,8 +9,10 @@ use Rattle.put_node.proofs.put_piece.Tie as tie
 -- Where an element is put, and a text.
 abbrev tagged : tie.After-slice_known-then-kind-ne1-1 → tie.Then-kind-ne1
 tagged c = c.before.before.before.before
+
 abbrev spelt : tie.After-slice_known-2-1 → tie.Else-kind-ne1
 spelt c = c.before.before.before.before.before
+
 start-at-requires : tie.Need-start_at-at-requires
 start-at-requires c κs = search rules
 

@@ -123,6 +123,7 @@ Expression-lent t = expression-lts.After-slice_known-1 (expression_claims t) (ex
 
 abbrev expression_start : (t : ℕ) → Expression-lent t → Expression-start t
 expression_start t c = c.before.before.before
+
 -- An operand is to be put.
 abbrev Expression-turn : ℕ → Type 0
 Expression-turn t = expression-lts.At-loop-ands (expression_claims t) (expression_at t) expression.Post expression_Inv_loop expression_μ_loop
@@ -136,36 +137,42 @@ Expression-put t = expression-lts.After-operand-one (expression_claims t) (expre
 
 abbrev expression_turn : (t : ℕ) → Expression-put t → Expression-turn t
 expression_turn t c = c.before.before
+
 -- Operands of the term are owed,
 abbrev Expression-inside : ℕ → Type 0
 Expression-inside t = expression-lts.Then-ands-gt0 (expression_claims t) (expression_at t) expression.Post expression_Inv_loop expression_μ_loop
 
 abbrev expression_inner : (t : ℕ) → Expression-inside t → Expression-put t
 expression_inner t c = c.before.before.before
+
 -- and `and` is put.
 abbrev Expression-and : ℕ → Type 0
 Expression-and t = expression-lts.After-slice_known-then-ands-gt0-1 (expression_claims t) (expression_at t) expression.Post expression_Inv_loop expression_μ_loop
 
 abbrev expression_owed : (t : ℕ) → Expression-and t → Expression-inside t
 expression_owed t c = c.before.before.before.before
+
 -- The term is put.
 abbrev Expression-term : ℕ → Type 0
 Expression-term t = expression-lts.Else-ands-gt0 (expression_claims t) (expression_at t) expression.Post expression_Inv_loop expression_μ_loop
 
 abbrev expression_outer : (t : ℕ) → Expression-term t → Expression-put t
 expression_outer t c = c.before.before.before
+
 -- Terms are owed,
 abbrev Expression-more : ℕ → Type 0
 Expression-more t = expression-lts.Else-ors-eq0 (expression_claims t) (expression_at t) expression.Post expression_Inv_loop expression_μ_loop
 
 abbrev expression_term : (t : ℕ) → Expression-more t → Expression-term t
 expression_term t c = c.before
+
 -- and `or` is put.
 abbrev Expression-or : ℕ → Type 0
 Expression-or t = expression-lts.After-slice_known-else-ands-gt0-1 (expression_claims t) (expression_at t) expression.Post expression_Inv_loop expression_μ_loop
 
 abbrev expression_more : (t : ℕ) → Expression-or t → Expression-more t
 expression_more t c = c.before.before.before.before
+
 expression_run_of_requires : (t : ℕ) → expression-lts.Need-run_of-ors-requires (expression_claims t) (expression_at t) expression.Post expression_Inv_loop expression_μ_loop
 expression_run_of_requires t c κs = search rules
 
@@ -275,6 +282,7 @@ Operand-lent t = operand-lts.After-slice_known-1 (operand_claims t) (operand_at 
 
 abbrev operand_start : (t : ℕ) → Operand-lent t → Operand-start t
 operand_start t c = c.before.before.before
+
 -- The first item says what follows:
 abbrev Operand-unpacked : ℕ → Type 0
 Operand-unpacked t = operand-lts.After-unpack-item (operand_claims t) (operand_at t) operand.Post
@@ -288,60 +296,70 @@ Operand-path t = operand-lts.In-Path (operand_claims t) (operand_at t) operand.P
 
 abbrev operand_unpacked : (t : ℕ) → Operand-path t → Operand-unpacked t
 operand_unpacked t c = c.before
+
 -- of which the steps are put;
 abbrev Operand-walked : ℕ → Type 0
 Operand-walked t = operand-lts.After-steps (operand_claims t) (operand_at t) operand.Post
 
 abbrev operand_path : (t : ℕ) → Operand-walked t → Operand-path t
 operand_path t c = c.before.before
+
 -- `not`,
 abbrev Operand-denied : ℕ → Type 0
 Operand-denied t = operand-lts.In-Not (operand_claims t) (operand_at t) operand.Post
 
 abbrev operand_told : (t : ℕ) → Operand-denied t → Operand-unpacked t
 operand_told t c = c.before.before
+
 -- of which the word is put,
 abbrev Operand-noted : ℕ → Type 0
 Operand-noted t = operand-lts.After-put_not-opened (operand_claims t) (operand_at t) operand.Post
 
 abbrev operand_denied : (t : ℕ) → Operand-noted t → Operand-denied t
 operand_denied t c = c.before.before
+
 -- the inside,
 abbrev Operand-inner : ℕ → Type 0
 Operand-inner t = operand-lts.After-expression-denied (operand_claims t) (operand_at t) operand.Post
 
 abbrev operand_noted : (t : ℕ) → Operand-inner t → Operand-noted t
 operand_noted t c = c.before.before.before.before
+
 -- and the bracket;
 abbrev Operand-closed : ℕ → Type 0
 Operand-closed t = operand-lts.After-closed (operand_claims t) (operand_at t) operand.Post
 
 abbrev operand_inner : (t : ℕ) → Operand-closed t → Operand-inner t
 operand_inner t c = c.before.before.before.before
+
 -- or an operator,
 abbrev Operand-joined : ℕ → Type 0
 Operand-joined t = operand-lts.In_default-item (operand_claims t) (operand_at t) operand.Post
 
 abbrev operand_other : (t : ℕ) → Operand-joined t → Operand-unpacked t
 operand_other t c = c.before.before
+
 -- of which the bracket is opened,
 abbrev Operand-opened : ℕ → Type 0
 Operand-opened t = operand-lts.After-put_open-opened (operand_claims t) (operand_at t) operand.Post
 
 abbrev operand_joined : (t : ℕ) → Operand-opened t → Operand-joined t
 operand_joined t c = c.before.before
+
 -- the run put,
 abbrev Operand-run : ℕ → Type 0
 Operand-run t = operand-lts.After-expression-inner (operand_claims t) (operand_at t) operand.Post
 
 abbrev operand_opened : (t : ℕ) → Operand-run t → Operand-opened t
 operand_opened t c = c.before.before.before.before
+
 -- and the bracket closed.
 abbrev Operand-shut : ℕ → Type 0
 Operand-shut t = operand-lts.After-closed-2 (operand_claims t) (operand_at t) operand.Post
 
 abbrev operand_run : (t : ℕ) → Operand-shut t → Operand-run t
 operand_run t c = c.before.before.before.before
+
 -- Where the item is that of `not`.
 operand_not : (t : ℕ) (c : operand-lts.In-Not (operand_claims t) (operand_at t) operand.Post) →
     let a = (operand_begun t (operand_told t c)).args in
@@ -540,6 +558,7 @@ Predicates-lent t = predicates-lts.After-slice_known-1 (predicates_claims t) (pr
 
 abbrev predicates_start : (t : ℕ) → Predicates-lent t → Predicates-start t
 predicates_start t c = c.before.before.before
+
 -- So many predicates are owed,
 abbrev Predicates-turn : ℕ → Type 0
 Predicates-turn t = predicates-lts.At-loop-owed (predicates_claims t) (predicates_at t) predicates.Post predicates_Inv_loop predicates_μ_loop
@@ -553,24 +572,28 @@ Predicates-owed t = predicates-lts.In-loop-owed (predicates_claims t) (predicate
 
 abbrev predicates_turn : (t : ℕ) → Predicates-owed t → Predicates-turn t
 predicates_turn t c = c.before
+
 -- its bracket is opened,
 abbrev Predicates-opened : ℕ → Type 0
 Predicates-opened t = predicates-lts.After-put_byte-opened (predicates_claims t) (predicates_at t) predicates.Post predicates_Inv_loop predicates_μ_loop
 
 abbrev predicates_owed : (t : ℕ) → Predicates-opened t → Predicates-owed t
 predicates_owed t c = c.before.before
+
 -- its expression put,
 abbrev Predicates-put : ℕ → Type 0
 Predicates-put t = predicates-lts.After-expression-more (predicates_claims t) (predicates_at t) predicates.Post predicates_Inv_loop predicates_μ_loop
 
 abbrev predicates_opened : (t : ℕ) → Predicates-put t → Predicates-opened t
 predicates_opened t c = c.before.before.before.before
+
 -- and the bracket closed.
 abbrev Predicates-closed : ℕ → Type 0
 Predicates-closed t = predicates-lts.After-put_byte-byte (predicates_claims t) (predicates_at t) predicates.Post predicates_Inv_loop predicates_μ_loop
 
 abbrev predicates_put : (t : ℕ) → Predicates-closed t → Predicates-put t
 predicates_put t c = c.before.before.before.before
+
 predicates_loop_holds : (t : ℕ) → predicates-lts.Need-loop-owed-init (predicates_claims t) (predicates_at t) predicates.Post predicates_Inv_loop predicates_μ_loop
 predicates_loop_holds t c =
     let p = (predicates_start t c).requires.1 in
@@ -645,6 +668,7 @@ Steps-lent t = steps-lts.After-slice_known-1 (steps_claims t) (steps_at t) steps
 
 abbrev steps_start : (t : ℕ) → Steps-lent t → Steps-start t
 steps_start t c = c.before.before.before
+
 -- So many steps are owed,
 abbrev Steps-turn : ℕ → Type 0
 Steps-turn t = steps-lts.At-loop-owed (steps_claims t) (steps_at t) steps.Post steps_Inv_loop steps_μ_loop
@@ -658,41 +682,48 @@ Steps-owed t = steps-lts.In-loop-owed (steps_claims t) (steps_at t) steps.Post s
 
 abbrev steps-turn : (t : ℕ) → Steps-owed t → Steps-turn t
 steps-turn t c = c.before
+
 -- its item is read,
 abbrev Steps-unpacked : ℕ → Type 0
 Steps-unpacked t = steps-lts.After-unpack-item (steps_claims t) (steps_at t) steps.Post steps_Inv_loop steps_μ_loop
 
 abbrev steps_owed : (t : ℕ) → Steps-unpacked t → Steps-owed t
 steps_owed t c = c.before.before
+
 -- and is a step's;
 abbrev Steps-told : ℕ → Type 0
 Steps-told t = steps-lts.In-Step (steps_claims t) (steps_at t) steps.Post steps_Inv_loop steps_μ_loop
 
 abbrev steps_unpacked : (t : ℕ) → Steps-told t → Steps-unpacked t
 steps_unpacked t c = c.before
+
 -- its axis and its test are put,
 abbrev Steps-headed : ℕ → Type 0
 Steps-headed t = steps-lts.After-put_head-headed (steps_claims t) (steps_at t) steps.Post steps_Inv_loop steps_μ_loop
 
 abbrev steps_told : (t : ℕ) → Steps-headed t → Steps-told t
 steps_told t c = c.before.before
+
 -- its predicates,
 abbrev Steps-put : ℕ → Type 0
 Steps-put t = steps-lts.After-predicates-more (steps_claims t) (steps_at t) steps.Post steps_Inv_loop steps_μ_loop
 
 abbrev steps_headed : (t : ℕ) → Steps-put t → Steps-headed t
 steps_headed t c = c.before.before.before.before
+
 -- the slash behind it, and how many steps `//` stands for is asked.
 abbrev Steps-slashed : ℕ → Type 0
 Steps-slashed t = steps-lts.After-deep-skipped (steps_claims t) (steps_at t) steps.Post steps_Inv_loop steps_μ_loop
 
 abbrev steps_put : (t : ℕ) → Steps-slashed t → Steps-put t
 steps_put t c = c.before.before.before.before.before.before.before
+
 abbrev Steps-done : ℕ → Type 0
 Steps-done t = steps-lts.After-slice_known-in-loop-owed-4-1 (steps_claims t) (steps_at t) steps.Post steps_Inv_loop steps_μ_loop
 
 abbrev steps_slashed : (t : ℕ) → Steps-done t → Steps-slashed t
 steps_slashed t c = c.before.before.before.before
+
 steps_loop_holds : (t : ℕ) → steps-lts.Need-loop-owed-init (steps_claims t) (steps_at t) steps.Post steps_Inv_loop steps_μ_loop
 steps_loop_holds t c =
     let p = (steps_start t c).requires.1 in

@@ -30,60 +30,70 @@ Lent = tie.After-slice_known-1 invariant-loop decreases-loop
 
 abbrev begun-of : Lent → Start
 begun-of c = c.before.before.before
+
 -- The paths before this place are put.
 abbrev Turn : Type 0
 Turn = tie.At-loop-place invariant-loop decreases-loop
 
 abbrev lent_of : Turn → Lent
 lent_of c = c.before
+
 -- One more is there:
 abbrev Inside : Type 0
 Inside = tie.In-loop-place invariant-loop decreases-loop
 
 abbrev turn-of : Inside → Turn
 turn-of c = c.before
+
 -- its first item is read,
 abbrev Unpacked : Type 0
 Unpacked = tie.After-unpack-item invariant-loop decreases-loop
 
 abbrev inside_of : Unpacked → Inside
 inside_of c = c.before.before
+
 -- and is a path's;
 abbrev Told : Type 0
 Told = tie.In-Path invariant-loop decreases-loop
 
 abbrev unpacked_of : Told → Unpacked
 unpacked_of c = c.before
+
 -- its `/` is put,
 abbrev Slashed : Type 0
 Slashed = tie.After-put_byte-opened invariant-loop decreases-loop
 
 abbrev told_of : Slashed → Told
 told_of c = c.before.before
+
 -- how many steps another `/` stands for is asked,
 abbrev Asked : Type 0
 Asked = tie.After-deep-skipped invariant-loop decreases-loop
 
 abbrev slashed_of : Asked → Slashed
 slashed_of c = c.before.before.before
+
 -- that one is put,
 abbrev Deep : Type 0
 Deep = tie.After-put_slash-ready invariant-loop decreases-loop
 
 abbrev asked_of : Deep → Asked
 asked_of c = c.before.before
+
 -- the steps behind it,
 abbrev Walked : Type 0
 Walked = tie.After-steps-more invariant-loop decreases-loop
 
 abbrev deep_of : Walked → Deep
 deep_of c = c.before.before.before.before
+
 -- and the bar.
 abbrev Barred : Type 0
 Barred = tie.After-put_bar-byte invariant-loop decreases-loop
 
 abbrev walked_of : Barred → Walked
 walked_of c = c.before.before.before.before
+
 loop-holds : tie.Need-loop-place-init invariant-loop decreases-loop
 loop-holds c = paths_start _ _ _ _ (begun-of c).requires.1
 

@@ -9,8 +9,10 @@ use Rattle.put_steps.proofs.put_head.Tie as tie
 -- What is lent, from either way of the first test.
 abbrev start-1 : tie.Then-dot → tie.Start
 start-1 c = c.before.before.before
+
 abbrev start-2 : tie.Else-dot → tie.Start
 start-2 c = c.before.before.before
+
 put-requires : tie.Need-put-requires
 put-requires c κs = search rules
 
@@ -45,6 +47,7 @@ put-along-requires c κs = search rules
 -- The axis was put.
 abbrev else-2 : tie.After-put_along-ready → tie.Else-dots
 else-2 c = c.before.before
+
 put-test-requires : tie.Need-put_test-requires
 put-test-requires c κs =
     let here = c in

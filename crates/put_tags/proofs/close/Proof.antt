@@ -20,6 +20,7 @@ Turn = tie.At-loop-inner invariant-loop decreases-loop
 
 abbrev start : Turn → tie.Start invariant-loop decreases-loop
 start t = t.before.before.before.before.before
+
 -- What is known inside the loop of the innermost open element.
 abbrev going : (t : Turn) → Closing (start t).args.text.now (start t).args.parent.now (start t).args.begin.now (start t).requires.bytes (start t).args.pen (start t).args.out.now t.loop-inner.out t.loop-inner.at t.loop-inner.inner (start t).args.up
 going t = t.loop-inner.invariant (start t).requires.bytes (start t).requires.chain
@@ -32,8 +33,10 @@ stands c =
 -- Where an end tag is put, and the place after that.
 abbrev put : tie.After-shared_slice_known-in-loop-inner-2-1 invariant-loop decreases-loop → tie.After-end_at-at invariant-loop decreases-loop
 put c = c.before.before.before
+
 abbrev inside : tie.After-end_at-at invariant-loop decreases-loop → tie.In-loop-inner invariant-loop decreases-loop
 inside c = c.before.before.before
+
 loop-holds : tie.Need-loop-inner-init invariant-loop decreases-loop
 loop-holds c bytes o = let a = c.args in closing_start a.text.now a.parent.now a.begin.now a.pen a.out-1.now o
 

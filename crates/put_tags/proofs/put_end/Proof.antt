@@ -7,10 +7,13 @@ use Rattle.put_tags.proofs.put_end.Tie as tie
 -- The three puts, from the last back.
 abbrev last : tie.After-slice_known-4-1 → tie.After-put
 last c = c.before.before
+
 abbrev middle : tie.After-put → tie.After-put-ended
 middle c = c.before.before.before.before.before.before
+
 abbrev first : tie.After-put-ended → tie.After-put-begun
 first c = c.before.before.before.before
+
 put-requires : tie.Need-put-begun-requires
 put-requires c κs = search rules
 

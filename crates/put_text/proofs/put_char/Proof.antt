@@ -9,12 +9,16 @@ use Rattle.put_text.proofs.put_char.Tie as tie
 -- A byte that is no `>`, a `>` that may stand, and one that may not.
 abbrev other : tie.After-slice_known-then-b-ne62-1 → tie.Then-b-ne62
 other c = c.before.before.before.before
+
 abbrev angle : tie.Else-b-ne62 → tie.Start
 angle c = c.before.before
+
 abbrev allowed : tie.After-slice_known-then-squares-ne2-1 → tie.Then-squares-ne2
 allowed c = c.before.before.before.before
+
 abbrev forbidden : tie.After-slice_known-2-1 → tie.Else-squares-ne2
 forbidden c = c.before.before.before.before.before.before
+
 put-byte-requires : tie.Need-put_byte-requires
 put-byte-requires c κs = search rules
 

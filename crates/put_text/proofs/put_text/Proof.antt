@@ -21,14 +21,17 @@ Turn = tie.At-loop-i invariant-loop decreases-loop
 
 abbrev start : Turn → tie.Start invariant-loop decreases-loop
 start t = t.before.before.before
+
 abbrev text : Turn → List ℕ
 text t = (start t).args.bytes.now
 
 -- Where a byte is put, and where it is counted.
 abbrev putting : tie.After-put_char-arg-1 invariant-loop decreases-loop → Turn
 putting c = c.before.before.before
+
 abbrev put : tie.After-squares_by-k invariant-loop decreases-loop → tie.After-put_char-at invariant-loop decreases-loop
 put c = c.before.before.before
+
 loop-holds : tie.Need-loop-i-init invariant-loop decreases-loop
 loop-holds c =
     let a = c.args in

@@ -31,12 +31,15 @@ old s = s.args.out.now
 -- Past line 1 the text and the list are short enough, and the version is 1 or 2.
 abbrev begun : tie.Else-not-known → tie.Start
 begun c = c.before.before.before.before.before.before
+
 -- The list is good.
 abbrev past-1 : tie.In-Good → tie.Else-not-known
 past-1 c = c.before.before.before
+
 -- The text is measured.
 abbrev past-2 : tie.After-answer-said → tie.In-Good
 past-2 c = c.before.before.before
+
 abbrev start : tie.After-answer-said → tie.Start
 start c = begun (past-1 (past-2 c))
 

@@ -17,9 +17,11 @@ lent s = columns s.args.parent.now s.args.kind.now s.args.begin.now s.args.end.n
 -- Before the text is judged nothing is kept.
 abbrev begun : tie.After-ends-1 → tie.Start
 begun c = c.before.before.before.before.before.before.before.before.before.before
+
 -- Where the answer is a value, the text was judged before.
 abbrev judged : tie.In-Value → tie.After-judge-judged
 judged c = c.before.before
+
 abbrev kept : tie.In-Value → Columns
 kept c = let last = (judged c).judge-judged.new in columns last.1.1.1.1.1.0 last.1.1.1.1.1.1.0 last.1.1.1.1.1.1.1.0 last.1.1.1.1.1.1.1.1.0
 
@@ -34,12 +36,16 @@ all c =
 -- The columns are copied one after the other.
 abbrev first : tie.After-copy_lines → tie.In-Value
 first c = c.before.before.before
+
 abbrev second : tie.After-copy_lines-in-Value → tie.After-copy_lines
 second c = c.before.before.before.before.before
+
 abbrev third : tie.After-copy_lines-in-Value-2 → tie.After-copy_lines-in-Value
 third c = c.before.before.before.before.before
+
 abbrev fourth : tie.After-copy_lines-in-Value-3 → tie.After-copy_lines-in-Value-2
 fourth c = c.before.before.before.before.before
+
 judge-requires : tie.Need-judge-judged-requires
 unfolding empty
 judge-requires c κs =

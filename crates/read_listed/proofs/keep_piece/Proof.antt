@@ -28,6 +28,7 @@ small s r e = let h = faced s r e in omega (arith, h.counts.nodes, h.counts.few,
 -- A START TAG.
 abbrev at-start : tie.In-Start → tie.Start
 at-start c = c.before.before.before
+
 start : (c : tie.In-Start) →
     let s = at-start c in
     Facing s.args.text.now s.args.list.now s.args.open.now (lent s) (Start c.in-Start.name_end c.in-Start.next) s.args.so_far
@@ -40,11 +41,14 @@ start_near c = let t = (start c).moves in omega (arith, t.1, t.0.inside, (at-sta
 -- Its place is kept, and its name was looked for.
 abbrev placed : tie.After-kind_of → tie.After-narrow
 placed c = c.before.before.before.before.before.before
+
 abbrev looked : tie.After-first_unnamed-unnamed → tie.After-find_name-found
 looked c = c.before
+
 -- AN EMPTY ELEMENT.
 abbrev at-empty : tie.In-Empty → tie.Start
 at-empty c = c.before.before.before
+
 empty : (c : tie.In-Empty) →
     let s = at-empty c in
     Facing s.args.text.now s.args.list.now s.args.open.now (lent s) (Empty c.in-Empty.name_end c.in-Empty.next) s.args.so_far
@@ -55,9 +59,11 @@ empty_near c = let t = (empty c).moves in (omega (arith, t.1, t.0.inside, (at-em
 
 abbrev looked2 : tie.After-kind_of-in-Empty → tie.After-first_unnamed-unnamed-in-Empty
 looked2 c = c.before.before.before.before.before
+
 -- AN END TAG.
 abbrev at-end : tie.In-End → tie.Start
 at-end c = c.before.before.before
+
 end : (c : tie.In-End) →
     let s = at-end c in
     Facing s.args.text.now s.args.list.now s.args.open.now (lent s) (End c.in-End.next) s.args.so_far
@@ -66,6 +72,7 @@ end c = faced (at-end c) _ c.in-End.is
 -- A RUN OF CHARACTERS.
 abbrev at-text : tie.In-Text → tie.Start
 at-text c = c.before.before.before
+
 text : (c : tie.In-Text) →
     let s = at-text c in
     Facing s.args.text.now s.args.list.now s.args.open.now (lent s) (Text c.in-Text.next) s.args.so_far

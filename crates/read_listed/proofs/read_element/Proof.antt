@@ -12,9 +12,11 @@ use native.Mathlib.Omega.{arith}
 -- The root's line is kept first.
 abbrev begun : tie.After-keep_line → tie.Start
 begun c = c.before.before.before.before.before.before.before
+
 -- The start tag is then taken.
 abbrev rooted : tie.After-keep_piece-arg-4-1 → tie.After-root-root
 rooted c = c.before.before.before.before.before
+
 keep-line-requires : tie.Need-keep_line-requires
 keep-line-requires c κs = (omega arith, omega (arith, c.requires.1.0))
 

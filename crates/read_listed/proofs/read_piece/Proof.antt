@@ -16,6 +16,7 @@ inside s = deep _ _ _ _ _ s.requires.1.0 s.requires.1.1.0 s.requires.1.1.1
 -- It is the place of the innermost open element.
 abbrev begun : tie.After-wide-inner → tie.Start
 begun c = c.before.before.before.before.before.before
+
 inner : (c : tie.After-wide-inner) → c.wide-inner.result ≡ (inside (begun c)).inner.begin
 inner c = c.wide-inner.ensures ∙ (inside (begun c)).kept
 

@@ -126,24 +126,28 @@ Bracketed-lent t = bracketed-lts.After-slice_known-1 (bracketed_claims t) (brack
 
 abbrev bracketed_start : (t : ℕ) → Bracketed-lent t → Bracketed-start t
 bracketed_start t c = c.before.before.before
+
 -- A bracket more may be opened.
 abbrev Bracketed-open : ℕ → Type 0
 Bracketed-open t = bracketed-lts.Else-depth-eq0 (bracketed_claims t) (bracketed_at t) bracketed.Post
 
 abbrev bracketed_lent : (t : ℕ) → Bracketed-open t → Bracketed-lent t
 bracketed_lent t c = c.before
+
 -- What stands in it is read,
 abbrev Bracketed-read : ℕ → Type 0
 Bracketed-read t = bracketed-lts.After-expression-inner (bracketed_claims t) (bracketed_at t) bracketed.Post
 
 abbrev bracketed_allowed : (t : ℕ) → Bracketed-read t → Bracketed-open t
 bracketed_allowed t c = c.before.before
+
 -- the room has come back.
 abbrev Bracketed-back : ℕ → Type 0
 Bracketed-back t = bracketed-lts.After-slice_known-2-1 (bracketed_claims t) (bracketed_at t) bracketed.Post
 
 abbrev bracketed_read : (t : ℕ) → Bracketed-back t → Bracketed-read t
 bracketed_read t c = c.before.before
+
 bracketed_returns : (t : ℕ) → bracketed-lts.Need-returns-then-depth-eq0 (bracketed_claims t) (bracketed_at t) bracketed.Post
 bracketed_returns t c =
     let start = bracketed_start t c.before in
@@ -254,24 +258,28 @@ Expression-lent t = expression-lts.After-slice_known-1 (expression_claims t) (ex
 
 abbrev expression_start : (t : ℕ) → Expression-lent t → Expression-start t
 expression_start t c = c.before.before.before
+
 -- An operand is to be read.
 abbrev Expression-turn : ℕ → Type 0
 Expression-turn t = expression-lts.At-loop-next (expression_claims t) (expression_at t) expression.Post expression_Inv_loop expression_μ_loop
 
 abbrev expression_lent : (t : ℕ) → Expression-turn t → Expression-lent t
 expression_lent t c = c.before
+
 -- It is read,
 abbrev Expression-read : ℕ → Type 0
 Expression-read t = expression-lts.After-operand-one (expression_claims t) (expression_at t) expression.Post expression_Inv_loop expression_μ_loop
 
 abbrev expression_turn : (t : ℕ) → Expression-read t → Expression-turn t
 expression_turn t c = c.before.before
+
 -- the room has come back.
 abbrev Expression-back : ℕ → Type 0
 Expression-back t = expression-lts.After-slice_known-in-loop-next-1 (expression_claims t) (expression_at t) expression.Post expression_Inv_loop expression_μ_loop
 
 abbrev expression_read : (t : ℕ) → Expression-back t → Expression-read t
 expression_read t c = c.before.before
+
 expression_loop_holds : (t : ℕ) → expression-lts.Need-loop-next-init (expression_claims t) (expression_at t) expression.Post expression_Inv_loop expression_μ_loop
 expression_loop_holds t c =
     let s = expression_start t c in
@@ -725,6 +733,7 @@ Predicates-lent t = predicates-lts.After-slice_known-1 (predicates_claims t) (pr
 
 abbrev predicates_start : (t : ℕ) → Predicates-lent t → Predicates-start t
 predicates_start t c = c.before.before.before
+
 predicates_add_filled : (t : ℕ) → predicates-lts.Need-overflow_add-filled (predicates_claims t) (predicates_at t) predicates.Post predicates_Inv_loop predicates_μ_loop
 predicates_add_filled t c = search rules
 
@@ -974,36 +983,42 @@ Steps-lent t = steps-lts.After-slice_known-1 (steps_claims t) (steps_at t) steps
 
 abbrev steps_beginning : (t : ℕ) → Steps-lent t → Steps-start t
 steps_beginning t c = c.before.before.before
+
 -- So many steps are read.
 abbrev Steps-turn : ℕ → Type 0
 Steps-turn t = steps-lts.At-loop-next (steps_claims t) (steps_at t) steps.Post steps_Inv_loop steps_μ_loop
 
 abbrev steps_lent : (t : ℕ) → Steps-turn t → Steps-lent t
 steps_lent t c = c.before
+
 -- The step that `//` stands for is put,
 abbrev Steps-deep : ℕ → Type 0
 Steps-deep t = steps-lts.After-put_deep-from (steps_claims t) (steps_at t) steps.Post steps_Inv_loop steps_μ_loop
 
 abbrev steps-turn : (t : ℕ) → Steps-deep t → Steps-turn t
 steps-turn t c = c.before.before
+
 -- the room has come back,
 abbrev Steps-back : ℕ → Type 0
 Steps-back t = steps-lts.After-slice_known-in-loop-next-1 (steps_claims t) (steps_at t) steps.Post steps_Inv_loop steps_μ_loop
 
 abbrev steps_deep : (t : ℕ) → Steps-back t → Steps-deep t
 steps_deep t c = c.before.before
+
 -- the next one is read,
 abbrev Steps-read : ℕ → Type 0
 Steps-read t = steps-lts.After-step-one (steps_claims t) (steps_at t) steps.Post steps_Inv_loop steps_μ_loop
 
 abbrev steps_back : (t : ℕ) → Steps-read t → Steps-back t
 steps_back t c = c.before.before
+
 -- the room has come back again.
 abbrev Steps-returned : ℕ → Type 0
 Steps-returned t = steps-lts.After-slice_known-in-loop-next-2-1 (steps_claims t) (steps_at t) steps.Post steps_Inv_loop steps_μ_loop
 
 abbrev steps_read : (t : ℕ) → Steps-returned t → Steps-read t
 steps_read t c = c.before.before
+
 steps_add_filled : (t : ℕ) → steps-lts.Need-overflow_add-filled (steps_claims t) (steps_at t) steps.Post steps_Inv_loop steps_μ_loop
 steps_add_filled t c = search rules
 

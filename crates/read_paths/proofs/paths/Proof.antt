@@ -27,24 +27,28 @@ Lent = tie.After-slice_known-1 invariant-loop decreases-loop
 
 abbrev begun-of : Lent → Start
 begun-of c = c.before.before.before
+
 -- The paths before this place are read.
 abbrev Turn : Type 0
 Turn = tie.At-loop-next invariant-loop decreases-loop
 
 abbrev lent_of : Turn → Lent
 lent_of c = c.before
+
 -- The next one is read,
 abbrev Read : Type 0
 Read = tie.After-path-one invariant-loop decreases-loop
 
 abbrev turn-of : Read → Turn
 turn-of c = c.before.before
+
 -- and the room has come back.
 abbrev Back : Type 0
 Back = tie.After-slice_known-in-loop-next-1 invariant-loop decreases-loop
 
 abbrev read_of : Back → Read
 read_of c = c.before.before
+
 loop-holds : tie.Need-loop-next-init invariant-loop decreases-loop
 loop-holds c = (refl, paths_start _ _ _ _)
 

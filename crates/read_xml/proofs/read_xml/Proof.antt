@@ -14,6 +14,7 @@ use native.Mathlib.Omega.{arith}
 -- Past line 1 the lengths are right.
 abbrev begun : tie.Else-text-list → tie.Start
 begun c = c.before.before.before.before.before.before.before
+
 lengths : (c : tie.Else-text-list) →
     let a = (begun c).args in
     Agree a.text.now a.list.now (length a.parent.now) (length a.kind.now) (length a.begin.now) (length a.end.now)
@@ -22,6 +23,7 @@ lengths c = agree _ _ _ _ _ _ c.if-text-list.false
 -- The list is good.
 abbrev past-1 : tie.In-Good → tie.Else-text-list
 past-1 c = c.before.before.before
+
 indexed : (c : tie.In-Good) → Indexed (begun (past-1 c)).args.list.now c.index.new.starts c.in-Good.count
 indexed c = c.index.ensures.good _ c.in-Good.is
 

@@ -27,36 +27,42 @@ Lent = tie.After-slice_known-1 invariant-loop decreases-loop
 
 abbrev begun-of : Lent → Start
 begun-of c = c.before.before
+
 -- The paths before this place are reversed.
 abbrev Turn : Type 0
 Turn = tie.At-loop-place invariant-loop decreases-loop
 
 abbrev lent_of : Turn → Lent
 lent_of c = c.before
+
 -- There is one more,
 abbrev Inside : Type 0
 Inside = tie.In-loop-place invariant-loop decreases-loop
 
 abbrev turn-of : Inside → Turn
 turn-of c = c.before
+
 -- its steps are counted,
 abbrev Counted : Type 0
 Counted = tie.After-owes-count invariant-loop decreases-loop
 
 abbrev inside_of : Counted → Inside
 inside_of c = c.before.before
+
 -- where they end is known,
 abbrev Ended : Type 0
 Ended = tie.After-skip-next invariant-loop decreases-loop
 
 abbrev counted_of : Ended → Counted
 counted_of c = c.before
+
 -- and its reverse is put.
 abbrev Put : Type 0
 Put = tie.After-put_reverse invariant-loop decreases-loop
 
 abbrev ended_of : Put → Ended
 ended_of c = c.before.before.before
+
 loop-holds : tie.Need-loop-place-init invariant-loop decreases-loop
 loop-holds c =
     let begun = begun-of c in

@@ -16,12 +16,15 @@ use Rattle.reverse.proofs.put_selected.Tie as tie
 -- Of what is lent nothing is read yet.
 abbrev begun-of : tie.After-slice_known-1 → tie.Start
 begun-of c = c.before.before
+
 -- The items of `or` are put,
 abbrev lent_of : tie.After-put_same → tie.After-slice_known-1
 lent_of c = c.before.before
+
 -- and the reverses behind them.
 abbrev joined_of : tie.After-put_reverses → tie.After-put_same
 joined_of c = c.before.before.before.before
+
 sub-put-same : tie.Need-overflow_sub-paths
 sub-put-same c =
     let begun = begun-of c.before in

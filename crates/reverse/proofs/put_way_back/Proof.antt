@@ -27,48 +27,56 @@ Lent = tie.After-slice_known-1 invariant-loop decreases-loop
 
 abbrev begun-of : Lent → Start
 begun-of c = c.before.before
+
 -- The last predicate is put.
 abbrev Rooted : Type 0
 Rooted = tie.After-put_at_root invariant-loop decreases-loop
 
 abbrev lent_of : Rooted → Lent
 lent_of c = c.before.before
+
 -- The steps before this place are put.
 abbrev Turn : Type 0
 Turn = tie.At-loop-place invariant-loop decreases-loop
 
 abbrev rooted_of : Turn → Rooted
 rooted_of c = c.before.before.before
+
 -- There is one more,
 abbrev Inside : Type 0
 Inside = tie.In-loop-place invariant-loop decreases-loop
 
 abbrev turn-of : Inside → Turn
 turn-of c = c.before
+
 -- its item is read,
 abbrev Read : Type 0
 Read = tie.After-as_step-step invariant-loop decreases-loop
 
 abbrev inside_of : Read → Inside
 inside_of c = c.before.before
+
 -- where its predicates end is known,
 abbrev Ended : Type 0
 Ended = tie.After-skip-next invariant-loop decreases-loop
 
 abbrev read_of : Ended → Read
 read_of c = c.before
+
 -- its new item is made,
 abbrev Packed : Type 0
 Packed = tie.After-pack_step invariant-loop decreases-loop
 
 abbrev ended_of : Packed → Ended
 ended_of c = c.before.before
+
 -- and its predicates are put.
 abbrev Put : Type 0
 Put = tie.After-put_items invariant-loop decreases-loop
 
 abbrev packed_of : Put → Packed
 packed_of c = c.before.before.before
+
 add_back : tie.Need-overflow_add-back invariant-loop decreases-loop
 add_back c = omega arith
 

@@ -28,6 +28,7 @@ few s = s.requires
 -- A turn, and its line.
 abbrev begun : tie.At-loop-at invariant-loop decreases-loop → tie.Start invariant-loop decreases-loop
 begun c = c.before.before
+
 more : (c : tie.After-line_end-end invariant-loop decreases-loop) → c.loop-at.at < length (views (begun c.before.before.before))
 more c = omega (arith, c.loop-at-test.true)
 

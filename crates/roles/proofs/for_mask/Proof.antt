@@ -39,6 +39,7 @@ refused s number place e = (e, kept_out (views s) (list s) (text s) (old s) s.ar
 
 abbrev begun : tie.Else-long → tie.Start
 begun c = c.before.before.before.before.before
+
 -- The lengths are within their limits, and so is the number of views.
 short : (c : tie.Else-long) → long (views (begun c)) (list (begun c)) (text (begun c)) (begun c).args.roles (begun c).args.role (begun c).args.mask (length (old (begun c))) ≡ false
 short c = c.if-long.false
@@ -52,12 +53,14 @@ views_short c =
 
 abbrev past-lengths : tie.Else-count-gt-VIEW_LIMIT → tie.Else-long
 past-lengths c = c.before.before
+
 few : (c : tie.Else-count-gt-VIEW_LIMIT) → views_counted (views (begun (past-lengths c))) ≤ view_limit
 few c = omega (arith, c.if-count-gt-VIEW_LIMIT.false, c.count_views-count.ensures)
 
 -- The list is good.
 abbrev of-list : tie.In-Value → tie.Else-count-gt-VIEW_LIMIT
 of-list c = c.before.before
+
 abbrev start : tie.In-Value → tie.Start
 start c = begun (past-lengths (of-list c))
 

@@ -22,12 +22,14 @@ query start = start.args.query.now
 -- Past line 1 the items are few.
 abbrev begun : tie.Else-query-gt-ITEM_LIMIT → tie.Start
 begun c = c.before.before
+
 few : (c : tie.Else-query-gt-ITEM_LIMIT) → length (query (begun c)) ≤ item_limit
 few c = omega (arith, c.if-query-gt-ITEM_LIMIT.false)
 
 -- Past line 6 they are a query.
 abbrev past-1 : tie.In-Query → tie.Else-query-gt-ITEM_LIMIT
 past-1 c = c.before.before
+
 is_query : (c : tie.In-Query) → (q : Query) × (decode (query (begun (past-1 c))) ≡ some q) × (c.in-Query.height ≡ height q)
 is_query c = shaped_some _ _ _ _ (sym c.in-Query.is ∙ c.measure-shaped.ensures)
 

@@ -23,12 +23,14 @@ query start = start.args.query.now
 -- Past line 1 the items are few.
 abbrev begun : tie.Else-query-gt-ITEM_LIMIT → tie.Start
 begun c = c.before.before
+
 few : (c : tie.Else-query-gt-ITEM_LIMIT) → length (query (begun c)) ≤ item_limit
 few c = omega (arith, c.if-query-gt-ITEM_LIMIT.false)
 
 -- Past line 6 they are a query.
 abbrev past-1 : tie.In_default → tie.Else-query-gt-ITEM_LIMIT
 past-1 c = c.before.before
+
 is_query : (c : tie.In_default) → (q : Query) × (decode (query (begun (past-1 c))) ≡ some q)
 is_query c =
     let q = shaped_some _ _ _ _ (sym c.in_default.is ∙ c.measure.ensures) in

@@ -13,6 +13,7 @@ use Rattle.room.proofs.scratch.Tie as tie
 -- The five tests are line 1.
 abbrev start_of : tie.After-outside-5 → tie.Start
 start_of c = c.before.before.before.before.before
+
 abbrev Line-1 : tie.After-outside-5 → Bool
 Line-1 c =
     let a = (start_of c).args in

@@ -17,18 +17,23 @@ use Rattle.run.proofs.run.Tie as tie
 -- Of what is lent nothing is examined yet.
 abbrev begun-of : tie.After-slice_known-2-1 → tie.Start
 begun-of c = c.before.before.before.before.before.before
+
 -- It is judged,
 abbrev lent_of : tie.After-judge-said → tie.After-slice_known-2-1
 lent_of c = c.before
+
 -- and good.
 abbrev judged-of : tie.In-Value → tie.After-judge-said
 judged-of c = c.before
+
 -- What the query keeps is marked,
 abbrev good_of : tie.After-keep → tie.In-Value
 good_of c = c.before.before.before
+
 -- and counted.
 abbrev kept_of : tie.After-count → tie.After-keep
 kept_of c = c.before.before.before.before.before
+
 judge-requires : tie.Need-judge-said-requires
 judge-requires c κs = search rules
 

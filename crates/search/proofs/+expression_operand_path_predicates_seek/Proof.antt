@@ -138,30 +138,35 @@ Expression-lent t = expression-lts.After-slice_known-1 (expression_claims t) (ex
 
 abbrev expression_start : (t : ℕ) → Expression-lent t → Expression-start t
 expression_start t c = c.before.before.before.before.before
+
 -- An operand is to be read.
 abbrev Expression-turn : ℕ → Type 0
 Expression-turn t = expression-lts.At-loop-ands (expression_claims t) (expression_at t) expression.Post expression_Inv_loop expression_μ_loop
 
 abbrev expression_lent : (t : ℕ) → Expression-turn t → Expression-lent t
 expression_lent t c = c.before.before.before
+
 -- It is decided.
 abbrev Expression-decided : ℕ → Type 0
 Expression-decided t = expression-lts.After-operand-one (expression_claims t) (expression_at t) expression.Post expression_Inv_loop expression_μ_loop
 
 abbrev expression_turn : (t : ℕ) → Expression-decided t → Expression-turn t
 expression_turn t c = c.before.before
+
 -- Operands of the term are owed.
 abbrev Expression-inside : ℕ → Type 0
 Expression-inside t = expression-lts.Then-ands-gt0 (expression_claims t) (expression_at t) expression.Post expression_Inv_loop expression_μ_loop
 
 abbrev expression_decided : (t : ℕ) → Expression-inside t → Expression-decided t
 expression_decided t c = c.before.before.before.before
+
 -- The term is decided.
 abbrev Expression-term : ℕ → Type 0
 Expression-term t = expression-lts.Else-ands-gt0 (expression_claims t) (expression_at t) expression.Post expression_Inv_loop expression_μ_loop
 
 abbrev expression_joined : (t : ℕ) → Expression-term t → Expression-decided t
 expression_joined t c = c.before.before.before.before
+
 expression_joins_requires : (t : ℕ) → expression-lts.Need-joins-ors-requires (expression_claims t) (expression_at t) expression.Post expression_Inv_loop expression_μ_loop
 expression_joins_requires t c κs = search rules
 
@@ -269,54 +274,63 @@ Operand-lent t = operand-lts.After-slice_known-1 (operand_claims t) (operand_at 
 
 abbrev operand_start : (t : ℕ) → Operand-lent t → Operand-start t
 operand_start t c = c.before.before.before.before.before
+
 -- The first item says what follows:
 abbrev Operand-unpacked : ℕ → Type 0
 Operand-unpacked t = operand-lts.After-unpack-item (operand_claims t) (operand_at t) operand.Post
 
 abbrev operand_lent : (t : ℕ) → Operand-unpacked t → Operand-lent t
 operand_lent t c = c.before.before
+
 -- a path,
 abbrev Operand-path : ℕ → Type 0
 Operand-path t = operand-lts.In-Path (operand_claims t) (operand_at t) operand.Post
 
 abbrev operand_unpacked : (t : ℕ) → Operand-path t → Operand-unpacked t
 operand_unpacked t c = c.before
+
 -- which is followed;
 abbrev Operand-followed : ℕ → Type 0
 Operand-followed t = operand-lts.After-path-holds (operand_claims t) (operand_at t) operand.Post
 
 abbrev operand_path : (t : ℕ) → Operand-followed t → Operand-path t
 operand_path t c = c.before.before
+
 -- no path;
 abbrev Operand-bracket : ℕ → Type 0
 Operand-bracket t = operand-lts.In_default (operand_claims t) (operand_at t) operand.Post
 
 abbrev operand_no_path : (t : ℕ) → Operand-bracket t → Operand-unpacked t
 operand_no_path t c = c.before
+
 -- `not`,
 abbrev Operand-denied : ℕ → Type 0
 Operand-denied t = operand-lts.In-Not (operand_claims t) (operand_at t) operand.Post
 
 abbrev operand_bracket : (t : ℕ) → Operand-denied t → Operand-bracket t
 operand_bracket t c = c.before
+
 -- of which the inside is decided;
 abbrev Operand-inner : ℕ → Type 0
 Operand-inner t = operand-lts.After-expression-denied (operand_claims t) (operand_at t) operand.Post
 
 abbrev operand_denied : (t : ℕ) → Operand-inner t → Operand-denied t
 operand_denied t c = c.before.before
+
 -- or an operator,
 abbrev Operand-operator : ℕ → Type 0
 Operand-operator t = operand-lts.In_default-item (operand_claims t) (operand_at t) operand.Post
 
 abbrev operand_no_not : (t : ℕ) → Operand-operator t → Operand-bracket t
 operand_no_not t c = c.before
+
 -- of which the run is decided.
 abbrev Operand-run : ℕ → Type 0
 Operand-run t = operand-lts.After-expression (operand_claims t) (operand_at t) operand.Post
 
 abbrev operand_operator : (t : ℕ) → Operand-run t → Operand-operator t
 operand_operator t c = c.before.before
+
 -- Where the operand begins, and that it can be read.
 abbrev operand_begun : (t : ℕ) → Operand-unpacked t → Operand-start t
 operand_begun t c = operand_start t (operand_lent t c)
@@ -484,42 +498,49 @@ Path-lent t = path-lts.After-slice_known-1 (path_claims t) (path-at t) path.Post
 
 abbrev path_start : (t : ℕ) → Path-lent t → Path-start t
 path_start t c = c.before.before.before.before.before
+
 -- The first steps stand, the next has candidates left.
 abbrev Path-turn : ℕ → Type 0
 Path-turn t = path-lts.At-loop-k (path_claims t) (path-at t) path.Post path_Inv_loop path_μ_loop
 
 abbrev path_lent : (t : ℕ) → Path-turn t → Path-lent t
 path_lent t c = c.before
+
 -- Whether they lead to the node wanted is known.
 abbrev Path-seen : ℕ → Type 0
 Path-seen t = path-lts.After-arrived (path_claims t) (path-at t) path.Post path_Inv_loop path_μ_loop
 
 abbrev path_turn : (t : ℕ) → Path-seen t → Path-turn t
 path_turn t c = c.before.before
+
 -- The next node for the step is sought.
 abbrev Path-sought : ℕ → Type 0
 Path-sought t = path-lts.After-seek-sought (path_claims t) (path-at t) path.Post path_Inv_loop path_μ_loop
 
 abbrev path_seen : (t : ℕ) → Path-sought t → Path-seen t
 path_seen t c = c.before.before.before
+
 -- There is none,
 abbrev Path-dead : ℕ → Type 0
 Path-dead t = path-lts.Then-sought-eq0 (path_claims t) (path-at t) path.Post path_Inv_loop path_μ_loop
 
 abbrev path_none : (t : ℕ) → Path-dead t → Path-sought t
 path_none t c = c.before.before.before.before
+
 -- and a step before goes on.
 abbrev Path-back : ℕ → Type 0
 Path-back t = path-lts.Else-k-eq0 (path_claims t) (path-at t) path.Post path_Inv_loop path_μ_loop
 
 abbrev path_dead : (t : ℕ) → Path-back t → Path-dead t
 path_dead t c = c.before
+
 -- There is one.
 abbrev Path-found : ℕ → Type 0
 Path-found t = path-lts.After-struct_known-else-sought-eq0-1 (path_claims t) (path-at t) path.Post path_Inv_loop path_μ_loop
 
 abbrev path_one : (t : ℕ) → Path-found t → Path-sought t
 path_one t c = c.before.before.before.before.before
+
 -- Where the search began, and what can be read there.
 abbrev path_begun : (t : ℕ) → Path-turn t → Path-start t
 path_begun t c = path_start t (path_lent t c)
@@ -775,36 +796,42 @@ Predicates-lent t = predicates-lts.After-slice_known-1 (predicates_claims t) (pr
 
 abbrev predicates_start : (t : ℕ) → Predicates-lent t → Predicates-start t
 predicates_start t c = c.before.before.before.before.before
+
 -- So many predicates are owed,
 abbrev Predicates-turn : ℕ → Type 0
 Predicates-turn t = predicates-lts.At-loop-owed (predicates_claims t) (predicates_at t) predicates.Post predicates_Inv_loop predicates_μ_loop
 
 abbrev predicates_lent : (t : ℕ) → Predicates-turn t → Predicates-lent t
 predicates_lent t c = c.before
+
 -- one at least,
 abbrev Predicates-owed : ℕ → Type 0
 Predicates-owed t = predicates-lts.In-loop-owed (predicates_claims t) (predicates_at t) predicates.Post predicates_Inv_loop predicates_μ_loop
 
 abbrev predicates_turn : (t : ℕ) → Predicates-owed t → Predicates-turn t
 predicates_turn t c = c.before
+
 -- which is decided:
 abbrev Predicates-decided : ℕ → Type 0
 Predicates-decided t = predicates-lts.After-expression-one (predicates_claims t) (predicates_at t) predicates.Post predicates_Inv_loop predicates_μ_loop
 
 abbrev predicates_owed : (t : ℕ) → Predicates-decided t → Predicates-owed t
 predicates_owed t c = c.before.before
+
 -- it does not hold,
 abbrev Predicates-failed : ℕ → Type 0
 Predicates-failed t = predicates-lts.Then-not-one (predicates_claims t) (predicates_at t) predicates.Post predicates_Inv_loop predicates_μ_loop
 
 abbrev predicates_no : (t : ℕ) → Predicates-failed t → Predicates-decided t
 predicates_no t c = c.before.before.before.before
+
 -- or it holds.
 abbrev Predicates-held : ℕ → Type 0
 Predicates-held t = predicates-lts.Else-not-one (predicates_claims t) (predicates_at t) predicates.Post predicates_Inv_loop predicates_μ_loop
 
 abbrev predicates_yes : (t : ℕ) → Predicates-held t → Predicates-decided t
 predicates_yes t c = c.before.before.before.before
+
 predicates_loop_holds : (t : ℕ) → predicates-lts.Need-loop-owed-init (predicates_claims t) (predicates_at t) predicates.Post predicates_Inv_loop predicates_μ_loop
 predicates_loop_holds t c =
     let a = (predicates_start t c).args in (refl, owed_all (table_of a.parent.now a.kind.now) a.given.now a.node a.items.now a.at a.depth a.count (predicates_start t c).requires.1.1.1.1.inside)
@@ -903,30 +930,35 @@ Seek-lent t = seek-lts.After-slice_known-1 (seek_claims t) (seek-at t) seek.Post
 
 abbrev seek_start : (t : ℕ) → Seek-lent t → Seek-start t
 seek_start t c = c.before.before.before.before.before
+
 -- There is a step more.
 abbrev Seek-more : ℕ → Type 0
 Seek-more t = seek-lts.Else-not-more (seek_claims t) (seek-at t) seek.Post seek_Inv_loop seek_μ_loop
 
 abbrev seek_lent : (t : ℕ) → Seek-more t → Seek-lent t
 seek_lent t c = c.before
+
 -- Its candidates below a bound are left.
 abbrev Seek-turn : ℕ → Type 0
 Seek-turn t = seek-lts.At-loop-c (seek_claims t) (seek-at t) seek.Post seek_Inv_loop seek_μ_loop
 
 abbrev seek_more : (t : ℕ) → Seek-turn t → Seek-more t
 seek_more t c = c.before.before
+
 -- The next of them is led to,
 abbrev Seek-led : ℕ → Type 0
 Seek-led t = seek-lts.Else-c-eq0 (seek_claims t) (seek-at t) seek.Post seek_Inv_loop seek_μ_loop
 
 abbrev seek_turn : (t : ℕ) → Seek-led t → Seek-turn t
 seek_turn t c = c.before.before
+
 -- and its predicates are decided.
 abbrev Seek-tried : ℕ → Type 0
 Seek-tried t = seek-lts.After-predicates-held (seek_claims t) (seek-at t) seek.Post seek_Inv_loop seek_μ_loop
 
 abbrev seek_led : (t : ℕ) → Seek-tried t → Seek-led t
 seek_led t c = c.before.before
+
 -- Where seeking began, and that the step there can be read.
 abbrev seek_begun : (t : ℕ) → Seek-turn t → Seek-start t
 seek_begun t c = seek_start t (seek_lent t (seek_more t c))

@@ -20,6 +20,7 @@ Turn = tie.At-loop-more invariant-loop decreases-loop
 
 abbrev begun : Turn → tie.Start invariant-loop decreases-loop
 begun c = c.before
+
 abbrev place : Turn → ℕ
 place c = (begun c).args.at + c.loop-more.more
 

@@ -32,36 +32,42 @@ Cleared = tie.After-slice_known-3-1 invariant-loop decreases-loop
 
 abbrev begun : Cleared → Start
 begun c = c.before.before.before.before.before.before.before.before.before.before
+
 -- The nodes before this one are decided.
 abbrev Turn : Type 0
 Turn = tie.At-loop-k invariant-loop decreases-loop
 
 abbrev cleared : Turn → Cleared
 cleared c = c.before
+
 -- There is one more.
 abbrev Inside : Type 0
 Inside = tie.In-loop-k invariant-loop decreases-loop
 
 abbrev turn : Inside → Turn
 turn c = c.before
+
 -- Whether the query selects it is known.
 abbrev Decided : Type 0
 Decided = tie.After-selected invariant-loop decreases-loop
 
 abbrev inside : Decided → Inside
 inside c = c.before.before
+
 -- It is selected.
 abbrev Chosen : Type 0
 Chosen = tie.Then-selected invariant-loop decreases-loop
 
 abbrev chosen : Chosen → Decided
 chosen c = c.before.before.before
+
 -- What it keeps is marked.
 abbrev Marked : Type 0
 Marked = tie.Joined-selected invariant-loop decreases-loop
 
 abbrev decided : Marked → Decided
 decided c = c.before.before.before
+
 clear-requires : tie.Need-clear-requires invariant-loop decreases-loop
 clear-requires c κs = search rules
 

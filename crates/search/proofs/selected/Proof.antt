@@ -44,6 +44,7 @@ room start = length start.args.stand.now
 -- The root's mark is read.
 abbrev begun : tie.After-shared_slice_known-5-1 invariant-loop decreases-loop → Start
 begun c = c.before.before.before.before.before.before
+
 -- The test of the loop, with the root marked.
 abbrev Turn : Type 0
 Turn = tie.At-loop-place invariant-loop decreases-loop
@@ -60,6 +61,7 @@ Read = tie.After-owes-count invariant-loop decreases-loop
 
 abbrev turn : Read → Turn
 turn c = c.before.before.before
+
 next : (c : Read) → NextPath (items (start_of (turn c))) (turn c).loop-place.place (room (start_of (turn c))) (turn c).loop-place.invariant.1.ahead c.owes-count.result
 next c =
     let l = (turn c).loop-place in
@@ -73,6 +75,7 @@ Missed = tie.Else-path invariant-loop decreases-loop
 
 abbrev tried : Missed → tie.After-path invariant-loop decreases-loop
 tried c = c.before.before.before
+
 abbrev read : Missed → Read
 read c = (tried c).before.before
 

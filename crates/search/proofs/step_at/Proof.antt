@@ -10,6 +10,7 @@ use Rattle.search.proofs.step_at.Tie as tie
 -- What the item that was unpacked says.
 abbrev begun : tie.After-unpack-item → tie.Start
 begun c = c.before.before.before
+
 told : (c : tie.After-unpack-item) → Said (get_or (begun c).args.items.now (begun c).args.place 0) c.unpack-item.result
 told c = said _ c.unpack-item.result c.unpack-item.ensures
 

@@ -114,6 +114,7 @@ Expression-lent t = expression-lts.After-shared_slice_known-1 (expression_claims
 
 abbrev expression_start : (t : ℕ) → Expression-lent t → Expression-start t
 expression_start t c = c.before
+
 -- An operand is to be walked over.
 abbrev Expression-turn : ℕ → Type 0
 Expression-turn t = expression-lts.At-loop-next (expression_claims t) (expression_at t) expression.Post expression_Inv_loop expression_μ_loop
@@ -127,6 +128,7 @@ Expression-walked t = expression-lts.After-operand-one (expression_claims t) (ex
 
 abbrev expression_turn : (t : ℕ) → Expression-walked t → Expression-turn t
 expression_turn t c = c.before
+
 expression_walks : (t : ℕ) (c : Expression-walked t) (r : Walked) → c.operand-one.result ≡ r
     → let l = (expression_turn t c).loop-next in
     let a = (expression_begun t (expression_turn t c)).args in
@@ -142,24 +144,28 @@ Expression-one t = expression-lts.In-Done (expression_claims t) (expression_at t
 
 abbrev expression_walked : (t : ℕ) → Expression-one t → Expression-walked t
 expression_walked t c = c.before
+
 -- its nesting and its guards are taken in,
 abbrev Expression-measured : ℕ → Type 0
 Expression-measured t = expression-lts.After-larger-guarded (expression_claims t) (expression_at t) expression.Post expression_Inv_loop expression_μ_loop
 
 abbrev expression_one : (t : ℕ) → Expression-measured t → Expression-one t
 expression_one t c = c.before.before
+
 -- and its height.
 abbrev Expression-joined : ℕ → Type 0
 Expression-joined t = expression-lts.After-joined-term (expression_claims t) (expression_at t) expression.Post expression_Inv_loop expression_μ_loop
 
 abbrev expression_measured : (t : ℕ) → Expression-joined t → Expression-measured t
 expression_measured t c = c.before
+
 -- The term is taken in.
 abbrev Expression-term : ℕ → Type 0
 Expression-term t = expression-lts.After-joined-high (expression_claims t) (expression_at t) expression.Post expression_Inv_loop expression_μ_loop
 
 abbrev expression_joined : (t : ℕ) → Expression-term t → Expression-joined t
 expression_joined t c = c.before.before
+
 expression_run_of_requires : (t : ℕ) → expression-lts.Need-run_of-ors-requires (expression_claims t) (expression_at t) expression.Post expression_Inv_loop expression_μ_loop
 expression_run_of_requires t c κs = search rules
 
@@ -293,36 +299,42 @@ Operand-there t = operand-lts.Else-items-at (operand_claims t) (operand_at t) op
 
 abbrev operand_start : (t : ℕ) → Operand-there t → Operand-start t
 operand_start t c = c.before.before
+
 -- and says what follows:
 abbrev Operand-unpacked : ℕ → Type 0
 Operand-unpacked t = operand-lts.After-unpack-item (operand_claims t) (operand_at t) operand.Post
 
 abbrev operand_there : (t : ℕ) → Operand-unpacked t → Operand-there t
 operand_there t c = c.before.before
+
 -- a path,
 abbrev Operand-path : ℕ → Type 0
 Operand-path t = operand-lts.In-Path (operand_claims t) (operand_at t) operand.Post
 
 abbrev operand_unpacked : (t : ℕ) → Operand-path t → Operand-unpacked t
 operand_unpacked t c = c.before
+
 -- of which the steps are walked over;
 abbrev Operand-walked : ℕ → Type 0
 Operand-walked t = operand-lts.After-steps (operand_claims t) (operand_at t) operand.Post
 
 abbrev operand_path : (t : ℕ) → Operand-walked t → Operand-path t
 operand_path t c = c.before.before
+
 -- what has a bracket, and one may be opened;
 abbrev Operand-bracket : ℕ → Type 0
 Operand-bracket t = operand-lts.Else-depth-eq0 (operand_claims t) (operand_at t) operand.Post
 
 abbrev operand_no_path : (t : ℕ) → Operand-bracket t → Operand-unpacked t
 operand_no_path t c = c.before.before
+
 -- `not` among them.
 abbrev Operand-denied : ℕ → Type 0
 Operand-denied t = operand-lts.In-Not (operand_claims t) (operand_at t) operand.Post
 
 abbrev operand_bracket : (t : ℕ) → Operand-denied t → Operand-bracket t
 operand_bracket t c = c.before
+
 operand_returns : (t : ℕ) → operand-lts.Need-returns-then-items-at (operand_claims t) (operand_at t) operand.Post
 operand_returns t c =
     let a = c.args in
@@ -468,6 +480,7 @@ Predicates-lent t = predicates-lts.After-shared_slice_known-1 (predicates_claims
 
 abbrev predicates_start : (t : ℕ) → Predicates-lent t → Predicates-start t
 predicates_start t c = c.before
+
 -- So many predicates are owed,
 abbrev Predicates-turn : ℕ → Type 0
 Predicates-turn t = predicates-lts.At-loop-owed (predicates_claims t) (predicates_at t) predicates.Post predicates_Inv_loop predicates_μ_loop
@@ -481,18 +494,21 @@ Predicates-owed t = predicates-lts.In-loop-owed (predicates_claims t) (predicate
 
 abbrev predicates_turn : (t : ℕ) → Predicates-owed t → Predicates-turn t
 predicates_turn t c = c.before
+
 -- a bracket may be opened,
 abbrev Predicates-allowed : ℕ → Type 0
 Predicates-allowed t = predicates-lts.Else-depth-eq0 (predicates_claims t) (predicates_at t) predicates.Post predicates_Inv_loop predicates_μ_loop
 
 abbrev predicates_owed : (t : ℕ) → Predicates-allowed t → Predicates-owed t
 predicates_owed t c = c.before
+
 -- its inside is walked over,
 abbrev Predicates-walked : ℕ → Type 0
 Predicates-walked t = predicates-lts.After-expression-more (predicates_claims t) (predicates_at t) predicates.Post predicates_Inv_loop predicates_μ_loop
 
 abbrev predicates_allowed : (t : ℕ) → Predicates-walked t → Predicates-allowed t
 predicates_allowed t c = c.before
+
 predicates_walks : (t : ℕ) (c : Predicates-walked t) (r : Walked) → c.expression-more.result ≡ r
     → let turn = predicates_turn t (predicates_owed t (predicates_allowed t c)) in
     let a = (predicates_begun t turn).args in
@@ -508,12 +524,14 @@ Predicates-one t = predicates-lts.In-Done (predicates_claims t) (predicates_at t
 
 abbrev predicates_walked : (t : ℕ) → Predicates-one t → Predicates-walked t
 predicates_walked t c = c.before
+
 -- whose measures are taken in.
 abbrev Predicates-measured : ℕ → Type 0
 Predicates-measured t = predicates-lts.After-larger-guarded (predicates_claims t) (predicates_at t) predicates.Post predicates_Inv_loop predicates_μ_loop
 
 abbrev predicates_one : (t : ℕ) → Predicates-measured t → Predicates-one t
 predicates_one t c = c.before.before.before
+
 predicates_loop_holds : (t : ℕ) → predicates-lts.Need-loop-owed-init (predicates_claims t) (predicates_at t) predicates.Post predicates_Inv_loop predicates_μ_loop
 predicates_loop_holds t c =
     let start = predicates_start t c in
@@ -608,6 +626,7 @@ Steps-lent t = steps-lts.After-shared_slice_known-1 (steps_claims t) (steps_at t
 
 abbrev steps_start : (t : ℕ) → Steps-lent t → Steps-start t
 steps_start t c = c.before
+
 -- So many steps are owed,
 abbrev Steps-turn : ℕ → Type 0
 Steps-turn t = steps-lts.At-loop-owed (steps_claims t) (steps_at t) steps.Post steps_Inv_loop steps_μ_loop
@@ -621,36 +640,42 @@ Steps-owed t = steps-lts.In-loop-owed (steps_claims t) (steps_at t) steps.Post s
 
 abbrev steps-turn : (t : ℕ) → Steps-owed t → Steps-turn t
 steps-turn t c = c.before
+
 -- an item is there,
 abbrev Steps-there : ℕ → Type 0
 Steps-there t = steps-lts.Else-items-place (steps_claims t) (steps_at t) steps.Post steps_Inv_loop steps_μ_loop
 
 abbrev steps_owed : (t : ℕ) → Steps-there t → Steps-owed t
 steps_owed t c = c.before
+
 -- it is read,
 abbrev Steps-unpacked : ℕ → Type 0
 Steps-unpacked t = steps-lts.After-unpack-item (steps_claims t) (steps_at t) steps.Post steps_Inv_loop steps_μ_loop
 
 abbrev steps_there : (t : ℕ) → Steps-unpacked t → Steps-there t
 steps_there t c = c.before.before
+
 -- and is a step's;
 abbrev Steps-step : ℕ → Type 0
 Steps-step t = steps-lts.In-Step (steps_claims t) (steps_at t) steps.Post steps_Inv_loop steps_μ_loop
 
 abbrev steps_unpacked : (t : ℕ) → Steps-step t → Steps-unpacked t
 steps_unpacked t c = c.before
+
 -- what the step itself brings is taken in,
 abbrev Steps-own : ℕ → Type 0
 Steps-own t = steps-lts.After-larger-guarded (steps_claims t) (steps_at t) steps.Post steps_Inv_loop steps_μ_loop
 
 abbrev steps_step : (t : ℕ) → Steps-own t → Steps-step t
 steps_step t c = c.before.before
+
 -- its predicates are walked over,
 abbrev Steps-walked : ℕ → Type 0
 Steps-walked t = steps-lts.After-predicates-more (steps_claims t) (steps_at t) steps.Post steps_Inv_loop steps_μ_loop
 
 abbrev steps_own : (t : ℕ) → Steps-walked t → Steps-own t
 steps_own t c = c.before
+
 steps_walks : (t : ℕ) (c : Steps-walked t) (r : Walked) → c.predicates-more.result ≡ r
     → let step = steps_step t (steps_own t c) in
     let turn = steps-turn t (steps_owed t (steps_there t (steps_unpacked t step))) in
@@ -668,12 +693,14 @@ Steps-one t = steps-lts.In-Done (steps_claims t) (steps_at t) steps.Post steps_I
 
 abbrev steps_walked : (t : ℕ) → Steps-one t → Steps-walked t
 steps_walked t c = c.before
+
 -- whose measures are taken in.
 abbrev Steps-measured : ℕ → Type 0
 Steps-measured t = steps-lts.After-larger-guarded-in-loop-owed (steps_claims t) (steps_at t) steps.Post steps_Inv_loop steps_μ_loop
 
 abbrev steps_one : (t : ℕ) → Steps-measured t → Steps-one t
 steps_one t c = c.before.before.before
+
 steps_loop_holds : (t : ℕ) → steps-lts.Need-loop-owed-init (steps_claims t) (steps_at t) steps.Post steps_Inv_loop steps_μ_loop
 steps_loop_holds t c =
     let start = steps_start t c in

@@ -29,30 +29,35 @@ Turn = tie.At-loop-place invariant-loop decreases-loop
 
 abbrev begun-of : Turn → Start
 begun-of c = c.before.before.before
+
 -- There is one more:
 abbrev Inside : Type 0
 Inside = tie.In-loop-place invariant-loop decreases-loop
 
 abbrev turn-of : Inside → Turn
 turn-of c = c.before
+
 -- its first item is read,
 abbrev Unpacked : Type 0
 Unpacked = tie.After-unpack-item invariant-loop decreases-loop
 
 abbrev inside_of : Unpacked → Inside
 inside_of c = c.before.before
+
 -- and is a path's;
 abbrev Path : Type 0
 Path = tie.In-Path invariant-loop decreases-loop
 
 abbrev unpacked_of : Path → Unpacked
 unpacked_of c = c.before
+
 -- its steps are walked over,
 abbrev Stepped : Type 0
 Stepped = tie.After-steps-more invariant-loop decreases-loop
 
 abbrev path-of : Stepped → Path
 path-of c = c.before
+
 walks : (c : Stepped) (r : Walked) → c.steps-more.result ≡ r
     → let path = path-of c in
     let turn = turn-of (inside_of (unpacked_of path)) in
@@ -70,12 +75,14 @@ Walked-over = tie.In-Done invariant-loop decreases-loop
 
 abbrev stepped_of : Walked-over → Stepped
 stepped_of c = c.before
+
 -- whose measures are taken in.
 abbrev Measured : Type 0
 Measured = tie.After-larger-guarded invariant-loop decreases-loop
 
 abbrev walked_over_of : Measured → Walked-over
 walked_over_of c = c.before.before.before
+
 returns : tie.Need-returns-then-items-eq0 invariant-loop decreases-loop
 returns c = no_items c.args.items.now c.if-items-eq0.true
 

@@ -14,10 +14,13 @@ use Rattle.sheet.proofs.put_sheet.Tie as tie
 -- The list was found to be without fault, and its names were counted.
 abbrev listed : tie.After-put_names-arg-1 → tie.In-Good
 listed c = c.before.before
+
 abbrev index : tie.In-Good → tie.After-index-listed
 index c = c.before
+
 abbrev start : tie.After-index-listed → tie.Start
 start c = c.before.before.before.before.before.before.before.before
+
 no_fault : (o : Option ℕ) (at : ℕ) → some at ≡ o → o ≡ none → ⊥
 no_fault o at s n = let z : ◌≡◌ {A = ℕ} 0 1 = cc in omega arith
 

@@ -37,6 +37,7 @@ returns c =
 -- The query was read, and its items stand at the start of the room.
 abbrev asked : tie.In-Value → tie.After-read-said
 asked c = c.before.before
+
 abbrev start : tie.In-Value → tie.Start
 start c = (asked c).before.before.before.before.before.before
 

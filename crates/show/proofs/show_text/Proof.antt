@@ -50,6 +50,7 @@ returns c =
 -- The text was read, and found to be wanted: each column begins with what it has of each node.
 abbrev read : tie.In-Value → tie.After-read_xml-said
 read c = c.before.before.before.before.before
+
 abbrev start : tie.In-Value → tie.Start
 start c = (read c).before.before.before.before.before.before.before.before.before
 

@@ -35,6 +35,7 @@ same_length c = search rules
 -- The file is written into a room of its own: what is answered, and what stands at its start.
 abbrev start : tie.After-write_xml-answer → tie.Start
 start c = c.before.before.before.before.before.before.before.before.before.before
+
 abbrev columns : tie.After-write_xml-answer → Table
 columns c = table_of (start c).args.parent.now (start c).args.kind.now
 

@@ -37,6 +37,7 @@ same-length-2 c = search rules
 -- The query is run: what is answered, and the marks that it leaves.
 abbrev start : tie.After-run_whole-ran → tie.Start
 start c = c.before.before.before.before.before.before.before.before.before.before.before.before
+
 abbrev columns : tie.After-run_whole-ran → Table
 columns c = table_of (start c).args.parent.now (start c).args.kind.now
 
@@ -47,6 +48,7 @@ answered c =
 
 abbrev ran-at : tie.In-Value → tie.After-run_whole-ran
 ran-at c = c.before.before.before.before
+
 accepted : (c : tie.In-Value) →
     let ran = ran-at c in
     value c.in-Value.kept ≡ run_answer (start ran).args.query.now (columns ran) (all_marked (columns ran)) (nodes (columns ran)) scratch_lent

@@ -5,7 +5,7 @@ use mathlib.Core.Path.{◌≡◌, ◌∙◌, subst}
 use mathlib.Core.List.{List, []}
 use lib.ListN.{length, get_or, set, length-set}
 use Rattle.paper.specs.Tools.{column}
-use Rattle.paper.specs.Query.{followingSibling}
+use Rattle.paper.specs.Query.{following_sibling}
 use Rattle.paper.specs.Document.{table_of}
 use Rattle.paper.proofs.Trees.{Tree}
 use Rattle.sets.specs.Sets.{bits, image}
@@ -26,6 +26,7 @@ Turn = tie.At-loop-younger invariant-loop decreases-loop
 
 abbrev turn-of : tie.After-slice_known-in-loop-younger-1 invariant-loop decreases-loop → Turn
 turn-of c = c.before.before.before.before
+
 -- The table is a tree.
 tree_of : (c : Turn) (kinds : List ℕ) → Tree (table_of c.args.parent.now kinds)
 tree_of c kinds = c.requires.1 kinds
@@ -93,7 +94,7 @@ returns c =
     let turn = c in
     let t = table_of turn.args.parent.now kinds in
     let bytes = turn.loop-younger.set in
-    subst (λ n. turn.args.set.now ≡ bits n f → column n (λ k. get_or (set bytes 0 0) k 0 % 2) ≡ bits n (image t followingSibling f)) turn.requires.0
+    subst (λ n. turn.args.set.now ≡ bits n f → column n (λ k. get_or (set bytes 0 0) k 0 % 2) ≡ bits n (image t following_sibling f)) turn.requires.0
     (λ e. behind_end t (tree_of turn.before kinds) f bytes turn.loop-younger.younger (omega arith) (turn.loop-younger.invariant.stands kinds f e))
 
 pub behind_siblings_spec : {M : Type 1} → statement M

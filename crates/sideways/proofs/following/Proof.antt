@@ -29,8 +29,10 @@ Turn = tie.At-loop-i invariant-loop decreases-loop
 
 abbrev turn-of : tie.After-slice_known-in-loop-i-2-1 invariant-loop decreases-loop → Turn
 turn-of c = c.before.before.before.before
+
 abbrev start_of : Turn → tie.Start invariant-loop decreases-loop
 start_of c = c.before.before.before
+
 -- The table is a tree.
 tree_of : (c : Turn) (kinds : List ℕ) → Tree (table_of (start_of c).args.parent.now kinds)
 tree_of c kinds = (start_of c).requires.1 kinds

@@ -14,6 +14,7 @@ behind-siblings-requires c κs = search rules
 -- Past the first pass.
 abbrev start_of : tie.After-behind_siblings → tie.Start
 start_of c = c.before.before.before.before
+
 first-bits-requires : tie.Need-first_bits-requires
 first-bits-requires c κs = search rules
 

@@ -5,7 +5,7 @@ use mathlib.Core.Path.{◌∙◌}
 use mathlib.Core.List.{List, []}
 use lib.ListN.{length, length-set}
 use borrow.Author.Rules.{rules}
-use Rattle.paper.specs.Query.{Axis, ancestorOrSelf}
+use Rattle.paper.specs.Query.{Axis, ancestor_or_self}
 use Rattle.paper.specs.Document.{table_of}
 use Rattle.paper.proofs.Trees.{Tree}
 use Rattle.sets.specs.Sets.{image}
@@ -26,8 +26,10 @@ Turn = tie.At-loop-at invariant-loop decreases-loop
 
 abbrev turn-of : tie.After-slice_known-in-loop-at-1 invariant-loop decreases-loop → Turn
 turn-of c = c.before.before.before
+
 abbrev start_of : Turn → tie.Start invariant-loop decreases-loop
 start_of c = c.before.before.before
+
 -- The table is a tree.
 tree_of : (c : Turn) (kinds : List ℕ) → Tree (table_of (start_of c).args.parent.now kinds)
 tree_of c kinds = (start_of c).requires.1 kinds
@@ -102,7 +104,7 @@ returns c =
     let turn = c in
     let start = start_of turn.before in
     let t = table_of start.args.parent.now kinds in
-    resized start.requires.0 (image t ancestorOrSelf f) (image t Axis.preceding f)
+    resized start.requires.0 (image t ancestor_or_self f) (image t Axis.preceding f)
     (λ e. precede_end t (tree_of turn.before kinds) f turn.loop-at.set turn.loop-at.at (omega arith) (turn.loop-at.invariant.stands kinds f e).0)
 
 pub passed_by_spec : {M : Type 1} → statement M

@@ -4,7 +4,7 @@ use native.Mathlib.Omega.{arith}
 use mathlib.Core.Path.{◌∙◌}
 use mathlib.Core.List.{List, []}
 use lib.ListN.{length, length-set}
-use Rattle.paper.specs.Query.{precedingSibling}
+use Rattle.paper.specs.Query.{preceding_sibling}
 use Rattle.paper.specs.Document.{table_of}
 use Rattle.paper.proofs.Trees.{Tree}
 use Rattle.sets.specs.Sets.{image}
@@ -26,6 +26,7 @@ Turn = tie.At-loop-elder invariant-loop decreases-loop
 
 abbrev turn-of : tie.After-slice_known-in-loop-elder-1 invariant-loop decreases-loop → Turn
 turn-of c = c.before.before.before.before
+
 -- The table is a tree.
 tree_of : (c : Turn) (kinds : List ℕ) → Tree (table_of c.args.parent.now kinds)
 tree_of c kinds = c.requires.1 kinds
@@ -92,7 +93,7 @@ returns c =
     λ kinds f.
     let turn = c in
     let t = table_of turn.args.parent.now kinds in
-    resized turn.requires.0 f (image t precedingSibling f)
+    resized turn.requires.0 f (image t preceding_sibling f)
     (λ e. ahead_end t (tree_of turn.before kinds) f turn.loop-elder.set turn.loop-elder.elder (omega arith) (turn.loop-elder.invariant.stands kinds f e))
 
 pub preceding_siblings_spec : {M : Type 1} → statement M

@@ -21,6 +21,7 @@ returns c =
 -- Past the test it is worth asking, and the item is there.
 abbrev start : tie.Else-not-asked → tie.Start
 start c = c.before.before
+
 worth : (c : tie.Else-not-asked) → Worth (start c).args.brief (start c).args.items.now (start c).args.at (start c).args.left true
 worth c =
     let a = (start c).args in

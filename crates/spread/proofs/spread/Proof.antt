@@ -3,7 +3,7 @@ use Prim.Native.Nat.{ℕ}
 use mathlib.Core.Path.{◌≡◌, refl, sym, ◌∙◌, ap}
 use mathlib.Core.Bool.{Bool, ◌&&◌, ◌||◌}
 use lib.ListN.{length}
-use Rattle.paper.specs.Query.{descendantOrSelf, ancestorOrSelf}
+use Rattle.paper.specs.Query.{descendant_or_self, ancestor_or_self}
 use Rattle.paper.specs.Document.{marked, table_of}
 use Rattle.sets.specs.Sets.{bits, image}
 use Rattle.spread.specs.Spreading.{keeps_by}
@@ -53,23 +53,23 @@ returns c =
     let lm : length a.marks.now ≡ n = start.requires.1.0 in
     let lu : length up.new.1.1.0 ≡ n = up.auto.1.1.0 ∙ lm in
     let la : length added.new.1.0 ≡ n = added.auto.1.0 ∙ lu in
-    let beneath : (f : ℕ → Bool) → a.marks.now ≡ bits n f → down.new.1.1.0 ≡ bits n (image t descendantOrSelf f) =
+    let beneath : (f : ℕ → Bool) → a.marks.now ≡ bits n f → down.new.1.1.0 ≡ bits n (image t descendant_or_self f) =
     λ f h.
     let sel : copied.new.1.0 ≡ bits n f = copied.ensures ∙ h in
-    let below : down.new.1.1.0 ≡ bits n (image t descendantOrSelf f) =
-    down.ensures kinds descendantOrSelf f refl (sel ∙ sym (at_n _ ls f)) ∙ at_n _ ls (image t descendantOrSelf f) in
+    let below : down.new.1.1.0 ≡ bits n (image t descendant_or_self f) =
+    down.ensures kinds descendant_or_self f refl (sel ∙ sym (at_n _ ls f)) ∙ at_n _ ls (image t descendant_or_self f) in
     below in (
       λ f h.
           let below = beneath f h in
-          let above : up.new.1.1.0 ≡ bits n (image t ancestorOrSelf f) =
-          up.ensures kinds ancestorOrSelf f refl (h ∙ sym (at_n _ lm f)) ∙ at_n _ lm (image t ancestorOrSelf f) in
-          let both : added.new.1.0 ≡ bits n (λ i. image t ancestorOrSelf f i || image t descendantOrSelf f i) =
-          added.ensures (image t ancestorOrSelf f) (image t descendantOrSelf f) (above ∙ sym (at_n _ lu (image t ancestorOrSelf f))) (below ∙ sym (at_n _ lu (image t descendantOrSelf f))) ∙
-          at_n _ lu (λ i. image t ancestorOrSelf f i || image t descendantOrSelf f i) in
-          kept.ensures (λ i. image t ancestorOrSelf f i || image t descendantOrSelf f i) (marked m) (both ∙ sym (at_n _ la (λ i. image t ancestorOrSelf f i || image t descendantOrSelf f i)))
+          let above : up.new.1.1.0 ≡ bits n (image t ancestor_or_self f) =
+          up.ensures kinds ancestor_or_self f refl (h ∙ sym (at_n _ lm f)) ∙ at_n _ lm (image t ancestor_or_self f) in
+          let both : added.new.1.0 ≡ bits n (λ i. image t ancestor_or_self f i || image t descendant_or_self f i) =
+          added.ensures (image t ancestor_or_self f) (image t descendant_or_self f) (above ∙ sym (at_n _ lu (image t ancestor_or_self f))) (below ∙ sym (at_n _ lu (image t descendant_or_self f))) ∙
+          at_n _ lu (λ i. image t ancestor_or_self f i || image t descendant_or_self f i) in
+          kept.ensures (λ i. image t ancestor_or_self f i || image t descendant_or_self f i) (marked m) (both ∙ sym (at_n _ la (λ i. image t ancestor_or_self f i || image t descendant_or_self f i)))
           (ready.marks_bits ∙ sym (at_n _ la (marked m))) ∙
-          at_n _ la (λ i. (image t ancestorOrSelf f i || image t descendantOrSelf f i) && marked m i) ∙
-          bits_same n (λ i. (image t ancestorOrSelf f i || image t descendantOrSelf f i) && marked m i) (keeps_by t m f) (λ i l. spreads t m f i),
+          at_n _ la (λ i. (image t ancestor_or_self f i || image t descendant_or_self f i) && marked m i) ∙
+          bits_same n (λ i. (image t ancestor_or_self f i || image t descendant_or_self f i) && marked m i) (keeps_by t m f) (λ i l. spreads t m f i),
       beneath,
     )
 

@@ -29,36 +29,42 @@ Lent = tie.After-shared_slice_known-2-1 invariant-loop decreases-loop
 
 abbrev begun-of : Lent → Start
 begun-of c = c.before.before
+
 -- The root is good,
 abbrev Rooted : Type 0
 Rooted = tie.Else-not-good_root invariant-loop decreases-loop
 
 abbrev lent_of : Rooted → Lent
 lent_of c = c.before.before
+
 -- and the kinds fit.
 abbrev Kinded : Type 0
 Kinded = tie.Else-not-kinds_fit invariant-loop decreases-loop
 
 abbrev rooted_of : Kinded → Rooted
 rooted_of c = c.before.before
+
 -- The parents before this node are good,
 abbrev Turn : Type 0
 Turn = tie.At-loop-i invariant-loop decreases-loop
 
 abbrev kinded_of : Turn → Kinded
 kinded_of c = c.before
+
 -- there is one more,
 abbrev Inside : Type 0
 Inside = tie.In-loop-i invariant-loop decreases-loop
 
 abbrev turn-of : Inside → Turn
 turn-of c = c.before
+
 -- and it is judged.
 abbrev Judged : Type 0
 Judged = tie.After-good_parent invariant-loop decreases-loop
 
 abbrev inside_of : Judged → Inside
 inside_of c = c.before
+
 good-root-requires : tie.Need-good_root-requires invariant-loop decreases-loop
 good-root-requires c κs = search rules
 

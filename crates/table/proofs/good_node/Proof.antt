@@ -13,12 +13,15 @@ use Rattle.table.proofs.good_node.Tie as tie
 -- Of what is lent nothing is read yet.
 abbrev begun-of : tie.After-shared_slice_known-2-1 → tie.Start
 begun-of c = c.before.before
+
 -- The node is not the root,
 abbrev lent_of : tie.Else-i-eq0 → tie.After-shared_slice_known-2-1
 lent_of c = c.before
+
 -- and whether its kind fits is known.
 abbrev below_of : tie.After-fits → tie.Else-i-eq0
 below_of c = c.before.before
+
 good-root-requires : tie.Need-good_root-requires
 good-root-requires c κs = search rules
 

@@ -16,12 +16,15 @@ use Rattle.table.proofs.good_parent.Tie as tie
 -- Of what is lent nothing is read yet.
 abbrev begun-of : tie.After-shared_slice_known-2-1 → tie.Start
 begun-of c = c.before.before
+
 -- The node's parent is read,
 abbrev lent_of : tie.After-wide-above → tie.After-shared_slice_known-2-1
 lent_of c = c.before.before
+
 -- and whether it stands above the node before is known.
 abbrev read_of : tie.After-is_over → tie.After-wide-above
 read_of c = c.before
+
 -- The parent, found over the node before, is a node of the table.
 low : (c : tie.Then-is_over) → (read_of c.before).wide-above.result < length (begun-of (lent_of (read_of c.before))).args.kind.now
 low c =

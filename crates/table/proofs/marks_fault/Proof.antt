@@ -31,30 +31,35 @@ Lent = tie.After-shared_slice_known-2-1 invariant-loop decreases-loop
 
 abbrev begun-of : Lent → Start
 begun-of c = c.before.before
+
 -- Not all nodes are marked.
 abbrev Doubtful : Type 0
 Doubtful = tie.Else-all_marked invariant-loop decreases-loop
 
 abbrev lent_of : Doubtful → Lent
 lent_of c = c.before.before
+
 -- The marks before this one are good,
 abbrev Turn : Type 0
 Turn = tie.At-loop-i invariant-loop decreases-loop
 
 abbrev doubtful_of : Turn → Doubtful
 doubtful_of c = c.before
+
 -- there is one more,
 abbrev Within : Type 0
 Within = tie.In-loop-i invariant-loop decreases-loop
 
 abbrev turn-of : Within → Turn
 turn-of c = c.before
+
 -- and it is judged.
 abbrev Judged : Type 0
 Judged = tie.After-good_mark invariant-loop decreases-loop
 
 abbrev inside_of : Judged → Within
 inside_of c = c.before
+
 -- Where all are marked, each mark is good.
 all_fine : (parents kinds marks : List ℕ) → length marks ≡ length parents → Inside parents → AllMarked marks → (k : ℕ) → k < length parents → good_mark (table_of parents kinds) marks k ≡ true
 unfolding good_mark

@@ -30,36 +30,42 @@ Lent = tie.After-shared_slice_known-2-1 invariant-loop decreases-loop
 
 abbrev begun-of : Lent → Start
 begun-of c = c.before.before
+
 -- There are nodes.
 abbrev Some : Type 0
 Some = tie.Else-parent-eq0 invariant-loop decreases-loop
 
 abbrev lent_of : Some → Lent
 lent_of c = c.before
+
 -- A pass over all of them says no.
 abbrev Doubtful : Type 0
 Doubtful = tie.Else-all_good invariant-loop decreases-loop
 
 abbrev some_of_lem : Doubtful → Some
 some_of_lem c = c.before.before
+
 -- The nodes before this one are good,
 abbrev Turn : Type 0
 Turn = tie.At-loop-i invariant-loop decreases-loop
 
 abbrev doubtful_of : Turn → Doubtful
 doubtful_of c = c.before
+
 -- there is one more,
 abbrev Inside : Type 0
 Inside = tie.In-loop-i invariant-loop decreases-loop
 
 abbrev turn-of : Inside → Turn
 turn-of c = c.before
+
 -- and it is judged.
 abbrev Judged : Type 0
 Judged = tie.After-good_node invariant-loop decreases-loop
 
 abbrev inside_of : Judged → Inside
 inside_of c = c.before
+
 -- The fault of a table that has nodes is its first bad node.
 of_nodes : (t : Table) → (nodes t ≡ 0 → ⊥) → table_fault t ≡ first_below (nodes t) (λ i. not (good_node t i))
 unfolding table_fault

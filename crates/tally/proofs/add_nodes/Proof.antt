@@ -56,12 +56,16 @@ loop-less c = search rules
 -- The calls of a turn, each by the way back from the one after it, and the head of the loop.
 abbrev third : tie.After-slice_known-in-loop-i-3-1 invariant-loop decreases-loop → tie.After-add_node-in-loop-i-2 invariant-loop decreases-loop
 third c = c.before.before
+
 abbrev second : tie.After-add_node-in-loop-i-2 invariant-loop decreases-loop → tie.After-add_node-in-loop-i invariant-loop decreases-loop
 second c = c.before.before.before.before.before
+
 abbrev first : tie.After-add_node-in-loop-i invariant-loop decreases-loop → tie.After-add_node invariant-loop decreases-loop
 first c = c.before.before.before.before.before
+
 abbrev turn : tie.After-add_node invariant-loop decreases-loop → tie.At-loop-i invariant-loop decreases-loop
 turn c = c.before.before.before.before.before
+
 loop-again : tie.Need-loop-i-preserved invariant-loop decreases-loop
 loop-again c =
     let hidden = third c in

@@ -16,33 +16,43 @@ use Rattle.text_report.proofs.report_texts.Tie as tie
 -- Of what is lent nothing is read yet.
 abbrev begun-of : tie.After-slice_known-1 → tie.Start
 begun-of c = c.before.before.before.before
+
 -- The outer text is read,
 abbrev lent_of : tie.After-read-outer_answer → tie.After-slice_known-1
 lent_of c = c.before.before
+
 -- or it is a query.
 abbrev outer-read-of : tie.In-Value → tie.After-read-outer_answer
 outer-read-of c = c.before.before
+
 -- and refused,
 abbrev outer-asked-of : tie.In_default → tie.After-read-outer_answer
 outer-asked-of c = c.before.before
+
 -- which is told;
 abbrev outer-refused-of : tie.After-put_refusal → tie.In_default
 outer-refused-of c = c.before.before.before.before
+
 -- The inner text is read,
 abbrev outer-of : tie.After-read-inner_answer → tie.In-Value
 outer-of c = c.before.before
+
 -- or both are queries,
 abbrev inner-read-of : tie.In-Value-inner_answer → tie.After-read-inner_answer
 inner-read-of c = c.before.before
+
 -- and refused,
 abbrev inner-asked-of : tie.In_default-inner_answer → tie.After-read-inner_answer
 inner-asked-of c = c.before.before
+
 -- which is told;
 abbrev inner-refused-of : tie.After-put_refusal-in_default-inner_answer → tie.In_default-inner_answer
 inner-refused-of c = c.before.before.before.before
+
 -- on which the report is put.
 abbrev both_of : tie.After-report_queries → tie.In-Value-inner_answer
 both_of c = c.before.before.before.before
+
 slice-aggregate-read : tie.Need-slice_bounds-read-end
 slice-aggregate-read c = search rules
 

@@ -1,7 +1,7 @@
 -- `vertical::ancestors` meets its contract: the parents of the nodes and of all above them are all above them (`ancestor_end`). Assumes nothing.
 use borrow.Author.Rules.{rules}
 use Rattle.paper.specs.Document.{table_of}
-use Rattle.paper.specs.Query.{Axis, ancestorOrSelf, ancestor}
+use Rattle.paper.specs.Query.{Axis, ancestor_or_self, ancestor}
 use Rattle.sets.specs.Sets.{image}
 use Rattle.sets.proofs.Bits.{joined}
 use Rattle.vertical.proofs.StrictPass.{ancestor_end}
@@ -14,6 +14,7 @@ above-requires c κs = search rules
 -- Past the first pass.
 abbrev start_of : tie.After-above → tie.Start
 start_of c = c.before.before.before.before
+
 parents-requires : tie.Need-parents-requires
 parents-requires c κs = search rules
 
@@ -26,7 +27,7 @@ returns c =
     let first = c in
     let start = start_of first.before.before.before.before.before.before in
     let t = table_of start.args.parent.now kinds in
-    joined start.requires.0 (image t ancestorOrSelf f) (image t Axis.parent (image t ancestorOrSelf f)) (image t ancestor f) (first.above.ensures kinds f e) (c.parents.ensures kinds (image t ancestorOrSelf f))
+    joined start.requires.0 (image t ancestor_or_self f) (image t Axis.parent (image t ancestor_or_self f)) (image t ancestor f) (first.above.ensures kinds f e) (c.parents.ensures kinds (image t ancestor_or_self f))
     (ancestor_end t (start.requires.1 kinds) f)
 
 pub ancestors_spec : {M : Type 1} → statement M

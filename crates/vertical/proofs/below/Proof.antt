@@ -5,7 +5,7 @@ use mathlib.Core.Path.{◌∙◌}
 use mathlib.Core.List.{[]}
 use lib.ListN.{length, length-set}
 use Rattle.paper.specs.Document.{table_of}
-use Rattle.paper.specs.Query.{descendantOrSelf}
+use Rattle.paper.specs.Query.{descendant_or_self}
 use Rattle.sets.specs.Sets.{image}
 use Rattle.sets.proofs.Bits.{resized}
 use Rattle.vertical.proofs.Axes.{Moving}
@@ -76,7 +76,7 @@ returns c =
     let t = table_of a.parent.now kinds in
     let w = c.requires.1 kinds in
     let last = c.loop-i in
-    resized c.requires.0 f (image t descendantOrSelf f) (λ e. last.invariant.stands kinds f e ∙ below_end t w f last.i (omega arith))
+    resized c.requires.0 f (image t descendant_or_self f) (λ e. last.invariant.stands kinds f e ∙ below_end t w f last.i (omega arith))
 
 pub below_spec : {M : Type 1} → statement M
 below_spec =

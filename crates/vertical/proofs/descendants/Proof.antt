@@ -1,7 +1,7 @@
 -- `vertical::descendants` meets its contract: the children of the nodes and of all below them are all below them (`descendant_end`). Assumes nothing.
 use borrow.Author.Rules.{rules}
 use Rattle.paper.specs.Document.{table_of}
-use Rattle.paper.specs.Query.{child, descendantOrSelf, descendant}
+use Rattle.paper.specs.Query.{child, descendant_or_self, descendant}
 use Rattle.sets.specs.Sets.{image}
 use Rattle.sets.proofs.Bits.{joined}
 use Rattle.vertical.proofs.StrictPass.{descendant_end}
@@ -14,6 +14,7 @@ below-requires c κs = search rules
 -- Past the first pass.
 abbrev start_of : tie.After-below → tie.Start
 start_of c = c.before.before.before.before
+
 children-requires : tie.Need-children-requires
 children-requires c κs = search rules
 
@@ -26,7 +27,7 @@ returns c =
     let first = c in
     let start = start_of first.before.before.before.before.before.before in
     let t = table_of start.args.parent.now kinds in
-    joined start.requires.0 (image t descendantOrSelf f) (image t child (image t descendantOrSelf f)) (image t descendant f) (first.below.ensures kinds f e) (c.children.ensures kinds (image t descendantOrSelf f))
+    joined start.requires.0 (image t descendant_or_self f) (image t child (image t descendant_or_self f)) (image t descendant f) (first.below.ensures kinds f e) (c.children.ensures kinds (image t descendant_or_self f))
     (descendant_end t (start.requires.1 kinds) f)
 
 pub descendants_spec : {M : Type 1} → statement M

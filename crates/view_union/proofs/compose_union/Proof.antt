@@ -36,9 +36,11 @@ mask s = s.args.mask
 
 abbrev begun : tie.After-gather-gathered → tie.Start
 begun c = c.before.before.before.before.before.before.before
+
 -- What was gathered: all views can be read, and their union stands in its room if it fits.
 abbrev of-gather : tie.In-Items → tie.After-gather-gathered
 of-gather c = c.before.before.before
+
 abbrev size : tie.In-Items → ℕ
 size c = c.in-Items.size
 
@@ -58,6 +60,7 @@ all_read c =
 -- What was read.
 abbrev of-known : tie.After-read-answer → tie.In-Items
 of-known c = c.before.before
+
 abbrev start : tie.After-read-answer → tie.Start
 start c = begun (of-gather (of-known c))
 
@@ -67,6 +70,7 @@ says c = c.read-answer.ensures.0 ∙ ap (read_answer (text (start c)) 1 (list (s
 -- It was accepted.
 abbrev of-read : tie.In-Value → tie.After-read-answer
 of-read c = c.before.before
+
 abbrev count : tie.In-Value → ℕ
 count c = c.in-Value.count
 

@@ -45,8 +45,10 @@ few s = s.requires.0
 -- A turn, and its line.
 abbrev begun : Turn → Begun
 begun c = c.before.before.before.before.before
+
 abbrev at_turn : Line → Turn
 at_turn c = c.before.before.before
+
 abbrev rest : Line → List ℕ
 rest c = take (length (views (begun (at_turn c))) - (at_turn c).loop-at.at) (drop (at_turn c).loop-at.at (views (begun (at_turn c))))
 
@@ -75,6 +77,7 @@ Read = tie.After-read-answer invariant-loop decreases-loop
 
 abbrev of_line : Read → Line
 of_line c = c.before.before
+
 says : (c : Read) → told c.read-answer.result ≡ read_answer (line (of_line c)) 1 (list (begun (at_turn (of_line c)))) item_limit
 says c = c.read-answer.ensures.0 ∙ ap (read_answer (line (of_line c)) 1 (list (begun (at_turn (of_line c))))) (at_turn (of_line c)).loop-at.invariant.spare_long
 
@@ -88,6 +91,7 @@ Known = tie.In-Value invariant-loop decreases-loop
 
 abbrev of-read : Known → Read
 of-read c = c.before.before.before
+
 abbrev count : Known → ℕ
 count c = c.in-Value.count
 

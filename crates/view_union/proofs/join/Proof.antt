@@ -17,6 +17,7 @@ old s = s.args.union.now
 -- The view is named.
 abbrev begun : tie.Else-mask-eq0 → tie.Start
 begun c = c.before.before.before
+
 returns : tie.Need-returns-then-mask-eq0
 returns c = let start = c in join_none (items start.before.before.before) (old start.before.before.before) start.args.mask start.args.size c.if-mask-eq0.true
 

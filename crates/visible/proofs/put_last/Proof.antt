@@ -4,7 +4,7 @@ use native.Mathlib.Omega.{arith}
 use mathlib.Core.Path.{◌≡◌, refl, ◌∙◌, ap}
 use mathlib.Core.List.{List, [], ◌∷◌}
 use lib.ListN.{length, take, drop, set, length-set}
-use Rattle.paper.specs.Query.{descendantOrSelf, ancestorOrSelf, anyNode}
+use Rattle.paper.specs.Query.{descendant_or_self, ancestor_or_self, any_node}
 use Rattle.paper.specs.Items.{axis_number, test_number}
 use Rattle.item.specs.Unpacked.{packed}
 use Rattle.item.specs.Placed.{placed}
@@ -28,12 +28,13 @@ long start = part_length (old start) start.args.from start.args.count (omega ari
 -- After both are written.
 abbrev begun : tie.After-put_some_node → tie.Start
 begun c = c.before.before.before.before
+
 wrote : (c : tie.After-put_some_node) → c.put_some_node.new.out ≡ placed (last_items (chosen (begun c))) (begun c).args.at (old (begun c))
 wrote c =
     let start = begun c in
     let at = start.args.at in
-    let head = packed (record { axis = axis_number descendantOrSelf; test = test_number anyNode; count = 1 }) in
-    then_chosen (some_node_items (axis_number ancestorOrSelf)) (head ∷ []) (old start) _ c.put_some_node.new.out at (at + 1) start.args.from start.args.count
+    let head = packed (record { axis = axis_number descendant_or_self; test = test_number any_node; count = 1 }) in
+    then_chosen (some_node_items (axis_number ancestor_or_self)) (head ∷ []) (old start) _ c.put_some_node.new.out at (at + 1) start.args.from start.args.count
     (ap (set (old start) at) c.pack_step.ensures ∙ placed_one (old start) at head (omega arith)) c.put_some_node.ensures.0 refl (omega arith) (omega arith)
 
 pack-step-requires : tie.Need-pack_step-requires

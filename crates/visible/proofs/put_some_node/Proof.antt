@@ -24,6 +24,7 @@ chosen start = take start.args.count (drop start.args.from (old start))
 -- After all is written.
 abbrev begun : tie.After-copy → tie.Start
 begun c = c.before.before.before.before.before
+
 wrote : (c : tie.After-copy) → c.copy.new.out ≡ placed (some_node_items (begun c).args.axis (chosen (begun c))) (begun c).args.at (old (begun c))
 wrote c =
     let start = begun c in

@@ -74,6 +74,7 @@ module _ (s : tie.Start) where
 -- Where the table was judged.
 abbrev begun : tie.After-table_fault → tie.Start
 begun c = c.before.before.before.before.before.before.before.before.before
+
 -- Past line 7 the table is good,
 abbrev past-7 : tie.In_default → tie.Start
 past-7 c = begun c.before
@@ -84,6 +85,7 @@ sound c = ap fault_of (sym c.in_default.is) ∙ c.table_fault.ensures
 -- past line 8 the marks are,
 abbrev past-8 : tie.In_default-marks_fault → tie.In_default
 past-8 c = c.before.before
+
 closed : (c : tie.In_default-marks_fault) → none ≡ marks_fault (lent (past-7 (past-8 c))) (marks (past-7 (past-8 c)))
 closed c = ap fault_of (sym c.in_default-marks_fault.is) ∙ c.marks_fault.ensures (kinds (past-7 (past-8 c)))
 
@@ -95,12 +97,14 @@ marked_is c = let s = past-7 (past-8 c.before) in c.element_marked.ensures (pare
 -- past line 13 an element is marked,
 abbrev past-13 : tie.Else-not-element_marked → tie.In_default-marks_fault
 past-13 c = c.before.before
+
 some_element : (c : tie.Else-not-element_marked) → true ≡ element_marked (lent (past-7 (past-8 (past-13 c)))) (marks (past-7 (past-8 (past-13 c))))
 some_element c = sym (not-false _ c.if-not-element_marked.false-raw) ∙ marked_is c.before
 
 -- and past line 14 the text is what the columns say.
 abbrev past-14 : tie.Else-not-reads_as → tie.Else-not-element_marked
 past-14 c = c.before.before
+
 same_text : (c : tie.Else-not-reads_as) →
     let s = past-7 (past-8 (past-13 (past-14 c))) in true ≡ reads_as (text s) (list s) (lent s) (begins s) (ends s)
 same_text c = sym (not-false _ c.if-not-reads_as.false-raw) ∙ c.reads_as.ensures

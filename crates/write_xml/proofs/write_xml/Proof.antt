@@ -14,6 +14,7 @@ use Rattle.write_xml.proofs.write_xml.Tie as tie
 -- Past line 1 the lengths are right.
 abbrev begun : tie.Else-text-list → tie.Start
 begun c = c.before.before.before.before.before.before.before.before.before
+
 right : (c : tie.Else-text-list) →
     let a = (begun c).args in
     Lengths a.text.now a.list.now a.parent.now a.kind.now a.begin.now a.end.now a.marks.now
@@ -22,6 +23,7 @@ right c = lengths _ _ _ _ _ _ _ c.if-text-list.false
 -- The list is good.
 abbrev past-1 : tie.In-Good → tie.Else-text-list
 past-1 c = c.before.before.before
+
 indexed : (c : tie.In-Good) → Indexed (begun (past-1 c)).args.list.now c.index.new.starts c.in-Good.count
 indexed c = c.index.ensures.good _ c.in-Good.is
 

@@ -12,6 +12,7 @@ use Rattle.xml.proofs.empty_end.Tie as tie
 -- The `>` is read.
 abbrev sought : tie.In-At → tie.After-byte-closed
 sought c = c.before
+
 abbrev begun : tie.In-At → tie.Start
 begun c = (sought c).before.before
 

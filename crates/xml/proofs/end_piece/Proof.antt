@@ -17,8 +17,10 @@ inside s = omega (arith, s.requires.0)
 -- The tag is read past its `</`.
 abbrev sought : tie.In-At → tie.After-end_tag-ended
 sought c = c.before
+
 abbrev begun : tie.After-end_tag-ended → tie.Start
 begun c = c.before.before
+
 end_read : (c : tie.In-At) → let s = begun (sought c) in Ends s.args.text.now (s.args.at + 2) s.args.inner (At c.in-At.next)
 end_read c = let s = begun (sought c) in subst (Ends s.args.text.now (s.args.at + 2) s.args.inner) c.in-At.is (sought c).end_tag-ended.ensures
 

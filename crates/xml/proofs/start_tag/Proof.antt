@@ -17,12 +17,13 @@ use Rattle.xml.proofs.start_tag.Statement.{statement}
 use Rattle.xml.proofs.start_tag.Tie as tie
 
 -- Where no white space stands behind a name, no byte goes on with it.
-no_part_there : (text : List ℕ) (from nameEnd to : ℕ) → nameEnd ≡ from + run_of name_part (drop from text) → nameEnd ≡ to → to < length text → name_part (get_or text to 0) ≡ false
-no_part_there text from nameEnd to e f inside = ap (λ n. name_part (get_or text n 0)) (sym f) ∙ stops_run name_part text from nameEnd e (omega arith)
+no_part_there : (text : List ℕ) (from name_end to : ℕ) → name_end ≡ from + run_of name_part (drop from text) → name_end ≡ to → to < length text → name_part (get_or text to 0) ≡ false
+no_part_there text from name_end to e f inside = ap (λ n. name_part (get_or text n 0)) (sym f) ∙ stops_run name_part text from name_end e (omega arith)
 
 -- The first byte stands in the text, and it is known whether it begins a name.
 abbrev within : tie.After-name_start → tie.Else-text-at
 within c = c.before.before
+
 abbrev begun : tie.After-name_start → tie.Start
 begun c = (within c).before.before
 

@@ -11,6 +11,7 @@ use Rattle.xml.proofs.tag_end.Tie as tie
 -- A byte stands past the name and white space.
 abbrev begun : tie.After-shared_slice_known-2-1 → tie.Start
 begun c = c.before.before.before
+
 inside : (c : tie.After-shared_slice_known-2-1) → (begun c).args.at < length (begun c).args.text.now
 inside c = c.if-text-at.false
 
@@ -20,6 +21,7 @@ past_name c = (begun c).requires.2 (inside c)
 -- It is neither `>` nor `/`.
 abbrev no_end : tie.After-foreign → tie.Else-b-eq47
 no_end c = c.before
+
 abbrev at_other : tie.After-foreign → tie.After-shared_slice_known-2-1
 at_other c = (no_end c).before.before
 

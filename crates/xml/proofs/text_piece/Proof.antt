@@ -10,6 +10,7 @@ use Rattle.xml.proofs.text_piece.Tie as tie
 -- The run is read.
 abbrev sought : tie.In-At → tie.After-run-ended
 sought c = c.before
+
 abbrev begun : tie.In-At → tie.Start
 begun c = (sought c).before.before
 

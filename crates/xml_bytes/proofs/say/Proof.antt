@@ -26,6 +26,7 @@ Turn = tie.At-loop-done invariant-loop decreases-loop
 
 abbrev begun : Turn → tie.Start invariant-loop decreases-loop
 begun t = t.before.before.before
+
 abbrev text : Turn → List ℕ
 text t = (begun t).args.text.now
 
@@ -41,6 +42,7 @@ wanted t = get_or (word t) t.loop-done.done 0
 
 abbrev turn : tie.After-byte-one invariant-loop decreases-loop → Turn
 turn c = c.before.before.before
+
 in_word : (c : tie.After-byte-one invariant-loop decreases-loop) → (turn c).loop-done.done < length (word (turn c))
 in_word c = omega (arith, c.loop-done-test.true)
 
@@ -50,6 +52,7 @@ so_far c = let t = turn c in t.loop-done.invariant.2 ∙ ap (λ (w : List ℕ). 
 -- It came.
 abbrev sought : tie.In-At invariant-loop decreases-loop → tie.After-byte-one invariant-loop decreases-loop
 sought c = c.before
+
 byte_read : (c : tie.In-At invariant-loop decreases-loop) → let t = turn (sought c) in Reads (text t) (place t) (eqb (wanted t) ∷ []) (At c.in-At.field-0)
 byte_read c = let t = turn (sought c) in subst (Reads (text t) (place t) (eqb (wanted t) ∷ [])) c.in-At.is (sought c).byte-one.ensures
 

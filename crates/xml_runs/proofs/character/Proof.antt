@@ -36,8 +36,10 @@ here s = get_or (text s) s.args.at 0
 -- The way back from a `&`, and from a byte below 128 that is none.
 abbrev at-reference : tie.After-markup → tie.Start
 at-reference c = c.before.before.before.before
+
 abbrev no-reference : tie.Else-b-ge128 → tie.Else-b-eq38
 no-reference c = c.before
+
 abbrev at_low : tie.Else-b-ge128 → tie.Start
 at_low c = (no-reference c).before.before.before
 

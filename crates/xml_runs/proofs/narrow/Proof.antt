@@ -16,8 +16,10 @@ First s r = Reads s.args.text.now s.args.at (from s.args.low s.args.high ∷ [])
 
 abbrev begun : tie.After-within-one → tie.Start
 begun c = c.before.before
+
 abbrev sought : tie.In-At → tie.After-within-one
 sought c = c.before
+
 first_read : (c : tie.In-At) → First (begun (sought c)) (At c.in-At.next)
 first_read c = subst (First (begun (sought c))) c.in-At.is (sought c).within-one.ensures
 

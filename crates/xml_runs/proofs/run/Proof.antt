@@ -35,8 +35,10 @@ passed c = ordinary_past _ _ _ _ _ _ c.ordinary_end-past.ensures c.squares_past-
 -- From the byte that is looked at, and from the end of a turn, back to it.
 abbrev looked : tie.Else-b-eq60 invariant-loop decreases-loop → Past
 looked c = c.before.before.before
+
 abbrev turned : tie.After-squares_after-squares invariant-loop decreases-loop → tie.After-character-one invariant-loop decreases-loop
 turned c = c.before.before
+
 loop-holds : tie.Need-loop-at-init invariant-loop decreases-loop
 loop-holds c = run_begins _ _ c.requires.0 c.requires.1
 

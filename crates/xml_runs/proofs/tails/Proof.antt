@@ -25,6 +25,7 @@ Turn = tie.At-loop-done invariant-loop decreases-loop
 
 abbrev begun : Turn → tie.Start invariant-loop decreases-loop
 begun t = t.before.before
+
 abbrev text : Turn → List ℕ
 text t = (begun t).args.text.now
 
@@ -37,6 +38,7 @@ left t = (begun t).args.count - suc t.loop-done.done
 
 abbrev turn : tie.After-within-one invariant-loop decreases-loop → Turn
 turn c = c.before.before
+
 so_far : (c : tie.After-within-one invariant-loop decreases-loop) → let t = turn c in Passed (text t) (begun t).args.at (tailing (begun t).args.count) (place t) (from 128 191 ∷ tailing (left t))
 so_far c =
     let t = turn c in
@@ -46,6 +48,7 @@ so_far c =
 -- It came.
 abbrev sought : tie.In-At invariant-loop decreases-loop → tie.After-within-one invariant-loop decreases-loop
 sought c = c.before
+
 byte_read : (c : tie.In-At invariant-loop decreases-loop) → let t = turn (sought c) in Reads (text t) (place t) (from 128 191 ∷ []) (At c.in-At.field-0)
 byte_read c = let t = turn (sought c) in subst (Reads (text t) (place t) (from 128 191 ∷ [])) c.in-At.is (sought c).within-one.ensures
 

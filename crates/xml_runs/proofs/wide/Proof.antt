@@ -47,6 +47,7 @@ narrows s low high n r high-enough l h = cross_row (text s) (s.args.at + 1) (fro
 -- The way back from the choice by the byte.
 abbrev begun : tie.After-shared_slice_known-2-1 → tie.Start
 begun c = c.before.before
+
 shared-slice-read-b : tie.Need-bounds-text-at
 shared-slice-read-b c = search rules
 

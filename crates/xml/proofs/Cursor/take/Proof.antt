@@ -20,6 +20,7 @@ place s = s.args.self.at
 -- A `<` stands at the cursor,
 abbrev begun : tie.After-markup → tie.Start
 begun c = c.before.before.before.before.before
+
 inside : (c : tie.After-markup) → place (begun c) < length (text (begun c))
 inside c = c.if-text-at.false
 
@@ -33,6 +34,7 @@ opens_nothing c = sym c.markup.ensures ∙ c.if-markup.false
 -- A byte stands behind it.
 abbrev past-mark : tie.After-shared_slice_known-3-1 → tie.Else-markup
 past-mark c = c.before.before
+
 returns : tie.Need-returns-then-text-at
 returns c = takes_cut _ _ _ c.if-text-at.true c.requires.0
 
