@@ -9,6 +9,9 @@ ghost use Rattle.sheet.specs.Sheets.{head_room, sheet_limit};
 ghost use Rattle.sheet_main.specs.Reading.{Fits, Holds, Reached};
 
 use paper::Answer;
+use std::fs::File;
+use std::io;
+use std::io::{IsTerminal, Read};
 
 // A view and a list that can be read fit here with the LF behind each.
 const HEAD_ROOM: usize = paper::TEXT_LIMIT + 1 + paper::LIST_LIMIT + 1;
@@ -45,25 +48,23 @@ struct Stream {
 }
 
 // Reads once, into the room from a place on.
-fn read_part(fd: i32, text: &mut [u8], done: usize) -> Got
+fn read_part(file: &mut File, text: &mut [u8], done: usize) -> Got
     requires { done ≤ length text.old }
     ensures { (length text.new ≡ length text.old) × Fits result (length text.old - done) }
 {
-    let room = &mut text[done..];
-    let got = libc::read(fd, room);
-    if got < 0 {
-        return Got::Failed;
+    match file.read(&mut text[done..]) {
+        Ok(n) => Got::Bytes(n),
+        Err(_) => Got::Failed,
     }
-    Got::Bytes(io::count(got, room))
 }
 
 // Reads a file as far as the room goes.
-fn read_file(fd: i32, text: &mut [u8]) -> Got
+fn read_file(file: &mut File, text: &mut [u8]) -> Got
     ensures { Holds result text.new }
 {
     let mut done = 0;
     while done < text.len() {
-        let got = read_part(fd, text, done);
+        let got = read_part(file, text, done);
         let Got::Bytes(more) = got else {
             return got;
         };
@@ -80,8 +81,15 @@ fn add_refusal(answer: Answer, refusals: &mut [u64]) {
     tally::add_refusal(code::number_of(answer), refusals)
 }
 
+// Opens the file of a path, if it can be opened; std opens by paths in UTF-8 alone.
+fn open_file(rt: &HostRuntime, path: &[u8]) -> Option<File> {
+    let text = str::from_utf8(path).ok()?;
+    File::open(rt, text).ok()
+}
+
 // Adds the document of a file: its outcome, or 18 where it can't be read.
 fn add_file(
+    rt: &HostRuntime,
     path: &[u8],
     view: &[u32],
     list: &[u8],
@@ -90,15 +98,12 @@ fn add_file(
     hidden: &mut [u32],
     refusals: &mut [u64],
 ) {
-    let fd = os::open_read(path);
-    if fd < 0 {
+    let Some(mut file) = open_file(rt, path) else {
         add_refusal(Answer::Unreadable, refusals);
         return;
-    }
+    };
     let mut text = [0u8; TEXT_ROOM];
-    let got = read_file(fd, &mut text);
-    libc::close(fd);
-    match got {
+    match read_file(&mut file, &mut text) {
         Got::Bytes(n) => {
             documents::add_text(&text[..n], view, list, all, kept, hidden, refusals)
         }
@@ -107,25 +112,24 @@ fn add_file(
 }
 
 // Tells on standard error how many documents were counted, where that is a terminal.
-fn tell(count: usize) {
-    if libc::isatty(libc::STDERR_FILENO) == 1 {
-        io::write_all(libc::STDERR_FILENO, b"\r");
-        io::print_decimal(libc::STDERR_FILENO, count as u64);
-        io::write_all(libc::STDERR_FILENO, b" documents");
+fn tell(rt: &HostRuntime, count: usize) {
+    if rt.stderr().is_terminal() {
+        let _ = eprint!(rt; "\r{count} documents");
     }
 }
 
 // Ends the line of that count, if one was begun.
-fn end_telling(count: usize) {
+fn end_telling(rt: &HostRuntime, count: usize) {
     if TELLING <= count {
-        if libc::isatty(libc::STDERR_FILENO) == 1 {
-            io::write_all(libc::STDERR_FILENO, b"\n");
+        if rt.stderr().is_terminal() {
+            let _ = eprint!(rt; "\n");
         }
     }
 }
 
 // Adds the document of a line, where so many came before it, and answers how many there are then; one past the limit gets 10 and is not opened.
 fn add_document(
+    rt: &HostRuntime,
     path: &[u8],
     before: usize,
     view: &[u32],
@@ -139,10 +143,10 @@ fn add_document(
         add_refusal(Answer::Short(0), refusals);
         return before;
     }
-    add_file(path, view, list, all, kept, hidden, refusals);
+    add_file(rt, path, view, list, all, kept, hidden, refusals);
     let count = before + 1;
     if count % TELLING == 0 {
-        tell(count);
+        tell(rt, count);
     }
     count
 }
@@ -159,38 +163,35 @@ fn push(path: &mut [u8], len: usize, b: u8) -> usize
     len
 }
 
-// Reads some of standard input, and answers how much.
-fn read_some(chunk: &mut [u8]) -> usize
+// Reads some of standard input, and answers how much; a read that fails ends the input.
+fn read_some(rt: &HostRuntime, chunk: &mut [u8]) -> usize
     ensures { (length chunk.new ≡ length chunk.old) × (result ≤ length chunk.old) }
 {
-    let got = libc::read(libc::STDIN_FILENO, chunk);
-    io::count(got, chunk)
+    rt.stdin().read(chunk).unwrap_or(0)
 }
 
 // Reads on where nothing is left; nothing is left then at the end of the input alone.
-fn fill(chunk: &mut [u8], at: usize, end: usize) -> Span
+fn fill(rt: &HostRuntime, chunk: &mut [u8], at: usize, end: usize) -> Span
     requires { (at ≤ end) × (end ≤ length chunk.old) }
     ensures { (length chunk.new ≡ length chunk.old) × (result.at ≤ result.end) × (result.end ≤ length chunk.old) }
 {
     if at < end {
         return Span { at, end };
     }
-    let more = read_some(chunk);
+    let more = read_some(rt, chunk);
     Span { at: 0, end: more }
 }
 
-// Goes on to the next file name, which an LF or the end of the input ends. A proved loop has to end, so it counts its turns down from a number that no run uses up.
-fn next_name(chunk: &mut [u8], path: &mut [u8], at: usize, end: usize) -> Stream
+// Goes on to the next file name, which an LF or the end of the input ends. A proved loop has to end, so it takes a number of turns that no run uses up.
+fn next_name(rt: &HostRuntime, chunk: &mut [u8], path: &mut [u8], at: usize, end: usize) -> Stream
     requires { (at ≤ end) × (end ≤ length chunk.old) }
     ensures { (length chunk.new ≡ length chunk.old) × (length path.new ≡ length path.old) × Reached result (length chunk.old) (length path.old) }
 {
     let mut place = at;
     let mut last = end;
     let mut len = 0;
-    let mut turns = u64::MAX;
-    while turns > 0 {
-        turns -= 1;
-        let span = fill(chunk, place, last);
+    for _ in 0..u64::MAX {
+        let span = fill(rt, chunk, place, last);
         let from = span.at;
         let to = span.end;
         if to <= from {
@@ -225,6 +226,7 @@ fn next_name(chunk: &mut [u8], path: &mut [u8], at: usize, end: usize) -> Stream
 
 // Adds all documents, of whose names the first bytes are given.
 fn add_all(
+    rt: &HostRuntime,
     first: &[u8],
     view: &[u32],
     list: &[u8],
@@ -238,17 +240,17 @@ fn add_all(
     let mut chunk = [0u8; HEAD_ROOM];
     let mut path = [0u8; PATH_ROOM];
     let mut at = 0;
-    let mut end = bytes::copy(first, &mut chunk);
+    let mut end = first.len();
+    chunk[..end].copy_from_slice(first);
     let mut before = 0;
-    let mut turns = u64::MAX;
-    while turns > 0 {
-        turns -= 1;
-        let stream = next_name(&mut chunk, &mut path, at, end);
+    for _ in 0..u64::MAX {
+        let stream = next_name(rt, &mut chunk, &mut path, at, end);
         if !stream.found {
-            end_telling(before);
+            end_telling(rt, before);
             return;
         }
         before = add_document(
+            rt,
             &path[..stream.len],
             before,
             view,
@@ -264,7 +266,7 @@ fn add_all(
 }
 
 // Puts the sheet of a view.
-fn sheet_of(view: &[u32], list: &[u8], first: &[u8], out: &mut [u8]) -> usize
+fn sheet_of(rt: &HostRuntime, view: &[u32], list: &[u8], first: &[u8], out: &mut [u8]) -> usize
     requires { (length list.now ≤ list_limit) × (names_fault list.now ≡ none) × (length first.now ≤ head_room) }
     ensures { result ≤ sheet_limit }
 {
@@ -273,6 +275,7 @@ fn sheet_of(view: &[u32], list: &[u8], first: &[u8], out: &mut [u8]) -> usize
     let mut hidden = [0u32; paper::NAMES_LIMIT];
     let mut refusals = [0u64; sheet::NUMBERS];
     add_all(
+        rt,
         first,
         view,
         list,
@@ -285,7 +288,7 @@ fn sheet_of(view: &[u32], list: &[u8], first: &[u8], out: &mut [u8]) -> usize
 }
 
 // Puts the sheet of a view by its text, or the line of its refusal.
-fn sheet_by(text: &[u8], list: &[u8], first: &[u8], out: &mut [u8]) -> usize
+fn sheet_by(rt: &HostRuntime, text: &[u8], list: &[u8], first: &[u8], out: &mut [u8]) -> usize
     requires { length first.now ≤ head_room }
     ensures { result ≤ sheet_limit }
 {
@@ -294,11 +297,11 @@ fn sheet_by(text: &[u8], list: &[u8], first: &[u8], out: &mut [u8]) -> usize
     let Answer::Value(size) = said else {
         return lines::put_refusal(out, b"view", said);
     };
-    sheet_of(&room[..size], list, first, out)
+    sheet_of(rt, &room[..size], list, first, out)
 }
 
 // Puts what is printed of an input that begins so.
-fn answer(head: &[u8], out: &mut [u8]) -> usize
+fn answer(rt: &HostRuntime, head: &[u8], out: &mut [u8]) -> usize
     requires { length head.now ≤ head_room }
     ensures { result ≤ sheet_limit }
 {
@@ -308,6 +311,7 @@ fn answer(head: &[u8], out: &mut [u8]) -> usize
     let list_end = lines::list_end(rest);
     let first_start = lines::line_start(rest, list_end);
     sheet_by(
+        rt,
         &head[..view_end],
         &rest[..list_end],
         &rest[first_start..],
@@ -315,10 +319,10 @@ fn answer(head: &[u8], out: &mut [u8]) -> usize
     )
 }
 
-fn main() {
+fn main(rt: HostRuntime) -> io::Result<()> {
     let mut head = [0u8; HEAD_ROOM];
-    let count = io::read_full(libc::STDIN_FILENO, &mut head);
+    let count = read_full::read_full(&mut rt.stdin(), &mut head)?;
     let mut out = [0u8; sheet::SHEET_LIMIT];
-    let size = answer(&head[..count], &mut out);
-    io::write_all(libc::STDOUT_FILENO, &out[..size]);
+    let size = answer(&rt, &head[..count], &mut out);
+    rt.write_all(&out[..size])
 }

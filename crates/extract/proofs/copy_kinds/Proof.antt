@@ -9,6 +9,7 @@ use Rattle.paper.specs.Tools.{written}
 use Rattle.paper.specs.Extraction.{pick_from}
 use Rattle.extract.proofs.Writes.{Written, room, nothing, one_more, no_more}
 use Rattle.extract.proofs.copy_kinds.Statement.{statement}
+use Rattle.extract.proofs.copy_kinds.Lts.{then-marks-i-eq1, else-marks-i-eq1}
 use Rattle.extract.proofs.copy_kinds.Tie as tie
 
 abbrev invariant-loop : tie.invariant-loop-i
@@ -58,11 +59,13 @@ loop-again c =
     let kinds = head.args.kind.now in
     let old = head.args.out.now in (
       omega arith,
-      ⊎_elim
-          (λ w.
-          one_more marks (λ k. get_or kinds k 0) old head.loop-i.out head.loop-i.n head.loop-i.i head.loop-i.invariant.1 c.if-marks-i-eq1.out c.if-marks-i-eq1.n (get_or kinds head.loop-i.i 0)
-          (fits (record { before = c.before; if1 = w.0 })) w.0.taken refl w.2 w.3)
-          (λ w. no_more marks (λ k. get_or kinds k 0) old head.loop-i.out head.loop-i.n head.loop-i.i head.loop-i.invariant.1 c.if-marks-i-eq1.out c.if-marks-i-eq1.n w.0.left w.1 w.2) c.if-marks-i-eq1.branch,
+      elim c.if-marks-i-eq1.branch [
+        then-marks-i-eq1 w ↦
+            one_more marks (λ k. get_or kinds k 0) old head.loop-i.out head.loop-i.n head.loop-i.i head.loop-i.invariant.1 c.if-marks-i-eq1.out c.if-marks-i-eq1.n (get_or kinds head.loop-i.i 0)
+            (fits (record { before = c.before; if-marks-i-eq1 = w.if-marks-i-eq1 })) w.if-marks-i-eq1.true refl w.out-is w.n-is
+        | else-marks-i-eq1 w ↦
+            no_more marks (λ k. get_or kinds k 0) old head.loop-i.out head.loop-i.n head.loop-i.i head.loop-i.invariant.1 c.if-marks-i-eq1.out c.if-marks-i-eq1.n w.if-marks-i-eq1.false w.out-is w.n-is
+      ],
     )
 
 same_length : tie.Need-shape_of-out invariant-loop decreases-loop

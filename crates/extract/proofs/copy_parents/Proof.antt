@@ -11,6 +11,7 @@ use Rattle.paper.specs.Extraction.{pick_from}
 use Rattle.extract.specs.Numbering.{Last, new_parent}
 use Rattle.extract.proofs.Writes.{Written, room, nothing, one_more, no_more, found_at, last_new, last_kept}
 use Rattle.extract.proofs.copy_parents.Statement.{statement}
+use Rattle.extract.proofs.copy_parents.Lts.{then-marks-i-eq1, else-marks-i-eq1}
 use Rattle.extract.proofs.copy_parents.Tie as tie
 
 abbrev invariant-loop : tie.invariant-loop-i
@@ -109,18 +110,19 @@ loop-again c =
     let old = start.args.out.now in
     let i = head.loop-i.i in
     let so_far = head.loop-i.invariant.1 in
-    ⊎_elim
-    (λ w. (
-      omega arith,
-      one_more marks (new_parent parents marks) old head.loop-i.out head.loop-i.n i so_far c.if-marks-i-eq1.out c.if-marks-i-eq1.n w.2.result
-          (fits (record { before = c.before; if1 = w.0 })) w.0.taken w.2.ensures w.3 w.5,
-      λ z. subst (Last marks (i + 1)) (sym w.4) (last_new marks i w.0.taken),
-    ))
-    (λ w. (
-      omega arith,
-      no_more marks (new_parent parents marks) old head.loop-i.out head.loop-i.n i so_far c.if-marks-i-eq1.out c.if-marks-i-eq1.n w.0.left w.1 w.3,
-      λ z. subst (Last marks (i + 1)) (sym w.2) (last_kept marks i head.loop-i.last w.0.left (head.loop-i.invariant.2 (omega (arith, w.3)))),
-    )) c.if-marks-i-eq1.branch
+    elim c.if-marks-i-eq1.branch [
+      then-marks-i-eq1 w ↦ (
+        omega arith,
+        one_more marks (new_parent parents marks) old head.loop-i.out head.loop-i.n i so_far c.if-marks-i-eq1.out c.if-marks-i-eq1.n w.new_parent.result
+            (fits (record { before = c.before; if-marks-i-eq1 = w.if-marks-i-eq1 })) w.if-marks-i-eq1.true w.new_parent.ensures w.out-is w.n-is,
+        λ z. subst (Last marks (i + 1)) (sym w.last-is) (last_new marks i w.if-marks-i-eq1.true),
+      )
+      | else-marks-i-eq1 w ↦ (
+        omega arith,
+        no_more marks (new_parent parents marks) old head.loop-i.out head.loop-i.n i so_far c.if-marks-i-eq1.out c.if-marks-i-eq1.n w.if-marks-i-eq1.false w.out-is w.n-is,
+        λ z. subst (Last marks (i + 1)) (sym w.last-is) (last_kept marks i head.loop-i.last w.if-marks-i-eq1.false (head.loop-i.invariant.2 (omega (arith, w.n-is)))),
+      )
+    ]
 
 same_length : tie.Need-shape_of-out invariant-loop decreases-loop
 same_length c = c.loop-i.invariant.1.long

@@ -11,6 +11,7 @@ use Rattle.pen.proofs.Putting.{puts_long}
 use Rattle.put_kept.specs.Lending.{Lent}
 use Rattle.put_kept.proofs.Walking.{Walking, walking_as, lines, walk_start, walk_placeable, walk_node, walk_pass, walk_closable, walk_done}
 use Rattle.put_kept.proofs.put_kept.Statement.{statement}
+use Rattle.put_kept.proofs.put_kept.Lts.{then-mark-eq1, else-mark-eq1}
 use Rattle.put_kept.proofs.put_kept.Tie as tie
 
 abbrev invariant-loop : tie.invariant-loop-i
@@ -40,7 +41,7 @@ loop-holds c g =
     walk_start a.text.now a.parent.now a.kind.now a.begin.now a.end.now a.marks.now g a.pen a.out.now
 
 shared-slice-read-mark : tie.Need-bounds-marks-i invariant-loop decreases-loop
-shared-slice-read-mark c = omega (arith, (lent (within c)).marks_long, c.loop-i-test.true)
+shared-slice-read-mark c = omega (arith, (lent c.before.before).marks_long, c.loop-i-test.true)
 
 put-node-requires : tie.Need-put_node-next-requires invariant-loop decreases-loop
 put-node-requires c κs =
@@ -61,14 +62,14 @@ loop-again c g =
     let b = c in
     let t = within b.before in
     let a = (start t).args in
-    ⊎_elim
-    (λ w.
-    walking_as w.5 w.6 w.7 w.8
-    (walk_node a.text.now a.parent.now a.kind.now a.begin.now a.end.now a.marks.now g (t.loop-i.invariant g) b.loop-i-test.true (eq-eqb _ 1 w.0.taken) w.2.ensures))
-    (λ w.
-    walking_as w.1 w.2 w.3 w.4
-    (walk_pass a.text.now a.parent.now a.kind.now a.begin.now a.end.now a.marks.now g (t.loop-i.invariant g) b.loop-i-test.true (ne_eqb _ 1 w.0.left)))
-    c.if-mark-eq1.branch
+    elim c.if-mark-eq1.branch [
+      then-mark-eq1 w ↦
+          walking_as w.out-is w.at-is w.squares-is w.top-is
+          (walk_node a.text.now a.parent.now a.kind.now a.begin.now a.end.now a.marks.now g (t.loop-i.invariant g) b.loop-i-test.true (eq-eqb _ 1 w.if-mark-eq1.true) w.put_node-next.ensures)
+      | else-mark-eq1 w ↦
+          walking_as w.out-is w.at-is w.squares-is w.top-is
+          (walk_pass a.text.now a.parent.now a.kind.now a.begin.now a.end.now a.marks.now g (t.loop-i.invariant g) b.loop-i-test.true (ne_eqb _ 1 w.if-mark-eq1.false))
+    ]
 
 close-requires : tie.Need-close-requires invariant-loop decreases-loop
 close-requires c κs =

@@ -85,7 +85,7 @@ returns c bytes o =
 
 pub put_node_spec : {M : Type 1} → statement M
 put_node_spec =
-    tie.close-closed
+    tie.close
     (tie.spec
     mul-up
     shared-slice-read-up

@@ -38,7 +38,7 @@ abbrev inside : tie.After-end_at-at invariant-loop decreases-loop → tie.In-loo
 inside c = c.before.before.before
 
 loop-holds : tie.Need-loop-inner-init invariant-loop decreases-loop
-loop-holds c bytes o = let a = c.args in closing_start a.text.now a.parent.now a.begin.now a.pen a.out-1.now o
+loop-holds c bytes o = let a = c.args in closing_start a.text.now a.parent.now a.begin.now a.pen a.out.now o
 
 mul-end-at : tie.Need-offset_bounds-begin-inner invariant-loop decreases-loop
 mul-end-at c = let s = start c.before in omega (arith, (stands c).in_begins, s.well_formed.1.1.0.1)
@@ -60,7 +60,7 @@ mul-inner : tie.Need-offset_bounds-parent-inner invariant-loop decreases-loop
 mul-inner c = let i = inside c.before.before in omega (arith, (stands i).in_parents, (start i.before).well_formed.1.0.1)
 
 shared-slice-read-inner : tie.Need-bounds-parent-inner invariant-loop decreases-loop
-shared-slice-read-inner c = (stands (inside (put c))).in_parents
+shared-slice-read-inner c = (stands (inside c.before.before.before)).in_parents
 
 cast-inner : tie.Need-overflow_cast-inner invariant-loop decreases-loop
 cast-inner c = omega (arith, c.shared_slice_known-in-loop-inner-2-1.given (inside (put c)).loop-inner.inner)

@@ -14,6 +14,7 @@ use Rattle.paper.specs.Items.{decode}
 use Rattle.paper.specs.Document.{table_of}
 use Rattle.search.proofs.Keeping.{up_to, marks_up_to, up_to_none, up_to_more, up_to_same, up_to_all}
 use Rattle.search.proofs.keep.Statement.{statement}
+use Rattle.search.proofs.keep.Lts.{then-selected, else-selected}
 use Rattle.search.proofs.keep.Tie as tie
 
 abbrev invariant-loop : tie.invariant-loop-k
@@ -109,20 +110,20 @@ loop-again c =
     let l = (turn (inside (decided c))).loop-k in
     let s = (decided c).selected in
     let stays = s.kept.1.1.1.1.1.0 ∙ l.invariant.1 in
-    ⊎_elim
-    (λ w. (
-      ap length w.5 ∙ w.2.kept.1.1.1.0 ∙ l.invariant.0,
-      stays,
-      omega (arith, (inside (decided c)).loop-k-test.true),
-      λ q e. w.5 ∙ w.2.ensures a.kind.now (up_to t m q l.k) (l.invariant.3 q e) ∙ up_to_more t m q n l.k (sym (s.ensures q e) ∙ w.0.taken),
-    ))
-    (λ w. (
-      ap length w.1 ∙ l.invariant.0,
-      stays,
-      omega (arith, (inside (decided c)).loop-k-test.true),
-      λ q e. w.1 ∙ l.invariant.3 q e ∙ up_to_same t m q n l.k (sym (s.ensures q e) ∙ w.0.left),
-    ))
-    c.if-selected.branch
+    elim c.if-selected.branch [
+      then-selected w ↦ (
+        ap length w.marks-is ∙ w.mark_kept.kept.1.1.1.0 ∙ l.invariant.0,
+        stays,
+        omega (arith, (inside (decided c)).loop-k-test.true),
+        λ q e. w.marks-is ∙ w.mark_kept.ensures a.kind.now (up_to t m q l.k) (l.invariant.3 q e) ∙ up_to_more t m q n l.k (sym (s.ensures q e) ∙ w.if-selected.true),
+      )
+      | else-selected w ↦ (
+        ap length w.marks-is ∙ l.invariant.0,
+        stays,
+        omega (arith, (inside (decided c)).loop-k-test.true),
+        λ q e. w.marks-is ∙ l.invariant.3 q e ∙ up_to_same t m q n l.k (sym (s.ensures q e) ∙ w.if-selected.false),
+      )
+    ]
 
 same_length : tie.Need-shape_of-marks invariant-loop decreases-loop
 same_length c = c.loop-k.invariant.0 ∙ sym (begun (cleared c.before)).requires.1.0
