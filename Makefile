@@ -33,7 +33,7 @@ SHARED = target/shared/libhalyardfig.so.$(VERSION)
 # What each program is called where it is installed: a crate of that name and _main.
 PROGRAMS = compose sheet show
 BUILT = $(PROGRAMS:%=target/bin/%_main)
-SOURCES := crates.txt $(shell find crates -type f \( -name '*.rt' -o -name crates.txt \))
+SOURCES := crates.txt $(shell find crates -name out -prune -o -type f -name '*.rt' -print)
 
 # The functions of the header: the manual has a link for each.
 CALLS = $(shell sed -n 's/^\(static inline \)*uint[0-9]*_t \(halyardfig_[a-z0-9_]*\).*/\2/p' include/halyardfig.h)
@@ -45,8 +45,9 @@ all: $(LIBRARY) $(SHARED) $(BUILT)
 
 # What rt made is dated back to the beginning of that, so that code changed meanwhile is newer.
 $(LIBRARY): $(SOURCES)
-	mkdir -p target && touch target/$(@F).begun
-	rt staticlib halyardfig
+	mkdir -p $(@D) && touch target/$(@F).begun
+	cd crates/halyardfig_c && rt lib
+	cp crates/halyardfig_c/out/libhalyardfig_c.a $@
 	touch -r target/$(@F).begun $@
 
 $(BUILT): $(SOURCES)

@@ -6,14 +6,14 @@ root=$(cd "$(dirname "$(readlink -f "${BASH_SOURCE[0]}")")/.." && pwd -P) || exi
 
 # Is there code that is newer than the program?
 is_stale() {
-    [ -n "$(find "$root/crates.txt" "$root/crates" -type f \( -name '*.rt' -o -name crates.txt \) -newer "$1" -print -quit)" ]
+    [ -n "$(find "$root/crates.txt" "$root/crates" -name out -prune -o -type f \( -name '*.rt' -o -name crates.txt \) -newer "$1" -print -quit)" ]
 }
 
 # How many crates of the repository a crate stands on, itself counted: crates.txt names each below those that it uses.
 crates_of() {
     awk -F: -v wanted="$1" '
         /^#/ { next }
-        { uses[$1] = $2; name[++lines] = $1 }
+        { sub(/ .*/, "", $1); uses[$1] = $2; name[++lines] = $1 }
         END {
             needed[wanted] = 1
             for (i = lines; i > 0; i--)
@@ -32,8 +32,7 @@ show_progress() {
     local proved=0 line
     while IFS= read -r line; do
         case $line in
-        'rt: ok,'*) ;;
-        'rt: '*' proved'*)
+        'logic=proved '*)
             proved=$((proved + 1))
             [ ! -t 2 ] || printf '\r%s' "crate $proved of $1" >&2
             ;;
@@ -42,15 +41,14 @@ show_progress() {
     [ ! -t 2 ] || echo >&2
 }
 
-# Builds a program and dates it back to the beginning of that, so that code changed meanwhile is newer.
+# Builds a program by running it on nothing, and dates it back to the beginning of that, so that code changed meanwhile is newer.
 build() {
     local crate=$1 program=$2 log=$root/target/log/building-$1.txt crates
-    mkdir -p "${log%/*}" && touch "$log.begun" || return 1
-    [ -x "$program" ] || rm -f "$root/target/stamp/$crate"
+    mkdir -p "${log%/*}" "${program%/*}" && touch "$log.begun" || return 1
     crates=$(crates_of "$crate")
     echo "Building $crate: its $crates crates are proved, but for those unchanged since the last time; all take about $(((crates + 3) / 4)) min." >&2
-    (cd "$root" && rt check "$crate") </dev/null 2>&1 | tee "$log" | show_progress "$crates"
-    if [ "${PIPESTATUS[0]}" -ne 0 ] || [ ! -x "$program" ]; then
+    (cd "$root/crates/$crate" && rt run) </dev/null 2>&1 | tee "$log" | show_progress "$crates"
+    if [ "${PIPESTATUS[0]}" -ne 0 ] || ! cp -f "$root/crates/$crate/out/$crate" "$program"; then
         echo "Building $crate failed; $log says why." >&2
         return 1
     fi

@@ -46,9 +46,10 @@ make_archive() {
         echo "rt, which builds the static library, is not on the PATH, and ARCHIVE names none"
         return 1
     fi
-    if ! rt staticlib halyardfig >"${built:?}/archive.log" 2>&1; then
+    if ! (cd crates/halyardfig_c && rt lib) >"${built:?}/archive.log" 2>&1; then
         tail -n 20 "$built/archive.log"
         return 1
     fi
     ARCHIVE=target/staticlib/libhalyardfig.a
+    mkdir -p "${ARCHIVE%/*}" && cp crates/halyardfig_c/out/libhalyardfig_c.a "$ARCHIVE"
 }

@@ -58,17 +58,16 @@ prints 'lean and too long' 'refused input 1 0' --lean < <(times 49153 /)
 # FIRST USE, in a small repository with a stand-in for the kit: what is said, and where the log is.
 small=$(mktemp -d) || exit 2
 trap 'rm -rf "$small"' EXIT
-mkdir -p "$small/bin" "$small/kit" "$small/crates/a/src"
+mkdir -p "$small"/{bin,kit,crates/{a/src,compose_main,sheet_main,show_main}}
 cp bin/compose bin/sheet bin/show bin/running.sh "$small/bin"
-printf '# crates\npaper:\na: paper\nb: paper\ncompose_main: a io libc\nsheet_main: a b os io\nshow_main: b io libc\n' >"$small/crates.txt"
+printf '# crates\npaper:\na: paper\nb: paper\ncompose_main: a\nsheet_main: a b\nshow_main: b\n' >"$small/crates.txt"
 cat >"$small/kit/rt" <<'END'
 #!/bin/sh
-echo 'rt: paper proved (1 s)'
-[ ! -e broken ] || { echo 'rt: a NOT PROVED'; exit 1; }
-mkdir -p target/bin
-printf '#!/bin/sh\necho made\n' >"target/bin/$2"
-chmod +x "target/bin/$2"
-echo 'rt: ok, 3 crates proved'
+echo 'logic=proved functions=1'
+[ ! -e ../../broken ] || { echo 'logic=not-proved'; exit 1; }
+mkdir -p out
+printf '#!/bin/sh\necho made\n' >"out/${PWD##*/}"
+chmod +x "out/${PWD##*/}"
 END
 printf '#!/bin/sh\necho x86_64\n' >"$small/kit/uname"
 chmod +x "$small/kit/rt" "$small/kit/uname"

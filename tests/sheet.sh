@@ -121,9 +121,12 @@ refuses 'a path of 70,007 bytes' 18 "$(times 35000 ./)one.xml"
 same 'every file is closed' "$one"$'\nrefused 1 100\nrefused 11 100\nrefused 18 100' "$(ulimit -n 64; "$sheet" <input)"
 
 # NAMES OF FILES.
-mkdir -p $'with spaces \303\251/\377\200 & <"\'$(x)\\n'
-cp one.xml $'with spaces \303\251/\377\200 & <"\'$(x)\\n/ \t.xml '
-shows 'spaces and bytes over 127' "$one" $'with spaces \303\251/\377\200 & <"\'$(x)\\n/ \t.xml '
+for place in $'with spaces \303\251/\357\277\275 & <"\'$(x)\\n' $'with spaces \303\251/\377\200 & <"\'$(x)\\n'; do
+    mkdir -p "$place"
+    cp one.xml "$place/"$' \t.xml '
+done
+shows 'spaces and bytes over 127' "$one" $'with spaces \303\251/\357\277\275 & <"\'$(x)\\n/ \t.xml '
+refuses 'bytes that are no UTF-8' 18 $'with spaces \303\251/\377\200 & <"\'$(x)\\n/ \t.xml '
 shows 'a whole path' "$one" "$PWD/one.xml"
 ln -s one.xml link.xml
 shows 'a link' "$one" link.xml

@@ -1,4 +1,4 @@
-// The C interface: each call lends its slices to an entry point and answers in one number.
+// The C interface: each call lends its slices to an entry point and answers in one number; `halyardfig_c` exports them.
 #![tactic(auto)]
 
 ghost use Rattle.std.specs.Prelude.{◌≡◌, map, length};

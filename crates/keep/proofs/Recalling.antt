@@ -101,7 +101,6 @@ spare_part {slots} {slots'} n k xs ys e l b =
 pub kept_same : {t : Table} {m items : List ℕ} {n : ℕ} (known xs ys : List ℕ) → SameKept (length known) n xs ys → Kept t m items n known xs → Kept t m items n known ys
 kept_same {t} {m} {items} {n} known xs ys same kept =
     record {
-      few = kept.few;
       each = λ i l z.
           subst (WorkedOut t m items n (get_or known i 0))
           (ap (take n) (sym (drop-drop (n * i) (spare (length known) n xs) xs) ∙ ap (drop (n * i)) same ∙ drop-drop (n * i) (spare (length known) n ys) ys))
@@ -116,8 +115,8 @@ all_free (suc entries) zero i = refl
 all_free (suc entries) (suc slots) zero = refl
 all_free (suc entries) (suc slots) (suc i) = all_free entries slots i
 
-pub none_kept : {t : Table} {m items : List ℕ} {n : ℕ} (entries slots : ℕ) {sets : List ℕ} → length items ≤ item_limit → Kept t m items n (take slots (replicate {A = ℕ} entries 0)) sets
-none_kept entries slots few = record { few = few; each = λ i l z. absurd (omega (arith, z, all_free entries slots i)) }
+pub none_kept : {t : Table} {m items : List ℕ} {n : ℕ} (entries slots : ℕ) {sets : List ℕ} → Kept t m items n (take slots (replicate {A = ℕ} entries 0)) sets
+none_kept entries slots = record { each = λ i l z. absurd (omega (arith, z, all_free entries slots i)) }
 
 -- A set copied to the front is there, and nothing changes behind it.
 module _ {n from : ℕ} {xs ys : List ℕ} (room : from + n ≤ length xs) (size : length ys ≡ length xs) (c : Copied from 0 n xs ys) where
@@ -130,20 +129,20 @@ module _ {n from : ℕ} {xs ys : List ℕ} (room : from + n ≤ length xs) (size
       (λ k l. get_or-drop n ys k 0 ∙ c.back (n + k) (omega arith) ∙ sym (get_or-drop n xs k 0))
 
 -- One set more is kept.
-module _ {n entry : ℕ} {known sets known' sets' : List ℕ} (room : n + n * length known ≤ length sets) (size : length sets' ≡ length sets) where
-  pub front_remembered : Remembered n entry known sets known' sets' → take n sets' ≡ take n sets
+module _ (at next : ℕ) {n : ℕ} {known sets known' sets' : List ℕ} (room : n + n * length known ≤ length sets) (size : length sets' ≡ length sets) where
+  pub front_remembered : Remembered n at next known sets known' sets' → take n sets' ≡ take n sets
   front_remembered =
       ⊎_elim (λ (w : (known' ≡ known) × (sets' ≡ sets)). ap (take n) w.1)
-      (λ (k : KeptAs n entry known sets known' sets').
+      (λ (w : (next < 65536) × KeptAs n (at * 65536 + (next - at)) known sets known' sets').
       window_same n 0 0 sets' sets (omega arith) (omega arith)
-      (λ i l. k.copy.front (0 + i) (omega (arith, mul-le-mul_left n (let q : 0 ≤ k.slot = omega arith in q)))))
+      (λ i l. w.1.copy.front (0 + i) (omega (arith, mul-le-mul_left n (let q : 0 ≤ w.1.slot = omega arith in q)))))
 
-  module _ (k : KeptAs n entry known sets known' sets') where
+  module _ (k : KeptAs n (at * 65536 + (next - at)) known sets known' sets') where
     abbrev first : ℕ
     first = spare (length known) n sets
 
     as_many : length known' ≡ length known
-    as_many = ap length k.entries ∙ length-set known k.slot entry
+    as_many = ap length k.entries ∙ length-set known k.slot (at * 65536 + (next - at))
 
     -- The i-th set kept begins in both lists alike.
     begins : (i : ℕ) → kept_set (length known') n sets' i ≡ take n (drop (first + n * i) sets')
@@ -153,8 +152,8 @@ module _ {n entry : ℕ} {known sets known' sets' : List ℕ} (room : n + n * le
     ends i l = omega (arith, mul-le-mul_left n (let q : i + 1 ≤ length known = omega arith in q))
 
     -- The new one.
-    new_entry : (i : ℕ) → i ≡ k.slot → get_or known' i 0 ≡ entry
-    new_entry i e = ap (λ (ks : List ℕ). get_or ks i 0) k.entries ∙ ap (λ (j : ℕ). get_or (set known k.slot entry) j 0) e ∙ get_or-set_same known k.slot entry 0 k.there
+    new_entry : (i : ℕ) → i ≡ k.slot → get_or known' i 0 ≡ (at * 65536 + (next - at))
+    new_entry i e = ap (λ (ks : List ℕ). get_or ks i 0) k.entries ∙ ap (λ (j : ℕ). get_or (set known k.slot (at * 65536 + (next - at))) j 0) e ∙ get_or-set_same known k.slot (at * 65536 + (next - at)) 0 k.there
 
     new_set : (i : ℕ) → i ≡ k.slot → kept_set (length known') n sets' i ≡ take n sets
     new_set i e =
@@ -163,7 +162,7 @@ module _ {n entry : ℕ} {known sets known' sets' : List ℕ} (room : n + n * le
 
     -- The others.
     old_entry : (i : ℕ) → (i ≡ k.slot → ⊥) → get_or known' i 0 ≡ get_or known i 0
-    old_entry i d = ap (λ (ks : List ℕ). get_or ks i 0) k.entries ∙ get_or-set_other known k.slot i entry 0 d
+    old_entry i d = ap (λ (ks : List ℕ). get_or ks i 0) k.entries ∙ get_or-set_other known k.slot i (at * 65536 + (next - at)) 0 d
 
     old_byte : (i : ℕ) → i < length known → (i ≡ k.slot → ⊥) → (j : ℕ) → j < n → get_or sets' (first + n * i + j) 0 ≡ get_or sets (first + n * i + j) 0
     old_byte i l d j b =
@@ -174,16 +173,16 @@ module _ {n entry : ℕ} {known sets known' sets' : List ℕ} (room : n + n * le
     old_set : (i : ℕ) → i < length known → (i ≡ k.slot → ⊥) → kept_set (length known') n sets' i ≡ kept_set (length known) n sets i
     old_set i l d = begins i ∙ window_same n (first + n * i) (first + n * i) sets' sets (omega (arith, ends i l, size)) (ends i l) (old_byte i l d)
 
-  pub kept_remembered : {t : Table} {m items : List ℕ} → WorkedOut t m items n entry (take n sets) → Kept t m items n known sets → Remembered n entry known sets known' sets' → Kept t m items n known' sets'
+  pub kept_remembered : {t : Table} {m items : List ℕ} → (next < 65536 → WorkedOut t m items n (at * 65536 + (next - at)) (take n sets)) → Kept t m items n known sets → Remembered n at next known sets known' sets' → Kept t m items n known' sets'
   kept_remembered {t} {m} {items} new kept =
       ⊎_elim (λ (w : (known' ≡ known) × (sets' ≡ sets)). subst₂ (λ (ks xs : List ℕ). Kept t m items n ks xs) (sym w.0) (sym w.1) kept)
-      (λ (k : KeptAs n entry known sets known' sets').
+      (λ (w : (next < 65536) × KeptAs n (at * 65536 + (next - at)) known sets known' sets').
       record {
-        few = kept.few;
         each = λ i l z.
+            let k : KeptAs n (at * 65536 + (next - at)) known sets known' sets' = w.1 in
             let within : i < length known = omega (arith, as_many k) in
             by_cases (ℕ_discrete i k.slot)
-            (λ e. subst₂ (WorkedOut t m items n) (sym (new_entry k i e)) (sym (new_set k i e)) new)
+            (λ e. subst₂ (WorkedOut t m items n) (sym (new_entry k i e)) (sym (new_set k i e)) (new w.0))
             (λ d. subst₂ (WorkedOut t m items n) (sym (old_entry k i d)) (sym (old_set k i within d)) (kept.each i within (omega (arith, old_entry k i d))));
       })
 

@@ -50,9 +50,8 @@ pub record Moves (items : List ℕ) (at : ℕ) (t : Table) (marks : List ℕ) (t
   pub inside : next ≤ length items
   pub set : (f : ℕ → Bool) → take (nodes t) before ≡ bits (nodes t) f → take (nodes t) after ≡ bits (nodes t) (λ k. some_below (nodes t) (λ i. f i && arrives t marks what i k))
 
--- The items are a query, no more than there may be, and there is room for its sets.
+-- The items are a query, and there is room for its sets.
 pub record Runs (items : List ℕ) (node_count room : ℕ) : Type 0 where
-  pub few : length items ≤ item_limit
   pub query : Query
   pub decodes : decode items ≡ some query
   pub room_for : node_count * height query ≤ room

@@ -31,9 +31,8 @@ pub record WorkedOut (t : Table) (marks items : List ℕ) (n entry : ℕ) (set :
   pub inside : place_of entry + count_of entry ≤ length items
   pub holding : set ≡ bits n (holds t marks what)
 
--- The items are few enough for entries, and each entry that is not free has its set.
+-- Each entry that is not free has its set.
 pub record Kept (t : Table) (marks items : List ℕ) (n : ℕ) (known sets : List ℕ) : Type 0 where
-  pub few : length items ≤ item_limit
   pub each : (i : ℕ) → i < length known → 0 < get_or known i 0 → WorkedOut t marks items n (get_or known i 0) (kept_set (length known) n sets i)
 
 -- The items of each entry stand among the items.
@@ -59,6 +58,7 @@ pub record KeptAs (n entry : ℕ) (known sets known' sets' : List ℕ) : Type 0 
   pub entries : known' ≡ set known slot entry
   pub copy : Copied 0 (spare (length known) n sets + n * slot) n sets sets'
 
--- The first set is kept, or nothing has changed.
-abbrev pub Remembered : ℕ → ℕ → List ℕ → List ℕ → List ℕ → List ℕ → Type 0
-Remembered n entry known sets known' sets' = ((known' ≡ known) × (sets' ≡ sets)) ⊎ KeptAs n entry known sets known' sets'
+-- The first set is kept under the items from one place to another, which an entry can say, or nothing has changed.
+abbrev pub Remembered : ℕ → ℕ → ℕ → List ℕ → List ℕ → List ℕ → List ℕ → Type 0
+Remembered n at next known sets known' sets' =
+    ((known' ≡ known) × (sets' ≡ sets)) ⊎ ((next < 65536) × KeptAs n (at * 65536 + (next - at)) known sets known' sets')

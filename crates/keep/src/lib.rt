@@ -123,12 +123,15 @@ fn free(known: &[usize]) -> usize
     i
 }
 
-// Keeps the first set, of the items from one place to another, where they are worth it and an entry is free.
+// Keeps the first set, of the items from one place to another, where they are worth it, an entry can say them, and one is free.
 fn remember(sets: &mut [u8], known: &mut [usize], n: usize, at: usize, next: usize)
-    requires { (n + n * length known.old ≤ length sets.old) × (at ≤ next) × (next < 65536) }
-    ensures { Remembered n (at * 65536 + (next - at)) known.old sets.old known.new sets.new }
+    requires { (n + n * length known.old ≤ length sets.old) × (at ≤ next) }
+    ensures { Remembered n at next known.old sets.old known.new sets.new }
 {
     if next - at < LEAST {
+        return;
+    }
+    if SPAN <= next {
         return;
     }
     let slot = free(known);

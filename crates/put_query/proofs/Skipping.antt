@@ -37,7 +37,7 @@ module _ (depth : ℕ) (items : List ℕ) (place : ℕ) where
     behind : List ℕ
     stands : step_at (get_or items place 0) ≡ some head
     pred-count : pred_count preds ≡ head.count
-    step_count_lem : step_count rest ≡ m
+    step-count : step_count rest ≡ m
     is : s ≡ step head.axis head.test preds rest
     takes_preds : take_preds (take_within depth) head.count (drop (place + 1) items) ≡ some (preds, behind)
     takes_rest : take_steps (take_within depth) m behind ≡ some (rest, left)
@@ -60,7 +60,7 @@ module _ (depth : ℕ) (items : List ℕ) (place : ℕ) where
         behind = b.1;
         stands = p;
         pred-count = (from_preds depth (take_within depth) (from_within depth) a.count (drop (place + 1) items) b u).count;
-        step_count_lem = (from_steps depth (take_within depth) (from_within depth) m b.1 r x).count;
+        step-count = (from_steps depth (take_within depth) (from_within depth) m b.1 r x).count;
         is = sym (ap (λ z. z.0) e);
         takes_preds = u;
         takes_rest = x ∙ ap (λ z. some (r.0, z.1)) e;
@@ -80,7 +80,7 @@ module _ (depth : ℕ) (items : List ℕ) (place : ℕ) where
     -- What the item says is what the definition asks of the step.
     agrees : (m : ℕ) (s : Steps) (left : List ℕ) (f : First m s left)
         → deepened brief f.head.axis f.head.test (pred_count f.preds) (step_count f.rest) ≡ deep_head brief (suc m) (step_at (get_or items place 0))
-    agrees m s left f = let k : suc m - 1 ≡ m = omega arith in rw (f.stands, f.pred-count, f.step_count, k)
+    agrees m s left f = let k : suc m - 1 ≡ m = omega arith in rw (f.stands, f.pred-count, f.step-count, k)
 
     -- A step with its `/`.
     told : (n : ℕ) (s : Steps) (left : List ℕ) → take_steps (take_within depth) n (drop place items) ≡ some (s, left) → deep_head brief n (step_at (get_or items place 0)) ≡ false

@@ -226,7 +226,6 @@ module _ (query parents kinds given : List ℕ) (marks_room : ℕ) (scratch : Li
   runnable =
       let half : length parents * height a.query_is ≤ length parents * 2 * (height a.query_is + 1) / 2 = omega arith in
       record {
-        few = a.agree.items_few;
         query = a.query_is;
         decodes = a.decodes;
         room_for = omega (arith, half, length-take-le needed scratch a.room_enough, a.room_is);

@@ -1,6 +1,5 @@
 -- What is promised of a file that is read, and of how far the file names have been read.
-use Rattle.std.specs.Prelude.{ℕ, ◌≤◌, List}
-use Rattle.io.specs.Counts.{IsPrefixLen}
+use Rattle.std.specs.Prelude.{ℕ, ◌≡◌, ◌≤◌, List, length, take}
 use Rattle.sheet_main.specs.declared.Got.{Got}
 use Rattle.sheet_main.specs.declared.Got.TheVariants.{Bytes, Failed}
 use Rattle.sheet_main.specs.declared.Stream.{Stream}
@@ -12,7 +11,7 @@ Fits Failed room = Unit {0}
 
 -- So many bytes stand first.
 abbrev pub Holds : Got → List ℕ → Type 0
-Holds (Bytes n) text = IsPrefixLen n text
+Holds (Bytes n) text = (n ≤ length text) × (n ≡ length (take n text))
 Holds Failed text = Unit {0}
 
 -- The places stand in the bytes read, and the name in its room.

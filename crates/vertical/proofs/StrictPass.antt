@@ -10,7 +10,7 @@ use Rattle.paper.proofs.Trees.{Tree, over_self, over_parent, over-cases, over_tr
 use Rattle.sets.specs.Sets.{bits, image}
 use Rattle.sets.proofs.Bits.{bits_same}
 use Rattle.vertical.proofs.Axes.{child_intro, child_elim}
-use Rattle.vertical.proofs.AbovePass.{last_step_lem}
+use Rattle.vertical.proofs.AbovePass.{last_step}
 use Rattle.vertical.proofs.Leading.{image_intro, image-elim, below_intro, below_elim, over_le}
 
 module _ (t : Table) (w : Tree t) (f : ℕ → Bool) where
@@ -48,7 +48,7 @@ module _ (t : Table) (w : Tree t) (f : ℕ → Bool) where
       (λ h. image-elim t ancestor f k h
       (λ j m u v.
       let r = below_elim t k j v in
-      last_step_lem t w f k j m r.0 (λ e. absurd (r.1 (sym e)))
+      last_step t w f k j m r.0 (λ e. absurd (r.1 (sym e)))
       (λ c b g o. image_intro t parent (image t ancestor_or_self f) k c b (image_intro t ancestor_or_self f c j m u o) g)))
 
   pub descendant_end : bits (nodes t) (image t child (image t descendant_or_self f)) ≡ bits (nodes t) (image t descendant f)

@@ -17,12 +17,12 @@ place-of-requires : tie.Need-place_of-place-requires
 place-of-requires c κs = search rules
 
 refused-requires : tie.Need-refused-requires
-refused-requires c κs = omega (arith, number_small c.args.answer, c.number_of_lem.ensures)
+refused-requires c κs = omega (arith, number_small c.args.answer, c.number_of-number.ensures)
 
 returns : tie.Need-returns-in_default
 returns c =
     let counted = c in
-    refusal_code counted.args.answer _ _ _ counted.in_default.in_default-own.keys2 counted.number_of_lem.ensures c.place_of-place.ensures c.refused.ensures
+    refusal_code counted.args.answer _ _ _ counted.in_default.in_default-own.keys2 counted.number_of-number.ensures c.place_of-place.ensures c.refused.ensures
 
 returns-2 : tie.Need-returns
 returns-2 c = value_code _ _ _ (ap told c.in-Value.is) refl

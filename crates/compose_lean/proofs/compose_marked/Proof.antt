@@ -56,7 +56,7 @@ array-share-prefix-copy c = search rules
 slice-aggregate-says : tie.Need-slice_bounds-says-end
 slice-aggregate-says c =
     let done = c in
-    sym (length-take-le (length (outer (begun done.before.before))) (copy done.before.before) (omega (arith, done.mark_query.auto.1.0, length-replicate {A = ℕ} item_limit 0, (begun done.before.before).requires.1)))
+    sym (length-take-le (length (outer (begun done.before.before))) (copy done.before.before) (omega (arith, done.mark_query.auto.marks, length-replicate {A = ℕ} item_limit 0, (begun done.before.before).requires.1)))
 
 guards-of-requires : tie.Need-guards_of-guards-requires
 guards-of-requires c κs = search rules

@@ -48,7 +48,7 @@ returns c =
     let view = start.args.view.now in
     let t = table_of start.args.parent.now start.args.kind.now in
     let knows = ran in
-    refusal_adds _ _ _ _ _ _ _ (table_refused view t ran.run_all-ran.result number.in_default.in_default-own.keys2 (answered ran.before.before.before.before.before.before.before.before)) (λ v l. omega (arith, knows.slice_known-2-1.given v)) (λ v l. omega (arith, knows.slice_known-3-1.given v)) (λ v l. omega (arith, knows.slice_known-4-1.given v)) (rw number.number_of_lem.ensures at added.add_refusal.ensures)
+    refusal_adds _ _ _ _ _ _ _ (table_refused view t ran.run_all-ran.result number.in_default.in_default-own.keys2 (answered ran.before.before.before.before.before.before.before.before)) (λ v l. omega (arith, knows.slice_known-2-1.given v)) (λ v l. omega (arith, knows.slice_known-3-1.given v)) (λ v l. omega (arith, knows.slice_known-4-1.given v)) (rw number.number_of.ensures at added.add_refusal.ensures)
 
 add-nodes-requires : tie.Need-add_nodes-requires
 add-nodes-requires c κs = search rules

@@ -51,7 +51,7 @@ returns c =
     let start = read in
     let args = start.args in
     let knows = read in
-    refusal_adds _ _ _ _ _ _ _ (text_refused args.view.now args.list.now args.text.now read.read_xml-said.result number.in_default.in_default-own.keys2 read.read_xml-said.ensures.0) (λ v l. omega (arith, knows.slice_known-1.given v)) (λ v l. omega (arith, knows.slice_known-2-1.given v)) (λ v l. omega (arith, knows.slice_known-3-1.given v)) (rw number.number_of_lem.ensures at added.add_refusal.ensures)
+    refusal_adds _ _ _ _ _ _ _ (text_refused args.view.now args.list.now args.text.now read.read_xml-said.result number.in_default.in_default-own.keys2 read.read_xml-said.ensures.0) (λ v l. omega (arith, knows.slice_known-1.given v)) (λ v l. omega (arith, knows.slice_known-2-1.given v)) (λ v l. omega (arith, knows.slice_known-3-1.given v)) (rw number.number_of.ensures at added.add_refusal.ensures)
 
 -- The text was read, and found to be wanted: the columns of parents and of kinds begin with its nodes.
 abbrev read : tie.In-Value → tie.After-read_xml-said

@@ -45,7 +45,7 @@ mark-kept-requires c κs =
 count-requires : tie.Need-count-requires
 count-requires c κs =
     let ok = agreed c.before.before.before.before in
-    omega (arith, c.mark_kept.auto.1.1.1.1.0, ok.agree.marks_all, ok.agree.nodes_few)
+    omega (arith, c.mark_kept.auto.marks, ok.agree.marks_all, ok.agree.nodes_few)
 
 same_length : tie.Need-shape_of-marks
 same_length c = search rules
@@ -57,9 +57,9 @@ returns-2 c =
     let t = table_of a.parent.now a.kind.now in
     let ok = agreed told-so.before.before.before.before.before in
     let done = c.mark_kept in
-    let marks1 = done.new.1.1.1.1.0 in
+    let marks1 = done.new.marks in
     let same : marks1 ≡ kept t a.given.now ok.query_is = done.ensures ok.query_is ok.decodes in
-    let many : length marks1 ≡ length a.parent.now = done.auto.1.1.1.1.0 ∙ ok.agree.marks_all in (
+    let many : length marks1 ≡ length a.parent.now = done.auto.marks ∙ ok.agree.marks_all in (
       ap value (c.count.ensures ∙ ap₂ rank same many) ∙ sym (follows a.query.now t a.given.now (length a.marks.now) ok),
       same ∙ follow-marks a.query.now t a.given.now a.marks.now ok,
     )

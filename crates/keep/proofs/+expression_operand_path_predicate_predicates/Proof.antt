@@ -186,10 +186,10 @@ expression_back : (t : ℕ) (c : expression-lts.After-operand-place (expression_
 expression_back t c =
     let turn = expression_turning t c in
     let l = turn.loop-ands in
-    length_stays (l.base + l.held) l.sets c.operand-place.new.sets (omega (arith, expression_enough t turn)) c.operand-place.auto.1.1.1.1.1.1.0
+    length_stays (l.base + l.held) l.sets c.operand-place.new.sets (omega (arith, expression_enough t turn)) c.operand-place.auto.sets
 
 expression_entries_all : (t : ℕ) (c : expression-lts.After-operand-place (expression_claims t) (expression_at t) expression.Post expression_Inv_loop expression_μ_loop) → length (expression_entries t c) ≡ length (expression_turning t c).loop-ands.known
-expression_entries_all t c = c.operand-place.auto.1.1.1.1.1.1.1.0
+expression_entries_all t c = c.operand-place.auto.known
 
 -- So there is the same room in any list that is as long.
 expression_room : (t : ℕ) (c : expression-lts.After-operand-place (expression_claims t) (expression_at t) expression.Post expression_Inv_loop expression_μ_loop) (xs : List ℕ) → length xs ≡ length (expression_turning t c).loop-ands.sets
@@ -209,7 +209,7 @@ expression_kept_back t c =
     let part = c.operand-place.new.sets in
     let n = expression_all t start in
     kept_same (expression_entries t c) part (expression_mid t c)
-    (sym (kept_back (length (expression_entries t c)) n (l.base + l.held) l.sets part (omega (arith, expression_room t c l.sets refl)) c.operand-place.auto.1.1.1.1.1.1.0)) c.operand-place.ensures.1
+    (sym (kept_back (length (expression_entries t c)) n (l.base + l.held) l.sets part (omega (arith, expression_room t c l.sets refl)) c.operand-place.auto.sets)) c.operand-place.ensures.1
 
 expression_kept_narrow : (t : ℕ) (c : expression-lts.After-narrow (expression_claims t) (expression_at t) expression.Post expression_Inv_loop expression_μ_loop)
     → expression_Kept t (expression_begun t (expression_turning t (expression_reading t c))) (expression_entries t (expression_reading t c)) c.narrow.new.sets
@@ -221,7 +221,7 @@ expression_kept_narrow t c =
     let entries = expression_entries t read in
     let mid = expression_mid t read in
     kept_same entries mid c.narrow.new.sets
-    (kept_end (length entries) n (turn.loop-ands.base + n) mid c.narrow.new.sets (omega (arith, expression_room t read mid (expression_back t read))) c.narrow.auto.0 c.narrow.ensures.behind)
+    (kept_end (length entries) n (turn.loop-ands.base + n) mid c.narrow.new.sets (omega (arith, expression_room t read mid (expression_back t read))) c.narrow.auto.sets c.narrow.ensures.behind)
     (expression_kept_back t read)
 
 expression_kept_widen : (t : ℕ) (c : expression-lts.After-widen (expression_claims t) (expression_at t) expression.Post expression_Inv_loop expression_μ_loop)
@@ -235,7 +235,7 @@ expression_kept_widen t c =
     let entries = expression_entries t read in
     let after = joined.narrow.new.sets in
     kept_same entries after c.widen.new.sets
-    (kept_end (length entries) n (0 + n) after c.widen.new.sets (omega (arith, expression_room t read after (joined.narrow.kept.0 ∙ expression_back t read))) c.widen.auto.0 c.widen.ensures.behind)
+    (kept_end (length entries) n (0 + n) after c.widen.new.sets (omega (arith, expression_room t read after (joined.narrow.auto.sets ∙ expression_back t read))) c.widen.auto.sets c.widen.ensures.behind)
     (expression_kept_narrow t joined)
 
 expression_add_run_of : (t : ℕ) → expression-lts.Need-overflow_add-at (expression_claims t) (expression_at t) expression.Post expression_Inv_loop expression_μ_loop
@@ -320,7 +320,7 @@ expression_loop_again t c =
     let turn = expression_turning t read in
     let start = expression_begun t turn in
     let l = turn.loop-ands in (
-      joined.narrow.auto.0 ∙ expression_back t read ∙ l.invariant.0,
+      joined.narrow.auto.sets ∙ expression_back t read ∙ l.invariant.0,
       turn_and l.invariant.1 start.requires.1.1.0.tree.rooted (omega (arith, expression_enough t turn)) read.operand-place.ensures.0 refl joined.narrow.ensures c.if-ands-gt0.true,
       expression_entries_all t read ∙ l.invariant.2,
       expression_kept_narrow t joined.before.before.before,
@@ -332,7 +332,7 @@ expression_widen_requires t c κs =
     let read = expression_reading t joined.before.before.before.before in
     let turn = expression_turning t read in
     let l = turn.loop-ands in
-    λ z. omega (arith, expression_enough t turn, turn_base l.invariant.1 z, joined.narrow.auto.0, expression_back t read)
+    λ z. omega (arith, expression_enough t turn, turn_base l.invariant.1 z, joined.narrow.auto.sets, expression_back t read)
 
 expression_same_length : (t : ℕ) → expression-lts.Need-shape_of-sets-then-ors-eq0 (expression_claims t) (expression_at t) expression.Post expression_Inv_loop expression_μ_loop
 expression_same_length t c =
@@ -340,7 +340,7 @@ expression_same_length t c =
     let joined = expression_joining t added.before.before.before in
     let read = expression_reading t joined in
     let turn = expression_turning t read in
-    added.widen.auto.0 ∙ joined.narrow.kept.0 ∙ expression_back t read ∙ turn.loop-ands.invariant.0
+    added.widen.auto.sets ∙ joined.narrow.auto.sets ∙ expression_back t read ∙ turn.loop-ands.invariant.0
 
 expression_same_length_2 : (t : ℕ) → expression-lts.Need-shape_of-known-then-ors-eq0 (expression_claims t) (expression_at t) expression.Post expression_Inv_loop expression_μ_loop
 expression_same_length_2 t c =
@@ -399,7 +399,7 @@ expression_loop_again_2 t c =
     let turn = expression_turning t read in
     let start = expression_begun t turn in
     let l = turn.loop-ands in (
-      added.widen.auto.0 ∙ joined.narrow.kept.0 ∙ expression_back t read ∙ l.invariant.0,
+      added.widen.auto.sets ∙ joined.narrow.auto.sets ∙ expression_back t read ∙ l.invariant.0,
       turn_or l.invariant.1 start.requires.1.1.0.tree.rooted (omega (arith, expression_enough t turn)) read.operand-place.ensures.0 refl joined.narrow.ensures added.if-ands-gt0.false added.widen.ensures (omega (arith, c.if-ors-eq0.false)) c.run_of-ands-else-ands-gt0.ensures.0 c.run_of-ands-else-ands-gt0.ensures.1,
       expression_entries_all t read ∙ l.invariant.2,
       expression_kept_widen t added.before.before.before.before,
@@ -488,7 +488,7 @@ operand_enough : (t : ℕ) (c : operand-lts.After-expression-next (operand_claim
 operand_enough t c =
     let start = c in
     let a = start.args in
-    omega (arith, operand_room a.items.now a.at _ _ a.depth start.requires.1.1.1.0, spare_same (length a.parent.now) c.expression-next.new.sets a.sets.now c.expression-next.auto.1.1.1.1.1.1.1.0 c.expression-next.auto.1.1.1.1.1.1.0)
+    omega (arith, operand_room a.items.now a.at _ _ a.depth start.requires.1.1.1.0, spare_same (length a.parent.now) c.expression-next.new.sets a.sets.now c.expression-next.auto.known c.expression-next.auto.sets)
 
 operand_slice_relend_prefix_flip : (t : ℕ) → operand-lts.Need-slice_bounds-flip-end (operand_claims t) (operand_at t) operand.Post
 operand_slice_relend_prefix_flip t c =
@@ -512,15 +512,15 @@ operand_returns_2 t c =
     let deep = not_deep (table_of a.parent.now a.kind.now) a.given.now a.items.now a.at (length a.parent.now) _ a.depth f u.result s answered.in_default.in_default-own.keys2 in
     let n = length a.parent.now in
     let worked = answered.expression-next in
-    let sets = worked.new.1.1.1.1.1.1.0 in
-    let entries = worked.new.1.1.1.1.1.1.1.0 in
+    let sets = worked.new.sets in
+    let entries = worked.new.known in
     let flipped = c.flip in
     let len : length (take n sets) ≡ n = length-take-le n sets (omega (arith, operand_enough t answered.before.before.before.before.before.before.before.before)) in (
       closes_not (table_of a.parent.now a.kind.now) a.given.now a.items.now a.at (length a.parent.now) _ a.depth deep f _ sets _ (rw answered.in-Not.is at s) worked.ensures.0
           (λ g p.
-          front_back n (λ i. not (g i)) flipped.new.0 _
+          front_back n (λ i. not (g i)) flipped.new.set _
           (flipped.ensures g (p ∙ ap (λ (k : ℕ). bits k g) (sym len)) ∙ ap (λ (k : ℕ). bits k (λ i. not (g i))) len)),
-      kept_same entries sets (flipped.new.0 ++ drop n sets) (kept_front (length entries) n n sets flipped.new.0 (operand_enough t answered.before.before.before.before.before.before.before.before) (flipped.auto.0 ∙ len)) worked.ensures.1,
+      kept_same entries sets (flipped.new.set ++ drop n sets) (kept_front (length entries) n n sets flipped.new.set (operand_enough t answered.before.before.before.before.before.before.before.before) (flipped.auto.set ∙ len)) worked.ensures.1,
     )
 
 operand_sub_expression_2 : (t : ℕ) → operand-lts.Need-overflow_sub-depth-2 (operand_claims t) (operand_at t) operand.Post
@@ -676,7 +676,7 @@ path_filled t c =
 path_filled_length : (t : ℕ) (c : path-lts.After-fill (path_claims t) (path-at t) path.Post path_Inv_loop path_μ_loop) → length (path_filled t c) ≡ length (path_begun t c).args.sets.now
 path_filled_length t c =
     let start = path_begun t c in
-    front_length (path_all t start) start.args.sets.now c.fill.new.set (omega (arith, path_room t start)) c.fill.auto.0
+    front_length (path_all t start) start.args.sets.now c.fill.new.set (omega (arith, path_room t start)) c.fill.auto.set
 
 -- A turn has as many sets, and the same room.
 path_length : (t : ℕ) (c : path-lts.At-loop-left (path_claims t) (path-at t) path.Post path_Inv_loop path_μ_loop) → length c.loop-left.sets ≡ length (path_begun t (path_filling t c)).args.sets.now
@@ -712,7 +712,7 @@ path_restricted_length t c =
     let turn = path_turning t owed in
     let full = path_filling t turn in
     let start = path_begun t full in
-    front_length (path_all t start) turn.loop-left.sets c.restrict.new.set (omega (arith, path_enough t turn)) c.restrict.auto.1.1.1.0
+    front_length (path_all t start) turn.loop-left.sets c.restrict.new.set (omega (arith, path_enough t turn)) c.restrict.auto.set
 
 path_restricted_kept : (t : ℕ) (c : path-lts.After-restrict (path_claims t) (path-at t) path.Post path_Inv_loop path_μ_loop)
     → path_Kept t (path_begun t (path_filling t (path_turning t (path_owing t (path_finding t (path_stepping t c)))))) (path_turning t (path_owing t (path_finding t (path_stepping t c)))).loop-left.known (path_restricted t c)
@@ -726,7 +726,7 @@ path_restricted_kept t c =
     let n = path_all t start in
     let l = turn.loop-left in
     kept_same l.known l.sets (path_restricted t c)
-    (kept_front (length l.known) n n l.sets c.restrict.new.set (path_enough t turn) (c.restrict.auto.1.1.1.0 ∙ path_turn_front t turn)) l.invariant.4
+    (kept_front (length l.known) n n l.sets c.restrict.new.set (path_enough t turn) (c.restrict.auto.set ∙ path_turn_front t turn)) l.invariant.4
 
 -- The predicates have narrowed it.
 abbrev path_narrowed : (t : ℕ) → path-lts.After-predicates (path_claims t) (path-at t) path.Post path_Inv_loop path_μ_loop → List ℕ
@@ -738,7 +738,7 @@ path_entries t c = c.predicates.new.known
 path_narrowed_length : (t : ℕ) (c : path-lts.After-predicates (path_claims t) (path-at t) path.Post path_Inv_loop path_μ_loop) → length (path_narrowed t c) ≡ length (path_turning t (path_owing t (path_finding t (path_stepping t (path_testing t c))))).loop-left.sets
 path_narrowed_length t c =
     let tested = path_testing t c in
-    c.predicates.auto.1.1.1.1.1.1.1.0 ∙ path_restricted_length t tested
+    c.predicates.auto.sets ∙ path_restricted_length t tested
 
 path_narrowed_enough : (t : ℕ) (c : path-lts.After-predicates (path_claims t) (path-at t) path.Post path_Inv_loop path_μ_loop) → path_all t (path_begun t (path_filling t (path_turning t (path_owing t (path_finding t (path_stepping t (path_testing t c))))))) ≤ spare (length (path_entries t c)) (path_all t (path_begun t (path_filling t (path_turning t (path_owing t (path_finding t (path_stepping t (path_testing t c)))))))) (path_narrowed t c)
 path_narrowed_enough t c =
@@ -749,7 +749,7 @@ path_narrowed_enough t c =
     let turn = path_turning t owed in
     let full = path_filling t turn in
     let start = path_begun t full in
-    omega (arith, path_enough t turn, spare_same (path_all t start) (path_narrowed t c) turn.loop-left.sets c.predicates.auto.1.1.1.1.1.1.1.1.0 (path_narrowed_length t c))
+    omega (arith, path_enough t turn, spare_same (path_all t start) (path_narrowed t c) turn.loop-left.sets c.predicates.auto.known (path_narrowed_length t c))
 
 path_narrowed_front : (t : ℕ) (c : path-lts.After-predicates (path_claims t) (path-at t) path.Post path_Inv_loop path_μ_loop) → length (take (path_all t (path_begun t (path_filling t (path_turning t (path_owing t (path_finding t (path_stepping t (path_testing t c)))))))) (path_narrowed t c)) ≡ path_all t (path_begun t (path_filling t (path_turning t (path_owing t (path_finding t (path_stepping t (path_testing t c)))))))
 path_narrowed_front t c = length-take-le _ (path_narrowed t c) (omega (arith, path_narrowed_enough t c))
@@ -779,11 +779,11 @@ path_loop_holds t c =
     let n = length a.parent.now in
     let filled = full.fill in (
       refl,
-      path_begin (table_of a.parent.now a.kind.now) a.given.now a.items.now a.at n _ a.depth a.count start.requires.1.1.1.0 filled.new.0 _ (filled.ensures ∙ ap (λ (k : ℕ). replicate k 1) (path_front t start)),
+      path_begin (table_of a.parent.now a.kind.now) a.given.now a.items.now a.at n _ a.depth a.count start.requires.1.1.1.0 filled.new.set _ (filled.ensures ∙ ap (λ (k : ℕ). replicate k 1) (path_front t start)),
       c.look_first-places.ensures.0,
       refl,
       kept_same a.known.now a.sets.now (path_filled t full.before.before.before)
-          (kept_front (length a.known.now) n n a.sets.now filled.new.0 (path_room t start) (filled.auto.0 ∙ path_front t start)) start.requires.1.1.1.1,
+          (kept_front (length a.known.now) n n a.sets.now filled.new.set (path_room t start) (filled.auto.set ∙ path_front t start)) start.requires.1.1.1.1,
     )
 
 path_look_requires : (t : ℕ) → path-lts.Need-look-places-requires (path_claims t) (path-at t) path.Post path_Inv_loop path_μ_loop
@@ -927,8 +927,8 @@ path_loop_again t c =
     let same : said_step.0 ≡ h = some_inj (sym said_step.1 ∙ p) in
     let step_is = said_step.2 ∙ ap numbered same in
     let count : stepped.step_at-step.result.count ≡ h.count = ap (λ (x : Step). x.count) step_is in (
-      front_length n sets moved.new.1.1.0 (omega (arith, path_narrowed_enough t met.before.before.before.before.before.before.before.before.before)) moved.auto.1.1.0 ∙ path_narrowed_length t met.before.before.before.before.before.before.before.before.before ∙ l.invariant.0,
-      path_back (table_of a.parent.now kinds) a.given.now a.items.now a.at n _ a.depth a.count start.requires.1.1.1.0 (l.left - 1) looked.result.place h l.sets restricted.last.1.1.1.0 (drop n l.sets) sets moved.new.1.1.0 _
+      front_length n sets moved.new.set (omega (arith, path_narrowed_enough t met.before.before.before.before.before.before.before.before.before)) moved.auto.set ∙ path_narrowed_length t met.before.before.before.before.before.before.before.before.before ∙ l.invariant.0,
+      path_back (table_of a.parent.now kinds) a.given.now a.items.now a.at n _ a.depth a.count start.requires.1.1.1.0 (l.left - 1) looked.result.place h l.sets restricted.new.set (drop n l.sets) sets moved.new.set _
           (omega (arith, l.invariant.1.fewer, owed.loop-left-test.true)) here
           (subst (λ (k : ℕ). PathSet (table_of a.parent.now kinds) a.given.now a.items.now a.at n a.depth a.count k l.sets) (let e : l.left ≡ suc (l.left - 1) = omega (arith, owed.loop-left-test.true) in e) l.invariant.1)
           (λ g q.
@@ -941,8 +941,8 @@ path_loop_again t c =
           moved.ensures kinds (turned h.axis) g (c.turn.ensures h.axis (ap (λ (x : Step). x.axis) step_is)) (q ∙ ap (λ (k : ℕ). bits k g) (sym front2)) ∙
           ap (λ (k : ℕ). bits k (image (table_of a.parent.now kinds) (turned h.axis) g)) front2),
       looked.ensures.0,
-      narrowed.auto.1.1.1.1.1.1.1.1.0 ∙ l.invariant.3,
-      kept_same entries sets (moved.new.1.1.0 ++ drop n sets) (kept_front (length entries) n n sets moved.new.1.1.0 (path_narrowed_enough t met.before.before.before.before.before.before.before.before.before) (moved.auto.1.1.0 ∙ front2)) narrowed.ensures.1,
+      narrowed.auto.known ∙ l.invariant.3,
+      kept_same entries sets (moved.new.set ++ drop n sets) (kept_front (length entries) n n sets moved.new.set (path_narrowed_enough t met.before.before.before.before.before.before.before.before.before) (moved.auto.set ∙ front2)) narrowed.ensures.1,
     ))
 
 path_same_length : (t : ℕ) → path-lts.Need-shape_of-sets (path_claims t) (path-at t) path.Post path_Inv_loop path_μ_loop
@@ -963,8 +963,8 @@ path_returns t c =
     let a = start.args in
     let n = length a.parent.now in
     let l = turn.loop-left in (
-      path_done (table_of a.parent.now a.kind.now) a.given.now a.items.now a.at n _ a.depth a.count start.requires.1.1.1.0 _ l.sets-1
-          (subst (λ (k : ℕ). PathSet (table_of a.parent.now a.kind.now) a.given.now a.items.now a.at n a.depth a.count k l.sets-1) (let e : l.left ≡ 0 = omega (arith, c.loop-left-test.false) in e) l.invariant.1)
+      path_done (table_of a.parent.now a.kind.now) a.given.now a.items.now a.at n _ a.depth a.count start.requires.1.1.1.0 _ l.sets
+          (subst (λ (k : ℕ). PathSet (table_of a.parent.now a.kind.now) a.given.now a.items.now a.at n a.depth a.count k l.sets) (let e : l.left ≡ 0 = omega (arith, c.loop-left-test.false) in e) l.invariant.1)
           turn.look_first-places.ensures.1,
       l.invariant.4,
     )
@@ -1067,8 +1067,8 @@ predicate_returns t c =
     let room : from + n ≤ length a.sets.now = omega (arith, h) in
     let place : from ≡ spare (length known) n a.sets.now + n * slot = omega (arith, h) in (
       recalled a.depth (kept.each slot there.if-slot-known.true stands.used) stands start.requires.1.1.1.0
-          (copied_first room copied.auto.0 copied.ensures ∙ ap (λ (k : ℕ). take n (drop k a.sets.now)) place),
-      kept_same known a.sets.now copied.new.0 (kept_end (length known) n n a.sets.now copied.new.0 (omega (arith, h)) copied.auto.0 (copied_behind room copied.auto.0 copied.ensures)) kept,
+          (copied_first room copied.auto.sets copied.ensures ∙ ap (λ (k : ℕ). take n (drop k a.sets.now)) place),
+      kept_same known a.sets.now copied.new.sets (kept_end (length known) n n a.sets.now copied.new.sets (omega (arith, h)) copied.auto.sets (copied_behind room copied.auto.sets copied.ensures)) kept,
     )
 
 predicate_expression_requires : (t : ℕ) → predicate-lts.Need-expression-next-requires (predicate_claims t) (predicate_at t) predicate.Post
@@ -1084,15 +1084,12 @@ predicate_room_after t c =
     let looked = predicate_looking_past t c in
     let start = predicate_begun t looked in
     let n = predicate_all t start in
-    omega (arith, predicate_room t start, ap (λ (k : ℕ). n * k) c.expression-next.auto.1.1.1.1.1.1.1.0, c.expression-next.auto.1.1.1.1.1.1.0)
-
-predicate_few : (t : ℕ) (c : predicate-lts.After-expression-next (predicate_claims t) (predicate_at t) predicate.Post) → c.expression-next.result < 65536
-predicate_few t c = omega (arith, c.expression-next.ensures.0.inside, c.expression-next.ensures.1.few)
+    omega (arith, predicate_room t start, ap (λ (k : ℕ). n * k) c.expression-next.auto.known, c.expression-next.auto.sets)
 
 predicate_remember_requires : (t : ℕ) → predicate-lts.Need-remember-requires (predicate_claims t) (predicate_at t) predicate.Post
 predicate_remember_requires t c κs =
     let answered = c in
-    (predicate_room_after t answered.before.before.before.before.before.before, answered.expression-next.ensures.0.onward, predicate_few t answered.before.before.before.before.before.before)
+    (predicate_room_after t answered.before.before.before.before.before.before, answered.expression-next.ensures.0.onward)
 
 predicate_returns_2 : (t : ℕ) → predicate-lts.Need-returns (predicate_claims t) (predicate_at t) predicate.Post
 predicate_returns_2 t c =
@@ -1103,8 +1100,8 @@ predicate_returns_2 t c =
     let v = worked.ensures.0 in
     let kept = c.remember in
     let room = predicate_room_after t answered.before.before.before.before.before.before.before.before.before.before.before in (
-      record { what = v.what; reads = v.reads; onward = v.onward; inside = v.inside; set = front_remembered room kept.auto.0 kept.ensures ∙ v.set },
-      kept_remembered room kept.auto.0 (worked_out start.args.depth (predicate_few t answered.before.before.before.before.before.before.before.before.before.before.before) v) worked.ensures.1 kept.ensures,
+      record { what = v.what; reads = v.reads; onward = v.onward; inside = v.inside; set = front_remembered start.args.at worked.result room kept.auto.sets kept.ensures ∙ v.set },
+      kept_remembered start.args.at worked.result room kept.auto.sets (λ near. worked_out start.args.depth near v) worked.ensures.1 kept.ensures,
     )
 
 -- The other needs of `predicate` are found.
@@ -1233,7 +1230,7 @@ predicates_keep_second_requires t c κs =
     let l = turn.loop-owed in
     let n = length start.args.parent.now in
     let two = predicates_two t owed in
-    omega (arith, two, length_stays n l.sets told.predicate-place.new.sets (omega (arith, two)) told.predicate-place.auto.1.1.1.1.1.1.0)
+    omega (arith, two, length_stays n l.sets told.predicate-place.new.sets (omega (arith, two)) told.predicate-place.auto.sets)
 
 predicates_loop_again : (t : ℕ) → predicates-lts.Need-loop-owed-preserved (predicates_claims t) (predicates_at t) predicates.Post predicates_Inv_loop predicates_μ_loop
 predicates_loop_again t c =
@@ -1245,24 +1242,24 @@ predicates_loop_again t c =
     let l = turn.loop-owed in
     let n = length a.parent.now in
     let one = told.predicate-place in
-    let part = one.new.1.1.1.1.1.1.0 in
-    let entries = one.new.1.1.1.1.1.1.1.0 in
+    let part = one.new.sets in
+    let entries = one.new.known in
     let joined = c.keep_second in
     let v = one.ensures.0 in
     let two = predicates_two t owed in
     let on : n ≤ length l.sets = omega (arith, two) in
     let mid = put_mid n (length l.sets - n) l.sets part in
-    let size : length mid ≡ length l.sets = length_stays n l.sets part on one.auto.1.1.1.1.1.1.0 in
-    let all : length entries ≡ length l.known = one.auto.1.1.1.1.1.1.1.0 in
+    let size : length mid ≡ length l.sets = length_stays n l.sets part on one.auto.sets in
+    let all : length entries ≡ length l.known = one.auto.known in
     pred_fits (table_of a.parent.now a.kind.now) a.given.now a.items.now a.at n a.depth _ _ l.place l.owed _ l.sets owed.loop-owed-test.true start.requires.1.1.1.0 l.invariant.1
     (λ deep fit room. (
-      joined.auto.0 ∙ size ∙ l.invariant.0,
-      preds_more (table_of a.parent.now a.kind.now) a.given.now a.items.now a.at n a.depth _ l.place l.owed _ v.what _ l.sets part joined.new.0 owed.loop-owed-test.true deep l.invariant.1 v.reads v.onward v.inside v.set
+      joined.auto.sets ∙ size ∙ l.invariant.0,
+      preds_more (table_of a.parent.now a.kind.now) a.given.now a.items.now a.at n a.depth _ l.place l.owed _ v.what _ l.sets part joined.new.sets owed.loop-owed-test.true deep l.invariant.1 v.reads v.onward v.inside v.set
           (λ f g p q. front_is n (λ i. f i && g i) _ _ (joined.ensures.0 f g (first_stays n l.sets part on ∙ p) (second_comes n l.sets part on ∙ q))),
       all ∙ l.invariant.2,
-      kept_same entries mid joined.new.0
-          (kept_end (length entries) n n mid joined.new.0 (omega (arith, two, spare_same n mid l.sets all size)) joined.auto.0 joined.ensures.1)
-          (kept_same entries part mid (sym (kept_back (length entries) n n l.sets part (omega (arith, two, spare_same n l.sets l.sets all refl)) one.auto.1.1.1.1.1.1.0)) one.ensures.1),
+      kept_same entries mid joined.new.sets
+          (kept_end (length entries) n n mid joined.new.sets (omega (arith, two, spare_same n mid l.sets all size)) joined.auto.sets joined.ensures.1)
+          (kept_same entries part mid (sym (kept_back (length entries) n n l.sets part (omega (arith, two, spare_same n l.sets l.sets all refl)) one.auto.sets)) one.ensures.1),
     ))
 
 predicates_same_length : (t : ℕ) → predicates-lts.Need-shape_of-sets (predicates_claims t) (predicates_at t) predicates.Post predicates_Inv_loop predicates_μ_loop

@@ -72,7 +72,7 @@ abbrev moved : tie.After-along invariant-loop decreases-loop → List ℕ
 moved c = c.along.new.set ++ drop (all (begun (moving c))) (moving c).loop-left.sets
 
 moved_length : (c : tie.After-along invariant-loop decreases-loop) → length (moved c) ≡ length (moving c).loop-left.sets
-moved_length c = front_length (all (begun (moving c))) (moving c).loop-left.sets c.along.new.set (omega (arith, room (moving c))) c.along.auto.1.1.0
+moved_length c = front_length (all (begun (moving c))) (moving c).loop-left.sets c.along.new.set (omega (arith, room (moving c))) c.along.auto.set
 
 moved_room : (c : tie.After-along invariant-loop decreases-loop) → all (begun (moving c)) ≤ spare (length (moving c).loop-left.known) (all (begun (moving c))) (moved c)
 moved_room c = omega (arith, room (moving c), spare_same {slots = length (moving c).loop-left.known} (all (begun (moving c))) (moved c) (moving c).loop-left.sets refl (moved_length c))
@@ -85,7 +85,7 @@ moved_kept : (c : tie.After-along invariant-loop decreases-loop)
 moved_kept c =
     let turn = moving c in
     kept_same turn.loop-left.known turn.loop-left.sets (moved c)
-    (kept_front (length turn.loop-left.known) (all (begun turn)) (all (begun turn)) turn.loop-left.sets c.along.new.set (room turn) (c.along.auto.1.1.0 ∙ front turn)) turn.loop-left.invariant.3
+    (kept_front (length turn.loop-left.known) (all (begun turn)) (all (begun turn)) turn.loop-left.sets c.along.new.set (room turn) (c.along.auto.set ∙ front turn)) turn.loop-left.invariant.3
 
 -- Marks and test are applied to it.
 abbrev testing : tie.After-restrict invariant-loop decreases-loop → tie.After-along invariant-loop decreases-loop
@@ -99,14 +99,14 @@ tested c = c.restrict.new.set ++ drop (all (begun (tested-turn c))) (moved (test
 
 tested_length : (c : tie.After-restrict invariant-loop decreases-loop) → length (tested c) ≡ length (begun (tested-turn c)).args.sets.now
 tested_length c =
-    front_length (all (begun (tested-turn c))) (moved (testing c)) c.restrict.new.set (omega (arith, moved_room (testing c))) c.restrict.auto.1.1.1.0 ∙ moved_length (testing c) ∙ (tested-turn c).loop-left.invariant.0
+    front_length (all (begun (tested-turn c))) (moved (testing c)) c.restrict.new.set (omega (arith, moved_room (testing c))) c.restrict.auto.set ∙ moved_length (testing c) ∙ (tested-turn c).loop-left.invariant.0
 
 tested_kept : (c : tie.After-restrict invariant-loop decreases-loop)
     → Kept (table (begun (tested-turn c))) (begun (tested-turn c)).args.given.now (begun (tested-turn c)).args.items.now (all (begun (tested-turn c))) (tested-turn c).loop-left.known (tested c)
 tested_kept c =
     let turn = tested-turn c in
     kept_same turn.loop-left.known (moved (testing c)) (tested c)
-    (kept_front (length turn.loop-left.known) (all (begun turn)) (all (begun turn)) (moved (testing c)) c.restrict.new.set (moved_room (testing c)) (c.restrict.auto.1.1.1.0 ∙ moved_front (testing c))) (moved_kept (testing c))
+    (kept_front (length turn.loop-left.known) (all (begun turn)) (all (begun turn)) (moved (testing c)) c.restrict.new.set (moved_room (testing c)) (c.restrict.auto.set ∙ moved_front (testing c))) (moved_kept (testing c))
 
 loop-holds : tie.Need-loop-left-init invariant-loop decreases-loop
 loop-holds c =
@@ -200,17 +200,17 @@ loop-again c =
     let same : said_step.0 ≡ h = some_inj (sym said_step.1 ∙ p) in
     let step_is = said_step.2 ∙ ap numbered same in
     let count : stepped.result.count ≡ h.count = ap (λ (x : Step). x.count) step_is in (
-      narrowed.auto.1.1.1.1.1.1.1.0 ∙ tested_length met.before.before.before.before.before.before.before.before.before,
-      going_on (table start) a.given.now a.items.now a.at a.count (lent start) start.requires.1.0 l.place l.left narrowed.result h _ l.sets along.last.1.1.0 (drop n (moved (testing met.before.before.before.before.before.before.before.before.before))) restricted.new.1.1.1.0 narrowed.new.1.1.1.1.1.1.1.0 wanted l.invariant.1 next
+      narrowed.auto.sets ∙ tested_length met.before.before.before.before.before.before.before.before.before,
+      going_on (table start) a.given.now a.items.now a.at a.count (lent start) start.requires.1.0 l.place l.left narrowed.result h _ l.sets along.new.set (drop n (moved (testing met.before.before.before.before.before.before.before.before.before))) restricted.new.set narrowed.new.sets wanted l.invariant.1 next
           (λ x q.
           along.ensures kinds h.axis x (ap (λ (y : Step). y.axis) step_is) (q ∙ ap (λ (k : ℕ). bits k x) (sym (front turn))) ∙
           ap (λ (k : ℕ). bits k (image (table start) h.axis x)) (front turn))
           (λ x q.
-          restricted.ensures h.test x (step_found _ h p).1 (ap (λ (y : Step). y.test) step_is) (front_back n x along.last.1.1.0 (drop n l.sets) q ∙ ap (λ (k : ℕ). bits k x) (sym (moved_front (testing met.before.before.before.before.before.before.before.before.before)))) ∙
+          restricted.ensures h.test x (step_found _ h p).1 (ap (λ (y : Step). y.test) step_is) (front_back n x along.new.set (drop n l.sets) q ∙ ap (λ (k : ℕ). bits k x) (sym (moved_front (testing met.before.before.before.before.before.before.before.before.before)))) ∙
           ap (λ (k : ℕ). bits k (λ i. (x i && marked a.given.now i) && meets h.test (get_or kinds i 0))) (moved_front (testing met.before.before.before.before.before.before.before.before.before)))
-          (subst (λ (k : ℕ). Narrows a.items.now (l.place + 1) n (take_preds (take_within bracket_limit) k (drop (l.place + 1) a.items.now)) (all_hold (table start) a.given.now) narrowed.result (tested met.before.before.before.before.before.before.before.before.before) narrowed.new.1.1.1.1.1.1.1.0)
+          (subst (λ (k : ℕ). Narrows a.items.now (l.place + 1) n (take_preds (take_within bracket_limit) k (drop (l.place + 1) a.items.now)) (all_hold (table start) a.given.now) narrowed.result (tested met.before.before.before.before.before.before.before.before.before) narrowed.new.sets)
           count narrowed.ensures.0),
-      narrowed.auto.1.1.1.1.1.1.1.1.0 ∙ l.invariant.2,
+      narrowed.auto.known ∙ l.invariant.2,
       narrowed.ensures.1,
     ))
 

@@ -47,12 +47,11 @@ select-requires c κs =
         start.requires.1.0,
         (
           record {
-            few = runs.few;
             query = runs.query;
             decodes = runs.decodes;
             room_for = omega (arith, runs.room_for, slots.slots_in-slots.ensures.1, ap (λ (k : ℕ). all start.before.before.before.before.before.before.before.before.before.before * k) (as_many slots.before.before.before (replicate {A = ℕ} 32 0) refl));
           },
-          none_kept 32 slots.slots_in-slots.result runs.few,
+          none_kept 32 slots.slots_in-slots.result,
         ),
       ),
     )
@@ -62,7 +61,7 @@ abbrev chosen-in : tie.After-select → tie.Start
 chosen-in c = c.before.before.before.before.before.before.before.before.before.before.before
 
 chosen_room : (c : tie.After-select) → all (chosen-in c) ≤ length c.select.new.sets
-chosen_room c = omega (arith, room (chosen-in c), c.select.auto.1.1.1.1.1.0)
+chosen_room c = omega (arith, room (chosen-in c), c.select.auto.sets)
 
 chosen_front : (c : tie.After-select) → length (take (all (chosen-in c)) c.select.new.sets) ≡ all (chosen-in c)
 chosen_front c = length-take-le (all (chosen-in c)) c.select.new.sets (chosen_room c)
@@ -77,7 +76,7 @@ spread-requires : tie.Need-spread-requires
 spread-requires c κs =
     let chosen = c in
     let start = chosen-in chosen.before.before.before.before.before.before.before in
-    (start.requires.0, (chosen.select.auto.1.1.1.1.0 ∙ start.requires.1.0, chosen_front chosen.before.before.before.before.before.before.before))
+    (start.requires.0, (chosen.select.auto.marks ∙ start.requires.1.0, chosen_front chosen.before.before.before.before.before.before.before))
 
 fill-requires : tie.Need-fill-requires
 fill-requires c κs = search rules
@@ -99,7 +98,7 @@ returns c =
     let sets = chosen.select.new.sets in
     let spreads = over.spread in
     let cleared = c.fill in
-    let as_long : length (spreads.new.1.1.1.1.0 ++ drop n sets) ≡ length a.sets.now = front_length n sets spreads.new.1.1.1.1.0 (chosen_room chosen.before.before.before.before.before.before.before.before.before.before.before.before.before.before.before.before) spreads.auto.1.1.1.1.0 ∙ chosen.select.auto.1.1.1.1.1.0 in (
+    let as_long : length (spreads.new.set ++ drop n sets) ≡ length a.sets.now = front_length n sets spreads.new.set (chosen_room chosen.before.before.before.before.before.before.before.before.before.before.before.before.before.before.before.before) spreads.auto.set ∙ chosen.select.auto.sets in (
       λ q e. spreads.ensures.0 (selects (table_of a.parent.now a.kind.now) a.given.now q) (chosen.select.ensures q e),
       cleared.ensures ∙ ap (λ (k : ℕ). replicate k 0) as_long,
     )

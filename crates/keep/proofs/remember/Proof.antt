@@ -14,7 +14,7 @@ use Rattle.keep.proofs.remember.Tie as tie
 
 -- An entry is free.
 abbrev begun : tie.Else-slot-known → tie.Start
-begun c = c.before.before.before.before.before
+begun c = c.before.before.before.before.before.before
 
 inside : (c : tie.Else-slot-known) → c.free-slot.result < length (begun c).args.known.now
 inside c = omega (arith, c.free-slot.ensures, c.if-slot-known.false)
@@ -35,14 +35,17 @@ sub-if1 c = search rules
 returns : tie.Need-returns-then-next-at-lt-LEAST
 returns c = inl (refl, refl)
 
+returns-2 : tie.Need-returns-then-next-ge-SPAN
+returns-2 c = inl (refl, refl)
+
 free-requires : tie.Need-free-slot-requires
 free-requires c κs = search rules
 
 same_length : tie.Need-shape_of-known-then-slot-known
 same_length c = search rules
 
-returns-2 : tie.Need-returns-then-slot-known
-returns-2 c = inl (refl, refl)
+returns-3 : tie.Need-returns-then-slot-known
+returns-3 c = inl (refl, refl)
 
 sub-to : tie.Need-overflow_sub-to
 sub-to c = search rules
@@ -77,17 +80,19 @@ same-length-2 c = search rules
 same-length-3 : tie.Need-shape_of-known
 same-length-3 c = search rules
 
-returns-3 : tie.Need-returns
-returns-3 c =
+returns-4 : tie.Need-returns
+returns-4 c =
     let free = c in
     let start = free in
-    inr
-    (record {
-      slot = free.free-slot.result;
-      there = omega (arith, inside free.before.before.before.before);
-      entries = refl;
-      copy = subst (λ (to : ℕ). Copied 0 to start.args.n start.args.sets.now c.copy_set.new.sets) (sym (place free.before.before.before.before)) c.copy_set.ensures;
-    })
+    inr (
+      omega arith,
+      record {
+        slot = free.free-slot.result;
+        there = omega (arith, inside free.before.before.before.before);
+        entries = refl;
+        copy = subst (λ (to : ℕ). Copied 0 to start.args.n start.args.sets.now c.copy_set.new.sets) (sym (place free.before.before.before.before)) c.copy_set.ensures;
+      },
+    )
 
 pub remember_spec : {M : Type 1} → statement M
 remember_spec =
@@ -95,9 +100,10 @@ remember_spec =
     (tie.spec
     sub-if1
     returns
+    returns-2
     free-requires
     same_length
-    returns-2
+    returns-3
     sub-to
     mul-to
     sub-to-2
@@ -109,4 +115,4 @@ remember_spec =
     slice-write-known
     same-length-2
     same-length-3
-    returns-3)
+    returns-4)

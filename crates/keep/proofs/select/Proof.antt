@@ -91,14 +91,14 @@ rooted c = c.start.new.set ++ drop (all (read-in (rooted-in c))) (read-in (roote
 rooted_length : (c : tie.After-start invariant-loop decreases-loop) → length (rooted c) ≡ length (begun (read-in (rooted-in c))).args.sets.now
 rooted_length c =
     let turn = read-in (rooted-in c) in
-    front_length (all turn) turn.loop-place.sets c.start.new.set (omega (arith, room turn)) c.start.auto.1.0 ∙ turn.loop-place.invariant.0
+    front_length (all turn) turn.loop-place.sets c.start.new.set (omega (arith, room turn)) c.start.auto.set ∙ turn.loop-place.invariant.0
 
 rooted_kept : (c : tie.After-start invariant-loop decreases-loop)
     → Kept (table (begun (read-in (rooted-in c)))) (given (begun (read-in (rooted-in c)))) (items (begun (read-in (rooted-in c)))) (all (read-in (rooted-in c))) (read-in (rooted-in c)).loop-place.known (rooted c)
 rooted_kept c =
     let turn = read-in (rooted-in c) in
     kept_same turn.loop-place.known turn.loop-place.sets (rooted c)
-    (kept_front (length turn.loop-place.known) (all turn) (all turn) turn.loop-place.sets c.start.new.set (room turn) (c.start.auto.1.0 ∙ front turn)) turn.loop-place.invariant.4
+    (kept_front (length turn.loop-place.known) (all turn) (all turn) turn.loop-place.sets c.start.new.set (room turn) (c.start.auto.set ∙ front turn)) turn.loop-place.invariant.4
 
 -- It is moved along the path.
 abbrev moved_in : tie.After-forward-place invariant-loop decreases-loop → tie.After-start invariant-loop decreases-loop
@@ -111,7 +111,7 @@ abbrev moved : tie.After-forward-place invariant-loop decreases-loop → List �
 moved c = c.forward-place.new.sets
 
 moved_length : (c : tie.After-forward-place invariant-loop decreases-loop) → length (moved c) ≡ length (begun (moved-turn c)).args.sets.now
-moved_length c = c.forward-place.auto.1.1.1.1.1.1.0 ∙ rooted_length (moved_in c)
+moved_length c = c.forward-place.auto.sets ∙ rooted_length (moved_in c)
 
 moved_room : (c : tie.After-forward-place invariant-loop decreases-loop) → all (moved-turn c) ≤ length (moved c)
 moved_room c = omega (arith, moved_length c, (moved-turn c).loop-place.invariant.0, room (moved-turn c))
@@ -124,7 +124,7 @@ loop-holds c =
     let filled = c.fill in
     let start = c in (
       refl,
-      filled.auto.0 ∙ start.requires.1.0,
+      filled.auto.set ∙ start.requires.1.0,
       paths_begin (table start.before.before.before.before.before.before.before.before.before.before.before) (given start.before.before.before.before.before.before.before.before.before.before.before) (items start.before.before.before.before.before.before.before.before.before.before.before) _ _ (runs start.before.before.before.before.before.before.before.before.before.before.before) (filled.ensures ∙ ap (λ (k : ℕ). replicate k 0) start.requires.1.0),
       refl,
       start.requires.1.1.1,
@@ -194,14 +194,14 @@ loop-again c =
     let t = table start in
     let from_root : ℕ → Bool = λ i. eqb i 0 && marked (given start) 0 in (
       moved_length gone.before.before.before.before.before.before.before.before,
-      added.auto.1.0 ∙ l.invariant.1,
-      path_added t (given start) (items start) (lent start) (runs start) l.place gone.forward-place.result _ l.marks l.sets (rooted root) (moved gone.before.before.before.before.before.before.before.before) added.new.1.0 l.invariant.2 (next (rooted-in root))
+      added.auto.set ∙ l.invariant.1,
+      path_added t (given start) (items start) (lent start) (runs start) l.place gone.forward-place.result _ l.marks l.sets (rooted root) (moved gone.before.before.before.before.before.before.before.before) added.new.set l.invariant.2 (next (rooted-in root))
           (front_back (nodes t) from_root root.start.new.set _ (root.start.ensures ∙ ap (λ (k : ℕ). bits k from_root) (front turn)))
           gone.forward-place.ensures.0
           (λ f g x y.
           added.ensures f g (x ∙ ap (λ (k : ℕ). bits k f) (sym l.invariant.1)) (y ∙ ap (λ (k : ℕ). bits k g) (sym l.invariant.1)) ∙ ap (λ (k : ℕ). bits k (λ i. f i || g i)) l.invariant.1)
           start.requires.0.tree.rooted,
-      gone.forward-place.auto.1.1.1.1.1.1.1.0 ∙ l.invariant.3,
+      gone.forward-place.auto.known ∙ l.invariant.3,
       gone.forward-place.ensures.1,
     )
 

@@ -9,7 +9,7 @@ use Rattle.kept_file.proofs.file.Tie as tie
 
 -- What a count left of the empty part that it was lent.
 abbrev kept-none : tie.After-write_kept-needed → List ℕ
-kept-none c = c.write-Kept.new.1.1.1.1.1.1.0
+kept-none c = c.write_kept-needed.new.out
 
 abbrev begun : tie.After-write_kept-needed → tie.Start
 begun c = c.before.before.before.before.before.before.before.before.before

@@ -28,7 +28,7 @@ abbrev begun : tie.After-mark → tie.Start
 begun c = c.before.before.before.before
 
 part_length : (c : tie.After-mark) → length c.mark.new.marks ≡ length (take (length (items (begun c))) (set (marks (begun c)) 0 1))
-part_length c = c.mark.auto.1.0
+part_length c = c.mark.auto.marks
 
 slice-write-marks : tie.Need-bounds-marks-0
 slice-write-marks c = omega (arith, long c.before.before)

@@ -67,7 +67,7 @@ returns c =
     let spaced = numbered in
     let named = spaced in
     let begun = named in
-    let number = puts_as (ap decimal begun.number_of_lem.ensures) numbered.put_decimal-numbered.ensures.0 in
+    let number = puts_as (ap decimal begun.number_of-number.ensures) numbered.put_decimal-numbered.ensures.0 in
     let place = puts_as (ap decimal begun.place_of-place.ensures) placed.put_decimal-placed.ensures.0 in
     record {
       puts = puts_both (puts_both (puts_both (puts_both (puts_both (puts_both begun.put-begun.ensures named.put-named.ensures) spaced.put-spaced.ensures) number) apart.put-apart.ensures) place) ended.put.ensures;

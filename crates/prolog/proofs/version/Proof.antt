@@ -25,7 +25,7 @@ abbrev found_name : tie.In-At → tie.After-given-behind
 found_name c = c.before
 
 abbrev begun : tie.In-At → tie.Start
-begun c = (found_name c).before.before.before
+begun c = (found_name c).before.before.before.before
 
 abbrev value-start : tie.In-At → ℕ
 value-start c = c.in-At.from

@@ -79,7 +79,7 @@ returns-5 c =
       enough_room _ _ _ (sized c.before.before) c.if-room-end.false c.if-end-gt-ITEM_LIMIT.false ∙ any_later _ _ _ _ _ (sized c.before.before),
       λ n e.
           subst (λ (m : ℕ). (m ≤ c.args.room) × Kept few o m) (value_same _ n e)
-          (c.if-room-end.false, kept_few _ _ _ _ c.paths-whole.auto.1.1.1.1.1.0 (whole c.before.before) c.if-end-gt-ITEM_LIMIT.false),
+          (c.if-room-end.false, kept_few _ _ _ _ c.paths-whole.auto.out (whole c.before.before) c.if-end-gt-ITEM_LIMIT.false),
     )
 
 pub answer_spec : {M : Type 1} → statement M

@@ -174,7 +174,7 @@ bracketed_returns_2 t c =
     let s = bracketed_start t (bracketed_lent t allowed) in
     let newer = s.args.newer in
     let look = look_of s.args.lookup s.args.list.now in
-    passed_on _ _ _ _ _ _ _ _ _ _ _ _ _ _ _ _ _ _ read.expression-inner.result c.in-Done.in-Done-own.keys2 read.expression-inner.ensures
+    passed_on _ _ _ _ _ _ _ _ _ _ _ _ _ _ _ _ _ _ read.expression-inner.result c.in_default.in_default-own.keys2 read.expression-inner.ensures
     (λ n place h. ap (λ x. then x (pass_sort s.args.closer)) (opened newer look s.args.depth s.args.bracket (tokens_at s.args.text.now s.args.cursor.at) allowed.if-depth-eq0.false ∙ h))
 
 bracketed_mark_requires : (t : ℕ) → bracketed-lts.Need-mark-close-requires (bracketed_claims t) (bracketed_at t) bracketed.Post
@@ -242,11 +242,11 @@ expression_claims t = (
 )
 
 abbrev expression_Inv_loop : expression-lts.invariant-loop-next
-expression_Inv_loop text list starts count lookup depth out₀ slot newer here₀ filled₀ begun₀ ands₀ ors₀ t23 t24 out here filled begun ands ors =
+expression_Inv_loop text list starts count lookup depth out₀ slot newer here₀ filled₀ begun₀ ands₀ ors₀ out here filled begun ands ors =
     (length out ≡ length out₀) × Turn newer (look_of lookup list) (read_within newer (look_of lookup list) depth) text out₀ here₀.at slot out here.at filled begun ands ors
 
 abbrev expression_μ_loop : expression-lts.decreases-loop-next
-expression_μ_loop text list starts count lookup depth out₀ slot newer here₀ filled₀ begun₀ ands₀ ors₀ t23 t24 out here filled begun ands ors =
+expression_μ_loop text list starts count lookup depth out₀ slot newer here₀ filled₀ begun₀ ands₀ ors₀ out here filled begun ands ors =
     length text - here.at
 
 abbrev Expression-start : ℕ → Type 0
@@ -306,7 +306,7 @@ expression_returns t c =
     let look = look_of s.args.lookup s.args.list.now in
     let within = read_within newer look s.args.depth in
     let turn = turn-place.loop-next.invariant.1 in
-    passed_on _ _ _ _ _ _ _ _ _ _ _ _ _ _ _ _ _ _ read.operand-one.result c.in-Done.in-Done-own.keys2 read.operand-one.ensures (turn_stuck newer look within _ _ _ _ _ _ _ _ _ _ turn)
+    passed_on _ _ _ _ _ _ _ _ _ _ _ _ _ _ _ _ _ _ read.operand-one.result c.in_default.in_default-own.keys2 read.operand-one.ensures (turn_stuck newer look within _ _ _ _ _ _ _ _ _ _ turn)
 
 expression_word_ahead_requires : (t : ℕ) → expression-lts.Need-word_ahead-and-requires (expression_claims t) (expression_at t) expression.Post expression_Inv_loop expression_μ_loop
 expression_word_ahead_requires t c κs =
@@ -407,17 +407,6 @@ expression_add_closed t c =
     let g = rw one.in-Done.is at read.operand-one.ensures in
     let l = operands newer look within _ _ _ _ _ _ _ _ _ _ turn _ _ _ g in
     omega (arith, l.grows, l.inside, turn.outer.grows, s.requires.1.0.short, s.requires.1.1)
-
-expression-slice-aggregate-word-ahead-2 :
-    (t : ℕ) → expression-lts.Need-slice-aggregate-word-ahead-2 (
-      operand_below t,
-      operand.Post,
-      word-ahead-reads.Asked,
-      word-ahead-reads.Learnt,
-      group-Reads.Asked,
-      group-Reads.Learnt,
-    ) (expression_at t) expression.Post expression_Inv_loop expression_μ_loop
-expression-slice-aggregate-word-ahead-2 t c = search rules
 
 expression_word_ahead_requires_2 : (t : ℕ) → expression-lts.Need-word_ahead-or-requires (expression_claims t) (expression_at t) expression.Post expression_Inv_loop expression_μ_loop
 expression_word_ahead_requires_2 t c κs =
@@ -624,7 +613,7 @@ operand_returns t c =
     let look = look_of s.args.lookup s.args.list.now in
     let within = read_within newer look s.args.depth in
     let n = rw not.in-Not.is at opening.opening-opens.ensures in
-    passed_on _ _ _ _ _ _ _ _ _ _ _ _ _ _ _ _ _ _ denied.bracketed-inner.result c.in-Done.in-Done-own.keys2 denied.bracketed-inner.ensures (λ k place h. not_stuck newer look within _ s.args.out.now _ s.args.slot _ _ k place n h)
+    passed_on _ _ _ _ _ _ _ _ _ _ _ _ _ _ _ _ _ _ denied.bracketed-inner.result c.in_default.in_default-own.keys2 denied.bracketed-inner.ensures (λ k place h. not_stuck newer look within _ s.args.out.now _ s.args.slot _ _ k place n h)
 
 operand_put_requires : (t : ℕ) → operand-lts.Need-put-requires (operand_claims t) (operand_at t) operand.Post
 operand_put_requires t c κs = search rules
@@ -782,7 +771,7 @@ predicates_returns t c =
     let within = read_within newer look s.args.depth in
     let l = turn.loop-bracket.invariant.1 in
     let m = rw square.in-There.is at asked.mark-square.ensures in
-    λ a t' ea et. passed_on _ _ _ _ _ _ _ _ _ _ _ _ _ _ _ _ _ _ read.bracketed-one.result c.in-Done.in-Done-own.keys2 read.bracketed-one.ensures
+    λ a t' ea et. passed_on _ _ _ _ _ _ _ _ _ _ _ _ _ _ _ _ _ _ read.bracketed-one.result c.in_default-one.in_default-one-own.keys2 read.bracketed-one.ensures
     (preds_stuck newer look within _ _ _ _ _ _ _ _ l _ _ m.0 m.1 m.2 a t')
 
 predicates_add_taken : (t : ℕ) → predicates-lts.Need-overflow_add-taken (predicates_claims t) (predicates_at t) predicates.Post predicates_Inv_loop predicates_μ_loop
@@ -1052,7 +1041,7 @@ steps_returns t c =
     let look = look_of s.args.lookup s.args.list.now in
     let within = read_within newer look s.args.depth in
     let l = turn.loop-next.invariant.1 in
-    passed_on _ _ _ _ _ _ _ _ _ _ _ _ _ _ _ _ _ _ read.step-one.result c.in-Done.in-Done-own.keys2 read.step-one.ensures (step_stuck newer look within _ _ _ _ _ _ _ _ _ _ l)
+    passed_on _ _ _ _ _ _ _ _ _ _ _ _ _ _ _ _ _ _ read.step-one.result c.in_default.in_default-own.keys2 read.step-one.ensures (step_stuck newer look within _ _ _ _ _ _ _ _ _ _ l)
 
 steps_sub_taken : (t : ℕ) → steps-lts.Need-overflow_sub-taken (steps_claims t) (steps_at t) steps.Post steps_Inv_loop steps_μ_loop
 steps_sub_taken t c = search rules
@@ -1177,7 +1166,6 @@ pub +bracketed_expression_operand_predicates_step_steps_spec : {M : Type 1} → 
     (expression_enum_told t)
     (expression_group_requires t)
     (expression_add_closed t)
-    (expression-slice-aggregate-word-ahead-2 t)
     (expression_word_ahead_requires_2 t)
     (expression_enum_known_or t)
     (expression_enum_told_2 t)

@@ -17,7 +17,7 @@ start_of c = c.before.before.before.before.before
 abbrev Line-1 : tie.After-outside-5 → Bool
 Line-1 c =
     let a = (start_of c).args in
-    Wrong a.nodes a.outer-height a.outer-paths a.inner-height a.inner-paths
+    Wrong a.nodes a.outer_height a.outer_paths a.inner_height a.inner_paths
 
 abbrev tested : tie.After-outside-5 → Bool
 tested c =
@@ -36,13 +36,13 @@ line_1 c =
 right : (c : tie.Else-wrong) → Line-1 c.before ≡ false
 right c = sym (line_1 c.before) ∙ c.if-wrong.false
 
-few : (c : tie.Else-wrong) → let a = (start_of c.before).args in Inside a.nodes a.outer-height a.outer-paths a.inner-height a.inner-paths
+few : (c : tie.Else-wrong) → let a = (start_of c.before).args in Inside a.nodes a.outer_height a.outer_paths a.inner_height a.inner_paths
 few c = all_inside _ _ _ _ _ (right c)
 
 -- What is computed is the number of the definition.
 bytes : (c : tie.After-larger) → let a = (start_of c.before.before).args in
-    a.nodes * 2 * (a.outer-height + c.larger.result + a.inner-paths + 1 + 1) ≡ scratch_bytes a.nodes a.outer-height a.inner-height a.inner-paths
-bytes c = let a = (start_of c.before.before).args in ap (λ (k : ℕ). a.nodes * 2 * (a.outer-height + k + a.inner-paths + 1 + 1)) c.larger.ensures
+    a.nodes * 2 * (a.outer_height + c.larger.result + a.inner_paths + 1 + 1) ≡ scratch_bytes a.nodes a.outer_height a.inner_height a.inner_paths
+bytes c = let a = (start_of c.before.before).args in ap (λ (k : ℕ). a.nodes * 2 * (a.outer_height + k + a.inner_paths + 1 + 1)) c.larger.ensures
 
 outside-requires : tie.Need-outside-requires
 outside-requires c κs = search rules

@@ -82,7 +82,7 @@ returns c =
     let q = query start.before.before.before.before.before in
     let t = table start.before.before.before.before.before in
     let g = given start.before.before.before.before.before in
-    judged_long q t g a.marks-room a.scratch-room (or_left (not (eqb a.marks-room (nodes t))) (or_left (not (eqb (length g) (nodes t))) (or_left (not (eqb (length t.kinds) (nodes t))) (or_left (ltb node_limit (nodes t)) (lt-ltb item_limit (length q) c.if-query-gt-ITEM_LIMIT.true)))))
+    judged_long q t g a.marks_room a.scratch_room (or_left (not (eqb a.marks_room (nodes t))) (or_left (not (eqb (length g) (nodes t))) (or_left (not (eqb (length t.kinds) (nodes t))) (or_left (ltb node_limit (nodes t)) (lt-ltb item_limit (length q) c.if-query-gt-ITEM_LIMIT.true)))))
 
 returns-2 : tie.Need-returns-then-n-gt-NODE_LIMIT
 returns-2 c =
@@ -91,7 +91,7 @@ returns-2 c =
     let q = query start.before.before.before.before.before.before in
     let t = table start.before.before.before.before.before.before in
     let g = given start.before.before.before.before.before.before in
-    judged_long q t g a.marks-room a.scratch-room (or_left (not (eqb a.marks-room (nodes t))) (or_left (not (eqb (length g) (nodes t))) (or_left (not (eqb (length t.kinds) (nodes t))) (or_right (too_long q item_limit) (lt-ltb node_limit (nodes t) c.if-n-gt-NODE_LIMIT.true)))))
+    judged_long q t g a.marks_room a.scratch_room (or_left (not (eqb a.marks_room (nodes t))) (or_left (not (eqb (length g) (nodes t))) (or_left (not (eqb (length t.kinds) (nodes t))) (or_right (too_long q item_limit) (lt-ltb node_limit (nodes t) c.if-n-gt-NODE_LIMIT.true)))))
 
 returns-3 : tie.Need-returns-then-kind-n
 returns-3 c =
@@ -100,7 +100,7 @@ returns-3 c =
     let q = query start.before.before.before.before.before.before.before in
     let t = table start.before.before.before.before.before.before.before in
     let g = given start.before.before.before.before.before.before.before in
-    judged_long q t g a.marks-room a.scratch-room (or_left (not (eqb a.marks-room (nodes t))) (or_left (not (eqb (length g) (nodes t))) (or_right (too_long q item_limit || ltb node_limit (nodes t)) (ap not (ne_eqb (length t.kinds) (nodes t) c.if-kind-n.true)))))
+    judged_long q t g a.marks_room a.scratch_room (or_left (not (eqb a.marks_room (nodes t))) (or_left (not (eqb (length g) (nodes t))) (or_right (too_long q item_limit || ltb node_limit (nodes t)) (ap not (ne_eqb (length t.kinds) (nodes t) c.if-kind-n.true)))))
 
 returns-4 : tie.Need-returns-then-given-n
 returns-4 c =
@@ -109,7 +109,7 @@ returns-4 c =
     let q = query start.before.before.before.before.before.before.before.before in
     let t = table start.before.before.before.before.before.before.before.before in
     let g = given start.before.before.before.before.before.before.before.before in
-    judged_long q t g a.marks-room a.scratch-room (or_left (not (eqb a.marks-room (nodes t))) (or_right (too_long q item_limit || ltb node_limit (nodes t) || not (eqb (length t.kinds) (nodes t))) (ap not (ne_eqb (length g) (nodes t) c.if-given-n.true))))
+    judged_long q t g a.marks_room a.scratch_room (or_left (not (eqb a.marks_room (nodes t))) (or_right (too_long q item_limit || ltb node_limit (nodes t) || not (eqb (length t.kinds) (nodes t))) (ap not (ne_eqb (length g) (nodes t) c.if-given-n.true))))
 
 returns-5 : tie.Need-returns-then-marks_room-n
 returns-5 c =
@@ -118,7 +118,7 @@ returns-5 c =
     let q = query start.before.before.before.before.before.before.before.before.before in
     let t = table start.before.before.before.before.before.before.before.before.before in
     let g = given start.before.before.before.before.before.before.before.before.before in
-    judged_long q t g a.marks-room a.scratch-room (or_right (too_long q item_limit || ltb node_limit (nodes t) || not (eqb (length t.kinds) (nodes t)) || not (eqb (length g) (nodes t))) (ap not (ne_eqb a.marks-room (nodes t) c.if-marks_room-n.true)))
+    judged_long q t g a.marks_room a.scratch_room (or_right (too_long q item_limit || ltb node_limit (nodes t) || not (eqb (length t.kinds) (nodes t)) || not (eqb (length g) (nodes t))) (ap not (ne_eqb a.marks_room (nodes t) c.if-marks_room-n.true)))
 
 measure-requires : tie.Need-measure-shaped-requires
 measure-requires c κs = search rules

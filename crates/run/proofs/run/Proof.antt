@@ -96,7 +96,7 @@ count-requires c κs =
     let t = table_of a.parent.now a.kind.now in
     let needed = good.in-Value.needed in
     let agreed = accepted a.query.now t a.given.now (length a.marks.now) (length a.scratch.now) needed (sym judged.judge-said.ensures ∙ ap told good.in-Value.is) in
-    omega (arith, c.keep.auto.1.1.1.1.0, agreed.agree.marks_all, agreed.agree.nodes_few)
+    omega (arith, c.keep.auto.marks, agreed.agree.marks_all, agreed.agree.nodes_few)
 
 same_length : tie.Need-shape_of-marks
 same_length c = search rules
@@ -115,13 +115,13 @@ returns-2 c =
     let needed = good.in-Value.needed in
     let agreed = accepted a.query.now t a.given.now (length a.marks.now) (length a.scratch.now) needed (sym judged.judge-said.ensures ∙ ap told good.in-Value.is) in
     let spread = kept-place.keep in
-    let marks1 = spread.last.1.1.1.1.0 in
+    let marks1 = spread.new.marks in
     let same : marks1 ≡ kept t a.given.now agreed.query_is = spread.ensures.0 agreed.query_is agreed.decodes in
-    let many : length marks1 ≡ length a.parent.now = spread.kept.1.1.1.1.0 ∙ agreed.agree.marks_all in (
+    let many : length marks1 ≡ length a.parent.now = spread.auto.marks ∙ agreed.agree.marks_all in (
       ap value (c.count.ensures ∙ ap₂ rank same many) ∙ sym (runs a.query.now t a.given.now (length a.marks.now) (length a.scratch.now) needed agreed),
       (
         same ∙ run-marks a.query.now t a.given.now a.marks.now a.scratch.now needed agreed,
-        run-scratch a.query.now t a.given.now a.marks.now a.scratch.now needed agreed spread.last.1.1.1.1.1.0 (spread.ensures.1 ∙ ap (λ (k : ℕ). replicate k 0) (length-take-le needed a.scratch.now agreed.room_enough)),
+        run-scratch a.query.now t a.given.now a.marks.now a.scratch.now needed agreed spread.new.sets (spread.ensures.1 ∙ ap (λ (k : ℕ). replicate k 0) (length-take-le needed a.scratch.now agreed.room_enough)),
       ),
     )
 

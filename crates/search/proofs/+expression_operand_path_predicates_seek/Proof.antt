@@ -33,7 +33,7 @@ use Rattle.search.proofs.Stands.{front_more, front_set, part_length, front_stays
 use Rattle.search.proofs.Steps.{skip_ends, count_few, first_readable}
 use Rattle.search.proofs.Searching.{worth, not_both}
 use Rattle.search.proofs.Paths.{State, Dead, state_begin, state_room, state_from, state_step, state_found, state_dead, state_dry, state_back, back_less, state_within, state_push, push_less}
-use Rattle.search.proofs.Seeking.{Past, past_none, past_led, led_within, led_here, past_failed, step_count_lem, sought_none, sought_no_step, sought_here}
+use Rattle.search.proofs.Seeking.{Past, past_none, past_led, led_within, led_here, past_failed, step_count, sought_none, sought_no_step, sought_here}
 use Prim.Native.Nat.{ℕ, ◌<◌}
 use borrow.Fn.Kinds.{In}
 use borrow.Fn.PlainCycle.{Measures, is, falls, and}
@@ -201,7 +201,7 @@ expression_operand_requires t c κs =
           start.requires.1.1.0,
           (
             start.requires.1.1.1.0,
-            turn_fits l.invariant.1 (length l.stand-1) (subst (λ (k : ℕ). Fits a.items.now a.at k (take_expr (take_within a.depth) (drop a.at a.items.now))) (sym l.invariant.0) start.requires.1.1.1.1),
+            turn_fits l.invariant.1 (length l.stand) (subst (λ (k : ℕ). Fits a.items.now a.at k (take_expr (take_within a.depth) (drop a.at a.items.now))) (sym l.invariant.0) start.requires.1.1.1.1),
           ),
         ),
       ),
@@ -220,11 +220,11 @@ expression_loop_again : (t : ℕ) → expression-lts.Need-loop-ands-preserved-th
 expression_loop_again t c =
     let l = (expression_turn t (expression_decided t c)).loop-ands in
     let v = (expression_decided t c).operand-one in
-    (v.kept.1.1.1.1.1.1.1.0 ∙ l.invariant.0, turn_and l.invariant.1 v.ensures c.if-ands-gt0.true)
+    (v.auto.stand ∙ l.invariant.0, turn_and l.invariant.1 v.ensures c.if-ands-gt0.true)
 
 expression_same_length : (t : ℕ) → expression-lts.Need-shape_of-stand-then-ors-eq0 (expression_claims t) (expression_at t) expression.Post expression_Inv_loop expression_μ_loop
 expression_same_length t c =
-    (expression_joined t c.before).operand-one.kept.1.1.1.1.1.1.1.0 ∙ (expression_turn t (expression_joined t c.before)).loop-ands.invariant.0
+    (expression_joined t c.before).operand-one.auto.stand ∙ (expression_turn t (expression_joined t c.before)).loop-ands.invariant.0
 
 expression_returns : (t : ℕ) → expression-lts.Need-returns-then-ors-eq0 (expression_claims t) (expression_at t) expression.Post expression_Inv_loop expression_μ_loop
 expression_returns t c =
@@ -250,7 +250,7 @@ expression_loop_again_2 : (t : ℕ) → expression-lts.Need-loop-ands-preserved 
 expression_loop_again_2 t c =
     let l = (expression_turn t (expression_joined t c.before.before)).loop-ands in
     let v = (expression_joined t c.before.before).operand-one in
-    (v.kept.1.1.1.1.1.1.1.0 ∙ l.invariant.0, turn_or l.invariant.1 v.ensures (omega (arith, c.if-ands-gt0.false)) (omega (arith, c.if-ors-eq0.false)) c.joins-ands-else-ands-gt0.ensures.0 c.joins-ands-else-ands-gt0.ensures.1)
+    (v.auto.stand ∙ l.invariant.0, turn_or l.invariant.1 v.ensures (omega (arith, c.if-ands-gt0.false)) (omega (arith, c.if-ors-eq0.false)) c.joins-ands-else-ands-gt0.ensures.0 c.joins-ands-else-ands-gt0.ensures.1)
 
 -- What `operand` knows of the functions it calls.
 abbrev operand_claims : ℕ → operand-lts.Claims
@@ -351,7 +351,7 @@ operand_counts t c = operand_said t (operand_unpacked t c) _ c.in-Path.is
 
 operand_steps : (t : ℕ) (c : Operand-path t)
     → let a = (operand_begun t (operand_unpacked t c)).args in
-    Fits a.items.now (a.at + 1) (length a.stand-1.now) (take_steps (take_within a.depth) (operand_count t c) (drop (a.at + 1) a.items.now))
+    Fits a.items.now (a.at + 1) (length a.stand.now) (take_steps (take_within a.depth) (operand_count t c) (drop (a.at + 1) a.items.now))
 operand_steps t c = let start = operand_begun t (operand_unpacked t c) in path_fits _ _ _ start.args.depth start.requires.1.1.1.1 _ (operand_counts t c)
 
 -- A bracket may be opened for anything else.
@@ -560,15 +560,15 @@ abbrev path_part : (t : ℕ) → Path-sought t → List ℕ
 path_part t c = c.seek-sought.new.stand
 
 abbrev path_stand : (t : ℕ) → Path-sought t → List ℕ
-path_stand t c = let l = (path_turned t c).loop-k in put_mid l.k (length l.stand-1 - l.k) l.stand-1 (path_part t c)
+path_stand t c = let l = (path_turned t c).loop-k in put_mid l.k (length l.stand - l.k) l.stand (path_part t c)
 
 path_front : (t : ℕ) (c : Path-sought t) → take (path_turned t c).loop-k.k (path_stand t c) ≡ take (path_turned t c).loop-k.k (path_turned t c).loop-k.stand
-path_front t c = let l = (path_turned t c).loop-k in front_stays l.k l.stand-1 (path_part t c) (path_room t (path_turned t c))
+path_front t c = let l = (path_turned t c).loop-k in front_stays l.k l.stand (path_part t c) (path_room t (path_turned t c))
 
 path_as_long : (t : ℕ) (c : Path-sought t) → length (path_stand t c) ≡ length (path_turned t c).loop-k.stand
 path_as_long t c =
     let l = (path_turned t c).loop-k in
-    length_stays l.k l.stand (path_part t c) (path_room t (path_turned t c)) c.seek-sought.auto.1.1.1.1.1.1.1.1.1.0
+    length_stays l.k l.stand (path_part t c) (path_room t (path_turned t c)) c.seek-sought.auto.stand
 
 path_loop_holds : (t : ℕ) → path-lts.Need-loop-k-init (path_claims t) (path-at t) path.Post path_Inv_loop path_μ_loop
 path_loop_holds t c = (refl, state_begin _ _ _ _ _ _ _ _ _ (path_start t c).requires.1.1.1.1)
@@ -861,7 +861,7 @@ predicates_expression_requires t c κs =
 
 predicates_same_length : (t : ℕ) → predicates-lts.Need-shape_of-stand-then-not-one (predicates_claims t) (predicates_at t) predicates.Post predicates_Inv_loop predicates_μ_loop
 predicates_same_length t c =
-    (predicates_no t c).expression-one.auto.1.1.1.1.1.1.1.0 ∙ (predicates_turn t (predicates_owed t (predicates_no t c))).loop-owed.invariant.0
+    (predicates_no t c).expression-one.auto.stand ∙ (predicates_turn t (predicates_owed t (predicates_no t c))).loop-owed.invariant.0
 
 predicates_returns : (t : ℕ) → predicates-lts.Need-returns-then-not-one (predicates_claims t) (predicates_at t) predicates.Post predicates_Inv_loop predicates_μ_loop
 predicates_returns t c =
@@ -887,7 +887,7 @@ predicates_loop_again t c =
     let l = (predicates_turn t (predicates_owed t (predicates_yes t c))).loop-owed in
     let v = (predicates_yes t c).expression-one in
     pred_fits (table_of a.parent.now a.kind.now) a.given.now a.node a.items.now a.at a.depth (length a.stand.now) a.count l.place l.owed (predicates_owed t (predicates_yes t c)).loop-owed-test.true f l.invariant.1
-    (λ deep g. (v.kept.1.1.1.1.1.1.1.0 ∙ l.invariant.0, one_owed_less (table_of a.parent.now a.kind.now) a.given.now a.node a.items.now a.at a.depth a.count l.place l.owed (predicates_owed t (predicates_yes t c)).loop-owed-test.true l.invariant.1 v.result deep v.ensures (not-false _ c.if-not-one.false)))
+    (λ deep g. (v.auto.stand ∙ l.invariant.0, one_owed_less (table_of a.parent.now a.kind.now) a.given.now a.node a.items.now a.at a.depth a.count l.place l.owed (predicates_owed t (predicates_yes t c)).loop-owed-test.true l.invariant.1 v.result deep v.ensures (not-false _ c.if-not-one.false)))
 
 predicates_same_length_2 : (t : ℕ) → predicates-lts.Need-shape_of-stand (predicates_claims t) (predicates_at t) predicates.Post predicates_Inv_loop predicates_μ_loop
 predicates_same_length_2 t c = c.loop-owed.invariant.0
@@ -963,7 +963,7 @@ seek_led t c = c.before.before
 abbrev seek_begun : (t : ℕ) → Seek-turn t → Seek-start t
 seek_begun t c = seek_start t (seek_lent t (seek_more t c))
 
-seek_fits : (t : ℕ) (c : Seek-more t) → let a = (seek_start t (seek_lent t c)).args in StepFits a.items.now a.place a.depth (length a.stand-1.now)
+seek_fits : (t : ℕ) (c : Seek-more t) → let a = (seek_start t (seek_lent t c)).args in StepFits a.items.now a.place a.depth (length a.stand.now)
 seek_fits t c = let start = seek_start t (seek_lent t c) in start.requires.1.1.1.1 (not-false start.args.more c.if-not-more.false-raw)
 
 -- The nodes down to the next one led to are passed.
@@ -982,7 +982,7 @@ seek_counts : (t : ℕ) (c : Seek-next t) (h : Head) → let a = (seek_begun t c
 seek_counts t c h p =
     let step = c.step_at-step in
     let a = (seek_begun t c.before).args in
-    step_count_lem (table_of a.parent.now a.kind.now) a.given.now a.items.now a.place a.depth a.from a.bound step.result step.ensures c.candidate-c.ensures h p
+    step_count (table_of a.parent.now a.kind.now) a.given.now a.items.now a.place a.depth a.from a.bound step.result step.ensures c.candidate-c.ensures h p
 
 -- and whether they hold at that node is known.
 seek_holds : (t : ℕ) (c : Seek-tried t) (h : Head) (ps : Preds) (rest : List ℕ)
@@ -1045,7 +1045,7 @@ seek_predicates_requires t c κs =
 seek_same_length_2 : (t : ℕ) → seek-lts.Need-shape_of-stand-then-held (seek_claims t) (seek-at t) seek.Post seek_Inv_loop seek_μ_loop
 seek_same_length_2 t c =
     let tried = c in
-    tried.predicates-held.auto.1.1.1.1.1.1.1.1.0 ∙ (seek_turn t (seek_led t tried.before.before.before)).loop-c.invariant.0
+    tried.predicates-held.auto.stand ∙ (seek_turn t (seek_led t tried.before.before.before)).loop-c.invariant.0
 
 seek_returns_3 : (t : ℕ) → seek-lts.Need-returns-then-held (seek_claims t) (seek-at t) seek.Post seek_Inv_loop seek_μ_loop
 seek_returns_3 t c =
@@ -1078,7 +1078,7 @@ seek_loop_again t c =
     let led = seek_led t tried.before.before.before in
     let turn = seek_turn t led in
     let a = (seek_begun t turn).args in (
-      tried.predicates-held.auto.1.1.1.1.1.1.1.1.0 ∙ turn.loop-c.invariant.0,
+      tried.predicates-held.auto.stand ∙ turn.loop-c.invariant.0,
       past_failed (table_of a.parent.now a.kind.now) a.given.now a.items.now a.place a.depth a.from a.bound led.candidate-c.result (omega (arith, led.if-c-eq0.false)) (seek_past t led.before) (λ h ps rest p u. sym (seek_holds t tried.before.before.before h ps rest p u) ∙ c.if-held.false),
     )
 

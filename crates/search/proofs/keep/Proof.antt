@@ -77,7 +77,7 @@ loop-holds c =
     let start = begun c in
     let a = start.args in
     let v = c.clear in (
-      v.auto.0 ∙ start.requires.1.0,
+      v.auto.marks ∙ start.requires.1.0,
       refl,
       omega arith,
       λ q e. v.ensures ∙ ap (λ (n : ℕ). column n (λ i. 0)) start.requires.1.0 ∙ up_to_none (table_of a.parent.now a.kind.now) a.given.now q (length a.parent.now),
@@ -109,10 +109,10 @@ loop-again c =
     let n = length a.parent.now in
     let l = (turn (inside (decided c))).loop-k in
     let s = (decided c).selected in
-    let stays = s.kept.1.1.1.1.1.0 ∙ l.invariant.1 in
+    let stays = s.auto.stand ∙ l.invariant.1 in
     elim c.if-selected.branch [
       then-selected w ↦ (
-        ap length w.marks-is ∙ w.mark_kept.kept.1.1.1.0 ∙ l.invariant.0,
+        ap length w.marks-is ∙ w.mark_kept.auto.marks ∙ l.invariant.0,
         stays,
         omega (arith, (inside (decided c)).loop-k-test.true),
         λ q e. w.marks-is ∙ w.mark_kept.ensures a.kind.now (up_to t m q l.k) (l.invariant.3 q e) ∙ up_to_more t m q n l.k (sym (s.ensures q e) ∙ w.if-selected.true),

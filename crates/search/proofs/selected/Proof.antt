@@ -80,7 +80,7 @@ abbrev read : Missed → Read
 read c = (tried c).before.before
 
 shared-slice-read-if1 : tie.Need-bounds-given-0 invariant-loop decreases-loop
-shared-slice-read-if1 c = omega (arith, ((begun c).requires.0.tree []).rooted, (begun c).requires.0.marks_all)
+shared-slice-read-if1 c = omega (arith, (c.requires.0.tree []).rooted, c.requires.0.marks_all)
 
 returns : tie.Need-returns-then-given-ne1 invariant-loop decreases-loop
 returns c =
@@ -112,7 +112,7 @@ path-requires c κs =
     (omega arith, (start.requires.0, ((start.requires.0.tree []).rooted, fits)))
 
 same_length : tie.Need-shape_of-stand-then-path invariant-loop decreases-loop
-same_length c = c.path.auto.1.1.1.1.1.1.1.1.1.0 ∙ (turn c.before.before.before.before.before).loop-place.invariant.0
+same_length c = c.path.auto.stand ∙ (turn c.before.before.before.before.before).loop-place.invariant.0
 
 returns-2 : tie.Need-returns-then-path invariant-loop decreases-loop
 returns-2 c =
@@ -143,7 +143,7 @@ loop-again c =
     let here = read c.before in
     let l = (turn here).loop-place in
     let start = start_of (turn here) in (
-      path.kept.1.1.1.1.1.1.1.1.1.0 ∙ l.invariant.0,
+      path.auto.stand ∙ l.invariant.0,
       path_missed (table start) (marks start) (items start) start.args.wanted (room start) start.requires.1.1 start.requires.1.2 l.place l.invariant.1 start.requires.1.0 here.owes-count.result (next here) path.result path.ensures
           c.if-path.false c.skip-place.result (ends c),
     )

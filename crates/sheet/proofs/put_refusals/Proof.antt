@@ -40,10 +40,10 @@ loop-again c =
     let times = told in
     let head = times in
     let start = head in
-    let line = rw times.times_at.ensures at told.Put-refused.ensures.0 in (
+    let line = rw times.times_at.ensures at told.put_refused-next.ensures.0 in (
       search rules,
       rw (add-one head.loop-number.number) (puts_both head.loop-number.invariant.1 line),
-      omega (arith, told.Put-refused.ensures.1, head.loop-number.invariant.2),
+      omega (arith, told.put_refused-next.ensures.1, head.loop-number.invariant.2),
     )
 
 same_length : tie.Need-shape_of-out invariant-loop decreases-loop

@@ -67,7 +67,7 @@ cast-set : tie.Need-overflow_cast-set invariant-loop decreases-loop
 cast-set c = search rules
 
 slice-read-set : tie.Need-bounds-set-up invariant-loop decreases-loop
-slice-read-set c = let down = (tree_of (turn-of c) []).falls (turn-of c).loop-i.i (omega arith) (omega arith) in omega arith
+slice-read-set c = let down = (tree_of c.before.before.before.before []).falls c.loop-i.i (omega arith) (omega arith) in omega arith
 
 slice-write-set-2 : tie.Need-bounds-set-i-in-loop-i invariant-loop decreases-loop
 slice-write-set-2 c = omega arith

@@ -57,7 +57,7 @@ slice-read-member : tie.Need-bounds-set-elder invariant-loop decreases-loop
 slice-read-member c = omega arith
 
 slice-read-told : tie.Need-bounds-set-up invariant-loop decreases-loop
-slice-read-told c = let down = (tree_of (turn-of c) []).falls ((turn-of c).loop-elder.elder - 1) (omega arith) (omega arith) in omega arith
+slice-read-told c = let down = (tree_of c.before.before.before.before []).falls (c.loop-elder.elder - 1) (omega arith) (omega arith) in omega arith
 
 slice-write-set : tie.Need-bounds-set-elder-in-loop-elder invariant-loop decreases-loop
 slice-write-set c = omega arith

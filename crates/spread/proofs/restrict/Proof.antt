@@ -25,7 +25,7 @@ returns c =
     let a = c.args in
     let kept = c.keep in
     let marks = marked a.given.now in
-    let same : length kept.new.1.0 ≡ length a.set.now = kept.auto.1.0 in
+    let same : length kept.new.set ≡ length a.set.now = kept.auto.set in
     let once = kept.ensures f marks h c.requires.2 in
     c.keep_met.ensures t (λ i. f i && marks i) g e (once ∙ ap (λ (n : ℕ). bits n (λ i. f i && marks i)) (sym same)) ∙
     ap (λ (n : ℕ). bits n (λ i. (f i && marks i) && meets t (get_or a.kind.now i 0))) same

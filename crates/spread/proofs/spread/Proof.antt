@@ -49,21 +49,21 @@ returns c =
     let added = c.add in
     let kept = c.keep in
     let at_n : (k : ℕ) → k ≡ n → (g : ℕ → Bool) → bits k g ≡ bits n g = λ k e g. ap (λ (j : ℕ). bits j g) e in
-    let ls : length copied.new.1.0 ≡ n = copied.auto.1.0 ∙ start.requires.1.1 in
+    let ls : length copied.new.set ≡ n = copied.auto.set ∙ start.requires.1.1 in
     let lm : length a.marks.now ≡ n = start.requires.1.0 in
-    let lu : length up.new.1.1.0 ≡ n = up.auto.1.1.0 ∙ lm in
-    let la : length added.new.1.0 ≡ n = added.auto.1.0 ∙ lu in
-    let beneath : (f : ℕ → Bool) → a.marks.now ≡ bits n f → down.new.1.1.0 ≡ bits n (image t descendant_or_self f) =
+    let lu : length up.new.set ≡ n = up.auto.set ∙ lm in
+    let la : length added.new.set ≡ n = added.auto.set ∙ lu in
+    let beneath : (f : ℕ → Bool) → a.marks.now ≡ bits n f → down.new.set ≡ bits n (image t descendant_or_self f) =
     λ f h.
-    let sel : copied.new.1.0 ≡ bits n f = copied.ensures ∙ h in
-    let below : down.new.1.1.0 ≡ bits n (image t descendant_or_self f) =
+    let sel : copied.new.set ≡ bits n f = copied.ensures ∙ h in
+    let below : down.new.set ≡ bits n (image t descendant_or_self f) =
     down.ensures kinds descendant_or_self f refl (sel ∙ sym (at_n _ ls f)) ∙ at_n _ ls (image t descendant_or_self f) in
     below in (
       λ f h.
           let below = beneath f h in
-          let above : up.new.1.1.0 ≡ bits n (image t ancestor_or_self f) =
+          let above : up.new.set ≡ bits n (image t ancestor_or_self f) =
           up.ensures kinds ancestor_or_self f refl (h ∙ sym (at_n _ lm f)) ∙ at_n _ lm (image t ancestor_or_self f) in
-          let both : added.new.1.0 ≡ bits n (λ i. image t ancestor_or_self f i || image t descendant_or_self f i) =
+          let both : added.new.set ≡ bits n (λ i. image t ancestor_or_self f i || image t descendant_or_self f i) =
           added.ensures (image t ancestor_or_self f) (image t descendant_or_self f) (above ∙ sym (at_n _ lu (image t ancestor_or_self f))) (below ∙ sym (at_n _ lu (image t descendant_or_self f))) ∙
           at_n _ lu (λ i. image t ancestor_or_self f i || image t descendant_or_self f i) in
           kept.ensures (λ i. image t ancestor_or_self f i || image t descendant_or_self f i) (marked m) (both ∙ sym (at_n _ la (λ i. image t ancestor_or_self f i || image t descendant_or_self f i)))
