@@ -7,7 +7,7 @@ ghost use Rattle.paper.specs.Limits.{bracket_limit};
 ghost use Rattle.paper.specs.Query.{Query};
 ghost use Rattle.paper.specs.Document.{marked, table_of};
 ghost use Rattle.paper.specs.Items.{decode, take_preds, take_steps, take_operand, take_expr, take_within};
-ghost use Rattle.paper.specs.Measures.{height_expr, height_steps, height_preds};
+ghost use Rattle.paper.specs.Measures.{height, height_expr, height_steps, height_preds};
 ghost use Rattle.paper.specs.Selection.{holds, finds, all_hold, selects, kept};
 ghost use Rattle.sets.specs.Sets.{bits};
 ghost use Rattle.keep.specs.Recall.{spare, Kept, Inside, Stands, Copied, Remembered};
@@ -15,6 +15,7 @@ ghost use Rattle.keep.specs.Evals.{Ready, Fits, Joined, Evaluates, Narrows, Move
 
 use item::Item;
 use places::{look, look_first, path_at, step_at};
+use shape::Shape;
 use spread::{restrict, spread};
 
 // Keeps of the set at `base` what the set behind it has too; where no bytes of it are held yet, the set at `base` is new and stays.
@@ -48,12 +49,24 @@ const LEAST: usize = 4;
 // An entry is the place of the items, times this, and their number; 0 where no set is kept.
 const SPAN: usize = 65536;
 
-// How many sets of n nodes are kept in half of the bytes.
+// The bytes that working out a query on n nodes leaves.
+fn left_over(items: &[u32], bytes: usize, n: usize) -> usize
+    requires { Runs items.now n bytes }
+    ensures { (q : Query) → decode items.now ≡ some q → n * height q + result ≤ bytes }
+{
+    let shape = shape::measure(items);
+    match shape {
+        Shape::Query { height, .. } => bytes - n * height,
+        Shape::Malformed => 0,
+    }
+}
+
+// How many sets of n nodes are kept in so many bytes.
 fn slots_in(bytes: usize, n: usize) -> usize
     requires { 0 < n }
-    ensures { (result ≤ 32) × (n * result ≤ bytes / 2) }
+    ensures { (result ≤ 32) × (n * result ≤ bytes) }
 {
-    let slots = bytes / 2 / n;
+    let slots = bytes / n;
     if MOST < slots {
         return MOST;
     }
@@ -445,13 +458,14 @@ pub fn keep(
 )
     requires ready { Ready parent.now kind.now given.now }
     requires marks_len { length marks.old ≡ length parent.now }
-    requires runs { Runs items.now (length parent.now) (length sets.old / 2) }
+    requires runs { Runs items.now (length parent.now) (length sets.old) }
     ensures marks_after { (q : Query) → decode items.now ≡ some q → marks.new ≡ kept (table_of parent.now kind.now) given.now q }
     ensures sets_after { sets.new ≡ replicate (length sets.old) 0 }
 {
     let n = parent.len();
     let mut known = [0usize; MOST];
-    let slots = slots_in(sets.len(), n);
+    let left = left_over(items, sets.len(), n);
+    let slots = slots_in(left, n);
     select(items, parent, kind, given, marks, sets, &mut known[..slots]);
     spread(parent, kind, given, marks, &mut sets[..n]);
     sets::fill(sets, 0);

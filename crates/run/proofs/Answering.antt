@@ -222,11 +222,12 @@ module _ (query parents kinds given : List ℕ) (marks_room : ℕ) (scratch : Li
         marks_bits = marks_are_bits (table_of parents kinds) given a.agree.given_all a.marks_good;
       }
 
-  pub runnable : Runs query (length parents) (length (take needed scratch) / 2)
+  pub runnable : Runs query (length parents) (length (take needed scratch))
   runnable =
-      let half : length parents * height a.query_is ≤ length parents * 2 * (height a.query_is + 1) / 2 = omega arith in
       record {
         query = a.query_is;
         decodes = a.decodes;
-        room_for = omega (arith, half, length-take-le needed scratch a.room_enough, a.room_is);
+        room_for =
+            let half : length parents * height a.query_is ≤ length parents * 2 * (height a.query_is + 1) = omega arith in
+            omega (arith, half, length-take-le needed scratch a.room_enough, a.room_is);
       }

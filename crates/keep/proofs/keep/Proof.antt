@@ -21,8 +21,11 @@ use Rattle.keep.proofs.keep.Tie as tie
 abbrev all : tie.Start → ℕ
 all start = length start.args.parent.now
 
-room : (start : tie.Start) → all start ≤ length start.args.sets.now / 2
+room : (start : tie.Start) → all start ≤ length start.args.sets.now
 room start = one_fits (all start) (height start.requires.1.1.query) _ start.requires.1.1.room_for (some_tall start.requires.1.1.query)
+
+left-over-requires : tie.Need-left_over-left-requires
+left-over-requires c κs = c.requires.1.1
 
 slots-in-requires : tie.Need-slots_in-slots-requires
 slots-in-requires c κs = c.requires.0.tree.rooted
@@ -31,35 +34,34 @@ array-borrow-prefix-known : tie.Need-slice_bounds-known-end
 array-borrow-prefix-known c = c.slots_in-slots.ensures.0
 
 -- As many entries are lent as sets are kept.
-as_many : (c : tie.After-slots_in-slots) (entries : List ℕ) → length entries ≡ 32 → length (take c.slots_in-slots.result entries) ≡ c.slots_in-slots.result
-as_many c entries e = length-take-le c.slots_in-slots.result entries (omega (arith, c.slots_in-slots.ensures.0))
+as_many : (slots : ℕ) (entries : List ℕ) → slots ≤ 32 → length entries ≡ 32 → length (take slots entries) ≡ slots
+as_many slots entries l e = length-take-le slots entries (omega arith)
 
 slice-aggregate-select : tie.Need-slice_bounds-select-end
-slice-aggregate-select c = sym (as_many c.before.before.before _ refl)
+slice-aggregate-select c = sym (as_many c.slots_in-slots.result _ c.slots_in-slots.ensures.0 refl)
 
 select-requires : tie.Need-select-requires
 select-requires c κs =
-    let slots = c in
-    let start = slots in
-    let runs = start.requires.1.1 in (
-      start.requires.0,
+    let runs = c.requires.1.1 in
+    let slots = c.slots_in-slots in (
+      c.requires.0,
       (
-        start.requires.1.0,
+        c.requires.1.0,
         (
           record {
             query = runs.query;
             decodes = runs.decodes;
-            room_for = omega (arith, runs.room_for, slots.slots_in-slots.ensures.1, ap (λ (k : ℕ). all start.before.before.before.before.before.before.before.before.before.before * k) (as_many slots.before.before.before (replicate {A = ℕ} 32 0) refl));
+            room_for =
+                omega (arith, c.left_over-left.ensures runs.query runs.decodes, slots.ensures.1, ap (λ (k : ℕ). length c.args.parent.now * k) (as_many slots.result (replicate {A = ℕ} 32 0) slots.ensures.0 refl));
           },
-          none_kept 32 slots.slots_in-slots.result,
+          none_kept 32 slots.result,
         ),
       ),
     )
 
 -- The nodes are selected.
 abbrev chosen-in : tie.After-select → tie.Start
-chosen-in c = c.before.before.before.before.before.before.before.before.before.before.before
-
+chosen-in c = c.before.before.before.before.before.before.before.before.before.before.before.before
 chosen_room : (c : tie.After-select) → all (chosen-in c) ≤ length c.select.new.sets
 chosen_room c = omega (arith, room (chosen-in c), c.select.auto.sets)
 
@@ -107,6 +109,7 @@ pub keep_spec : {M : Type 1} → statement M
 keep_spec =
     tie.close
     (tie.spec
+    left-over-requires
     slots-in-requires
     array-borrow-prefix-known
     slice-aggregate-select
