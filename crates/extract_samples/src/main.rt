@@ -1,9 +1,8 @@
 // Tries `extract` on the document of 01's samples and on bad tables, marks and rooms: for each call the number, the place and both columns.
 #![tactic(auto)]
 
-use std::io;
-
 use paper::Answer;
+use std::io;
 
 // The last decimal digit of a number.
 fn digit(x: usize) -> u8 {
@@ -90,7 +89,14 @@ fn document(rt: &impl Print) -> io::Result<()> {
     tried(rt, &parent, &kind, b"\x01\x01\x01\x01\x01\x00\x00", 4, 4)?;
     tried(rt, &parent, &kind, b"\x01\x01\x01\x01\x01\x00", 7, 7)?;
     tried(rt, &parent, &kind, b"\x01\x01\x01\x01\x01\x00\x00", 7, 6)?;
-    tried(rt, &parent, &kind[..6], b"\x01\x01\x01\x01\x01\x00\x00", 7, 7)
+    tried(
+        rt,
+        &parent,
+        &kind[..6],
+        b"\x01\x01\x01\x01\x01\x00\x00",
+        7,
+        7,
+    )
 }
 
 // Bad tables: an earlier node that is no ancestor, a child of text, a second root, kind 258, a root of another parent, no node.
