@@ -11,7 +11,7 @@ ghost use Rattle.item.specs.Placed.{placed};
 ghost use Rattle.reverse.specs.Reverses.{IsQuery, paths_got, StepSaid, reversed_items, each_got, selected_got};
 
 use item::{Item, Step};
-use owed::{owes, skip};
+pub use owed::{owes, skip};
 
 // How many top-level paths a query has.
 pub fn count_paths(items: &[u32]) -> usize

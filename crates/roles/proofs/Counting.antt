@@ -90,7 +90,7 @@ open_end b (c ∷ cs) l = go (eqb b 10) refl (open_end c cs)
 pub record Counting (views : List ℕ) (at count : ℕ) : Type 0 where
   pub inside : at ≤ length views
   pub few : count ≤ at
-  pub goes_on_lem : views_counted views ≡ cond (unshut (drop at views)) (suc view_limit) (count + length (said (drop at views)))
+  pub goes_on : views_counted views ≡ cond (unshut (drop at views)) (suc view_limit) (count + length (said (drop at views)))
 
 pub none_counted : (views : List ℕ) → Counting views 0 0
 none_counted views =
@@ -98,7 +98,7 @@ none_counted views =
     record {
       inside = omega arith;
       few = omega arith;
-      goes_on_lem = ap₂ (λ b n. cond b (suc view_limit) n) (open_is views) (ap length (views_are views) ∙ count);
+      goes_on = ap₂ (λ b n. cond b (suc view_limit) n) (open_is views) (ap length (views_are views) ∙ count);
     }
 
 module _ (views : List ℕ) (at count : ℕ) (g : Counting views at count) (more : at < length views) (end : ℕ) (ends : Ends (drop at views) end) where
@@ -129,7 +129,7 @@ module _ (views : List ℕ) (at count : ℕ) (g : Counting views at count) (more
       record {
         inside = omega (arith, less, length-drop at views);
         few = omega (arith, g.few);
-        goes_on_lem =
+        goes_on =
             g.goes_on ∙
             ap₂ (λ b n. cond b (suc view_limit) n) (open_on (drop at views) short ∙ ap unshut rest)
             (ap (λ l. count + length l) (first ∙ ap (λ r. first_line (drop at views) ∷ said r) rest) ∙ one_more);

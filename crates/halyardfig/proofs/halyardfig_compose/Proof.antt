@@ -11,12 +11,12 @@ compose-requires c κs = search rules
 code-requires : tie.Need-code-requires
 code-requires c κs = search rules
 
-same_length : tie.Need-same-length
+same_length : tie.Need-shape_of-out
 same_length c = search rules
 
 returns : tie.Need-returns
 returns c =
-    let said = c.before.before.before.compose.ensures in
+    let said = c.compose.ensures in
     (coded said.0 (compose_small _ _ _) c.code.ensures.0, said.1)
 
 pub halyardfig_compose_spec : {M : Type 1} → statement M

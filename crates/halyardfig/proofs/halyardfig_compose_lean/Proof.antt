@@ -5,18 +5,18 @@ use Rattle.code.proofs.Coding.{coded}
 use Rattle.halyardfig.proofs.halyardfig_compose_lean.Statement.{statement}
 use Rattle.halyardfig.proofs.halyardfig_compose_lean.Tie as tie
 
-compose-lean-requires : tie.Need-compose-lean-requires
+compose-lean-requires : tie.Need-compose_lean-requires
 compose-lean-requires c κs = search rules
 
 code-requires : tie.Need-code-requires
 code-requires c κs = search rules
 
-same_length : tie.Need-same-length
+same_length : tie.Need-shape_of-out
 same_length c = search rules
 
 returns : tie.Need-returns
 returns c =
-    let said = c.before.before.before.compose-lean.ensures in
+    let said = c.compose_lean.ensures in
     (coded said.0 (lean_small _ _ _) c.code.ensures.0, said.1)
 
 pub halyardfig_compose_lean_spec : {M : Type 1} → statement M

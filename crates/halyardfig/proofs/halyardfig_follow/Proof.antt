@@ -11,12 +11,12 @@ follow-requires c κs = search rules
 code-requires : tie.Need-code-requires
 code-requires c κs = search rules
 
-same_length : tie.Need-same-length
+same_length : tie.Need-shape_of-marks
 same_length c = search rules
 
 returns : tie.Need-returns
 returns c =
-    let said = c.before.before.before.follow.ensures in
+    let said = c.follow.ensures in
     (coded said.0 (run_small _ _ _ _ _) c.code.ensures.0, said.1)
 
 pub halyardfig_follow_spec : {M : Type 1} → statement M

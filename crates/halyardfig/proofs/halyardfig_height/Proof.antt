@@ -12,7 +12,7 @@ code-requires : tie.Need-code-requires
 code-requires c κs = search rules
 
 returns : tie.Need-returns
-returns c = coded c.before.height.ensures (height_small _) c.code.ensures.0
+returns c = coded c.height.ensures (height_small _) c.code.ensures.0
 
 pub halyardfig_height_spec : {M : Type 1} → statement M
 halyardfig_height_spec = tie.close (tie.spec height-requires code-requires returns)

@@ -12,7 +12,7 @@ code-requires : tie.Need-code-requires
 code-requires c κs = search rules
 
 returns : tie.Need-returns
-returns c = coded c.before.paths.ensures (paths_small _) c.code.ensures.0
+returns c = coded c.paths.ensures (paths_small _) c.code.ensures.0
 
 pub halyardfig_paths_spec : {M : Type 1} → statement M
 halyardfig_paths_spec = tie.close (tie.spec paths-requires code-requires returns)

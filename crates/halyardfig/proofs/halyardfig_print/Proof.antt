@@ -11,12 +11,12 @@ print-requires c κs = search rules
 code-requires : tie.Need-code-requires
 code-requires c κs = search rules
 
-same_length : tie.Need-same-length
+same_length : tie.Need-shape_of-out
 same_length c = search rules
 
 returns : tie.Need-returns
 returns c =
-    let said = c.before.before.before.print.ensures in
+    let said = c.print.ensures in
     (coded said.0 (print_small _ _ _ _) c.code.ensures.0, said.1)
 
 pub halyardfig_print_spec : {M : Type 1} → statement M

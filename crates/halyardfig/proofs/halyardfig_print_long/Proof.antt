@@ -5,18 +5,18 @@ use Rattle.code.proofs.Coding.{coded}
 use Rattle.halyardfig.proofs.halyardfig_print_long.Statement.{statement}
 use Rattle.halyardfig.proofs.halyardfig_print_long.Tie as tie
 
-print-long-requires : tie.Need-print-long-requires
+print-long-requires : tie.Need-print_long-requires
 print-long-requires c κs = search rules
 
 code-requires : tie.Need-code-requires
 code-requires c κs = search rules
 
-same_length : tie.Need-same-length
+same_length : tie.Need-shape_of-out
 same_length c = search rules
 
 returns : tie.Need-returns
 returns c =
-    let said = c.before.before.before.print-long.ensures in
+    let said = c.print_long.ensures in
     (coded said.0 (print_small _ _ _ _) c.code.ensures.0, said.1)
 
 pub halyardfig_print_long_spec : {M : Type 1} → statement M

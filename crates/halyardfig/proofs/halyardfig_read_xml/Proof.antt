@@ -8,40 +8,40 @@ use borrow.Author.Rules.{rules}
 use mathlib.Core.Path.{◌∙◌, ap}
 
 -- Where the function began, and what the call promised.
-abbrev begun : tie.After-read-xml → tie.Start
+abbrev begun : tie.After-read_xml → tie.Start
 begun c = c.before.before.before.before.before.before.before.before.before.before.before
 
-read-xml-requires : tie.Need-read-xml-requires
+read-xml-requires : tie.Need-read_xml-requires
 read-xml-requires c κs = search rules
 
 code-requires : tie.Need-code-requires
 code-requires c κs = search rules
 
-same_length : tie.Need-same-length
+same_length : tie.Need-shape_of-parent
 same_length c = search rules
 
-same-length-2 : tie.Need-same-length-2
+same-length-2 : tie.Need-shape_of-kind
 same-length-2 c = search rules
 
-same-length-3 : tie.Need-same-length-3
+same-length-3 : tie.Need-shape_of-begin
 same-length-3 c = search rules
 
-same-length-4 : tie.Need-same-length-4
+same-length-4 : tie.Need-shape_of-end
 same-length-4 c = search rules
 
 returns : tie.Need-returns
 returns c =
-    let call = c.before.before.before.before.before.before.before.before.before in
-    let said = call.read-xml.ensures in
-    let a = (begun call).args in (
+    let call = c in
+    let said = call.read_xml.ensures in
+    let a = (begun call.before.before.before.before.before.before.before.before.before).args in (
       coded said.0 (read_xml_small _ _ _ _ _ _) c.code.ensures.0,
       (
-        said.1.0 ∙ ap (λ answer. read_xml_column parent_field a.text.now answer a.parent.now) said.0,
+        said.1.0 ∙ ap (λ answer. read_xml_column parent_field a.text.now answer a.parent-1.now) said.0,
         (
-          said.1.1.0 ∙ ap (λ answer. read_xml_column (kind_field a.names.now) a.text.now answer a.kind.now) said.0,
+          said.1.1.0 ∙ ap (λ answer. read_xml_column (kind_field a.names.now) a.text.now answer a.kind-1.now) said.0,
           (
-            said.1.1.1.0 ∙ ap (λ answer. read_xml_column begin_field a.text.now answer a.begin.now) said.0,
-            said.1.1.1.1 ∙ ap (λ answer. read_xml_column end_field a.text.now answer a.end.now) said.0,
+            said.1.1.1.0 ∙ ap (λ answer. read_xml_column begin_field a.text.now answer a.begin-1.now) said.0,
+            said.1.1.1.1 ∙ ap (λ answer. read_xml_column end_field a.text.now answer a.end-1.now) said.0,
           ),
         ),
       ),

@@ -11,15 +11,15 @@ run-requires c κs = search rules
 code-requires : tie.Need-code-requires
 code-requires c κs = search rules
 
-same_length : tie.Need-same-length
+same_length : tie.Need-shape_of-marks
 same_length c = search rules
 
-same-length-2 : tie.Need-same-length-2
+same-length-2 : tie.Need-shape_of-scratch
 same-length-2 c = search rules
 
 returns : tie.Need-returns
 returns c =
-    let said = c.before.before.before.before.before.run.ensures in
+    let said = c.run.ensures in
     (coded said.0 (run_small _ _ _ _ _) c.code.ensures.0, said.1)
 
 pub halyardfig_run_spec : {M : Type 1} → statement M

@@ -12,7 +12,7 @@ code-requires : tie.Need-code-requires
 code-requires c κs = search rules
 
 returns : tie.Need-returns
-returns c = coded c.before.scratch.ensures (scratch_small _ _ _ _ _) c.code.ensures.0
+returns c = coded c.scratch.ensures (scratch_small _ _ _ _ _) c.code.ensures.0
 
 pub halyardfig_scratch_spec : {M : Type 1} → statement M
 halyardfig_scratch_spec = tie.close (tie.spec scratch-requires code-requires returns)

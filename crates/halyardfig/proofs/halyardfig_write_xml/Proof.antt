@@ -5,18 +5,18 @@ use Rattle.code.proofs.Coding.{coded}
 use Rattle.halyardfig.proofs.halyardfig_write_xml.Statement.{statement}
 use Rattle.halyardfig.proofs.halyardfig_write_xml.Tie as tie
 
-write-xml-requires : tie.Need-write-xml-requires
+write-xml-requires : tie.Need-write_xml-requires
 write-xml-requires c κs = search rules
 
 code-requires : tie.Need-code-requires
 code-requires c κs = search rules
 
-same_length : tie.Need-same-length
+same_length : tie.Need-shape_of-out
 same_length c = search rules
 
 returns : tie.Need-returns
 returns c =
-    let said = c.before.before.before.write-xml.ensures in
+    let said = c.write_xml.ensures in
     (coded said.0 (write_xml_small _ _ _ _ _ _ _) c.code.ensures.0, said.1)
 
 pub halyardfig_write_xml_spec : {M : Type 1} → statement M

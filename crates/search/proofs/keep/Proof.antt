@@ -111,7 +111,7 @@ loop-again c =
     let s = (decided c).selected in
     let stays = s.auto.stand ∙ l.invariant.1 in
     elim c.if-selected.branch [
-      then-selected w ↦ (
+      | then-selected w ↦ (
         ap length w.marks-is ∙ w.mark_kept.auto.marks ∙ l.invariant.0,
         stays,
         omega (arith, (inside (decided c)).loop-k-test.true),

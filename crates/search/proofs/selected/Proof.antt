@@ -116,12 +116,11 @@ same_length c = c.path.auto.stand ∙ (turn c.before.before.before.before.before
 
 returns-2 : tie.Need-returns-then-path invariant-loop decreases-loop
 returns-2 c =
-    let tried = c in
-    let read = tried in
-    let l = (turn read.before.before).loop-place in
-    let start = start_of (turn read.before.before) in
-    path_hit (table start) (marks start) (items start) start.args.wanted (room start) start.requires.1.1 start.requires.1.2 l.place l.invariant.1 start.requires.1.0 read.owes-count.result (next read.before.before) tried.path.result tried.path.ensures
-    c.if-path.true (root (turn read.before.before))
+    let read : Read = c.before.before.before.before.before in
+    let l = (turn read).loop-place in
+    let start = start_of (turn read) in
+    path_hit (table start) (marks start) (items start) start.args.wanted (room start) start.requires.1.1 start.requires.1.2 l.place l.invariant.1 start.requires.1.0 read.owes-count.result (next read) c.path.result c.path.ensures
+    c.if-path.true (root (turn read))
 
 add-skip : tie.Need-overflow_add-place-in-loop-place invariant-loop decreases-loop
 add-skip c = omega (arith, (read c).loop-place-test.true, (start_of (turn (read c))).well_formed.0.1)

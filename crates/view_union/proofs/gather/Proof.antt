@@ -106,7 +106,7 @@ gives c =
 
 -- So many items stand at the start of the spare room.
 items_few : (c : Known) → count c ≤ item_limit
-items_few c = omega (arith, (gives c).ranges, (at_turn (of_line (of-read c))).loop-at.invariant.spare_long)
+items_few c = omega (arith, (gives c).fits, (at_turn (of_line (of-read c))).loop-at.invariant.spare_long)
 
 loop-holds : tie.Need-loop-at-init invariant-loop decreases-loop
 loop-holds c = begin _ _ _ _ _ c.requires.1 c.requires.2
