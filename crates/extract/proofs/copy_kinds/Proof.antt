@@ -60,7 +60,7 @@ loop-again c =
     let old = head.args.out.now in (
       omega arith,
       elim c.if-marks-i-eq1.branch [
-        then-marks-i-eq1 w ↦
+        | then-marks-i-eq1 w ↦
             one_more marks (λ k. get_or kinds k 0) old head.loop-i.out head.loop-i.n head.loop-i.i head.loop-i.invariant.1 c.if-marks-i-eq1.out c.if-marks-i-eq1.n (get_or kinds head.loop-i.i 0)
             (fits (record { before = c.before; if-marks-i-eq1 = w.if-marks-i-eq1 })) w.if-marks-i-eq1.true refl w.out-is w.n-is
         | else-marks-i-eq1 w ↦

@@ -111,7 +111,7 @@ loop-again c =
     let i = head.loop-i.i in
     let so_far = head.loop-i.invariant.1 in
     elim c.if-marks-i-eq1.branch [
-      then-marks-i-eq1 w ↦ (
+      | then-marks-i-eq1 w ↦ (
         omega arith,
         one_more marks (new_parent parents marks) old head.loop-i.out head.loop-i.n i so_far c.if-marks-i-eq1.out c.if-marks-i-eq1.n w.new_parent.result
             (fits (record { before = c.before; if-marks-i-eq1 = w.if-marks-i-eq1 })) w.if-marks-i-eq1.true w.new_parent.ensures w.out-is w.n-is,

@@ -143,15 +143,19 @@ expression_μ_loop items at depth parent kind given sets₀ known₀ n ors₀ an
 -- A turn, and the start of the function.
 abbrev expression_begun : (t : ℕ) → expression-lts.At-loop-ands (expression_claims t) (expression_at t) expression.Post expression_Inv_loop expression_μ_loop → expression-lts.Start (expression_claims t) (expression_at t) expression.Post expression_Inv_loop expression_μ_loop
 expression_begun t c = c.before.before.before.before.before.before.before.before.before
+
 -- An operand has been read in a turn.
 abbrev expression_turning : (t : ℕ) → expression-lts.After-operand-place (expression_claims t) (expression_at t) expression.Post expression_Inv_loop expression_μ_loop → expression-lts.At-loop-ands (expression_claims t) (expression_at t) expression.Post expression_Inv_loop expression_μ_loop
 expression_turning t c = c.before.before.before
+
 -- Its set has been joined to that of its term.
 abbrev expression_reading : (t : ℕ) → expression-lts.After-narrow (expression_claims t) (expression_at t) expression.Post expression_Inv_loop expression_μ_loop → expression-lts.After-operand-place (expression_claims t) (expression_at t) expression.Post expression_Inv_loop expression_μ_loop
 expression_reading t c = c.before.before.before.before.before.before
+
 -- The term has been added to the expression.
 abbrev expression_joining : (t : ℕ) → expression-lts.After-widen (expression_claims t) (expression_at t) expression.Post expression_Inv_loop expression_μ_loop → expression-lts.After-narrow (expression_claims t) (expression_at t) expression.Post expression_Inv_loop expression_μ_loop
 expression_joining t c = c.before.before.before.before.before
+
 -- All nodes.
 abbrev expression_all : (t : ℕ) → expression-lts.Start (expression_claims t) (expression_at t) expression.Post expression_Inv_loop expression_μ_loop → ℕ
 expression_all t c = length c.args.parent.now
@@ -427,6 +431,7 @@ operand_claims t = (
 -- What is denied has been worked out.
 abbrev operand_begun : (t : ℕ) → operand-lts.After-expression-next (operand_claims t) (operand_at t) operand.Post → operand-lts.Start (operand_claims t) (operand_at t) operand.Post
 operand_begun t c = c.before.before.before.before.before.before.before.before.before.before.before.before.before
+
 operand_shared_slice_read_unpack : (t : ℕ) → operand-lts.Need-bounds-items-at (operand_claims t) (operand_at t) operand.Post
 operand_shared_slice_read_unpack t c =
     let start = c in
@@ -622,24 +627,31 @@ path_μ_loop items at count depth parent kind given sets₀ known₀ n places₀
 -- All nodes are in the first set.
 abbrev path_begun : (t : ℕ) → path-lts.After-fill (path_claims t) (path-at t) path.Post path_Inv_loop path_μ_loop → path-lts.Start (path_claims t) (path-at t) path.Post path_Inv_loop path_μ_loop
 path_begun t c = c.before.before.before.before.before.before.before.before
+
 -- A turn, from the last step back.
 abbrev path_filling : (t : ℕ) → path-lts.At-loop-left (path_claims t) (path-at t) path.Post path_Inv_loop path_μ_loop → path-lts.After-fill (path_claims t) (path-at t) path.Post path_Inv_loop path_μ_loop
 path_filling t c = c.before.before.before.before
+
 -- A step is left.
 abbrev path_turning : (t : ℕ) → path-lts.In-loop-left (path_claims t) (path-at t) path.Post path_Inv_loop path_μ_loop → path-lts.At-loop-left (path_claims t) (path-at t) path.Post path_Inv_loop path_μ_loop
 path_turning t c = c.before
+
 -- Its place has been found.
 abbrev path_owing : (t : ℕ) → path-lts.After-look-places (path_claims t) (path-at t) path.Post path_Inv_loop path_μ_loop → path-lts.In-loop-left (path_claims t) (path-at t) path.Post path_Inv_loop path_μ_loop
 path_owing t c = c.before
+
 -- It has been read.
 abbrev path_finding : (t : ℕ) → path-lts.After-step_at-step (path_claims t) (path-at t) path.Post path_Inv_loop path_μ_loop → path-lts.After-look-places (path_claims t) (path-at t) path.Post path_Inv_loop path_μ_loop
 path_finding t c = c.before
+
 -- Marks and test have been applied.
 abbrev path_stepping : (t : ℕ) → path-lts.After-restrict (path_claims t) (path-at t) path.Post path_Inv_loop path_μ_loop → path-lts.After-step_at-step (path_claims t) (path-at t) path.Post path_Inv_loop path_μ_loop
 path_stepping t c = c.before.before
+
 -- The predicates have narrowed the set.
 abbrev path_testing : (t : ℕ) → path-lts.After-predicates (path_claims t) (path-at t) path.Post path_Inv_loop path_μ_loop → path-lts.After-restrict (path_claims t) (path-at t) path.Post path_Inv_loop path_μ_loop
 path_testing t c = c.before.before.before.before.before
+
 -- All nodes.
 abbrev path_all : (t : ℕ) → path-lts.Start (path_claims t) (path-at t) path.Post path_Inv_loop path_μ_loop → ℕ
 path_all t c = length c.args.parent.now
@@ -986,12 +998,15 @@ predicate_claims t = (
 -- Equal items have been looked for.
 abbrev predicate_begun : (t : ℕ) → predicate-lts.After-find-slot (predicate_claims t) (predicate_at t) predicate.Post → predicate-lts.Start (predicate_claims t) (predicate_at t) predicate.Post
 predicate_begun t c = c.before.before.before.before.before.before.before
+
 -- They have been found.
 abbrev predicate_looking : (t : ℕ) → predicate-lts.Then-slot-known (predicate_claims t) (predicate_at t) predicate.Post → predicate-lts.After-find-slot (predicate_claims t) (predicate_at t) predicate.Post
 predicate_looking t c = c.before
+
 -- The predicate has been worked out.
 abbrev predicate_looking_past : (t : ℕ) → predicate-lts.After-expression-next (predicate_claims t) (predicate_at t) predicate.Post → predicate-lts.After-find-slot (predicate_claims t) (predicate_at t) predicate.Post
 predicate_looking_past t c = c.before.before.before.before
+
 -- All nodes.
 abbrev predicate_all : (t : ℕ) → predicate-lts.Start (predicate_claims t) (predicate_at t) predicate.Post → ℕ
 predicate_all t c = length c.args.parent.now
@@ -1130,12 +1145,15 @@ predicates_μ_loop items at count depth parent kind given sets₀ known₀ n pla
 -- A turn.
 abbrev predicates_begun : (t : ℕ) → predicates-lts.At-loop-owed (predicates_claims t) (predicates_at t) predicates.Post predicates_Inv_loop predicates_μ_loop → predicates-lts.Start (predicates_claims t) (predicates_at t) predicates.Post predicates_Inv_loop predicates_μ_loop
 predicates_begun t c = c.before.before.before.before.before.before.before
+
 -- A predicate is owed.
 abbrev predicates_turning : (t : ℕ) → predicates-lts.In-loop-owed (predicates_claims t) (predicates_at t) predicates.Post predicates_Inv_loop predicates_μ_loop → predicates-lts.At-loop-owed (predicates_claims t) (predicates_at t) predicates.Post predicates_Inv_loop predicates_μ_loop
 predicates_turning t c = c.before
+
 -- It has its set.
 abbrev predicates_owing : (t : ℕ) → predicates-lts.After-predicate-place (predicates_claims t) (predicates_at t) predicates.Post predicates_Inv_loop predicates_μ_loop → predicates-lts.In-loop-owed (predicates_claims t) (predicates_at t) predicates.Post predicates_Inv_loop predicates_μ_loop
 predicates_owing t c = c.before.before.before
+
 -- All nodes.
 abbrev predicates_all : (t : ℕ) → predicates-lts.Start (predicates_claims t) (predicates_at t) predicates.Post predicates_Inv_loop predicates_μ_loop → ℕ
 predicates_all t c = length c.args.parent.now

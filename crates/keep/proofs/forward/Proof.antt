@@ -54,6 +54,7 @@ Turn = tie.At-loop-left invariant-loop decreases-loop
 
 abbrev begun : Turn → Start
 begun c = c.before.before.before.before.before.before.before
+
 as_spare : (c : Turn) → spare (length c.loop-left.known) (all (begun c)) c.loop-left.sets ≡ lent (begun c)
 as_spare c = spare_same (all (begun c)) c.loop-left.sets (begun c).args.sets.now c.loop-left.invariant.2 c.loop-left.invariant.0
 
@@ -66,6 +67,7 @@ front c = length-take-le (all (begun c)) c.loop-left.sets (omega (arith, room c)
 -- The first set is moved along the axis.
 abbrev moving : tie.After-along invariant-loop decreases-loop → Turn
 moving c = c.before.before.before.before
+
 abbrev moved : tie.After-along invariant-loop decreases-loop → List ℕ
 moved c = c.along.new.set ++ drop (all (begun (moving c))) (moving c).loop-left.sets
 
@@ -88,6 +90,7 @@ moved_kept c =
 -- Marks and test are applied to it.
 abbrev testing : tie.After-restrict invariant-loop decreases-loop → tie.After-along invariant-loop decreases-loop
 testing c = c.before.before.before.before
+
 abbrev tested-turn : tie.After-restrict invariant-loop decreases-loop → Turn
 tested-turn c = moving (testing c)
 

@@ -62,6 +62,7 @@ select-requires c κs =
 -- The nodes are selected.
 abbrev chosen-in : tie.After-select → tie.Start
 chosen-in c = c.before.before.before.before.before.before.before.before.before.before.before.before
+
 chosen_room : (c : tie.After-select) → all (chosen-in c) ≤ length c.select.new.sets
 chosen_room c = omega (arith, room (chosen-in c), c.select.auto.sets)
 

@@ -15,6 +15,7 @@ use Rattle.keep.proofs.remember.Tie as tie
 -- An entry is free.
 abbrev begun : tie.Else-slot-known → tie.Start
 begun c = c.before.before.before.before.before.before
+
 inside : (c : tie.Else-slot-known) → c.free-slot.result < length (begun c).args.known.now
 inside c = omega (arith, c.free-slot.ensures, c.if-slot-known.false)
 

@@ -57,6 +57,7 @@ Turn = tie.At-loop-place invariant-loop decreases-loop
 
 abbrev begun : Turn → Start
 begun c = c.before.before.before.before.before.before.before.before.before.before.before.before
+
 abbrev all : Turn → ℕ
 all c = nodes (table (begun c))
 
@@ -71,6 +72,7 @@ front c = length-take-le (all c) c.loop-place.sets (omega (arith, room c))
 -- A path is read.
 abbrev read-in : tie.After-path_at-count invariant-loop decreases-loop → Turn
 read-in c = c.before.before
+
 next : (c : tie.After-path_at-count invariant-loop decreases-loop)
     → NextPath (table (begun (read-in c))) (items (begun (read-in c))) (read-in c).loop-place.place (lent (begun (read-in c))) (read-in c).loop-place.invariant.2.ahead c.path_at-count.result
 next c =
@@ -82,6 +84,7 @@ next c =
 -- The first set is that of the root.
 abbrev rooted-in : tie.After-start invariant-loop decreases-loop → tie.After-path_at-count invariant-loop decreases-loop
 rooted-in c = c.before.before
+
 abbrev rooted : tie.After-start invariant-loop decreases-loop → List ℕ
 rooted c = c.start.new.set ++ drop (all (read-in (rooted-in c))) (read-in (rooted-in c)).loop-place.sets
 
@@ -100,6 +103,7 @@ rooted_kept c =
 -- It is moved along the path.
 abbrev moved_in : tie.After-forward-place invariant-loop decreases-loop → tie.After-start invariant-loop decreases-loop
 moved_in c = c.before.before.before.before.before
+
 abbrev moved-turn : tie.After-forward-place invariant-loop decreases-loop → Turn
 moved-turn c = read-in (rooted-in (moved_in c))
 

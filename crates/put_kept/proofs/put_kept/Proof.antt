@@ -63,7 +63,7 @@ loop-again c g =
     let t = within b.before in
     let a = (start t).args in
     elim c.if-mark-eq1.branch [
-      then-mark-eq1 w ↦
+      | then-mark-eq1 w ↦
           walking_as w.out-is w.at-is w.squares-is w.top-is
           (walk_node a.text.now a.parent.now a.kind.now a.begin.now a.end.now a.marks.now g (t.loop-i.invariant g) b.loop-i-test.true (eq-eqb _ 1 w.if-mark-eq1.true) w.put_node-next.ensures)
       | else-mark-eq1 w ↦

@@ -23,7 +23,7 @@ abbrev judged : tie.In-Value → tie.After-judge-judged
 judged c = c.before.before
 
 abbrev kept : tie.In-Value → Columns
-kept c = let last = (judged c).judge-judged.new in columns last.1.1.1.1.1.0 last.1.1.1.1.1.1.0 last.1.1.1.1.1.1.1.0 last.1.1.1.1.1.1.1.1.0
+kept c = let last = (judged c).judge-judged.new in columns last.parents last.kinds last.begins last.ends
 
 valued : (c : tie.In-Value) → told c.answer-said.result ≡ value c.in-Value.n
 valued c = ap told c.in-Value.is

@@ -112,10 +112,10 @@ loop-again c =
     let stays = s.auto.stand ∙ l.invariant.1 in
     elim c.if-selected.branch [
       | then-selected w ↦ (
-        ap length w.marks-is ∙ w.mark_kept.auto.marks ∙ l.invariant.0,
+        ap length w.marks-is ∙ w.spread.auto.marks ∙ l.invariant.0,
         stays,
         omega (arith, (inside (decided c)).loop-k-test.true),
-        λ q e. w.marks-is ∙ w.mark_kept.ensures a.kind.now (up_to t m q l.k) (l.invariant.3 q e) ∙ up_to_more t m q n l.k (sym (s.ensures q e) ∙ w.if-selected.true),
+        λ q e. w.marks-is ∙ w.spread.ensures a.kind.now (up_to t m q l.k) (l.invariant.3 q e) ∙ up_to_more t m q n l.k (sym (s.ensures q e) ∙ w.if-selected.true),
       )
       | else-selected w ↦ (
         ap length w.marks-is ∙ l.invariant.0,
