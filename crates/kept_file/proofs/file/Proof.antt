@@ -29,7 +29,7 @@ same_length c = search rules
 returns : tie.Need-returns-then-out-needed
 returns c =
     let first = c in
-    lacking _ (kept-none first.before.before.before) (begun first.before.before.before).args.out.now _ first.write-Kept.ensures (omega arith)
+    lacking _ (kept-none first.before.before.before) (begun first.before.before.before).args.out.now _ first.write_kept-needed.ensures (omega arith)
 
 write-kept-requires-2 : tie.Need-write_kept-requires
 write-kept-requires-2 c κs = search rules
@@ -41,7 +41,7 @@ returns-2 : tie.Need-returns
 returns-2 c =
     let second = c in
     let first = second in
-    wrote _ (kept-none first.before.before.before.before.before.before.before) (begun first.before.before.before.before.before.before.before).args.out.now _ _ _ first.write-Kept.ensures second.write_kept.ensures (omega arith)
+    wrote _ (kept-none first.before.before.before.before.before.before.before) (begun first.before.before.before.before.before.before.before).args.out.now _ _ _ first.write_kept-needed.ensures second.write_kept.ensures (omega arith)
 
 pub file_spec : {M : Type 1} → statement M
 file_spec =
