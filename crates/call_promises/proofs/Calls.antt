@@ -1,6 +1,6 @@
 -- The demands over calls, from the demands over the entry points' definitions: a call's contract says what it answered and left by those. Assumes nothing.
 use Prim.Native.Nat.{ℕ}
-use mathlib.Core.Path.{◌≡◌, sym, ◌∙◌, ap}
+use mathlib.Core.Path.{◌≡◌, refl, sym, ◌∙◌, ap, subst₂}
 use mathlib.Core.Bool.{Bool, true, false}
 use mathlib.Core.List.{List}
 use lib.ListN.{length, take}
@@ -15,7 +15,7 @@ use Rattle.paper.specs.declared.Answer.TheVariants.{Value}
 use Rattle.call_promises.specs.Calls.{FormCall, Shorter, ComposeCall, RunCall, ExtractCall, Exactness, View, Secrecy, Extraction, RoundTrip, HeightCall, PathsCall, ScratchCall, scratch_lent, ScratchEnough}
 use Rattle.round_trip.proofs.Shortening.{shorter_answer}
 use Rattle.cut_theorems.proofs.Yes.{marks_are_good, extracts}
-use Rattle.call_promises.specs.Calls.{CutCall, YesMarks, YesExtracts, ViewIsCut}
+use Rattle.call_promises.specs.Calls.{ones, CutCall, YesMarks, YesExtracts, ViewIsCut}
 use Rattle.entry_promises.specs.Entries.{Shows}
 use Rattle.call_promises.proofs.Telling.{told_same}
 use Rattle.entry_promises.proofs.Accepting.{length_parents, took}
@@ -45,6 +45,12 @@ module _ {query parents kinds given marks : List ℕ} {a : ℕ} (c : RunCall que
 
   pub run_left : marks ≡ run_marks query (table_of parents kinds) given old-marks scratch-room
   run_left = sym c.marks_left ∙ (rw (c.query_lent, c.parents_lent, c.kinds_lent, c.given_lent) at c.met.1.0)
+
+-- The same of a run of equal items inside equal marks.
+pub run_as : {query parents kinds given marks q m : List ℕ} {a : ℕ} (c : RunCall query parents kinds given (Value a) marks) → query ≡ q → given ≡ m
+    → run_answer q (table_of parents kinds) m (length (old-marks c)) (scratch-room c) ≡ value a
+run_as {parents = parents} {kinds = kinds} {a = a} c e f =
+    subst₂ (λ (u v : List ℕ). run_answer u (table_of parents kinds) v (length (old-marks c)) (scratch-room c) ≡ value a) e f (run_value c)
 
 -- EXTRACT.
 module _ {parents kinds marks new_parents new_kinds : List ℕ} {n : ℕ} (c : ExtractCall parents kinds marks (Value n) new_parents new_kinds) where
@@ -83,8 +89,8 @@ shows v =
 pub exactness : Exactness
 exactness outer inner both parents kinds given marks shown last n a b c composing run-both run_first run-second =
     let t = table_of parents kinds in
-    let said = rw (composed_left composing) at (run_value run-both) in
-    let second = rw (run_left run_first) at (run_value run-second) in
+    let said = run_as run-both (ap (take n) (composed_left composing)) refl in
+    let second = run_as run-second refl (run_left run_first) in
     let alike = entries.exactness outer inner (old_items composing) t given (old-marks run-both) (old-marks run_first) (old-marks run-second) n a b c
     (scratch-room run-both) (scratch-room run_first) (scratch-room run-second) (composed_value composing) said (run_value run_first) second in (
       alike.0,
@@ -105,7 +111,7 @@ secrecy outer inner both parents kinds parents' kinds' ps ks ps' ks' n composing
 -- EXTRACTION.
 pub extraction : Extraction
 extraction query parents kinds given out_parents out_kinds ps ks qs ls n c v w =
-    let x = rw (parents_left c, kinds_left c) at (shows w) in
+    let x = subst₂ (λ (us vs : List ℕ). Shows query (table_of (take n us) (take n vs)) (ones (take n us)) w.kept w.count qs ls) (parents_left c) (kinds_left c) (shows w) in
     let alike = entries.extraction query (table_of parents kinds) given (old-parents c) (old-kinds c) n (extract_value c) v.kept w.kept v.count w.count ps ks qs ls (shows v) x in
     (alike.2, alike.3)
 

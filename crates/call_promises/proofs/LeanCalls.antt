@@ -1,6 +1,6 @@
 -- Lean compositions over calls, from the same over the entry points' definitions: a call's contract says what it answered and left by those. Assumes nothing.
 use Prim.Native.Nat.{ℕ, ◌≤◌}
-use mathlib.Core.Path.{◌≡◌, sym, ◌∙◌, ap}
+use mathlib.Core.Path.{◌≡◌, refl, sym, ◌∙◌, ap}
 use mathlib.Core.List.{List}
 use lib.ListN.{length, take}
 use Rattle.paper.specs.Document.{table_of}
@@ -13,7 +13,7 @@ use Rattle.call_promises.specs.Calls.{scratch_lent}
 use Rattle.entry_promises.specs.LeanEntries.{ComposesLean, GroupedLean}
 use Rattle.call_promises.specs.LeanCalls.{LeanCall, LeanAsComposed, NoMoreRefusals, LeanExactness, LeanSecrecy, LeanScratchEnough, LeanBy, GroupedLeanBy, LeanThreeInTurn, LeanThreeSecrets}
 use Rattle.call_promises.proofs.Telling.{told_same}
-use Rattle.call_promises.proofs.Calls.{old_items, composed_value, composed_left, old-marks, scratch-room, run_value, run_left, shows, height_value, paths_value, scratch_value}
+use Rattle.call_promises.proofs.Calls.{old_items, composed_value, composed_left, old-marks, scratch-room, run_value, run_left, run_as, shows, height_value, paths_value, scratch_value}
 use Rattle.call_promises.proofs.ChainCalls.{runs_by}
 use Rattle.entry_promises.proofs.LeanEntries as entries
 
@@ -35,8 +35,8 @@ lean_value c = sym (lean_said c)
 pub lean_as_composed : LeanAsComposed
 lean_as_composed outer inner lean both parents kinds given marks marks' n m a b l c run-lean run-both =
     let t = table_of parents kinds in
-    let one = rw (lean_left l) at (run_value run-lean) in
-    let other = rw (composed_left c) at (run_value run-both) in
+    let one = run_as run-lean (ap (take n) (lean_left l)) refl in
+    let other = run_as run-both (ap (take m) (composed_left c)) refl in
     let alike = entries.lean_as_composed outer inner (lent_items l) (old_items c) t given (old-marks run-lean) (old-marks run-both) n m a b (scratch-room run-lean) (scratch-room run-both)
     (lean_value l) (composed_value c) one other in (
       alike.0,
@@ -54,8 +54,8 @@ no_more_refusals outer inner both lean n answer c l room =
 pub lean_exactness : LeanExactness
 lean_exactness outer inner both parents kinds given marks shown last n a b c composing run-both run_first run-second =
     let t = table_of parents kinds in
-    let said = rw (lean_left composing) at (run_value run-both) in
-    let second = rw (run_left run_first) at (run_value run-second) in
+    let said = run_as run-both (ap (take n) (lean_left composing)) refl in
+    let second = run_as run-second refl (run_left run_first) in
     let alike = entries.lean_exactness outer inner (lent_items composing) t given (old-marks run-both) (old-marks run_first) (old-marks run-second) n a b c
     (scratch-room run-both) (scratch-room run_first) (scratch-room run-second) (lean_value composing) said (run_value run_first) second in (
       alike.0,

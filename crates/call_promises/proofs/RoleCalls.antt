@@ -1,6 +1,6 @@
 -- Roles over calls, from the same over the entry points' definitions: a call's contract says what it answered and left by those. Assumes nothing.
 use Prim.Native.Nat.{ℕ}
-use mathlib.Core.Path.{◌≡◌, sym, ◌∙◌, ap, ap₂}
+use mathlib.Core.Path.{◌≡◌, refl, sym, ◌∙◌, ap, ap₂}
 use mathlib.Core.List.{List}
 use lib.ListN.{length, take}
 use Rattle.paper.specs.Document.{marked, table_of}
@@ -13,7 +13,7 @@ use Rattle.paper.proofs.Giving.{read_gives}
 use Rattle.call_promises.specs.Calls.{ReadCall}
 use Rattle.call_promises.specs.RoleCalls.{RoleCall, RoleIndependence, RoleExactness, UnionMarks, ViewMarks, RoleSecrecy, RoleMonotony}
 use Rattle.call_promises.proofs.Telling.{told_same}
-use Rattle.call_promises.proofs.Calls.{old-marks, scratch-room, run_value, run_left, shows}
+use Rattle.call_promises.proofs.Calls.{old-marks, scratch-room, run_value, run_left, run_as, shows}
 use Rattle.entry_promises.proofs.RoleEntries as entries
 
 -- FOR ROLE. What the contract says of a call, of what is lent by the names it has in the statements.
@@ -47,8 +47,8 @@ role_independence views views' list masks masks' role text old old' answer answe
 pub role_exactness : RoleExactness
 role_exactness views list masks role text old out space asked parents kinds given marks shown last n k a b c call read run-items run-union run-asked =
     let t = table_of parents kinds in
-    let one = rw (role_left call) at (run_value run-items) in
-    let two = rw (items_read text list space asked k read, run_left run-union) at (run_value run-asked) in
+    let one = run_as run-items (ap (take n) (role_left call)) refl in
+    let two = run_as run-asked (items_read text list space asked k read) (run_left run-union) in
     let alike = entries.role_exactness views list masks role text old t given (old-marks run-items) (old-marks run-union) (old-marks run-asked) n a b c
     (scratch-room run-items) (scratch-room run-union) (scratch-room run-asked) (role_value call) one (run_value run-union) two in (
       alike.0,
@@ -67,7 +67,7 @@ pub view_marks : ViewMarks
 view_marks view list old items parents kinds given marks k a i read run l =
     let t = table_of parents kinds in
     let same = items_read view list old items k read in
-    let ran = rw same at (run_value run) in
+    let ran = run_as run same refl in
     ap (λ m. marked m i) (run_left run ∙ ap (λ q. run_marks q t given (old-marks run) (scratch-room run)) same)
     ∙ entries.view_marks view list t given (old-marks run) a (scratch-room run) i ran l
 
@@ -84,8 +84,8 @@ role_secrecy views list masks role text old out parents kinds parents' kinds' ps
 pub role_monotony : RoleMonotony
 role_monotony views list masks other role old out old' out' parents kinds given marks marks' n n' a a' all call call' run run' i l m =
     let t = table_of parents kinds in
-    let one = rw (role_left call) at (run_value run) in
-    let two = rw (role_left call') at (run_value run') in
+    let one = run_as run (ap (take n) (role_left call)) refl in
+    let two = run_as run' (ap (take n') (role_left call')) refl in
     let less = run_left run ∙ ap (λ ws. run_marks (take n ws) t given (old-marks run) (scratch-room run)) (role_left call) in
     let more = run_left run' ∙ ap (λ ws. run_marks (take n' ws) t given (old-marks run') (scratch-room run')) (role_left call') in
     ap (λ ws. marked ws i) more
