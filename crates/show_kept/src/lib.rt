@@ -2,9 +2,12 @@
 // The file is put into the lent bytes as far as these go, and its length is answered.
 #![tactic(auto)]
 
-ghost use Rattle.std.specs.Prelude.{◌+◌, ◌≤◌, ◌≡◌, length};
+ghost use Rattle.std.specs.Prelude.{◌+◌, ◌^◌, ◌≤◌, ◌<◌, ◌≡◌, length};
 ghost use Rattle.paper.specs.Limits.{node_limit};
 ghost use Rattle.paper.specs.Document.{table_of};
+ghost use Rattle.paper.specs.Answers.{run_answer, run_marks};
+ghost use Rattle.paper.specs.Told.{told};
+ghost use Rattle.paper.specs.Sheet.{all_marked};
 ghost use Rattle.paper.specs.Show.{file_room, file_shows, table_shows};
 ghost use Rattle.lines.specs.Lines.{Reports};
 
@@ -37,6 +40,22 @@ fn show_file(
     pen::put(out, shown, b"\n")
 }
 
+// Runs the query with every mark 1 and so many bytes of scratch.
+fn run_within<const N: usize>(
+    query: &[u32],
+    parent: &[u16],
+    kind: &[u16],
+    marks: &mut [u8],
+) -> Answer
+    requires few { length parent.now ≤ node_limit }
+    requires room { N < 2 ^ 62 }
+    ensures result_value { told result ≡ run_answer query.now (table_of parent.now kind.now) (all_marked (table_of parent.now kind.now)) (length marks.old) N }
+    ensures marks_after { marks.new ≡ run_marks query.now (table_of parent.now kind.now) (all_marked (table_of parent.now kind.now)) marks.old N }
+{
+    let mut scratch = [0u8; N];
+    whole::run_whole(query, parent, kind, marks, &mut scratch)
+}
+
 // Shows what the query keeps of a text that was read into these columns, with room for its marks.
 fn show_table(
     query: &[u32],
@@ -52,8 +71,7 @@ fn show_table(
     requires { (length parent.now ≤ node_limit) × (length marks.old ≡ length parent.now) }
     ensures { Reports (table_shows query.now list.now text.now (table_of parent.now kind.now) begin.now end.now) (file_room + 1) out.old out.new result }
 {
-    let mut scratch = [0u8; SCRATCH_LENT];
-    let ran = whole::run_whole(query, parent, kind, marks, &mut scratch);
+    let ran = run_within::<SCRATCH_LENT>(query, parent, kind, marks);
     let Answer::Value(kept) = ran else {
         return lines::put_refusal(out, b"run", ran);
     };

@@ -4,7 +4,7 @@ use Prim.Native.Nat.{ℕ, ◌≤◌}
 use native.Mathlib.Omega.{arith}
 use mathlib.Core.Path.{◌≡◌, refl, sym, ◌∙◌, ap, ap₂}
 use mathlib.Core.List.{List, [], ◌∷◌}
-use lib.ListN.{length, get_or, drop, length-drop}
+use lib.ListN.{length, get_or, take, drop, length-drop}
 use lib.Seq.{length-take-le}
 use Rattle.paper.specs.WriteXml.{kept_xml}
 use Rattle.paper.specs.Answers.{Answer, at_exit}
@@ -205,7 +205,7 @@ pub axis_ahead_unique : AxisAheadUnique
 axis_ahead_unique κs a u v x y g p q = ahead.axis_ahead_unique a.0.now a.1.0.at u v p q
 
 pub test_call_unique : TestCallUnique
-test_call_unique κs a u v x y g p q = ahead.test_call_unique a.0.now a.1.1.1.0.at _ u v p q
+test_call_unique κs a u v x y g p q = ahead.test_call_unique a.0.now a.1.1.1.0.at (take a.1.1.0 (drop a.1.0 a.0.now)) u v p q
 
 -- READING.
 pub put_item_unique : PutItemUnique

@@ -36,12 +36,12 @@ returns c =
     let a = (begun call.before.before.before.before.before.before.before.before.before).args in (
       coded said.0 (read_xml_small _ _ _ _ _ _) c.code.ensures.0,
       (
-        said.1.0 ∙ ap (λ answer. read_xml_column parent_field a.text.now answer a.parent-1.now) said.0,
+        said.1.0 ∙ ap (λ answer. read_xml_column parent_field a.text.now answer a.parent.now) said.0,
         (
-          said.1.1.0 ∙ ap (λ answer. read_xml_column (kind_field a.names.now) a.text.now answer a.kind-1.now) said.0,
+          said.1.1.0 ∙ ap (λ answer. read_xml_column (kind_field a.names.now) a.text.now answer a.kind.now) said.0,
           (
-            said.1.1.1.0 ∙ ap (λ answer. read_xml_column begin_field a.text.now answer a.begin-1.now) said.0,
-            said.1.1.1.1 ∙ ap (λ answer. read_xml_column end_field a.text.now answer a.end-1.now) said.0,
+            said.1.1.1.0 ∙ ap (λ answer. read_xml_column begin_field a.text.now answer a.begin.now) said.0,
+            said.1.1.1.1 ∙ ap (λ answer. read_xml_column end_field a.text.now answer a.end.now) said.0,
           ),
         ),
       ),

@@ -1,8 +1,7 @@
 -- `show_kept::show_table` meets its contract: the line of a refusal, nothing, or the file of what is kept. Assumes nothing.
 use Prim.Native.Nat.{ℕ, ◌+◌}
 use native.Mathlib.Omega.{arith}
-use mathlib.Core.Path.{◌≡◌, sym, ◌∙◌, ap, ap₂}
-use lib.ListN.{length-replicate}
+use mathlib.Core.Path.{◌≡◌, sym, ◌∙◌, ap}
 use Rattle.paper.specs.Items.{decode}
 use Rattle.paper.specs.Document.{Table, nodes, table_of}
 use Rattle.paper.specs.Answers.{value, run_answer, kept_got}
@@ -16,10 +15,7 @@ use borrow.Author.Rules.{rules}
 use Rattle.show_kept.proofs.show_table.Statement.{statement}
 use Rattle.show_kept.proofs.show_table.Tie as tie
 
-slice-aggregate-run-whole : tie.Need-slice_bounds-run_whole-end
-slice-aggregate-run-whole c = search rules
-
-run-whole-requires : tie.Need-run_whole-ran-requires
+run-whole-requires : tie.Need-run_within-ran-requires
 run-whole-requires c κs = search rules
 
 enum-known-ran : tie.Need-enum_known-ran
@@ -35,19 +31,18 @@ same-length-2 : tie.Need-shape_of-out-in_default
 same-length-2 c = search rules
 
 -- The query is run: what is answered, and the marks that it leaves.
-abbrev start : tie.After-run_whole-ran → tie.Start
-start c = c.before.before.before.before.before.before.before.before.before.before.before.before
+abbrev start : tie.After-run_within-ran → tie.Start
+start c = c.before.before.before.before.before.before.before.before.before.before.before
 
-abbrev columns : tie.After-run_whole-ran → Table
+abbrev columns : tie.After-run_within-ran → Table
 columns c = table_of (start c).args.parent.now (start c).args.kind.now
 
-answered : (c : tie.After-run_whole-ran) → told c.run_whole-ran.result ≡ run_answer (start c).args.query.now (columns c) (all_marked (columns c)) (nodes (columns c)) scratch_lent
+answered : (c : tie.After-run_within-ran) → told c.run_within-ran.result ≡ run_answer (start c).args.query.now (columns c) (all_marked (columns c)) (nodes (columns c)) scratch_lent
 answered c =
-    c.run_whole-ran.ensures.0
-    ∙ ap₂ (run_answer (start c).args.query.now (columns c) (all_marked (columns c))) (start c).requires.1 (length-replicate {A = ℕ} scratch_lent 0)
+    c.run_within-ran.ensures.0 ∙ ap (λ (n : ℕ). run_answer (start c).args.query.now (columns c) (all_marked (columns c)) n scratch_lent) (start c).requires.1
 
-abbrev ran-at : tie.In-Value → tie.After-run_whole-ran
-ran-at c = c.before.before.before.before
+abbrev ran-at : tie.In-Value → tie.After-run_within-ran
+ran-at c = c.before.before.before
 
 accepted : (c : tie.In-Value) →
     let ran = ran-at c in
@@ -56,17 +51,17 @@ accepted c = ap told (sym c.in-Value.is) ∙ answered (ran-at c)
 
 marked : (c : tie.In-Value) →
     let ran = ran-at c in
-    ran.run_whole-ran.new.marks ≡ kept_got (columns ran) (all_marked (columns ran)) (decode (start ran).args.query.now)
+    ran.run_within-ran.new.marks ≡ kept_got (columns ran) (all_marked (columns ran)) (decode (start ran).args.query.now)
 marked c =
     let ran = ran-at c in
-    marks_kept (start ran).args.query.now (columns ran) _ (start ran).args.marks.now _ c.in-Value.kept (ap told (sym c.in-Value.is) ∙ ran.run_whole-ran.ensures.0) (start ran).requires.1
-    ran.run_whole-ran.ensures.1.0
+    marks_kept (start ran).args.query.now (columns ran) _ (start ran).args.marks.now _ c.in-Value.kept (ap told (sym c.in-Value.is) ∙ ran.run_within-ran.ensures.0) (start ran).requires.1
+    ran.run_within-ran.ensures.1
 
 returns : tie.Need-returns-in_default
 unfolding table_shows
 returns c =
     let ran = c in
-    refused_part "run" _ _ (file_room + 1) _ _ _ (omega arith) ran.run_whole-ran.result c.in_default.in_default-own.keys2 (answered ran.before.before.before.before.before.before.before.before.before.before) c.put_refusal.ensures
+    refused_part "run" _ _ (file_room + 1) _ _ _ (omega arith) ran.run_within-ran.result c.in_default.in_default-own.keys2 (answered ran.before.before.before.before.before.before.before.before.before) c.put_refusal.ensures
 
 same-length-3 : tie.Need-shape_of-marks-then-kept-eq0
 same-length-3 c = search rules
@@ -96,7 +91,6 @@ pub show_table_spec : {M : Type 1} → statement M
 show_table_spec =
     tie.close
     (tie.spec
-    slice-aggregate-run-whole
     run-whole-requires
     enum-known-ran
     put-refusal-requires
