@@ -94,10 +94,9 @@ returns c =
 
 returns-2 : tie.Need-returns-in_default
 returns-2 c =
-    let start = begun-of (lent_of c.before) in
-    let t = lent start in (
+    let a = c.args in (
       c.answer-said.ensures,
-      refused t start.args.marks.now start.args.out_parent.now start.args.out_kind.now c.answer-said.result c.answer-said.ensures c.in_default.in_default-own.keys2,
+      refused (table_of a.parent.now a.kind.now) a.marks.now a.out_parent.now a.out_kind.now c.answer-said.result c.answer-said.ensures c.in_default.in_default-own.keys2,
     )
 
 pub extract_spec : {M : Type 1} → statement M
