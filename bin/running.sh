@@ -67,7 +67,7 @@ run_here() {
     tools=$kit/on/$(uname -m)/toolchain
     emulator=$tools/bin/qemu-x86_64
     [ -x "$emulator" ] || emulator=qemu-x86_64
-    "$emulator" -cpu qemu64 "$tools/lib/ld-linux-x86-64.so.2" --library-path "$tools/lib" "$1"
+    "$emulator" -cpu Nehalem "$tools/lib/ld-linux-x86-64.so.2" --library-path "$tools/lib" "$1"
 }
 
 # Runs the program of a crate, built on first use and whenever a source is newer.

@@ -2,57 +2,54 @@
 // Each function takes tokens from a cursor on and hands back the cursor past those it was asked for, or says that something else comes.
 #![tactic(auto)]
 
-ghost use Rattle.std.specs.Prelude.{◌+◌, ◌≤◌, ◌<◌, ◌≡◌, length, take, drop};
+ghost use Rattle.std.specs.Prelude.{◌≤◌, ◌<◌, ◌≡◌, length};
 ghost use Rattle.paper.specs.Tools.{same};
 ghost use Rattle.paper.specs.Tokens.{letters};
 ghost use Rattle.paper.specs.Reading.{next, joins, starts_step};
+ghost use Rattle.token.specs.Taking.{mark_of};
 ghost use Rattle.marks.specs.Marks.{tokens_at, Looks};
 ghost use Rattle.ahead.specs.Looking.{Joins, Leads, Begins, Axes, call_code, Calls};
 
-use axis_words::{NO_AXIS, axis_of};
-use marks::{Ahead, BAR, COLONS, DOT, DOTS, OPEN_ROUND, SLASH, SLASHES, STAR, WORD, mark, sort_of};
-use token::{Cursor, Token};
+use axis_words::axis_of;
+use marks::{Ahead, There, mark};
+use token::{Cursor, Mark, Taken, Token};
 use words::same_word;
 
-// Does `/` or `//` come next?
+// The cursor past a `/` or a `//`, and which of them it is.
 #[derive(Clone, Copy)]
-pub enum Joint {
-    Next { next: Cursor, deep: bool },
-    Nothing(usize),
+pub struct Joint {
+    pub next: Cursor,
+    pub deep: bool,
 }
 
 // How an absolute path begins.
 #[derive(Clone, Copy)]
 pub enum Lead {
     Alone(Cursor),
-    Before { next: Cursor, deep: bool },
-    NoPath(usize),
+    Before(Joint),
 }
 
 // How an operand begins: the place of its bracket and the cursor past that, or a path.
 #[derive(Clone, Copy)]
 pub enum Opens {
-    Not { place: usize, next: Cursor },
-    Round { place: usize, next: Cursor },
+    Not(There),
+    Round(There),
     Path,
 }
 
 // An axis that is written, and the cursor past its `::`.
 #[derive(Clone, Copy)]
-pub enum AxisAhead {
-    Named { axis: u32, next: Cursor },
-    Unnamed,
+pub struct AxisAhead {
+    pub axis: u32,
+    pub next: Cursor,
 }
 
 // A test that is written as a call, and the cursor past its `(`.
 #[derive(Clone, Copy)]
-pub enum Call {
-    Inside { test: u32, next: Cursor },
-    NoCall,
+pub struct Call {
+    pub test: u32,
+    pub next: Cursor,
 }
-
-// The number that no called test has.
-const NO_CALL: u32 = item::NAMED;
 
 // MARKS AND WORDS.
 
@@ -61,67 +58,63 @@ pub fn word_ahead(text: &[u8], cursor: Cursor, word: &[u8]) -> Ahead
     requires { (cursor.at ≤ length text.now) × (0 < length word.now) }
     ensures { Looks text.now cursor.at (same word.now (letters (next (tokens_at text.now cursor.at)))) result }
 {
-    let taken = cursor.take(text);
-    let place = taken.place;
-    let past = taken.next;
-    let token = taken.token;
+    let Taken { place, token, next } = cursor.take(text);
     let Token::Word(len) = token else {
-        return Ahead::Other(place);
+        return Err(place);
     };
     if same_word(text, place, len, word) {
-        Ahead::There { place, next: past }
+        Ok(There { place, next })
     } else {
-        Ahead::Other(place)
+        Err(place)
     }
 }
 
 // PATHS AND OPERANDS.
+
+// May a step begin with this mark?
+fn begins_step(mark: Mark) -> bool
+    ensures { result ≡ starts_step (mark_of mark) }
+{
+    matches!(mark, Mark::Star | Mark::Dot | Mark::Dots)
+}
 
 // Does a step begin here?
 fn starts_step(text: &[u8], cursor: Cursor) -> bool
     requires { cursor.at ≤ length text.now }
     ensures { result ≡ starts_step (next (tokens_at text.now cursor.at)) }
 {
-    let taken = cursor.take(text);
-    let token = taken.token;
-    let sort = sort_of(token);
-    (WORD == sort) | (STAR == sort) | (DOT == sort) | (DOTS == sort)
+    match cursor.take(text).token {
+        Token::Word(_) => true,
+        Token::Mark(mark) => begins_step(mark),
+        _ => false,
+    }
 }
 
-// Does `/` or `//` come next?
-pub fn joined(text: &[u8], cursor: Cursor) -> Joint
+// Does `/` or `//` come next? If not, the place of the other token.
+pub fn joined(text: &[u8], cursor: Cursor) -> Result<Joint, usize>
     requires { cursor.at ≤ length text.now }
     ensures { Joins text.now cursor.at result }
 {
-    let single = mark(text, cursor, SLASH);
-    if let Ahead::There { place: _, next } = single {
-        return Joint::Next { next, deep: false };
+    if let Ok(There { place: _, next }) = mark(text, cursor, Mark::Slash) {
+        return Ok(Joint { next, deep: false });
     }
-    let double = mark(text, cursor, SLASHES);
-    match double {
-        Ahead::There { place: _, next } => Joint::Next { next, deep: true },
-        Ahead::Other(place) => Joint::Nothing(place),
-    }
+    let There { place: _, next } = mark(text, cursor, Mark::Slashes)?;
+    Ok(Joint { next, deep: true })
 }
 
-// How an absolute path begins: `/` alone, or `/` or `//` and steps.
-pub fn path_lead(text: &[u8], cursor: Cursor) -> Lead
+// How an absolute path begins: `/` alone, or `/` or `//` and steps. If none does, the place of the other token.
+pub fn path_lead(text: &[u8], cursor: Cursor) -> Result<Lead, usize>
     requires { cursor.at ≤ length text.now }
     ensures { Leads text.now cursor.at result }
 {
-    let joint = joined(text, cursor);
-    match joint {
-        Joint::Next { next, deep } => {
-            if deep {
-                return Lead::Before { next, deep };
-            }
-            if starts_step(text, next) {
-                Lead::Before { next, deep }
-            } else {
-                Lead::Alone(next)
-            }
-        }
-        Joint::Nothing(place) => Lead::NoPath(place),
+    let joint = joined(text, cursor)?;
+    if joint.deep {
+        return Ok(Lead::Before(joint));
+    }
+    if starts_step(text, joint.next) {
+        Ok(Lead::Before(joint))
+    } else {
+        Ok(Lead::Alone(joint.next))
     }
 }
 
@@ -130,18 +123,15 @@ pub fn opening(text: &[u8], cursor: Cursor) -> Opens
     requires { cursor.at ≤ length text.now }
     ensures { Begins text.now cursor.at result }
 {
-    let round = mark(text, cursor, OPEN_ROUND);
-    if let Ahead::There { place, next } = round {
-        return Opens::Round { place, next };
+    if let Ok(round) = mark(text, cursor, Mark::OpenRound) {
+        return Opens::Round(round);
     }
-    let word = word_ahead(text, cursor, b"not");
-    let Ahead::There { place: _, next } = word else {
+    let Ok(word) = word_ahead(text, cursor, b"not") else {
         return Opens::Path;
     };
-    let call = mark(text, next, OPEN_ROUND);
-    match call {
-        Ahead::There { place, next } => Opens::Not { place, next },
-        Ahead::Other(_) => Opens::Path,
+    match mark(text, word.next, Mark::OpenRound) {
+        Ok(round) => Opens::Not(round),
+        Err(_) => Opens::Path,
     }
 }
 
@@ -150,9 +140,9 @@ pub fn joins_ahead(text: &[u8], cursor: Cursor, newer: bool) -> Ahead
     requires { cursor.at ≤ length text.now }
     ensures { Looks text.now cursor.at (joins newer (tokens_at text.now cursor.at)) result }
 {
-    let bar = mark(text, cursor, BAR);
-    if let Ahead::There { place, next } = bar {
-        return Ahead::There { place, next };
+    let bar = mark(text, cursor, Mark::Bar);
+    if let Ok(_) = bar {
+        return bar;
     }
     if newer {
         word_ahead(text, cursor, b"union")
@@ -164,55 +154,46 @@ pub fn joins_ahead(text: &[u8], cursor: Cursor, newer: bool) -> Ahead
 // AXES AND TESTS.
 
 // The axis that is written before `::`, if one is.
-pub fn axis_ahead(text: &[u8], cursor: Cursor) -> AxisAhead
+pub fn axis_ahead(text: &[u8], cursor: Cursor) -> Option<AxisAhead>
     requires { cursor.at ≤ length text.now }
     ensures { Axes text.now cursor.at result }
 {
-    let taken = cursor.take(text);
-    let place = taken.place;
-    let past = taken.next;
-    let token = taken.token;
+    let Taken { place, token, next } = cursor.take(text);
     let Token::Word(len) = token else {
-        return AxisAhead::Unnamed;
+        return None;
     };
-    let colons = mark(text, past, COLONS);
-    let Ahead::There { place: _, next } = colons else {
-        return AxisAhead::Unnamed;
+    let Ok(colons) = mark(text, next, Mark::Colons) else {
+        return None;
     };
-    let axis = axis_of(text, place, len);
-    if axis == NO_AXIS {
-        AxisAhead::Unnamed
-    } else {
-        AxisAhead::Named { axis, next }
-    }
+    let axis = axis_of(&text[place..place + len])?;
+    Some(AxisAhead {
+        axis,
+        next: colons.next,
+    })
 }
 
-// The number of the test that a word calls.
-fn call_of(text: &[u8], start: usize, len: usize) -> u32
-    requires { start + len ≤ length text.now }
-    ensures { result ≡ call_code (take len (drop start text.now)) }
+// The number of the test that a word calls, if it calls one.
+fn call_of(word: &[u8]) -> Option<u32>
+    ensures { result ≡ call_code word.now }
 {
-    if same_word(text, start, len, b"node") {
-        return item::ANY_NODE;
+    match word {
+        b"node" => Some(item::ANY_NODE),
+        b"text" => Some(item::TEXT_NODE),
+        _ => None,
     }
-    if same_word(text, start, len, b"text") {
-        return item::TEXT_NODE;
-    }
-    NO_CALL
 }
 
 // The test that a word and the `(` after it call, if they do.
-pub fn test_call(text: &[u8], start: usize, len: usize, cursor: Cursor) -> Call
-    requires { (start + len ≤ length text.now) × (cursor.at ≤ length text.now) }
-    ensures { Calls text.now (take len (drop start text.now)) cursor.at result }
+pub fn test_call(text: &[u8], word: &[u8], cursor: Cursor) -> Option<Call>
+    requires { cursor.at ≤ length text.now }
+    ensures { Calls text.now word.now cursor.at result }
 {
-    let test = call_of(text, start, len);
-    if test == NO_CALL {
-        return Call::NoCall;
-    }
-    let round = mark(text, cursor, OPEN_ROUND);
-    match round {
-        Ahead::There { place: _, next } => Call::Inside { test, next },
-        Ahead::Other(_) => Call::NoCall,
-    }
+    let test = call_of(word)?;
+    let Ok(round) = mark(text, cursor, Mark::OpenRound) else {
+        return None;
+    };
+    Some(Call {
+        test,
+        next: round.next,
+    })
 }

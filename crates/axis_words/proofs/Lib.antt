@@ -1,2 +1,2 @@
--- The words of axes.
+-- A word that is none of the words of axes: `none_named`.
 pub mod Words

@@ -10,8 +10,8 @@ use Rattle.paper.specs.Printing.{long_form, short_form}
 use Rattle.paper.specs.Answers.{value, refusal, read_answer, read_out, print_answer, print_out, compose_answer, compose_out, run_answer, run_marks, extract_answer, extract_parents, extract_kinds, is_cut_answer}
 use Rattle.paper.specs.Cut.{marks_of}
 use Rattle.paper.specs.Told.{told}
-use Rattle.paper.specs.declared.Answer.{Answer}
-use Rattle.paper.specs.declared.Answer.TheVariants.{Value}
+use Rattle.paper.specs.Told.{Answer}
+use Rattle.std.specs.Prelude.{Ok}
 use Rattle.call_promises.specs.Calls.{FormCall, Shorter, ComposeCall, RunCall, ExtractCall, Exactness, View, Secrecy, Extraction, RoundTrip, HeightCall, PathsCall, ScratchCall, scratch_lent, ScratchEnough}
 use Rattle.round_trip.proofs.Shortening.{shorter_answer}
 use Rattle.cut_theorems.proofs.Yes.{marks_are_good, extracts}
@@ -22,7 +22,7 @@ use Rattle.entry_promises.proofs.Accepting.{length_parents, took}
 use Rattle.entry_promises.proofs.Entries as entries
 
 -- COMPOSE. What the contract says of an accepted call, of the slices by the names they have in the statements.
-module _ {outer inner both : List ℕ} {n : ℕ} (c : ComposeCall outer inner (Value n) both) where
+module _ {outer inner both : List ℕ} {n : ℕ} (c : ComposeCall outer inner (Ok n) both) where
   abbrev pub old_items : List ℕ
   old_items = c.args.1.1.0.now
 
@@ -33,7 +33,7 @@ module _ {outer inner both : List ℕ} {n : ℕ} (c : ComposeCall outer inner (V
   composed_left = sym c.out_left ∙ (rw (c.outer_lent, c.inner_lent) at c.met.1)
 
 -- RUN.
-module _ {query parents kinds given marks : List ℕ} {a : ℕ} (c : RunCall query parents kinds given (Value a) marks) where
+module _ {query parents kinds given marks : List ℕ} {a : ℕ} (c : RunCall query parents kinds given (Ok a) marks) where
   abbrev pub old-marks : List ℕ
   old-marks = c.args.1.1.1.1.0.now
 
@@ -47,13 +47,13 @@ module _ {query parents kinds given marks : List ℕ} {a : ℕ} (c : RunCall que
   run_left = sym c.marks_left ∙ (rw (c.query_lent, c.parents_lent, c.kinds_lent, c.given_lent) at c.met.1.0)
 
 -- The same of a run of equal items inside equal marks.
-pub run_as : {query parents kinds given marks q m : List ℕ} {a : ℕ} (c : RunCall query parents kinds given (Value a) marks) → query ≡ q → given ≡ m
+pub run_as : {query parents kinds given marks q m : List ℕ} {a : ℕ} (c : RunCall query parents kinds given (Ok a) marks) → query ≡ q → given ≡ m
     → run_answer q (table_of parents kinds) m (length (old-marks c)) (scratch-room c) ≡ value a
 run_as {parents = parents} {kinds = kinds} {a = a} c e f =
     subst₂ (λ (u v : List ℕ). run_answer u (table_of parents kinds) v (length (old-marks c)) (scratch-room c) ≡ value a) e f (run_value c)
 
 -- EXTRACT.
-module _ {parents kinds marks new_parents new_kinds : List ℕ} {n : ℕ} (c : ExtractCall parents kinds marks (Value n) new_parents new_kinds) where
+module _ {parents kinds marks new_parents new_kinds : List ℕ} {n : ℕ} (c : ExtractCall parents kinds marks (Ok n) new_parents new_kinds) where
   abbrev old-parents : List ℕ
   old-parents = c.args.1.1.1.0.now
 
@@ -121,7 +121,7 @@ record Printed (brief : Bool) (query list text : List ℕ) (n : ℕ) : Type 0 wh
   print_value : print_answer brief query list (length old) ≡ value n
   print_left : text ≡ print_out brief query list old
 
-printed_so : (brief : Bool) (query list text : List ℕ) (n : ℕ) → FormCall brief query list (Value n) text → Printed brief query list text n
+printed_so : (brief : Bool) (query list text : List ℕ) (n : ℕ) → FormCall brief query list (Ok n) text → Printed brief query list text n
 printed_so true query list text n p =
     record {
       old = p.args.1.1.0.now;
@@ -142,7 +142,7 @@ round_trip brief query list text old out n version answer fine p most room r =
     let read-said : told answer ≡ read_answer (take n text) version list (length old) = rw (r.text_lent, r.version_given, r.list_lent, r.out_lent) at r.met.0 in
     let read_left : out ≡ read_out (take n text) version list old = sym r.out_left ∙ (rw (r.text_lent, r.version_given, r.list_lent, r.out_lent) at r.met.1) in
     let back = entries.round_trip brief query list print.old old n version fine print.print_value most room in (
-      told_same answer (Value (length query)) (read-said ∙ ap (λ ws. read_answer (take n ws) version list (length old)) print.print_left ∙ back.0),
+      told_same answer (Ok (length query)) (read-said ∙ ap (λ ws. read_answer (take n ws) version list (length old)) print.print_left ∙ back.0),
       ap (take (length query)) (read_left ∙ ap (λ ws. read_out (take n ws) version list old) print.print_left) ∙ back.1,
     )
 
@@ -152,16 +152,16 @@ shorter query list long short n answer l s same-room =
     let told-long : print_answer long_form query list (length l.args.1.1.0.now) ≡ value n = rw (l.query_lent, l.list_lent) at (sym l.met.0) in
     let less = shorter_answer query list (length l.args.1.1.0.now) n told-long in
     let told-short : told answer ≡ print_answer short_form query list (length s.args.1.1.0.now) = rw (s.query_lent, s.list_lent) at s.met.0 in
-    (less.0, told_same answer (Value less.0) (told-short ∙ ap (print_answer short_form query list) same-room ∙ less.1), less.2)
+    (less.0, told_same answer (Ok less.0) (told-short ∙ ap (print_answer short_form query list) same-room ∙ less.1), less.2)
 
 -- SCRATCH.
-pub height_value : {query : List ℕ} {n : ℕ} → HeightCall query (Value n) → height_answer query ≡ value n
+pub height_value : {query : List ℕ} {n : ℕ} → HeightCall query (Ok n) → height_answer query ≡ value n
 height_value c = rw c.query_lent at (sym c.met)
 
-pub paths_value : {query : List ℕ} {n : ℕ} → PathsCall query (Value n) → paths_answer query ≡ value n
+pub paths_value : {query : List ℕ} {n : ℕ} → PathsCall query (Ok n) → paths_answer query ≡ value n
 paths_value c = rw c.query_lent at (sym c.met)
 
-pub scratch_value : {count oh op ih ip n : ℕ} → ScratchCall count oh op ih ip (Value n) → scratch_answer count oh op ih ip ≡ value n
+pub scratch_value : {count oh op ih ip n : ℕ} → ScratchCall count oh op ih ip (Ok n) → scratch_answer count oh op ih ip ≡ value n
 scratch_value c = rw (c.count_given, c.outer_height_given, c.outer_paths_given, c.inner_height_given, c.inner_paths_given) at (sym c.met)
 
 pub scratch_enough : ScratchEnough
@@ -203,4 +203,4 @@ yes_extracts parents kinds cut_parents cut_kinds numbers out_parents out_kinds n
 pub view_is_cut : ViewIsCut
 unfolding shows
 view_is_cut query parents kinds ps ks answer v c =
-    told_same answer (Value 1) (cut_said c ∙ entries.shown_is_cut query (table_of parents kinds) v.kept v.count ps ks (shows v))
+    told_same answer (Ok 1) (cut_said c ∙ entries.shown_is_cut query (table_of parents kinds) v.kept v.count ps ks (shows v))

@@ -4,7 +4,7 @@ use mathlib.Core.Path.{◌≡◌, ◌∙◌, ap}
 use mathlib.Core.List.{List}
 use lib.ListN.{take}
 use Rattle.paper.specs.Document.{table_of}
-use Rattle.paper.specs.declared.Answer.TheVariants.{Value}
+use Rattle.std.specs.Prelude.{Ok}
 use Rattle.call_promises.specs.Calls.{RunCall}
 use Rattle.entry_promises.specs.Chains.{Composes, Grouped, Runs}
 use Rattle.call_promises.specs.ChainCalls.{ComposedBy, GroupedBy, ThreeInTurn, ThreeSecrets}
@@ -32,7 +32,7 @@ grouped g =
       ab_on_c = composes g.ab_on_c;
     }
 
-pub runs_by : {query parents kinds given marks : List ℕ} {n : ℕ} → RunCall query parents kinds given (Value n) marks → Runs query (table_of parents kinds) given n marks
+pub runs_by : {query parents kinds given marks : List ℕ} {n : ℕ} → RunCall query parents kinds given (Ok n) marks → Runs query (table_of parents kinds) given n marks
 runs_by c = record { old = old-marks c; room = scratch-room c; accepted = run_value c; left = run_left c }
 
 -- THREE VIEWS.

@@ -16,10 +16,10 @@ use Rattle.paper.specs.Document.{Table, table_of, table_fault, marks_fault}
 use Rattle.paper.specs.Answers.{refusal, short, at_exit, kept_got, scratch_of, run_answer, run_marks}
 use Rattle.paper.specs.Answers.{Answer as Told}
 use Rattle.paper.specs.Told.{told}
-use Rattle.paper.specs.declared.Answer.{Answer}
+use Rattle.paper.specs.Told.{Answer}
 use Rattle.paper.proofs.Tests.{decide}
 use Rattle.follow.specs.Follows.{enough}
-use Rattle.follow.proofs.Answering.{Long}
+use Rattle.judge.proofs.Answering.{Long}
 use Rattle.call_promises.specs.Calls.{RunCall}
 use Rattle.call_promises.specs.Engines.{follow_answer, follow_marks, SameEngines, EnoughScratch, NeverShort, FollowCall, SameCalls}
 

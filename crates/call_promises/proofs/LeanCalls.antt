@@ -7,8 +7,8 @@ use Rattle.paper.specs.Document.{table_of}
 use Rattle.paper.specs.Answers.{value, refusal, run_answer, run_marks}
 use Rattle.paper.specs.Lean.{compose_lean_answer, compose_lean_out}
 use Rattle.paper.specs.Told.{told}
-use Rattle.paper.specs.declared.Answer.{Answer}
-use Rattle.paper.specs.declared.Answer.TheVariants.{Value}
+use Rattle.paper.specs.Told.{Answer}
+use Rattle.std.specs.Prelude.{Ok}
 use Rattle.call_promises.specs.Calls.{scratch_lent}
 use Rattle.entry_promises.specs.LeanEntries.{ComposesLean, GroupedLean}
 use Rattle.call_promises.specs.LeanCalls.{LeanCall, LeanAsComposed, NoMoreRefusals, LeanExactness, LeanSecrecy, LeanScratchEnough, LeanBy, GroupedLeanBy, LeanThreeInTurn, LeanThreeSecrets}
@@ -28,7 +28,7 @@ module _ {outer inner both : List ℕ} {answer : Answer} (c : LeanCall outer inn
   lean_left : both ≡ compose_lean_out outer inner lent_items
   lean_left = sym c.out_left ∙ (rw (c.outer_lent, c.inner_lent) at c.met.1)
 
-lean_value : {outer inner both : List ℕ} {n : ℕ} (c : LeanCall outer inner (Value n) both) → compose_lean_answer outer inner (length (lent_items c)) ≡ value n
+lean_value : {outer inner both : List ℕ} {n : ℕ} (c : LeanCall outer inner (Ok n) both) → compose_lean_answer outer inner (length (lent_items c)) ≡ value n
 lean_value c = sym (lean_said c)
 
 -- THE SAME AS COMPOSED.
@@ -48,7 +48,7 @@ lean_as_composed outer inner lean both parents kinds given marks marks' n m a b 
 pub no_more_refusals : NoMoreRefusals
 no_more_refusals outer inner both lean n answer c l room =
     let (m, said, few) = entries.no_more_refusals outer inner (length (old_items c)) n (composed_value c) in
-    (m, told_same answer (Value m) (lean_said l ∙ ap (compose_lean_answer outer inner) room ∙ said), few)
+    (m, told_same answer (Ok m) (lean_said l ∙ ap (compose_lean_answer outer inner) room ∙ said), few)
 
 -- EXACTNESS.
 pub lean_exactness : LeanExactness

@@ -7,8 +7,8 @@ use Rattle.paper.specs.Document.{marked, table_of}
 use Rattle.paper.specs.Answers.{value, read_answer, read_items, read_out, run_marks}
 use Rattle.paper.specs.Roles.{role_answer, role_out}
 use Rattle.paper.specs.Told.{told}
-use Rattle.paper.specs.declared.Answer.{Answer}
-use Rattle.paper.specs.declared.Answer.TheVariants.{Value}
+use Rattle.paper.specs.Told.{Answer}
+use Rattle.std.specs.Prelude.{Ok}
 use Rattle.paper.proofs.Giving.{read_gives}
 use Rattle.call_promises.specs.Calls.{ReadCall}
 use Rattle.call_promises.specs.RoleCalls.{RoleCall, RoleIndependence, RoleExactness, UnionMarks, ViewMarks, RoleSecrecy, RoleMonotony}
@@ -24,12 +24,12 @@ module _ {views list masks : List ℕ} {role : ℕ} {text old out : List ℕ} {a
   role_left : out ≡ role_out views list masks role text old
   role_left = sym c.out_left ∙ (rw (c.views_lent, c.list_lent, c.masks_lent, c.role_given, c.text_lent, c.out_lent) at c.met.1)
 
-role_value : {views list masks : List ℕ} {role : ℕ} {text old out : List ℕ} {n : ℕ} (c : RoleCall views list masks role text old (Value n) out)
+role_value : {views list masks : List ℕ} {role : ℕ} {text old out : List ℕ} {n : ℕ} (c : RoleCall views list masks role text old (Ok n) out)
     → role_answer views list masks role text (length old) ≡ value n
 role_value c = sym (role_said c)
 
 -- READ. The items that an accepted call left are those of its text.
-items_read : (text list old out : List ℕ) (n : ℕ) → ReadCall text 1 list old (Value n) out → take n out ≡ read_items text 1 list
+items_read : (text list old out : List ℕ) (n : ℕ) → ReadCall text 1 list old (Ok n) out → take n out ≡ read_items text 1 list
 items_read text list old out n c =
     let said : value n ≡ read_answer text 1 list (length old) = rw (c.text_lent, c.version_given, c.list_lent, c.out_lent) at c.met.0 in
     let left : out ≡ read_out text 1 list old = sym c.out_left ∙ (rw (c.text_lent, c.version_given, c.list_lent, c.out_lent) at c.met.1) in

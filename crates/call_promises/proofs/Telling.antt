@@ -6,14 +6,14 @@ use mathlib.Core.List.{List, [], ◌∷◌}
 use lib.Dec.{eqb}
 use Rattle.paper.specs.Answers.{value, refusal}
 use Rattle.paper.specs.Answers.{Answer as Told}
-use Rattle.paper.specs.Told.{told}
-use Rattle.paper.specs.declared.Answer.{Answer}
-use Rattle.paper.specs.declared.Answer.TheVariants.{Value, TooLong, BadName, NoQuery, TooDeep, UnknownName, BadQuery, BadTable, BadMarks, TooNested, Short, NoXml, LeftOut, NoElement, OtherText, NoRole, NoView, UnreadView, Unreadable}
+use Rattle.std.specs.Prelude.{Ok, Err}
+use Rattle.paper.specs.Told.{Answer, told}
+use Rattle.paper.specs.declared.Refusal.{Refusal}
+use Rattle.paper.specs.declared.Refusal.TheVariants.{TooLong, BadName, NoQuery, TooDeep, UnknownName, BadQuery, BadTable, BadMarks, TooNested, Short, NoXml, LeftOut, NoElement, OtherText, NoRole, NoView, UnreadView, Unreadable}
 
--- The answer that tells this.
-abbrev telling : Told → Answer
-telling (value n) = Value n
-telling (refusal number place) =
+-- The refusal of this number and place.
+abbrev refusing : ℕ → ℕ → Refusal
+refusing number place =
     cond (eqb number 1) TooLong
     (cond (eqb number 2) (BadName place)
     (cond (eqb number 3) (NoQuery place)
@@ -31,26 +31,31 @@ telling (refusal number place) =
     (cond (eqb number 15) (NoRole place)
     (cond (eqb number 16) (NoView place) (cond (eqb number 17) (UnreadView place) Unreadable))))))))))))))))
 
+-- The answer that tells this.
+abbrev telling : Told → Answer
+telling (value n) = Ok n
+telling (refusal number place) = Err (refusing number place)
+
 telling_told : (r : Answer) → telling (told r) ≡ r
-telling_told (Value n) = refl
-telling_told TooLong = refl
-telling_told (BadName place) = refl
-telling_told (NoQuery place) = refl
-telling_told (TooDeep place) = refl
-telling_told (UnknownName place) = refl
-telling_told (BadQuery place) = refl
-telling_told (BadTable place) = refl
-telling_told (BadMarks place) = refl
-telling_told (TooNested place) = refl
-telling_told (Short place) = refl
-telling_told (NoXml place) = refl
-telling_told (LeftOut place) = refl
-telling_told NoElement = refl
-telling_told OtherText = refl
-telling_told (NoRole place) = refl
-telling_told (NoView place) = refl
-telling_told (UnreadView place) = refl
-telling_told Unreadable = refl
+telling_told (Ok n) = refl
+telling_told (Err TooLong) = refl
+telling_told (Err (BadName place)) = refl
+telling_told (Err (NoQuery place)) = refl
+telling_told (Err (TooDeep place)) = refl
+telling_told (Err (UnknownName place)) = refl
+telling_told (Err (BadQuery place)) = refl
+telling_told (Err (BadTable place)) = refl
+telling_told (Err (BadMarks place)) = refl
+telling_told (Err (TooNested place)) = refl
+telling_told (Err (Short place)) = refl
+telling_told (Err (NoXml place)) = refl
+telling_told (Err (LeftOut place)) = refl
+telling_told (Err NoElement) = refl
+telling_told (Err OtherText) = refl
+telling_told (Err (NoRole place)) = refl
+telling_told (Err (NoView place)) = refl
+telling_told (Err (UnreadView place)) = refl
+telling_told (Err Unreadable) = refl
 
 pub told_same : (r s : Answer) → told r ≡ told s → r ≡ s
 told_same r s h = sym (telling_told r) ∙ ap telling h ∙ telling_told s

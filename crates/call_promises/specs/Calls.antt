@@ -7,8 +7,9 @@ use Rattle.paper.specs.Limits.{text_limit}
 use Rattle.paper.specs.Document.{table_of}
 use Rattle.paper.specs.Cut.{marks_of, numbers_of}
 use Rattle.paper.specs.Answers.{no_version}
-use Rattle.paper.specs.declared.Answer.{Answer}
-use Rattle.paper.specs.declared.Answer.TheVariants.{Value, Short, BadMarks}
+use Rattle.paper.specs.Told.{Answer}
+use Rattle.std.specs.Prelude.{Ok, Err}
+use Rattle.paper.specs.declared.Refusal.TheVariants.{Short, BadMarks}
 use Rattle.read.proofs.read
 use Rattle.print.proofs.print
 use Rattle.print.proofs.print_long
@@ -94,8 +95,8 @@ pub record ExtractCall (parents kinds marks : List ℕ) (answer : Answer) (new_p
 -- EXACTNESS: a run of the composed items answers and writes the same as a run of the inner items and, inside the marks that this wrote, a run of the outer items.
 abbrev pub Exactness : Type 0
 Exactness =
-    (outer inner both parents kinds given marks shown last : List ℕ) (n a b c : ℕ) → ComposeCall outer inner (Value n) both
-    → RunCall (take n both) parents kinds given (Value a) marks → RunCall inner parents kinds given (Value b) shown → RunCall outer parents kinds shown (Value c) last
+    (outer inner both parents kinds given marks shown last : List ℕ) (n a b c : ℕ) → ComposeCall outer inner (Ok n) both
+    → RunCall (take n both) parents kinds given (Ok a) marks → RunCall inner parents kinds given (Ok b) shown → RunCall outer parents kinds shown (Ok c) last
     → (a ≡ c) × (marks ≡ last)
 
 -- A run of the items inside marks and an extract of the marks that it wrote, both accepted: the columns of the sub-document.
@@ -105,8 +106,8 @@ pub record View (query parents kinds given : List ℕ) (new_parents new_kinds : 
   pub marks : List ℕ
   pub out_parents : List ℕ
   pub out_kinds : List ℕ
-  pub ran : RunCall query parents kinds given (Value kept) marks
-  pub took : ExtractCall parents kinds marks (Value count) out_parents out_kinds
+  pub ran : RunCall query parents kinds given (Ok kept) marks
+  pub took : ExtractCall parents kinds marks (Ok count) out_parents out_kinds
   pub parents_first : new_parents ≡ take count out_parents
   pub kinds_first : new_kinds ≡ take count out_kinds
 
@@ -117,7 +118,7 @@ ones parents = replicate (length parents) 1
 -- SECRECY: of two documents that the inner items show alike, the composed items show the same, whatever the outer items are.
 abbrev pub Secrecy : Type 0
 Secrecy =
-    (outer inner both parents kinds parents' kinds' ps ks ps' ks' : List ℕ) (n : ℕ) → ComposeCall outer inner (Value n) both
+    (outer inner both parents kinds parents' kinds' ps ks ps' ks' : List ℕ) (n : ℕ) → ComposeCall outer inner (Ok n) both
     → View inner parents kinds (ones parents) ps ks → View inner parents' kinds' (ones parents') ps' ks' → ps ≡ ps' → ks ≡ ks'
     → (qs ls qs' ls' : List ℕ) → View (take n both) parents kinds (ones parents) qs ls → View (take n both) parents' kinds' (ones parents') qs' ls'
     → (qs ≡ qs') × (ls ≡ ls')
@@ -125,22 +126,22 @@ Secrecy =
 -- EXTRACTION: items run inside marks show the same as run on the table that an extract of those marks left, with every mark 1.
 abbrev pub Extraction : Type 0
 Extraction =
-    (query parents kinds given out_parents out_kinds ps ks qs ls : List ℕ) (n : ℕ) → ExtractCall parents kinds given (Value n) out_parents out_kinds
+    (query parents kinds given out_parents out_kinds ps ks qs ls : List ℕ) (n : ℕ) → ExtractCall parents kinds given (Ok n) out_parents out_kinds
     → View query parents kinds given ps ks → View query (take n out_parents) (take n out_kinds) (ones (take n out_parents)) qs ls
     → (ps ≡ qs) × (ks ≡ ls)
 
 -- ROUND TRIP: reading what was printed in either form, at most 32,768 bytes, by either version, with the same list and room enough, is accepted and leaves the items that were printed.
 abbrev pub RoundTrip : Type 0
 RoundTrip =
-    (brief : Bool) (query list text old out : List ℕ) (n version : ℕ) (answer : Answer) → no_version version ≡ false → FormCall brief query list (Value n) text → n ≤ text_limit → length query ≤ length old
+    (brief : Bool) (query list text old out : List ℕ) (n version : ℕ) (answer : Answer) → no_version version ≡ false → FormCall brief query list (Ok n) text → n ≤ text_limit → length query ≤ length old
     → ReadCall (take n text) version list old answer out
-    → (answer ≡ Value (length query)) × (take (length query) out ≡ query)
+    → (answer ≡ Ok (length query)) × (take (length query) out ≡ query)
 
 -- SHORTER: where the long form was printed, the short form is printed in as much room, with no more bytes.
 abbrev pub Shorter : Type 0
 Shorter =
-    (query list long short : List ℕ) (n : ℕ) (answer : Answer) (l : PrintLongCall query list (Value n) long) (s : PrintCall query list answer short)
-    → length s.args.1.1.0.now ≡ length l.args.1.1.0.now → (m : ℕ) × (answer ≡ Value m) × (m ≤ n)
+    (query list long short : List ℕ) (n : ℕ) (answer : Answer) (l : PrintLongCall query list (Ok n) long) (s : PrintCall query list answer short)
+    → length s.args.1.1.0.now ≡ length l.args.1.1.0.now → (m : ℕ) × (answer ≡ Ok m) × (m ≤ n)
 
 -- A call of `room::height` and one of `room::paths`.
 pub record HeightCall (query : List ℕ) (answer : Answer) : Type 0 where
@@ -176,10 +177,10 @@ scratch_lent c = length c.args.1.1.1.1.1.0.now
 -- SCRATCH (02, 2026-10): lent the bytes that are told by the nodes of the table and by the heights and path counts of two queries, a run of their accepted composition never gets 10.
 abbrev pub ScratchEnough : Type 0
 ScratchEnough =
-    (outer inner both parents kinds given marks : List ℕ) (n oh op ih ip bytes place : ℕ) → ComposeCall outer inner (Value n) both
-    → HeightCall outer (Value oh) → PathsCall outer (Value op) → HeightCall inner (Value ih) → PathsCall inner (Value ip)
-    → ScratchCall (length parents) oh op ih ip (Value bytes)
-    → (run : RunCall (take n both) parents kinds given (Short place) marks) → bytes ≤ scratch_lent run → ⊥
+    (outer inner both parents kinds given marks : List ℕ) (n oh op ih ip bytes place : ℕ) → ComposeCall outer inner (Ok n) both
+    → HeightCall outer (Ok oh) → PathsCall outer (Ok op) → HeightCall inner (Ok ih) → PathsCall inner (Ok ip)
+    → ScratchCall (length parents) oh op ih ip (Ok bytes)
+    → (run : RunCall (take n both) parents kinds given (Err (Short place)) marks) → bytes ≤ scratch_lent run → ⊥
 
 -- A call of `cut::is_cut`.
 pub record CutCall (parents kinds cut_parents cut_kinds numbers : List ℕ) (answer : Answer) : Type 0 where
@@ -196,18 +197,18 @@ pub record CutCall (parents kinds cut_parents cut_kinds numbers : List ℕ) (ans
 -- A YES: no extract calls the marks that the partner's numbers stand for bad,
 abbrev pub YesMarks : Type 0
 YesMarks =
-    (parents kinds cut_parents cut_kinds numbers out_parents out_kinds : List ℕ) (place : ℕ) → CutCall parents kinds cut_parents cut_kinds numbers (Value 1)
-    → ExtractCall parents kinds (marks_of (table_of parents kinds) numbers) (BadMarks place) out_parents out_kinds → ⊥
+    (parents kinds cut_parents cut_kinds numbers out_parents out_kinds : List ℕ) (place : ℕ) → CutCall parents kinds cut_parents cut_kinds numbers (Ok 1)
+    → ExtractCall parents kinds (marks_of (table_of parents kinds) numbers) (Err (BadMarks place)) out_parents out_kinds → ⊥
 
 -- and one that is accepted leaves the partner's columns.
 abbrev pub YesExtracts : Type 0
 YesExtracts =
-    (parents kinds cut_parents cut_kinds numbers out_parents out_kinds : List ℕ) (n : ℕ) → CutCall parents kinds cut_parents cut_kinds numbers (Value 1)
-    → ExtractCall parents kinds (marks_of (table_of parents kinds) numbers) (Value n) out_parents out_kinds
+    (parents kinds cut_parents cut_kinds numbers out_parents out_kinds : List ℕ) (n : ℕ) → CutCall parents kinds cut_parents cut_kinds numbers (Ok 1)
+    → ExtractCall parents kinds (marks_of (table_of parents kinds) numbers) (Ok n) out_parents out_kinds
     → (n ≡ length cut_parents) × (take n out_parents ≡ cut_parents) × (take n out_kinds ≡ cut_kinds)
 
 -- A VIEW IS A CUT: what a run that started with every mark 1 shows gets a yes, with the numbers of the nodes that it marked.
 abbrev pub ViewIsCut : Type 0
 ViewIsCut =
     (query parents kinds ps ks : List ℕ) (answer : Answer) (v : View query parents kinds (ones parents) ps ks)
-    → CutCall parents kinds ps ks (numbers_of (table_of parents kinds) v.marks) answer → answer ≡ Value 1
+    → CutCall parents kinds ps ks (numbers_of (table_of parents kinds) v.marks) answer → answer ≡ Ok 1

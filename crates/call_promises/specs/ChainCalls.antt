@@ -1,13 +1,13 @@
 -- 02, 2026-09: three views in a row over calls of the compiled entry points that met their contracts.
 use Rattle.std.specs.Prelude.{ℕ, ◌≡◌, List, take}
-use Rattle.paper.specs.declared.Answer.TheVariants.{Value}
+use Rattle.std.specs.Prelude.{Ok}
 use Rattle.call_promises.specs.Calls.{ComposeCall, RunCall, View, ones}
 
 -- An accepted call of `compose::compose`, and the items that it left.
 pub record ComposedBy (outer inner both : List ℕ) : Type 0 where
   pub count : ℕ
   pub out : List ℕ
-  pub call : ComposeCall outer inner (Value count) out
+  pub call : ComposeCall outer inner (Ok count) out
   pub first : both ≡ take count out
 
 -- The four calls of both groupings.
@@ -23,8 +23,8 @@ pub record GroupedBy (a b c last_two first_two : List ℕ) : Type 0 where
 abbrev pub ThreeInTurn : Type 0
 ThreeInTurn =
     (a b c last_two first_two parents kinds given shown sold asked marks marks' : List ℕ) (i j k l m : ℕ) → GroupedBy a b c last_two first_two
-    → RunCall c parents kinds given (Value i) shown → RunCall b parents kinds shown (Value j) sold → RunCall a parents kinds sold (Value k) asked
-    → RunCall last_two parents kinds given (Value l) marks → RunCall first_two parents kinds given (Value m) marks'
+    → RunCall c parents kinds given (Ok i) shown → RunCall b parents kinds shown (Ok j) sold → RunCall a parents kinds sold (Ok k) asked
+    → RunCall last_two parents kinds given (Ok l) marks → RunCall first_two parents kinds given (Ok m) marks'
     → (l ≡ k) × (marks ≡ asked) × (m ≡ k) × (marks' ≡ asked)
 
 -- Whatever the items show of two documents, with every mark 1, is the same.

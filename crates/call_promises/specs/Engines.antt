@@ -8,7 +8,7 @@ use Rattle.paper.specs.Items.{decode}
 use Rattle.paper.specs.Answers.{refusal, run_answer, run_marks}
 use Rattle.paper.specs.Answers.{Answer as Told}
 use Rattle.paper.specs.Told.{told}
-use Rattle.paper.specs.declared.Answer.{Answer}
+use Rattle.paper.specs.Told.{Answer}
 use Rattle.follow.specs.Follows.{enough}
 use Rattle.follow.proofs.follow
 use Rattle.call_promises.specs.Calls.{RunCall}

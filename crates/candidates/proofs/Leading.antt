@@ -1,8 +1,9 @@
 -- Where a step may lead at all: along self and parent to one node; and the best candidate below a bound from what was looked at. Assumes nothing.
-use Prim.Native.Nat.{ℕ, ◌+◌, ◌-◌, ◌≤◌, ◌<◌}
+use Rattle.std.specs.Prelude.{Option, Some, None}
+use Prim.Native.Nat.{ℕ}
 use native.Mathlib.Omega.{arith}
-use native.Mathlib.Decide.{ℕ_discrete, dec_lt}
-use mathlib.Core.Path.{◌≡◌, refl, sym, ◌∙◌, ap, subst}
+use native.Mathlib.Decide.{dec_lt}
+use mathlib.Core.Path.{◌≡◌, refl, sym, ◌∙◌, ap}
 use mathlib.Core.Bool.{Bool, true, false, false≢true, not, ◌&&◌}
 use mathlib.Core.List.{List}
 use mathlib.Core.Logic.{by_cases}
@@ -55,25 +56,11 @@ module _ (t : Table) (marks : List ℕ) where
       (not_led Axis.parent x i k (and_none (not (eqb i 0)) (ne_eqb (parent_of t i) k (λ q. d (sym q ∙ sym p)))))
 
 module _ (test : ℕ → Bool) where
-  pub best_none : (bound : ℕ) → ((k : ℕ) → k < bound → test k ≡ false) → Best test bound 0
-  best_none bound h = record { within = omega arith; last = λ k l b. h k b; here = λ z. absurd (omega arith) }
-
-  pub best_here : (bound j : ℕ) → j < bound → ((k : ℕ) → j < k → k < bound → test k ≡ false) → test j ≡ true → Best test bound (j + 1)
-  best_here bound j l h p =
-      record {
-        within = omega arith;
-        last = λ k b u. h k (omega arith) u;
-        here = λ z. ap test (let e : j + 1 - 1 ≡ j = omega arith in e) ∙ p;
-      }
-
-  -- The only candidate, where the test fails for all others.
-  pub only : (bound j : ℕ) → ((k : ℕ) → (k ≡ j → ⊥) → test k ≡ false) → test j ≡ false → Best test bound 0
-  only bound j h p = best_none bound (λ k b. by_cases (ℕ_discrete k j) (λ e. ap test e ∙ p) (λ e. h k e))
-
   -- There is one best candidate.
-  pub best_unique : (bound r s : ℕ) → Best test bound r → Best test bound s → r ≡ s
-  best_unique bound r s p q =
-      by_cases (dec_lt r s) (λ l. absurd (apart p q l)) (λ m. by_cases (dec_lt s r) (λ l. absurd (apart q p l)) (λ n. omega arith))
-    where
-      apart : {a b : ℕ} → Best test bound a → Best test bound b → a < b → ⊥
-      apart {a} {b} f g l = false≢true (sym (f.last (b - 1) (omega arith) (omega (arith, g.within))) ∙ g.here (omega arith))
+  pub best_unique : (bound : ℕ) (r s : Option ℕ) → Best test bound r → Best test bound s → r ≡ s
+  best_unique bound None None p q = refl
+  best_unique bound None (Some n) p q = absurd (false≢true (sym (p n q.within) ∙ q.here))
+  best_unique bound (Some m) None p q = absurd (false≢true (sym (q m p.within) ∙ p.here))
+  best_unique bound (Some m) (Some n) p q =
+      by_cases (dec_lt m n) (λ l. absurd (false≢true (sym (p.later n l q.within) ∙ q.here)))
+      (λ a. by_cases (dec_lt n m) (λ l. absurd (false≢true (sym (q.later m l p.within) ∙ p.here))) (λ b. ap Some (let e : m ≡ n = omega arith in e)))

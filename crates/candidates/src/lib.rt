@@ -14,13 +14,11 @@ use kin::axis_leads;
 fn test_met(test: u32, kind: u16) -> bool
     ensures { (x : Test) → good_test x ≡ true → test ≡ test_number x → result ≡ meets x kind }
 {
-    if test == item::ANY_NODE {
-        return true;
+    match test {
+        item::ANY_NODE => true,
+        item::ANY_ELEMENT => paper::ELEMENT_KIND <= kind,
+        _ => u32::from(kind) == test,
     }
-    if test == item::ANY_ELEMENT {
-        return 2 <= kind;
-    }
-    (kind as u32) == test
 }
 
 // Does a step along this axis, with this test, lead from i to j?
@@ -37,17 +35,11 @@ fn step_reaches(
     requires i_in_bounds { (i < length parent.now) × (j < length parent.now) }
     ensures { (a : Axis) (x : Test) → good_test x ≡ true → axis ≡ axis_number a → test ≡ test_number x → result ≡ reaches (table_of parent.now kind.now) given.now a x i j }
 {
-    if given[j] != 1 {
-        return false;
-    }
-    if test_met(test, kind[j]) {
-        axis_leads(parent, axis, i, j)
-    } else {
-        false
-    }
+    let marked = given[j] == 1;
+    marked && test_met(test, kind[j]) && axis_leads(parent, axis, i, j)
 }
 
-// The node j alone as a candidate below a bound: one more than it, or 0 where the step does not lead there.
+// The node j alone as a candidate below a bound: it, where the step leads there.
 fn lone(
     parent: &[u16],
     kind: &[u16],
@@ -57,23 +49,20 @@ fn lone(
     i: usize,
     j: usize,
     bound: usize,
-) -> usize
+) -> Option<usize>
     requires ready { Ready parent.now kind.now given.now }
     requires i_in_bounds { (i < length parent.now) × (j < length parent.now) × (bound ≤ length parent.now) }
     requires k_value { (a : Axis) (x : Test) → axis ≡ axis_number a → (k : ℕ) → (k ≡ j → ⊥) → reaches (table_of parent.now kind.now) given.now a x i k ≡ false }
     ensures { (a : Axis) (x : Test) → good_test x ≡ true → axis ≡ axis_number a → test ≡ test_number x → Best (reaches (table_of parent.now kind.now) given.now a x i) bound result }
 {
-    if bound <= j {
-        return 0;
-    }
-    if step_reaches(parent, kind, given, axis, test, i, j) {
-        j + 1
+    if j < bound && step_reaches(parent, kind, given, axis, test, i, j) {
+        Some(j)
     } else {
-        0
+        None
     }
 }
 
-// One more than the last node below a bound to which the step leads from i, or 0. Self and parent lead to one node, and no other is looked at.
+// The last node below a bound to which the step leads from i. Self and parent lead to one node, and no other is looked at.
 pub fn candidate(
     parent: &[u16],
     kind: &[u16],
@@ -82,7 +71,7 @@ pub fn candidate(
     test: u32,
     i: usize,
     bound: usize,
-) -> usize
+) -> Option<usize>
     requires ready { Ready parent.now kind.now given.now }
     requires i_in_bounds { (i < length parent.now) × (bound ≤ length parent.now) }
     ensures { (a : Axis) (x : Test) → good_test x ≡ true → axis ≡ axis_number a → test ≡ test_number x → Best (reaches (table_of parent.now kind.now) given.now a x i) bound result }
@@ -98,16 +87,14 @@ pub fn candidate(
             axis,
             test,
             i,
-            table::wide(parent[i]),
+            usize::from(parent[i]),
             bound,
         );
     }
-    let mut c = bound;
-    while 0 < c {
-        if step_reaches(parent, kind, given, axis, test, i, c - 1) {
-            return c;
+    for j in (0..bound).rev() {
+        if step_reaches(parent, kind, given, axis, test, i, j) {
+            return Some(j);
         }
-        c -= 1;
     }
-    0
+    None
 }

@@ -6,7 +6,7 @@ ghost use Rattle.paper.specs.Told.{told};
 ghost use Rattle.answer_bounds.specs.Bounds.{Small};
 ghost use Rattle.code.specs.Codes.{number_told, place_told, high, code_of, cut_code};
 
-use paper::Answer;
+use paper::{Answer, Refusal};
 
 // 2^32, by which a refusal's number is multiplied.
 const HIGH: u64 = 4294967296;
@@ -15,26 +15,28 @@ const HIGH: u64 = 4294967296;
 pub fn number_of(answer: Answer) -> usize
     ensures { result ≡ number_told (told answer) }
 {
-    match answer {
-        Answer::Value(_) => 0,
-        Answer::TooLong => 1,
-        Answer::BadName(_) => 2,
-        Answer::NoQuery(_) => 3,
-        Answer::TooDeep(_) => 4,
-        Answer::UnknownName(_) => 5,
-        Answer::BadQuery(_) => 6,
-        Answer::BadTable(_) => 7,
-        Answer::BadMarks(_) => 8,
-        Answer::TooNested(_) => 9,
-        Answer::Short(_) => 10,
-        Answer::NoXml(_) => 11,
-        Answer::LeftOut(_) => 12,
-        Answer::NoElement => 13,
-        Answer::OtherText => 14,
-        Answer::NoRole(_) => 15,
-        Answer::NoView(_) => 16,
-        Answer::UnreadView(_) => 17,
-        Answer::Unreadable => 18,
+    let Err(why) = answer else {
+        return 0;
+    };
+    match why {
+        Refusal::TooLong => 1,
+        Refusal::BadName(_) => 2,
+        Refusal::NoQuery(_) => 3,
+        Refusal::TooDeep(_) => 4,
+        Refusal::UnknownName(_) => 5,
+        Refusal::BadQuery(_) => 6,
+        Refusal::BadTable(_) => 7,
+        Refusal::BadMarks(_) => 8,
+        Refusal::TooNested(_) => 9,
+        Refusal::Short(_) => 10,
+        Refusal::NoXml(_) => 11,
+        Refusal::LeftOut(_) => 12,
+        Refusal::NoElement => 13,
+        Refusal::OtherText => 14,
+        Refusal::NoRole(_) => 15,
+        Refusal::NoView(_) => 16,
+        Refusal::UnreadView(_) => 17,
+        Refusal::Unreadable => 18,
     }
 }
 
@@ -42,26 +44,25 @@ pub fn number_of(answer: Answer) -> usize
 pub fn place_of(answer: Answer) -> usize
     ensures { result ≡ place_told (told answer) }
 {
-    match answer {
-        Answer::Value(_) => 0,
-        Answer::TooLong => 0,
-        Answer::BadName(place) => place,
-        Answer::NoQuery(place) => place,
-        Answer::TooDeep(place) => place,
-        Answer::UnknownName(place) => place,
-        Answer::BadQuery(place) => place,
-        Answer::BadTable(place) => place,
-        Answer::BadMarks(place) => place,
-        Answer::TooNested(nesting) => nesting,
-        Answer::Short(needed) => needed,
-        Answer::NoXml(place) => place,
-        Answer::LeftOut(place) => place,
-        Answer::NoElement => 0,
-        Answer::OtherText => 0,
-        Answer::NoRole(role) => role,
-        Answer::NoView(role) => role,
-        Answer::UnreadView(view) => view,
-        Answer::Unreadable => 0,
+    let Err(why) = answer else {
+        return 0;
+    };
+    match why {
+        Refusal::TooLong | Refusal::NoElement | Refusal::OtherText | Refusal::Unreadable => 0,
+        Refusal::BadName(place)
+        | Refusal::NoQuery(place)
+        | Refusal::TooDeep(place)
+        | Refusal::UnknownName(place)
+        | Refusal::BadQuery(place)
+        | Refusal::BadTable(place)
+        | Refusal::BadMarks(place)
+        | Refusal::TooNested(place)
+        | Refusal::Short(place)
+        | Refusal::NoXml(place)
+        | Refusal::LeftOut(place)
+        | Refusal::NoRole(place)
+        | Refusal::NoView(place)
+        | Refusal::UnreadView(place) => place,
     }
 }
 
@@ -77,10 +78,8 @@ fn refused(number: u64, place: usize) -> u64
 pub fn code(answer: Answer) -> u64
     ensures { (Small (told answer) → result ≡ code_of (told answer)) × (result ≡ cut_code (told answer)) }
 {
-    let Answer::Value(value) = answer else {
-        let number = number_of(answer);
-        let place = place_of(answer);
-        return refused(number as u64, place);
-    };
-    value as u64
+    match answer {
+        Ok(value) => value as u64,
+        Err(_) => refused(number_of(answer) as u64, place_of(answer)),
+    }
 }

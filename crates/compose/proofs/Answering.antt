@@ -3,7 +3,8 @@ use Prim.Native.Nat.{ℕ, ◌+◌, ◌-◌, ◌*◌, ◌≤◌, ◌<◌, max}
 use native.Mathlib.Omega.{arith}
 use mathlib.Core.Path.{◌≡◌, refl, sym, ◌∙◌, ap, ap₂}
 use mathlib.Core.List.{List, map}
-use mathlib.Core.Option.{Option, none, some}
+use mathlib.Core.Option.{none, some}
+use mathlib.Core.Option as maybe
 use lib.Dec.{ltb}
 use lib.ListN.{length}
 use borrow.Author.Tests.{lt-ltb, le-ltb}
@@ -23,7 +24,10 @@ use Rattle.lean_theorems.proofs.Smaller.{size_by}
 use Rattle.lean_theorems.proofs.Shallower.{nesting_by}
 use Rattle.shape.specs.Walks.{shape_of}
 use Rattle.shape.specs.declared.Shape.{Shape}
-use Rattle.shape.specs.declared.Shape.TheVariants.{Query as Fine, Malformed}
+use Rattle.shape.proofs.Shaping.{shape_accepted}
+use Rattle.std.specs.Prelude.{Option, Ok}
+use Rattle.std.specs.Option.{ok_or}
+use Rattle.paper.specs.declared.Refusal.{Refusal}
 use Rattle.reverse.specs.Reverses.{IsQuery, selected_got}
 use Rattle.reverse.proofs.Selected.{selected_length}
 use Rattle.guards.specs.Guarded.{guard_item}
@@ -42,13 +46,6 @@ pub inner_shallow : (inner : List ℕ) (n : ℕ) → Nested inner n → n ≤ br
 inner_shallow inner n i = omega (arith, i.nested, (encode_decode inner i.query i.decodes).nested)
 
 -- What the shape of items says of them.
-pub shape_none : (items : List ℕ) (s : Shape) → s ≡ shape_of (decode items) → s ≡ Malformed → decode items ≡ none
-shape_none items s e f = go (decode items) (sym e ∙ f)
-  where
-    go : (o : Option Query) → shape_of o ≡ Malformed → o ≡ none
-    go none h = refl
-    go (some q) h = absurd (let z : ◌≡◌ {A = ℕ} 0 1 = cc in omega arith)
-
 pub record Shaped (items : List ℕ) (n g : ℕ) : Type 0 where
   pub query : Query
   pub decodes : decode items ≡ some query
@@ -57,15 +54,17 @@ pub record Shaped (items : List ℕ) (n g : ℕ) : Type 0 where
   pub guards : g ≡ guard_depth query
   pub within : g ≤ n
 
-pub shape_some : (items : List ℕ) (s : Shape) (n h g : ℕ) → s ≡ shape_of (decode items) → s ≡ Fine n h g → Shaped items n g
-shape_some items s n h g e f = go (decode items) refl (sym e ∙ f)
-  where
-    go : (o : Option Query) → decode items ≡ o → shape_of o ≡ Fine n h g → Shaped items n g
-    go none d k = absurd (let z : ◌≡◌ {A = ℕ} 0 1 = cc in omega arith)
-    go (some q) d k =
-        let m : nesting q ≡ n = cc in
-        let b : guard_depth q ≡ g = cc in
-        record { query = q; decodes = d; nests = sym m; shallow = omega (arith, (encode_decode items q d).nested); guards = sym b; within = omega (arith, guards_within q) }
+pub shape_some : (items : List ℕ) (s : Option Shape) (given : Refusal) (found : Shape) → s ≡ shape_of (decode items) → Ok found ≡ ok_or s given → Shaped items found.nesting found.guards
+shape_some items s given found e f =
+    let q = shape_accepted (decode items) s given found e f in
+    record {
+      query = q.query;
+      decodes = q.decodes;
+      nests = q.nests;
+      shallow = omega (arith, q.nests, (encode_decode items q.query q.decodes).nested);
+      guards = q.guards;
+      within = omega (arith, q.nests, q.guards, guards_within q.query);
+    }
 
 pub is_query : (items : List ℕ) (n g : ℕ) → Shaped items n g → IsQuery items
 is_query items n g s = record { query = s.query; decodes = s.decodes }
@@ -129,9 +128,9 @@ module _ (outer inner says : List ℕ) (n : ℕ) (g : Says outer says) (i : Nest
   unfolding composed_size_by selected_size
   size_is =
       let s : count ≡ selected_size i.query =
-      ec ∙ ap (λ (x : Option Query). length (selected_got x)) i.decodes ∙ selected_length i.query ∙
+      ec ∙ ap (λ (x : maybe.Option Query). length (selected_got x)) i.decodes ∙ selected_length i.query ∙
       ap (λ (k : ℕ). k + 5 * length (paths i.query) - 1) (size_items i.query) in
-      en ∙ ap₂ (λ (x : Option Query) (k : ℕ). size_got g.decides x k) g.decodes s ∙ sym (size_by g.decides g.query i.query)
+      en ∙ ap₂ (λ (x : maybe.Option Query) (k : ℕ). size_got g.decides x k) g.decodes s ∙ sym (size_by g.decides g.query i.query)
 
   pub number_is : number ≡ length (made_got (composed_by g.decides) (decode outer) (decode inner))
   number_is = size_is ∙ sym (size_items (composed_by g.decides g.query i.query)) ∙ ap length (sym (ap₂ (made_got (composed_by g.decides)) g.decodes i.decodes))

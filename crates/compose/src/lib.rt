@@ -10,8 +10,7 @@ ghost use Rattle.paper.specs.Told.{told};
 ghost use Rattle.composed.specs.Pieces.{Says};
 ghost use Rattle.compose.specs.Pieces.{Nests, Nested};
 
-use paper::Answer;
-use shape::Shape;
+use paper::{Answer, Refusal};
 
 // Writes the composition of two queries whose brackets are counted, the outer steps guarded where `says` has it, and answers the number of its items.
 pub fn compose_by(
@@ -29,22 +28,22 @@ pub fn compose_by(
         → (told result ≡ composing_answer (composed_by g.decides) outer.now inner.now (length out.old))
         × (out.new ≡ composing_out (composed_by g.decides) outer.now inner.now out.old) }
 {
-    let guard_nesting = outer_guards + 2 + heights::larger(2, inner_nesting);
-    let nesting = heights::larger(outer_nesting, guard_nesting);
+    let guard_nesting = outer_guards + 2 + inner_nesting.max(2);
+    let nesting = outer_nesting.max(guard_nesting);
     if paper::BRACKET_LIMIT < nesting {
-        return Answer::TooNested(nesting);
+        return Err(Refusal::TooNested(nesting));
     }
     let paths = reverse::count_paths(inner);
     let count = reverse::selected_size(inner, paths);
     let size = composed::composed_size(outer, count, says);
     if out.len() < size {
-        return Answer::Short(size);
+        return Err(Refusal::Short(size));
     }
     if paper::ITEM_LIMIT < size {
-        return Answer::Short(size);
+        return Err(Refusal::Short(size));
     }
     composed::put_composed(outer, inner, paths, out, size, count, says);
-    Answer::Value(size)
+    Ok(size)
 }
 
 // Writes the composition, and answers the number of its items.
@@ -53,36 +52,20 @@ pub fn compose(outer: &[u32], inner: &[u32], out: &mut [u32]) -> Answer
         × (out.new ≡ compose_out outer.now inner.now out.old) }
 {
     if paper::ITEM_LIMIT < outer.len() {
-        return Answer::TooLong;
+        return Err(Refusal::TooLong);
     }
     if paper::ITEM_LIMIT < inner.len() {
-        return Answer::TooLong;
+        return Err(Refusal::TooLong);
     }
-    let outer_shape = shape::measure(outer);
-    let Shape::Query {
-        nesting: outer_nesting,
-        height: _,
-        guards: outer_guards,
-    } = outer_shape
-    else {
-        return Answer::BadQuery(0);
-    };
-    let inner_shape = shape::measure(inner);
-    let Shape::Query {
-        nesting: inner_nesting,
-        height: _,
-        guards: _,
-    } = inner_shape
-    else {
-        return Answer::BadQuery(1);
-    };
+    let outer_shape = shape::measure(outer).ok_or(Refusal::BadQuery(0))?;
+    let inner_shape = shape::measure(inner).ok_or(Refusal::BadQuery(1))?;
     compose_by(
         outer,
         inner,
         out,
-        outer_nesting,
-        outer_guards,
-        inner_nesting,
+        outer_shape.nesting,
+        outer_shape.guards,
+        inner_shape.nesting,
         outer,
     )
 }

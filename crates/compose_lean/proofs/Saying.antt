@@ -21,7 +21,9 @@ use Rattle.lean_theorems.proofs.Marks.{marked_measures, marked_good}
 use Rattle.lean_marks.specs.Turns.{marked_got}
 use Rattle.lean_marks.proofs.Turning.{marked_length}
 use Rattle.shape.specs.Walks.{shape_of}
-use Rattle.shape.specs.declared.Shape.TheVariants.{Query as IsQuery, Malformed}
+use Rattle.shape.specs.declared.Shape.{Shape}
+use Rattle.shape.proofs.Shaping.{shaped_none, shaped_some}
+use Rattle.std.specs.Prelude.{Some, None}
 use Rattle.guards.specs.Guarded.{guard_item}
 use Rattle.composed.specs.Pieces.{flags_expr, flags_steps, flags_preds, flags_paths, Says}
 use Rattle.compose.specs.Pieces.{Nests, Nested}
@@ -111,10 +113,8 @@ module _ (outer says : List ℕ) (m : ℕ) (k : Marked outer says m) where
       }
 
 -- The depth that the shape of items says.
-pub shape_depth : (o : Option Query) (nest high guards : ℕ) → IsQuery nest high guards ≡ shape_of o → guards ≡ depth_got o
-shape_depth none nest high guards h = absurd (let z : ◌≡◌ {A = ℕ} 0 1 = cc in omega arith)
-shape_depth (some q) nest high guards h = cc
+pub shape_depth : (o : Option Query) (found : Shape) → Some found ≡ shape_of o → found.guards ≡ depth_got o
+shape_depth o found h = let q = shaped_some o found h in q.guards ∙ ap depth_got (sym q.decodes)
 
-pub shape_nothing : (o : Option Query) → Malformed ≡ shape_of o → ◌≡◌ {A = ℕ} 0 (depth_got o)
-shape_nothing none h = refl
-shape_nothing (some q) h = absurd (let z : ◌≡◌ {A = ℕ} 0 1 = cc in omega arith)
+pub shape_nothing : (o : Option Query) → None ≡ shape_of o → ◌≡◌ {A = ℕ} 0 (depth_got o)
+shape_nothing o h = ap depth_got (sym (shaped_none o h))

@@ -9,23 +9,16 @@ ghost use Rattle.paper.specs.Lean.{compose_lean_answer, compose_lean_out};
 ghost use Rattle.compose.specs.Pieces.{Nested};
 ghost use Rattle.compose_lean.specs.Depths.{depth_got};
 
-use paper::Answer;
-use shape::Shape;
+use paper::{Answer, Refusal};
 
 // The greatest number of brackets open at a guarded step.
 fn guards_of(says: &[u32]) -> usize
     ensures { result ≡ depth_got (decode says.now) }
 {
-    let shape = shape::measure(says);
-    let Shape::Query {
-        nesting: _,
-        height: _,
-        guards,
-    } = shape
-    else {
+    let Some(shape) = shape::measure(says) else {
         return 0;
     };
-    guards
+    shape.guards
 }
 
 // Writes the lean composition of two queries whose brackets are counted, and answers the number of its items.
@@ -61,28 +54,12 @@ pub fn compose_lean(outer: &[u32], inner: &[u32], out: &mut [u32]) -> Answer
         × (out.new ≡ compose_lean_out outer.now inner.now out.old) }
 {
     if paper::ITEM_LIMIT < outer.len() {
-        return Answer::TooLong;
+        return Err(Refusal::TooLong);
     }
     if paper::ITEM_LIMIT < inner.len() {
-        return Answer::TooLong;
+        return Err(Refusal::TooLong);
     }
-    let outer_shape = shape::measure(outer);
-    let Shape::Query {
-        nesting: outer_nesting,
-        height: _,
-        guards: _,
-    } = outer_shape
-    else {
-        return Answer::BadQuery(0);
-    };
-    let inner_shape = shape::measure(inner);
-    let Shape::Query {
-        nesting: inner_nesting,
-        height: _,
-        guards: _,
-    } = inner_shape
-    else {
-        return Answer::BadQuery(1);
-    };
-    compose_marked(outer, inner, out, outer_nesting, inner_nesting)
+    let outer_shape = shape::measure(outer).ok_or(Refusal::BadQuery(0))?;
+    let inner_shape = shape::measure(inner).ok_or(Refusal::BadQuery(1))?;
+    compose_marked(outer, inner, out, outer_shape.nesting, inner_shape.nesting)
 }

@@ -7,8 +7,8 @@ ghost use Rattle.paper.specs.Answers.{is_cut_answer};
 ghost use Rattle.paper.specs.Told.{told};
 
 use cut_rows::all_stand;
-use paper::Answer;
-use table::{Fault, table_fault};
+use paper::{Answer, Refusal};
+use table::table_fault;
 
 // Is the partner's table, with the original number of each of its nodes, a cut of ours? It answers 1 for yes and 0 for no.
 pub fn is_cut(
@@ -21,25 +21,25 @@ pub fn is_cut(
     ensures { told result ≡ is_cut_answer (table_of parent.now kind.now) (table_of cut_parent.now cut_kind.now) cut_node.now }
 {
     if paper::NODE_LIMIT < parent.len() {
-        return Answer::TooLong;
+        return Err(Refusal::TooLong);
     }
     if kind.len() != parent.len() {
-        return Answer::TooLong;
+        return Err(Refusal::TooLong);
     }
     if paper::NODE_LIMIT < cut_parent.len() {
-        return Answer::TooLong;
+        return Err(Refusal::TooLong);
     }
     if cut_kind.len() != cut_parent.len() {
-        return Answer::TooLong;
+        return Err(Refusal::TooLong);
     }
     if cut_node.len() != cut_parent.len() {
-        return Answer::TooLong;
+        return Err(Refusal::TooLong);
     }
-    if let Fault::At(i) = table_fault(parent, kind) {
-        return Answer::BadTable(i);
+    if let Some(i) = table_fault(parent, kind) {
+        return Err(Refusal::BadTable(i));
     }
     if all_stand(parent, kind, cut_parent, cut_kind, cut_node) {
-        return Answer::Value(1);
+        return Ok(1);
     }
-    Answer::Value(0)
+    Ok(0)
 }

@@ -6,19 +6,13 @@ ghost use Rattle.paper.specs.Document.{table_of};
 ghost use Rattle.paper.specs.Cut.{parent_stands, rising};
 ghost use Rattle.cut_row.specs.Rows.{child_behind, row_stands};
 
-use table::wide;
-
 // Is the node right behind i a child of i? In document order that is where its first child stands.
 fn child_behind(parent: &[u16], i: usize) -> bool
     requires { i < length parent.now }
     ensures { result ≡ child_behind parent.now i }
 {
     let next = i + 1;
-    if next < parent.len() {
-        wide(parent[next]) == i
-    } else {
-        false
-    }
+    next < parent.len() && usize::from(parent[next]) == i
 }
 
 // Is the number of row r, which is n, greater than that of the row before, and does the row's parent stand for the parent of n? The first row is `same_root`'s.
@@ -30,13 +24,13 @@ fn in_place(parent: &[u16], cut_parent: &[u16], cut_node: &[u16], r: usize, n: u
     if r == 0 {
         return true;
     }
-    let above = wide(cut_parent[r]);
+    let above = usize::from(cut_parent[r]);
     if cut_node.len() <= above {
         return false;
     }
-    let before = wide(cut_node[r - 1]);
-    let image = wide(cut_node[above]);
-    (before < n) & (image == wide(parent[n]))
+    let before = usize::from(cut_node[r - 1]);
+    let image = cut_node[above];
+    (before < n) & (image == parent[n])
 }
 
 // Is the row r as it must be?
@@ -53,19 +47,16 @@ pub fn row_stands(
     requires r_in_bounds { r < length cut_node.now }
     ensures { result ≡ row_stands (table_of parent.now kind.now) (table_of cut_parent.now cut_kind.now) cut_node.now r }
 {
-    let n = wide(cut_node[r]);
+    let n = usize::from(cut_node[r]);
     if parent.len() <= n {
         return false;
     }
-    let own = wide(cut_kind[r]);
-    if own != wide(kind[n]) {
+    let own = cut_kind[r];
+    if own != kind[n] {
         return false;
     }
     if !in_place(parent, cut_parent, cut_node, r, n) {
         return false;
     }
-    if child_behind(cut_parent, r) {
-        return true;
-    }
-    !child_behind(parent, n)
+    child_behind(cut_parent, r) || !child_behind(parent, n)
 }

@@ -7,16 +7,13 @@ ghost use Rattle.paper.specs.Document.{Table, table_fault, table_of};
 ghost use Rattle.paper.specs.Cut.{same_root, is_cut};
 
 use cut_row::row_stands;
-use table::wide;
 
 // Does the first row stand for the root, and has it the parent 0?
 fn same_root(cut_parent: &[u16], cut_node: &[u16]) -> bool
     requires { (0 < length cut_node.now) × (length cut_parent.now ≡ length cut_node.now) }
     ensures { (t : Table) (kinds : List ℕ) → result ≡ same_root t (table_of cut_parent.now kinds) cut_node.now }
 {
-    let number = wide(cut_node[0]);
-    let above = wide(cut_parent[0]);
-    (number == 0) & (above == 0)
+    (cut_node[0] == 0) & (cut_parent[0] == 0)
 }
 
 // Is every row as it must be? One pass over the rows, each of which looks at a few places.
@@ -37,12 +34,10 @@ pub fn all_stand(
     if !same_root(cut_parent, cut_node) {
         return false;
     }
-    let mut r = 0;
-    while r < cut_node.len() {
+    for r in 0..cut_node.len() {
         if !row_stands(parent, kind, cut_parent, cut_kind, cut_node, r) {
             return false;
         }
-        r += 1;
     }
     true
 }

@@ -8,10 +8,10 @@ use Rattle.paper.specs.Limits.{node_limit}
 use Rattle.paper.specs.Items.{decode}
 use Rattle.paper.specs.Document.{Table, nodes, table_of}
 use Rattle.paper.specs.Answers.{value, parent_field, kind_field, read_xml_answer, run_answer, kept_got}
-use Rattle.paper.specs.Told.{told}
+use Rattle.paper.specs.Told.{told_refusal}
 use Rattle.paper.specs.Sheet.{all_of, kept_of, hidden_of, Outcome, shown, turned_down, rows, table_read, all_marked, scratch_room, table_outcome, text_outcome}
-use Rattle.paper.specs.declared.Answer.{Answer}
-use Rattle.paper.proofs.Refusing.{Refuses, refusal_told}
+use Rattle.paper.specs.declared.Refusal.{Refusal}
+use Rattle.paper.proofs.Refusing.{refusal_told}
 use Rattle.code.specs.Codes.{number_told}
 use Rattle.tally.specs.Tallies.{sums, times, Grows, NodesTold}
 use Rattle.tally.proofs.Growing.{Small, grows_none}
@@ -19,9 +19,9 @@ use Rattle.documents.specs.Documents.{Adds}
 
 -- A refusal to run, and a run.
 module _ (view : List ℕ) (t : Table) where
-  pub table_refused : (a : Answer) → Refuses a → told a ≡ run_answer view t (all_marked t) (nodes t) scratch_room → table_outcome view t ≡ turned_down (number_told (told a))
+  pub table_refused : (why : Refusal) → told_refusal why ≡ run_answer view t (all_marked t) (nodes t) scratch_room → table_outcome view t ≡ turned_down (number_told (told_refusal why))
   unfolding table_outcome
-  table_refused a f e = let (number, place, is) = refusal_told a f in rw (sym e, is)
+  table_refused why e = let (number, place, is) = refusal_told why in rw (sym e, is)
 
   pub table_shown : (n : ℕ) → value n ≡ run_answer view t (all_marked t) (nodes t) scratch_room → table_outcome view t ≡ shown t (kept_got t (all_marked t) (decode view))
   unfolding table_outcome
@@ -29,9 +29,9 @@ module _ (view : List ℕ) (t : Table) where
 
 -- A refusal to read, and a text that is read.
 module _ (view list text : List ℕ) where
-  pub text_refused : (a : Answer) → Refuses a → told a ≡ read_xml_answer text list node_limit node_limit node_limit node_limit → text_outcome view list text ≡ turned_down (number_told (told a))
+  pub text_refused : (why : Refusal) → told_refusal why ≡ read_xml_answer text list node_limit node_limit node_limit node_limit → text_outcome view list text ≡ turned_down (number_told (told_refusal why))
   unfolding text_outcome
-  text_refused a f e = let (number, place, is) = refusal_told a f in rw (sym e, is)
+  text_refused why e = let (number, place, is) = refusal_told why in rw (sym e, is)
 
   pub text_read : (n : ℕ) → value n ≡ read_xml_answer text list node_limit node_limit node_limit node_limit → text_outcome view list text ≡ table_outcome view (table_of (map parent_field (rows text)) (map (kind_field list) (rows text)))
   unfolding text_outcome table_read

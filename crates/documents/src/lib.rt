@@ -4,25 +4,11 @@
 ghost use Rattle.std.specs.Prelude.{◌≡◌, ◌≤◌, length};
 ghost use Rattle.paper.specs.Limits.{node_limit};
 ghost use Rattle.paper.specs.Document.{table_of};
-ghost use Rattle.paper.specs.Answers.{run_answer, run_marks};
-ghost use Rattle.paper.specs.Told.{told};
-ghost use Rattle.paper.specs.Sheet.{all_marked, scratch_room, table_outcome, text_outcome};
+ghost use Rattle.paper.specs.Sheet.{table_outcome, text_outcome};
 ghost use Rattle.documents.specs.Documents.{Adds};
-
-use paper::Answer;
 
 // The bytes of scratch that a run is lent.
 const SCRATCH_ROOM: usize = 65536;
-
-// Runs the view on a table with every mark 1.
-fn run_all(view: &[u32], parent: &[u16], kind: &[u16], marks: &mut [u8]) -> Answer
-    requires { length parent.now ≤ node_limit }
-    ensures result_value { told result ≡ run_answer view.now (table_of parent.now kind.now) (all_marked (table_of parent.now kind.now)) (length marks.old) scratch_room }
-    ensures marks_after { marks.new ≡ run_marks view.now (table_of parent.now kind.now) (all_marked (table_of parent.now kind.now)) marks.old scratch_room }
-{
-    let mut scratch = [0u8; SCRATCH_ROOM];
-    whole::run_whole(view, parent, kind, marks, &mut scratch)
-}
 
 // Adds a document by its table, with room for its marks.
 fn add_marked(
@@ -38,12 +24,10 @@ fn add_marked(
     requires { (length parent.now ≤ node_limit) × (length kind.now ≡ length parent.now) × (length marks.old ≡ length parent.now) }
     ensures { Adds (table_outcome view.now (table_of parent.now kind.now)) all.old all.new kept.old kept.new hidden.old hidden.new refusals.old refusals.new }
 {
-    let ran = run_all(view, parent, kind, marks);
-    let Answer::Value(_) = ran else {
-        tally::add_refusal(code::number_of(ran), refusals);
-        return;
-    };
-    tally::add_nodes(kind, marks, all, kept, hidden);
+    match whole::run_within::<SCRATCH_ROOM>(view, parent, kind, marks) {
+        Ok(_) => tally::add_nodes(kind, marks, all, kept, hidden),
+        Err(why) => tally::add_refusal(code::number_of(Err(why)), refusals),
+    }
 }
 
 // Adds a document by its table.
@@ -88,10 +72,8 @@ pub fn add_text(
     let mut kind = [0u16; paper::NODE_LIMIT];
     let mut begin = [0u16; paper::NODE_LIMIT];
     let mut end = [0u16; paper::NODE_LIMIT];
-    let said = read_xml::read_xml(text, list, &mut parent, &mut kind, &mut begin, &mut end);
-    let Answer::Value(n) = said else {
-        tally::add_refusal(code::number_of(said), refusals);
-        return;
-    };
-    add_table(view, &parent[..n], &kind[..n], all, kept, hidden, refusals);
+    match read_xml::read_xml(text, list, &mut parent, &mut kind, &mut begin, &mut end) {
+        Ok(n) => add_table(view, &parent[..n], &kind[..n], all, kept, hidden, refusals),
+        Err(why) => tally::add_refusal(code::number_of(Err(why)), refusals),
+    }
 }

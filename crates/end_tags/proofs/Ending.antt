@@ -1,12 +1,16 @@
 -- How reading goes through an end tag: the name of the element again, letter by letter, white space, and its `>`. Assumes nothing.
 use Prim.Native.Nat.{ℕ, suc, ◌+◌, ◌≤◌, ◌<◌, zero}
 use native.Mathlib.Omega.{arith}
-use borrow.Author.Tests.{ne_eqb}
+use borrow.Author.Tests.{ne_eqb, eq-eqb}
 use mathlib.Core.Path.{◌≡◌, refl, sym, ◌∙◌, ap, subst}
 use mathlib.Core.Bool.{Bool, true, false}
 use mathlib.Core.List.{List, [], ◌∷◌}
 use mathlib.Core.Option.{some}
-use types.Run.{miss}
+use Rattle.std.specs.Prelude.{Ok, Err}
+use Rattle.paper.specs.declared.Refusal.{Refusal}
+use Rattle.paper.specs.declared.Refusal.TheVariants.{NoXml}
+use native.Mathlib.Decide.{ℕ_discrete}
+use mathlib.Core.Logic.{by_cases}
 use lib.Dec.{eqb}
 use lib.ListN.{length, get_or, drop}
 use lib.Seq.{drop-cons, drop-drop}
@@ -15,13 +19,11 @@ use Rattle.paper.specs.Names.{name_part}
 use Rattle.paper.specs.Tokens.{white}
 use Rattle.paper.specs.Xml.{Nodes, nothing, element, Frame, add, closing, left_out, left_out_anywhere}
 use Rattle.paper.proofs.Lexing.{run_more}
-use Rattle.xml_bytes.specs.Seeking.{stops, seek}
-use Rattle.xml_bytes.specs.Promised.{state, seek_at, reached, Between, refusal_at, Reads}
-use Rattle.end_tags.specs.Renaming.{name_at, added, Named, Renames, end_took, Ends, repeated_from}
-use Rattle.xml_bytes.specs.declared.Reach.{Reach}
-use Rattle.xml_bytes.specs.declared.Reach.TheVariants.{At, Wrong, LeftOut}
-use Rattle.xml_bytes.proofs.Steps.{Calm, is_calm, Waits, calm_opens, run_inside, stops_run, text_ends, steps_on, refused_here, opens_not}
-use Rattle.xml_bytes.proofs.Rows.{Refused, reads_bounds, wait_read, byte_calm, reads_taken}
+use Rattle.xml_bytes.specs.Seeking.{stops, seek, refusing}
+use Rattle.xml_bytes.specs.Promised.{Reach, state, seek_at, reached, Between, refusal_at, Reads}
+use Rattle.end_tags.specs.Renaming.{name_at, added, Named, Renames, Ends, repeated_from}
+use Rattle.xml_bytes.proofs.Steps.{Calm, is_calm, in_or_out, Waits, calm_opens, run_inside, stops_run, text_ends, steps_on, refused_here, opens_not}
+use Rattle.xml_bytes.proofs.Rows.{reads_bounds, wait_read, byte_calm, reads_end, reads_taken, reads_other}
 use Rattle.xml_bytes.proofs.Signs.{calm_part, white_calm}
 use native.Mathlib.Nat.{add-zero}
 use Rattle.paper.proofs.Axes.{same_turned}
@@ -56,12 +58,9 @@ pub wait_letter : (at x : ℕ) (xs : List ℕ) (frames : List Frame) → Waits (
 unfolding left_out
 wait_letter at x xs frames = record { unsettled = λ bs. refl; goes = λ b. rw (same_turned b x); opens = λ bs. refl }
 
--- A name that goes on at a place has this letter first; one that ends there is empty.
+-- A name that goes on at a place has this letter first.
 name_letter : (text : List ℕ) (at : ℕ) → at < length text → name_part (get_or text at 0) ≡ true → name_at text at ≡ get_or text at 0 ∷ name_at text (suc at)
 name_letter text at inside h = rw (drop-cons text at 0 inside, h)
-
-name_over : (text : List ℕ) (at : ℕ) → at < length text → name_part (get_or text at 0) ≡ false → name_at text at ≡ []
-name_over text at inside h = rw (drop-cons text at 0 inside, h)
 
 module _ (text : List ℕ) (at inner : ℕ) where
   -- What is read so far: the letters before `letter` have come again.
@@ -93,32 +92,23 @@ module _ (text : List ℕ) (at inner : ℕ) where
           ∙ wait_read text place (eqb (get_or text letter 0)) (state (closing (get_or text letter 0 ∷ name_at text (suc letter))) frames) (state (closing (name_at text (suc letter))) frames) r
           (wait_letter place (get_or text letter 0) (name_at text (suc letter)) frames) (byte_calm (get_or text letter 0) (calm_part (get_or text letter 0) part)) h
 
-      pub renaming_more : (to : ℕ) → Reads text place (eqb (get_or text letter 0) ∷ []) (At to) → Renaming to (letter + 1)
+      pub renaming_more : (to : ℕ) → Reads text place (eqb (get_or text letter 0) ∷ []) (Ok to) → Renaming to (letter + 1)
       renaming_more to h =
-          let end = reads_bounds text place (eqb (get_or text letter 0) ∷ []) (At to) so_far.most h in
+          let end = reads_bounds text place (eqb (get_or text letter 0) ∷ []) (Ok to) so_far.most h in
           let e : suc letter ≡ letter + 1 = omega arith in
           let longer : run_of name_part (drop letter text) ≡ suc (run_of name_part (drop (suc letter) text)) = run_more text letter letter_inside name_part part in
           record {
-            goes = λ frames. letter_goes (At to) h frames ∙ ap (λ m. seek_at text to (state (closing (name_at text m)) frames)) e;
+            goes = λ frames. letter_goes (Ok to) h frames ∙ ap (λ m. seek_at text to (state (closing (name_at text m)) frames)) e;
             within = subst (λ m. m + run_of name_part (drop m text) < length text) e (omega (arith, so_far.within));
             least = omega (arith, so_far.least, end.0);
             most = end.1;
           }
 
-      pub renaming_refused : (r : Reach) → Refused r → Reads text place (eqb (get_or text letter 0) ∷ []) r → Renames text at inner r
-      renaming_refused (At to) stuck h = absurd (miss (1 ∷ 2 ∷ []) 0 tt stuck)
-      renaming_refused (Wrong spot) stuck h = record { goes = λ frames. letter_goes (Wrong spot) h frames; bounds = reads_bounds text place (eqb (get_or text letter 0) ∷ []) (Wrong spot) so_far.most h }
-      renaming_refused (LeftOut spot) stuck h = record { goes = λ frames. letter_goes (LeftOut spot) h frames; bounds = reads_bounds text place (eqb (get_or text letter 0) ∷ []) (LeftOut spot) so_far.most h }
-
-    pub renaming_done : name_part (get_or text letter 0) ≡ false → Renames text at inner (At place)
-    renaming_done over =
-        record {
-          goes = λ frames. so_far.goes frames ∙ ap (λ (w : List ℕ). seek_at text place (state (closing w) frames)) (name_over text letter letter_inside over);
-          bounds = (so_far.least, so_far.most);
-        }
+      pub renaming_refused : (why : Refusal) → Reads text place (eqb (get_or text letter 0) ∷ []) (Err why) → Renames text at inner (Err why)
+      renaming_refused why h = record { goes = λ frames. letter_goes (Err why) h frames; bounds = reads_bounds text place (eqb (get_or text letter 0) ∷ []) (Err why) so_far.most h }
 
   -- PAST THE NAME.
-  module _ (name_end place : ℕ) (named : Renames text at inner (At name_end)) (e : place ≡ name_end + run_of white (drop name_end text)) where
+  module _ (name_end place : ℕ) (named : Renames text at inner (Ok name_end)) (e : place ≡ name_end + run_of white (drop name_end text)) where
     pub place_within : place ≤ length text
     place_within = run_inside white text name_end place e named.bounds.1
 
@@ -128,14 +118,14 @@ module _ (text : List ℕ) (at inner : ℕ) where
         ∙ ap (λ (l : List ℕ). seek (name_end + run_of white (drop name_end text)) (state (closing []) (f ∷ fs)) l) (drop-drop (run_of white (drop name_end text)) name_end text)
         ∙ ap (λ m. seek_at text m (state (closing []) (f ∷ fs))) (sym e)
 
-    pub end_cut : length text ≤ place → Ends text at inner (Wrong place)
+    end_cut : length text ≤ place → Ends text at inner (Err (NoXml place))
     end_cut l = record { goes = λ f fs n. to_place f fs n ∙ text_ends text place (state (closing []) (f ∷ fs)) l refl; bounds = place_within }
 
     module _ (inside : place < length text) where
       no_space : white (get_or text place 0) ≡ false
       no_space = stops_run white text name_end place e inside
 
-      pub end_closes : (to : ℕ) → get_or text place 0 ≡ 62 → to ≡ place + 1 → Ends text at inner (At to)
+      end_closes : (to : ℕ) → get_or text place 0 ≡ 62 → to ≡ place + 1 → Ends text at inner (Ok to)
       unfolding left_out
       end_closes to mark f =
           let next : suc place ≡ to = omega arith in
@@ -148,31 +138,32 @@ module _ (text : List ℕ) (at inner : ℕ) where
             bounds = (omega (arith, named.bounds.0), omega arith);
           }
 
-      pub end_refused : (r : Reach) → (get_or text place 0 ≡ 62 → ⊥) → r ≡ refusal_at (left_out_anywhere (drop place text)) place → Ends text at inner r
+      end_refused : (why : Refusal) → (get_or text place 0 ≡ 62 → ⊥) → why ≡ refusal_at (left_out_anywhere (drop place text)) place → Ends text at inner (Err why)
       unfolding left_out
-      end_refused r other f =
+      end_refused why other f =
           record {
             goes = λ g fs n. to_place g fs n
                 ∙ refused_here text place (state (closing []) (g ∷ fs)) inside refl (state (closing []) (g ∷ fs)) refl (rw (no_space, ne_eqb (get_or text place 0) 62 other))
-                ∙ as_end g fs (left_out_anywhere (drop place text)) ∙ ap (end_took g fs) (sym f);
+                ∙ ap refusing (sym f);
             bounds = rw f (in_bounds (left_out_anywhere (drop place text)));
           }
         where
-          as_end : (g : Frame) (fs : List Frame) (t : Bool) → reached text (state (closing []) (g ∷ fs)) (refusal_at t place) ≡ end_took g fs (refusal_at t place)
-          as_end g fs true = refl
-          as_end g fs false = refl
-
-          in_bounds : (t : Bool) → Between (suc at) (length text) (refusal_at t place)
+          in_bounds : (t : Bool) → Between (suc at) (length text) (Err (refusal_at t place))
           in_bounds true = omega arith
           in_bounds false = omega arith
 
-  -- A refusal of the name is one of the tag.
-  pub end_stuck : (r : Reach) → Refused r → Renames text at inner r → Ends text at inner r
-  end_stuck (At to) stuck h = absurd (miss (1 ∷ 2 ∷ []) 0 tt stuck)
-  end_stuck (Wrong spot) stuck h =
-      record { goes = λ f fs n. ap (λ (w : List ℕ). seek_at text at (state (closing w) (f ∷ fs))) n ∙ h.goes (f ∷ fs); bounds = h.bounds }
-  end_stuck (LeftOut spot) stuck h =
-      record { goes = λ f fs n. ap (λ (w : List ℕ). seek_at text at (state (closing w) (f ∷ fs))) n ∙ h.goes (f ∷ fs); bounds = h.bounds }
+    -- The `>` must come there.
+    pub end_ends : (r : Reach) → Reads text place (eqb 62 ∷ []) r → Ends text at inner r
+    end_ends r h =
+        in_or_out place (length text)
+        (λ inside.
+        by_cases (ℕ_discrete (get_or text place 0) 62)
+        (λ mark. subst (Ends text at inner) (sym (same (reads_taken text place (eqb 62) (place + 1) inside (eq-eqb 62 (get_or text place 0) (sym mark)) refl))) (end_closes inside (place + 1) mark refl))
+        (λ other. subst (Ends text at inner) (sym (same (reads_other text place (eqb 62) _ inside (ne_eqb 62 (get_or text place 0) (λ e. other (sym e))) refl))) (end_refused inside _ other refl)))
+        (λ l. subst (Ends text at inner) (sym (same (reads_end text place (eqb 62) l))) (end_cut l))
+      where
+        same : {q : Reach} → Reads text place (eqb 62 ∷ []) q → r ≡ q
+        same k = h.comes ∙ sym k.comes
 
 -- LETTERS of a name that stand at another place too are read again there.
 module _ (text : List ℕ) (at inner letter : ℕ) where

@@ -1,12 +1,10 @@
 -- What going through an end tag promises: where the paper's reading stands past the name of the element, and past the tag.
-use Rattle.std.specs.Prelude.{ℕ, suc, ◌+◌, ◌<◌, ◌≡◌, Bool, ◌&&◌, List, [], ◌∷◌, eqb, length, get_or, take, drop}
+use Rattle.std.specs.Prelude.{ℕ, Ok, Err, suc, ◌+◌, ◌<◌, ◌≡◌, Bool, ◌&&◌, List, [], ◌∷◌, eqb, length, get_or, take, drop}
 use Rattle.paper.specs.Tools.{run_of}
 use Rattle.paper.specs.Names.{name_part}
 use Rattle.paper.specs.Xml.{Nodes, nothing, element, Frame, State, with, content, closing, ended}
-use Rattle.xml_bytes.specs.Seeking.{Sought, stops, refused}
-use Rattle.xml_bytes.specs.Promised.{state, seek_at, reached, Between}
-use Rattle.xml_bytes.specs.declared.Reach.{Reach}
-use Rattle.xml_bytes.specs.declared.Reach.TheVariants.{At, Wrong, LeftOut}
+use Rattle.xml_bytes.specs.Seeking.{Sought, stops, refusing}
+use Rattle.xml_bytes.specs.Promised.{Reach, state, seek_at, reached, Between}
 
 -- The name that stands at a place.
 abbrev pub name_at : List ℕ → ℕ → List ℕ
@@ -19,9 +17,8 @@ added node (f ∷ fs) = state content (with f node ∷ fs)
 
 -- Where an end tag ends, the element is read.
 abbrev pub end_took : Frame → List Frame → Reach → Sought
-end_took f fs (At to) = stops to (added (element f.name f.begin to f.inside nothing) fs)
-end_took f fs (Wrong place) = refused 11 place
-end_took f fs (LeftOut place) = refused 12 place
+end_took f fs (Ok to) = stops to (added (element f.name f.begin to f.inside nothing) fs)
+end_took f fs (Err why) = refusing why
 
 -- Is the byte so far behind `letter` one of a name, and the same as the one so far behind `place`?
 abbrev pub repeated_from : List ℕ → ℕ → ℕ → ℕ → Bool

@@ -6,22 +6,21 @@ ghost use Rattle.xml_bytes.specs.Blocks.{block, AllFit};
 ghost use Rattle.end_tags.specs.Renaming.{repeated_from, Named, Renames, Ends};
 
 use good_names::name_part;
+use paper::Refusal;
 use token::skip;
-use xml_bytes::{Reach, byte, refuse, sooner};
+use xml_bytes::{BLOCK, Reach, byte, sooner};
 
 // How many bytes of a block go on with a name at `letter` and stand at `place` too, up to the first that does not. No branch, so that they are looked at together.
 fn same_block(text: &[u8], place: usize, letter: usize) -> usize
     requires { (place + block ≤ length text.now) × (letter + block ≤ length text.now) }
     ensures { (result ≤ block) × AllFit (repeated_from text.now place letter) result }
 {
-    let mut stop = xml_bytes::BLOCK;
-    let mut i: u8 = 0;
-    while i < xml_bytes::BLOCK {
-        let b = text[letter + i as usize];
-        stop = sooner(stop, i, name_part(b) & (b == text[place + i as usize]));
-        i += 1;
+    let mut stop = BLOCK;
+    for i in 0..BLOCK {
+        let b = text[letter + usize::from(i)];
+        stop = sooner(stop, i, name_part(b) & (b == text[place + usize::from(i)]));
     }
-    stop as usize
+    usize::from(stop)
 }
 
 // How many letters of the name at `letter` stand at `place` too, in a block if both places have one and the name has three letters or more.
@@ -29,10 +28,10 @@ fn same_letters(text: &[u8], place: usize, letter: usize) -> usize
     requires { (place ≤ length text.now) × (letter ≤ length text.now) }
     ensures { (place + result ≤ length text.now) × AllFit (repeated_from text.now place letter) result }
 {
-    if text.len() < place + xml_bytes::BLOCK as usize {
+    if text.len() < place + usize::from(BLOCK) {
         return 0;
     }
-    if text.len() < letter + xml_bytes::BLOCK as usize {
+    if text.len() < letter + usize::from(BLOCK) {
         return 0;
     }
     if !name_part(text[letter + 2]) {
@@ -50,14 +49,10 @@ fn same_name(text: &[u8], at: usize, inner: usize) -> Reach
     let mut place = at + passed;
     let mut letter = inner + 1 + passed;
     while name_part(text[letter]) {
-        let one = byte(text, place, text[letter]);
-        let Reach::At(next) = one else {
-            return one;
-        };
-        place = next;
+        place = byte(text, place, text[letter])?;
         letter += 1;
     }
-    Reach::At(place)
+    Ok(place)
 }
 
 // An end tag, past the `</`.
@@ -65,17 +60,7 @@ pub fn end_tag(text: &[u8], at: usize, inner: usize) -> Reach
     requires { (at ≤ length text.now) × Named text.now inner }
     ensures { Ends text.now at inner result }
 {
-    let named = same_name(text, at, inner);
-    let Reach::At(name_end) = named else {
-        return named;
-    };
+    let name_end = same_name(text, at, inner)?;
     let place = skip(text, name_end);
-    if text.len() <= place {
-        return Reach::Wrong(place);
-    }
-    if text[place] == b'>' {
-        Reach::At(place + 1)
-    } else {
-        refuse(text, place)
-    }
+    byte(text, place, b'>')
 }

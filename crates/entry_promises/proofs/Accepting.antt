@@ -1,10 +1,12 @@
 -- What an accepted call was lent and what it left: the lines before its value do not hold, and what it wrote stands first in the slice. Assumes nothing.
-use Prim.Native.Nat.{ℕ, ◌≤◌}
+use Prim.Native.Nat.{ℕ, ◌≤◌, ◌<◌}
 use native.Mathlib.Omega.{arith}
 use mathlib.Core.Path.{◌≡◌, refl, sym, ◌∙◌, ap, ap₂}
 use mathlib.Core.Bool.{◌||◌}
 use mathlib.Core.List.{List, [], append-nil}
 use mathlib.Core.Option.{Option, none, some}
+use mathlib.Core.Logic.{by_cases}
+use native.Mathlib.Decide.{dec_lt}
 use lib.Dec.{ltb}
 use lib.ListN.{length, take, drop, drop_of_length-le}
 use lib.Seq.{take-append_seam}
@@ -13,7 +15,7 @@ use Rattle.paper.specs.Tools.{when, written}
 use Rattle.paper.specs.Limits.{item_limit, node_limit, bracket_limit}
 use Rattle.paper.specs.Query.{Query}
 use Rattle.paper.specs.Items.{encode, decode}
-use Rattle.paper.specs.Measures.{size, nesting}
+use Rattle.paper.specs.Measures.{size, nesting, height}
 use Rattle.paper.specs.Document.{Table, nodes, parent_of, kind_of, table_fault, marks_fault, table_of}
 use Rattle.paper.specs.Selection.{kept}
 use Rattle.paper.specs.Extraction.{rank, extracted}
@@ -28,8 +30,8 @@ use Rattle.paper.proofs.Encoding.{encode_decode}
 use Rattle.paper.proofs.Keeping.{length_kept}
 use Rattle.paper.proofs.Extracting.{length_pick}
 use Rattle.paper.proofs.Lending.{Wrong}
-use Rattle.run.specs.Judging.{judgement}
-use Rattle.run.proofs.Answering as run
+use Rattle.judge.specs.Judging.{judged}
+use Rattle.judge.proofs.Answering as run
 use Rattle.extract.proofs.Lines as extract
 use Rattle.theorems.proofs.Forms.{read_back}
 use Rattle.entry_promises.specs.Entries.{IsComposition, Shows, table_left}
@@ -106,27 +108,35 @@ pub record Ran (query : List ℕ) (t : Table) (given marks : List ℕ) (room a :
   pub decodes : decode query ≡ some is
   pub table_good : table_fault t ≡ none
   pub marks_good : marks_fault t given ≡ none
-  pub lengths : run.Agree query t given (length marks) room
+  pub lengths : run.Agree query t given (length marks)
   pub left : run_marks query t given marks room ≡ kept t given is
   pub counted : a ≡ marked_count t (run_marks query t given marks room)
 
 module _ (query : List ℕ) (t : Table) (given marks : List ℕ) (room a : ℕ) (h : run_answer query t given (length marks) room ≡ value a) where
-  marks_left : (needed : ℕ) (w : run.Accepted query t given (length marks) room needed) → run_marks query t given marks room ≡ kept t given w.query_is
+  marks_left : (tall : ℕ) (w : run.Accepted query t given (length marks) tall) → scratch_of t w.query_is ≤ room → run_marks query t given marks room ≡ kept t given w.query_is
   unfolding run_marks
-  marks_left needed w =
+  marks_left tall w enough =
       let k = kept t given w.query_is in
       let few : length marks ≤ length k = omega (arith, length_kept t given w.query_is, w.agree.marks_all) in
       let all : drop (length k) marks ≡ [] = drop_of_length-le marks few in
-      rw (run.runs query t given (length marks) room needed w, w.decodes, all) (append-nil k)
+      rw (run.runs query t given (length marks) room tall w enough, w.decodes, all) (append-nil k)
+
+  -- The scratch was enough.
+  enough_room : (tall : ℕ) (w : run.Accepted query t given (length marks) tall) → scratch_of t w.query_is ≤ room
+  enough_room tall w =
+      by_cases (dec_lt room (scratch_of t w.query_is))
+      (λ l. no-refusal (sym h ∙ run.short_of query t given (length marks) room tall w l))
+      (λ n. omega arith)
 
   pub ran : Ran query t given marks room a
-  ran = go (judgement query t given (length marks) room) refl
+  ran = go (judged query t given (length marks)) refl
     where
-      go : (r : Told) → judgement query t given (length marks) room ≡ r → Ran query t given marks room a
+      go : (r : Told) → judged query t given (length marks) ≡ r → Ran query t given marks room a
       go (refusal number place) e = no-refusal (sym h ∙ run.refuses query t given (length marks) room number place e)
-      go (value needed) e =
-          let w = run.accepted query t given (length marks) room needed e in
-          let left = marks_left needed w in
+      go (value tall) e =
+          let w = run.accepted query t given (length marks) tall (sym e) in
+          let enough = enough_room tall w in
+          let left = marks_left tall w enough in
           record {
             is = w.query_is;
             decodes = w.decodes;
@@ -134,7 +144,7 @@ module _ (query : List ℕ) (t : Table) (given marks : List ℕ) (room a : ℕ) 
             marks_good = w.marks_good;
             lengths = w.agree;
             left = left;
-            counted = value_same (sym h ∙ run.runs query t given (length marks) room needed w) ∙ ap (marked_count t) (sym left);
+            counted = value_same (sym h ∙ run.runs query t given (length marks) room tall w enough) ∙ ap (marked_count t) (sym left);
           }
 
 -- The marks left, where the items are known to be those of a query.
@@ -147,16 +157,16 @@ pub runs : (query : List ℕ) (t : Table) (given : List ℕ) (room : ℕ) (q : Q
     → length given ≡ nodes t → decode query ≡ some q → table_fault t ≡ none → marks_fault t given ≡ none → scratch_of t q ≤ room
     → run_answer query t given (nodes t) room ≡ value (marked_count t (kept t given q))
 runs query t given room q few nodes_few kinds_all given_all d ft fm enough =
-    run.runs query t given (nodes t) room (scratch_of t q)
+    run.runs query t given (nodes t) room (height q)
     (record {
       agree = record { items_few = few; nodes_few = nodes_few; kinds_all = kinds_all; given_all = given_all; marks_all = refl };
       query_is = q;
       decodes = d;
+      tall_is = refl;
       table_good = ft;
       marks_good = fm;
-      room_is = refl;
-      room_enough = enough;
     })
+    enough
 
 -- EXTRACT. What an accepted extract has, and the table that it leaves.
 pub record Took (t : Table) (marks : List ℕ) (n : ℕ) (parents kinds : List ℕ) : Type 0 where

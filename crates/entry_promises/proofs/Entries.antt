@@ -25,7 +25,7 @@ use Rattle.paper.proofs.Keeping.{length_kept, kept_at, kept_good}
 use Rattle.paper.proofs.Extracting.{rank_le}
 use Rattle.paper.proofs.Sizes.{size_decoded}
 use Rattle.paper.proofs.Lending.{lends, let_all_pass}
-use Rattle.run.proofs.Answering.{Long}
+use Rattle.judge.proofs.Answering.{Long}
 use Rattle.room.proofs.Answering.{measured}
 use Rattle.theorems.specs.Demands.{all_marked}
 use Rattle.theorems.proofs.Renumber.{extracted_inside}
@@ -65,7 +65,7 @@ well_formed query q t given marks_room scratch_room place d r =
     let ten = not_given 6 10 place (short scratch_room (scratch_of t q)) _ (λ e. omega arith) (not_value (marked_count t (kept t given q)) 6 place) in
     let eight = not_given 6 8 place (marks_fault t given) _ (λ e. omega arith) ten in
     let seven = not_given 6 7 place (table_fault t) _ (λ e. omega arith) eight in
-    not_given 6 1 place (when (Long query t given marks_room scratch_room) 0) _ (λ e. omega arith) seven (rw d at r)
+    not_given 6 1 place (when (Long query t given marks_room) 0) _ (λ e. omega arith) seven (rw d at r)
 
 -- and a composition is a query.
 pub never_malformed : NeverMalformed
@@ -156,7 +156,7 @@ room_enough query q t given marks_room scratch_room place d enough r =
     λ e. not_value (marked_count t (kept t given q)) 10 place (rw (le-ltb scratch_room (scratch_of t q) enough) at e) in
     let eight = not_given 10 8 place (marks_fault t given) _ (λ e. omega arith) ten in
     let seven = not_given 10 7 place (table_fault t) _ (λ e. omega arith) eight in
-    not_given 10 1 place (when (Long query t given marks_room scratch_room) 0) _ (λ e. omega arith) seven (rw d at r)
+    not_given 10 1 place (when (Long query t given marks_room) 0) _ (λ e. omega arith) seven (rw d at r)
 
 -- and what is told before composing is enough,
 pub scratch_enough : ScratchEnough

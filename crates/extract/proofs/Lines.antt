@@ -13,9 +13,9 @@ use Rattle.paper.specs.Document.{Table, nodes, table_fault, marks_fault}
 use Rattle.paper.specs.Extraction.{rank, extracted}
 use Rattle.paper.specs.Answers.{value, refusal, line, short, at_exit, marked_count, extract_answer, extract_parents, extract_kinds}
 use Rattle.paper.specs.Answers.{Answer as Told}
-use Rattle.paper.specs.Told.{told}
-use Rattle.paper.specs.declared.Answer.{Answer}
-use Rattle.paper.proofs.Refusing.{line_value, when_none, or_none, Refuses, refused_keeps}
+use Rattle.paper.specs.Told.{told_refusal}
+use Rattle.paper.specs.declared.Refusal.{Refusal}
+use Rattle.paper.proofs.Refusing.{line_value, when_none, or_none, refused_keeps}
 
 module _ (t : Table) (marks : List ℕ) (parent_room kind_room : ℕ) where
   -- Line 1 holds where a length is wrong.
@@ -85,12 +85,12 @@ module _ (t : Table) (marks : List ℕ) (parent_room kind_room : ℕ) where
 
 module _ (t : Table) (marks parents kinds : List ℕ) where
   -- A refusal leaves both columns as they were,
-  pub refused : (a : Answer) → told a ≡ extract_answer t marks (length parents) (length kinds) → Refuses a
+  pub refused : (why : Refusal) → told_refusal why ≡ extract_answer t marks (length parents) (length kinds)
       → (parents ≡ extract_parents t marks parents (length kinds)) × (kinds ≡ extract_kinds t marks (length parents) kinds)
   unfolding extract_parents extract_kinds
-  refused a said r = (
-    sym (ap (λ x. at_exit x (extracted t marks).parents parents) (sym said) ∙ refused_keeps a (extracted t marks).parents parents r),
-    sym (ap (λ x. at_exit x (extracted t marks).kinds kinds) (sym said) ∙ refused_keeps a (extracted t marks).kinds kinds r),
+  refused why said = (
+    sym (ap (λ x. at_exit x (extracted t marks).parents parents) (sym said) ∙ refused_keeps why (extracted t marks).parents parents),
+    sym (ap (λ x. at_exit x (extracted t marks).kinds kinds) (sym said) ∙ refused_keeps why (extracted t marks).kinds kinds),
   )
 
   -- and a value stands for the new table written over them.

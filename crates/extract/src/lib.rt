@@ -9,8 +9,8 @@ ghost use Rattle.paper.specs.Answers.{extract_answer, extract_parents, extract_k
 ghost use Rattle.paper.specs.Told.{told};
 ghost use Rattle.extract.specs.Numbering.{shape_of, Ordered, Last, new_parent, Numbered};
 
-use paper::Answer;
-use table::{Fault, count, marks_fault, table_fault, wide};
+use paper::{Answer, Refusal};
+use table::{count, marks_fault, table_fault};
 
 // The new number of `wanted`, which is the node `from` or an ancestor of it. The way up is taken in the table and in what is written of the new one; `marks` is there for the contract alone.
 fn new_number(
@@ -30,18 +30,10 @@ fn new_number(
     let mut at = from;
     let mut new = number;
     while wanted < at {
-        at = wide(parent[at]);
-        new = wide(out[new]);
+        at = usize::from(parent[at]);
+        new = usize::from(out[new]);
     }
     new
-}
-
-// A number below 65,536 as an entry of a column.
-fn narrow(x: usize) -> u16
-    requires { x < 65536 }
-    ensures { result ≡ x }
-{
-    x as u16
 }
 
 // The new parent of the marked node i, of new number n, after the marked node `last`.
@@ -55,8 +47,8 @@ fn new_parent(parent: &[u16], marks: &[u8], out: &[u16], i: usize, last: usize, 
     if i == 0 {
         return 0;
     }
-    let above = wide(parent[i]);
-    narrow(new_number(parent, marks, out, last, n - 1, above))
+    let above = usize::from(parent[i]);
+    new_number(parent, marks, out, last, n - 1, above) as u16
 }
 
 // Writes the new parents of the marked nodes. A way up from a marked node is paid for by its depth.
@@ -67,14 +59,12 @@ fn copy_parents(parent: &[u16], marks: &[u8], out: &mut [u16])
 {
     let mut last = 0;
     let mut n = 0;
-    let mut i = 0;
-    while i < marks.len() {
+    for i in 0..marks.len() {
         if marks[i] == 1 {
             out[n] = new_parent(parent, marks, out, i, last, n);
             last = i;
             n += 1;
         }
-        i += 1;
     }
 }
 
@@ -84,13 +74,11 @@ fn copy_kinds(kind: &[u16], marks: &[u8], out: &mut [u16])
     ensures { out.new ≡ written (pick_from marks.now (length kind.now) 0 (λ i. get_or kind.now i 0)) out.old }
 {
     let mut n = 0;
-    let mut i = 0;
-    while i < marks.len() {
+    for i in 0..marks.len() {
         if marks[i] == 1 {
             out[n] = kind[i];
             n += 1;
         }
-        i += 1;
     }
 }
 
@@ -105,28 +93,28 @@ fn answer(
     ensures { told result ≡ extract_answer (table_of parent.now kind.now) marks.now parent_room kind_room }
 {
     if paper::NODE_LIMIT < parent.len() {
-        return Answer::TooLong;
+        return Err(Refusal::TooLong);
     }
     if kind.len() != parent.len() {
-        return Answer::TooLong;
+        return Err(Refusal::TooLong);
     }
     if marks.len() != parent.len() {
-        return Answer::TooLong;
+        return Err(Refusal::TooLong);
     }
     if parent_room != kind_room {
-        return Answer::TooLong;
+        return Err(Refusal::TooLong);
     }
-    if let Fault::At(i) = table_fault(parent, kind) {
-        return Answer::BadTable(i);
+    if let Some(i) = table_fault(parent, kind) {
+        return Err(Refusal::BadTable(i));
     }
-    if let Fault::At(i) = marks_fault(parent, marks) {
-        return Answer::BadMarks(i);
+    if let Some(i) = marks_fault(parent, marks) {
+        return Err(Refusal::BadMarks(i));
     }
     let needed = count(marks);
     if parent_room < needed {
-        return Answer::Short(needed);
+        return Err(Refusal::Short(needed));
     }
-    Answer::Value(needed)
+    Ok(needed)
 }
 
 // Writes the marked nodes in order as a table of their own and answers their number.
@@ -141,10 +129,8 @@ pub fn extract(
     ensures out_parent_after { out_parent.new ≡ extract_parents (table_of parent.now kind.now) marks.now out_parent.old (length out_kind.old) }
     ensures out_kind_after { out_kind.new ≡ extract_kinds (table_of parent.now kind.now) marks.now (length out_parent.old) out_kind.old }
 {
-    let said = answer(parent, kind, marks, out_parent.len(), out_kind.len());
-    if let Answer::Value(_) = said {
-        copy_parents(parent, marks, out_parent);
-        copy_kinds(kind, marks, out_kind);
-    }
-    said
+    let number = answer(parent, kind, marks, out_parent.len(), out_kind.len())?;
+    copy_parents(parent, marks, out_parent);
+    copy_kinds(kind, marks, out_kind);
+    Ok(number)
 }

@@ -1,51 +1,28 @@
 // Tries `extract` on the document of 01's samples and on bad tables, marks and rooms: for each call the number, the place and both columns.
 #![tactic(auto)]
 
-use paper::Answer;
+use paper::{Answer, Refusal};
 use std::io;
 
-// The last decimal digit of a number.
-fn digit(x: usize) -> u8 {
-    48 + (x % 10) as u8
-}
-
-// Writes a number of up to four digits.
-fn put(rt: &impl Print, x: usize) -> io::Result<()> {
-    let text = [digit(x / 1000), digit(x / 100), digit(x / 10), digit(x), 32];
-    rt.write_all(&text)
-}
-
-fn end_line(rt: &impl Print) -> io::Result<()> {
-    rt.write_all(b"\n")
-}
-
-fn wide(x: u16) -> usize {
-    x as usize
-}
-
+// Writes a column on a line, each number in four digits.
 fn put_column(rt: &impl Print, column: &[u16]) -> io::Result<()> {
     for x in column {
-        put(rt, wide(*x))?;
+        print!(rt; "{x:04} ")?;
     }
-    end_line(rt)
-}
-
-fn put_pair(rt: &impl Print, number: usize, place: usize) -> io::Result<()> {
-    put(rt, number)?;
-    put(rt, place)?;
-    end_line(rt)
+    println!(rt; "")
 }
 
 // Writes the number of an answer, 0 for a value, and its place.
-fn put_answer(rt: &impl Print, a: Answer) -> io::Result<()> {
-    match a {
-        Answer::Value(n) => put_pair(rt, 0, n),
-        Answer::TooLong => put_pair(rt, 1, 0),
-        Answer::BadTable(place) => put_pair(rt, 7, place),
-        Answer::BadMarks(place) => put_pair(rt, 8, place),
-        Answer::Short(needed) => put_pair(rt, 10, needed),
-        _ => put_pair(rt, 99, 0),
-    }
+fn put_answer(rt: &impl Print, answer: Answer) -> io::Result<()> {
+    let (number, place) = match answer {
+        Ok(n) => (0, n),
+        Err(Refusal::TooLong) => (1, 0),
+        Err(Refusal::BadTable(place)) => (7, place),
+        Err(Refusal::BadMarks(place)) => (8, place),
+        Err(Refusal::Short(needed)) => (10, needed),
+        Err(_) => (99, 0),
+    };
+    println!(rt; "{number:04} {place:04} ")
 }
 
 // One call, with columns of 9s to write on.

@@ -13,8 +13,8 @@ use Rattle.paper.specs.Composition.{composed}
 use Rattle.paper.specs.Answers.{value, write_xml_answer, write_xml_out, read_xml_answer, read_xml_column, parent_field, kind_field}
 use Rattle.paper.specs.Answers.{Answer as Told}
 use Rattle.paper.specs.Told.{told}
-use Rattle.paper.specs.declared.Answer.{Answer}
-use Rattle.paper.specs.declared.Answer.TheVariants.{Value}
+use Rattle.paper.specs.Told.{Answer}
+use Rattle.std.specs.Prelude.{Ok}
 use Rattle.file_theorems.specs.Files.{EqualTexts, shown}
 use Rattle.file_theorems.proofs.Answered.{read_back_answers}
 use Rattle.file_theorems.proofs.Secret.{secret_answers}
@@ -25,7 +25,7 @@ use Rattle.entry_promises.proofs.Accepting.{composition, ran, left_by, shown as 
 use Rattle.call_promises.proofs.Calls.{old_items, composed_value, composed_left, old-marks, scratch-room, run_value, run_left, shows}
 
 -- WRITE XML. What the contract says of an accepted call.
-module _ {text list parents kinds begins ends marks file : List ℕ} {n : ℕ} (c : WriteXmlCall text list parents kinds begins ends marks (Value n) file) where
+module _ {text list parents kinds begins ends marks file : List ℕ} {n : ℕ} (c : WriteXmlCall text list parents kinds begins ends marks (Ok n) file) where
   abbrev old_bytes : List ℕ
   old_bytes = c.args.1.1.1.1.1.1.1.0.now
 
@@ -53,10 +53,10 @@ read_back text list parents kinds begins ends marks file new_parents new_kinds n
     sym r.kinds_left ∙ (rw (r.text_lent, r.list_lent) at r.met.1.1.0) in
     let parents_left = parents-are ∙ ap₂ (λ f a. read_xml_column parent_field (take n f) a ps) (write_left wrote) got in
     let kinds_left = kinds-are ∙ ap₂ (λ f a. read_xml_column (kind_field list) (take n f) a ks) (write_left wrote) got in
-    (m, told_same answer (Value m) got, ap₂ (λ p k. table_of (take m p) (take m k)) parents_left kinds_left ∙ back.2)
+    (m, told_same answer (Ok m) got, ap₂ (λ p k. table_of (take m p) (take m k)) parents_left kinds_left ∙ back.2)
 
 -- SECRECY OF FILES. The marks that a run of known items left.
-marks_are : {query parents kinds marks : List ℕ} {a : ℕ} (q : Query) → decode query ≡ some q → RunCall query parents kinds (ones parents) (Value a) marks → marks ≡ shown (table_of parents kinds) q
+marks_are : {query parents kinds marks : List ℕ} {a : ℕ} (q : Query) → decode query ≡ some q → RunCall query parents kinds (ones parents) (Ok a) marks → marks ≡ shown (table_of parents kinds) q
 marks_are {query} {parents} {kinds} {marks} {a} q d c =
     run_left c ∙ left_by q d (ran query (table_of parents kinds) (ones parents) (old-marks c) (scratch-room c) a (run_value c))
 

@@ -6,8 +6,8 @@ use borrow.Fn.Kinds.{Dens, ended_of}
 use Rattle.paper.specs.Limits.{text_limit}
 use Rattle.paper.specs.Document.{table_of}
 use Rattle.paper.specs.Extraction.{extracted}
-use Rattle.paper.specs.declared.Answer.{Answer}
-use Rattle.paper.specs.declared.Answer.TheVariants.{Value}
+use Rattle.paper.specs.Told.{Answer}
+use Rattle.std.specs.Prelude.{Ok}
 use Rattle.file_theorems.specs.Files.{merged, EqualTexts}
 use Rattle.read_xml.proofs.read_xml
 use Rattle.write_xml.proofs.write_xml
@@ -48,17 +48,17 @@ pub record WriteXmlCall (text list parents kinds begins ends marks : List ℕ) (
 abbrev pub ReadBack : Type 0
 ReadBack =
     (text list parents kinds begins ends marks file new_parents new_kinds : List ℕ) (n room : ℕ) (answer : Answer)
-    → WriteXmlCall text list parents kinds begins ends marks (Value n) file → n ≤ text_limit → length parents ≤ room
+    → WriteXmlCall text list parents kinds begins ends marks (Ok n) file → n ≤ text_limit → length parents ≤ room
     → ReadXmlCall (take n file) list room answer new_parents new_kinds
-    → (m : ℕ) × (answer ≡ Value m) × (table_of (take m new_parents) (take m new_kinds) ≡ merged (extracted (table_of parents kinds) marks))
+    → (m : ℕ) × (answer ≡ Ok m) × (table_of (take m new_parents) (take m new_kinds) ≡ merged (extracted (table_of parents kinds) marks))
 
 -- SECRECY OF FILES: of two documents that the inner items show alike, with equal bytes of text, what a run of the composed items keeps gives the same file.
 abbrev pub FileSecrecy : Type 0
 FileSecrecy =
     (outer inner both list text parents kinds begins ends marks file ps ks text' parents' kinds' begins' ends' marks' file' ps' ks' : List ℕ) (n a w a' w' : ℕ)
-    → ComposeCall outer inner (Value n) both
+    → ComposeCall outer inner (Ok n) both
     → (v : View inner parents kinds (ones parents) ps ks) (v' : View inner parents' kinds' (ones parents') ps' ks') → ps ≡ ps' → ks ≡ ks'
     → EqualTexts text (table_of parents kinds) begins ends v.marks text' (table_of parents' kinds') begins' ends' v'.marks
-    → RunCall (take n both) parents kinds (ones parents) (Value a) marks → RunCall (take n both) parents' kinds' (ones parents') (Value a') marks'
-    → WriteXmlCall text list parents kinds begins ends marks (Value w) file → WriteXmlCall text' list parents' kinds' begins' ends' marks' (Value w') file'
+    → RunCall (take n both) parents kinds (ones parents) (Ok a) marks → RunCall (take n both) parents' kinds' (ones parents') (Ok a') marks'
+    → WriteXmlCall text list parents kinds begins ends marks (Ok w) file → WriteXmlCall text' list parents' kinds' begins' ends' marks' (Ok w') file'
     → (w ≡ w') × (take w file ≡ take w' file')

@@ -1,2 +1,2 @@
--- The lines of a call: `judged_long` .. `judged_value`, `accepted`, `follows`, `refuses`.
+-- What a judged call may do, with scratch enough: `searchable`, `enough_for`.
 pub mod Answering

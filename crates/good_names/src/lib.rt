@@ -26,14 +26,7 @@ fn name_parts(word: &[u8], from: usize) -> bool
     requires { from ≤ length word.now }
     ensures { result ≡ name_parts (drop from word.now) }
 {
-    let mut at = from;
-    while at < word.len() {
-        if !name_part(word[at]) {
-            return false;
-        }
-        at += 1;
-    }
-    true
+    word[from..].iter().all(|&b| name_part(b))
 }
 
 // Is this a name?

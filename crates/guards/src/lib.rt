@@ -27,11 +27,9 @@ pub fn count_guards(items: &[u32]) -> usize
     requires { length items.now ≤ item_limit }
     ensures { (result ≡ guard_items items.now) × (result ≤ length items.now) }
 {
-    let mut place = 0;
     let mut guards = 0;
-    while place < items.len() {
-        guards += one_guard(items[place]);
-        place += 1;
+    for &item in items {
+        guards += one_guard(item);
     }
     guards
 }
@@ -89,11 +87,9 @@ pub fn guard_steps(
     ensures { (out.new ≡ placed (guarded_items (take count (drop from out.old)) (map guard_item says.now) steps.now) start out.old)
         × (result ≡ start + length (guarded_items (take count (drop from out.old)) (map guard_item says.now) steps.now)) }
 {
-    let mut place = 0;
     let mut at = start;
-    while place < steps.len() {
+    for place in 0..steps.len() {
         at = guard_item(steps[place], out, at, from, count, says[place]);
-        place += 1;
     }
     at
 }

@@ -2,9 +2,10 @@
 use Prim.Native.Nat.{ℕ, ◌+◌, ◌≤◌, ◌<◌}
 use native.Mathlib.Omega.{arith}
 use mathlib.Core.Path.{◌≡◌, refl, sym, ◌∙◌, ap, subst}
-use mathlib.Core.Bool.{Bool, true, false, cond}
+use mathlib.Core.Bool.{Bool, true, false, ◌&&◌, cond}
 use mathlib.Core.List.{List, []}
 use mathlib.Core.Option.{Option, none, some}
+use Rattle.std.specs.Prelude.{Result, Some, None, Ok, Err}
 use mathlib.Core.Logic.{⊎_elim}
 use lib.ListN.{length, drop}
 use lib.Seq.{drop-drop}
@@ -19,19 +20,26 @@ use Rattle.paper.specs.Items.{axis_number, test_number, named_from, axis_bound}
 use Rattle.paper.specs.Reading.{Got, got, refused, then, next, at, sees, says, axis_ahead, Step, read_name, read_tested, read_dot, read_step, read_tail}
 use Rattle.paper.proofs.Tests.{decide}
 use Rattle.token.specs.declared.Cursor.{Cursor}
-use Rattle.ahead.specs.declared.Call.TheVariants.{NoCall}
 use Rattle.marks.specs.Marks.{tokens_at, Past}
 use Rattle.ahead.specs.Looking.{AxisWritten, call_code, Calls}
-use Rattle.ahead.proofs.Beginning.{and_false}
 use Rattle.heads.specs.declared.Head.{Head}
-use Rattle.heads.specs.declared.Head.TheVariants.{Plain, Tested, Wrong, Unknown}
-use Rattle.heads.specs.Heads.{Closes, TestedStep, dotted_head, Heads}
+use Rattle.heads.specs.declared.Head.TheVariants.{Plain, Tested}
+use Rattle.paper.specs.declared.Refusal.{Refusal}
+use Rattle.heads.specs.Heads.{TestedStep, dotted_head, Heads}
 
 -- The number of an axis fits into an item.
 pub axis_small : (a : Axis) (n : ℕ) → n ≡ axis_number a → n < axis_bound
 axis_small a n e = omega (arith, axis_below a)
 
+-- Two tests joined fail if the second does.
+and_false : (a : Bool) → (a && false) ≡ false
+and_false true = refl
+and_false false = refl
+
 -- THE TEST.
+some_test : (m n : ℕ) → ◌≡◌ (Some m) (Some n) → n ≡ m
+some_test m n e = cc
+
 abbrev Outcome : Type 0
 Outcome = (ℕ → List Placed → Got Expr) → Got Step
 
@@ -75,7 +83,7 @@ module _ (newer : Bool) (look : List ℕ → Option ℕ) (text : List ℕ) (from
     text_too b h = ap (same (ascii "text")) l ∙ h
 
     -- A test that is called.
-    module _ (test inner : ℕ) (code : test ≡ call_code w) (few : test < 2) (opens : sees paper.open_round (tokens_at text mid) ≡ true) (q : Past text mid inner) where
+    module _ (test inner : ℕ) (code : call_code w ≡ Some test) (few : test < 2) (opens : sees paper.open_round (tokens_at text mid) ≡ true) (q : Past text mid inner) where
       two : drop 2 (tokens_at text from) ≡ tokens_at text inner
       two = sym (drop-drop 1 1 (tokens_at text from)) ∙ ap (drop 1) p.rest ∙ q.rest
 
@@ -89,43 +97,45 @@ module _ (newer : Bool) (look : List ℕ → Option ℕ) (text : List ℕ) (from
       unfolding read_tested
       which =
           ⊎_elim
-          (λ (h : same (ascii "node") w ≡ true). record { kind = any_node; tested = code ∙ rw h; reads = λ within. rw (no_star, p.rest, opens, node true h, two) })
+          (λ (h : same (ascii "node") w ≡ true). record { kind = any_node; tested = some_test 0 test (sym (let e : call_code w ≡ Some 0 = rw h in e) ∙ code); reads = λ within. rw (no_star, p.rest, opens, node true h, two) })
           (λ (h : same (ascii "node") w ≡ false).
           ⊎_elim
-          (λ (k : same (ascii "text") w ≡ true). record { kind = text_node; tested = code ∙ rw (h, k); reads = λ within. rw (no_star, p.rest, opens, node false h, text_too true k, two) })
-          (λ (k : same (ascii "text") w ≡ false). absurd (let e : call_code w ≡ 2 = rw (h, k) in omega arith))
+          (λ (k : same (ascii "text") w ≡ true). record { kind = text_node; tested = some_test 1 test (sym (let e : call_code w ≡ Some 1 = rw (h, k) in e) ∙ code); reads = λ within. rw (no_star, p.rest, opens, node false h, text_too true k, two) })
+          (λ (k : same (ascii "text") w ≡ false). absurd (let e : call_code w ≡ None = rw (h, k) in let z : ◌≡◌ {A = ℕ} 0 1 = cc in omega arith))
           (decide (same (ascii "text") w)))
           (decide (same (ascii "node") w))
 
-      pub tested_call : (r : Head) → Closes text inner axis test r → Heads newer look text from (λ within. read_tested newer look within a (tokens_at text from)) r
-      tested_call (Plain axis' past) h = absurd h
-      tested_call (Tested axis' test' past) h =
+      pub tested_closed : (past : ℕ) → sees paper.close_round (tokens_at text inner) ≡ true → Past text inner past
+          → TestedStep newer look text from axis test past (λ within. read_tested newer look within a (tokens_at text from))
+      tested_closed past c e =
           record {
             way = a;
             kind = which.kind;
-            number = h.0 ∙ number;
-            tested = h.1 ∙ which.tested;
-            small = omega (arith, h.1);
-            reads = λ within. which.reads within ∙ rw (h.2, h.3.rest);
-            onward = omega (arith, p.onward, q.onward, h.3.onward);
-            inside = h.3.inside;
-            fewer = omega (arith, p.fewer, q.fewer, h.3.fewer);
+            number = number;
+            tested = which.tested;
+            small = omega (arith, few);
+            reads = λ within. which.reads within ∙ rw (c, e.rest);
+            onward = omega (arith, p.onward, q.onward, e.onward);
+            inside = e.inside;
+            fewer = omega (arith, p.fewer, q.fewer, e.fewer);
           }
-      tested_call (Wrong place) h = λ within. which.reads within ∙ rw (h.0, ← h.1)
-      tested_call (Unknown place) h = absurd h
+
+      pub tested_unclosed : (place : ℕ) → sees paper.close_round (tokens_at text inner) ≡ false → place ≡ at (tokens_at text inner) → (within : ℕ → List Placed → Got Expr)
+          → read_tested newer look within a (tokens_at text from) ≡ refused 3 place
+      tested_unclosed place c e within = which.reads within ∙ rw (c, ← e)
 
     -- A name.
-    module _ (none-called : Calls text w mid NoCall) where
+    module _ (none-called : Calls text w mid None) where
       named_next : (within : ℕ → List Placed → Got Expr) → read_tested newer look within a (tokens_at text from) ≡ read_name newer look within (look w) a (tokens_at text from)
       unfolding read_tested
       named_next within =
           ⊎_elim
-          (λ (two : call_code w ≡ 2).
+          (λ (two : call_code w ≡ None).
           ⊎_elim
-          (λ (h : same (ascii "node") w ≡ true). absurd (let e : call_code w ≡ 0 = rw h in omega arith))
+          (λ (h : same (ascii "node") w ≡ true). absurd (let e : call_code w ≡ Some 0 = rw h in let z : ◌≡◌ {A = ℕ} 0 1 = cc in omega arith))
           (λ (h : same (ascii "node") w ≡ false).
           ⊎_elim
-          (λ (k : same (ascii "text") w ≡ true). absurd (let e : call_code w ≡ 1 = rw (h, k) in omega arith))
+          (λ (k : same (ascii "text") w ≡ true). absurd (let e : call_code w ≡ Some 1 = rw (h, k) in let z : ◌≡◌ {A = ℕ} 0 1 = cc in omega arith))
           (λ (k : same (ascii "text") w ≡ false). rw (no_star, node false h, text_too false k, and_false (sees paper.open_round (drop 1 (tokens_at text from))), a_word, l))
           (decide (same (ascii "text") w)))
           (decide (same (ascii "node") w)))
@@ -149,9 +159,9 @@ module _ (newer : Bool) (look : List ℕ → Option ℕ) (text : List ℕ) (from
       tested_unknown place h e within = named_next within ∙ rw (h, ← e)
 
 -- THE HEAD. What is read from a later place on is what is read from here.
-heads_from : (newer : Bool) (look : List ℕ → Option ℕ) (text : List ℕ) (from mid : ℕ) (o p : Outcome) (r : Head) → ((within : ℕ → List Placed → Got Expr) → o within ≡ p within) → from ≤ mid
+heads_from : (newer : Bool) (look : List ℕ → Option ℕ) (text : List ℕ) (from mid : ℕ) (o p : Outcome) (r : Result Head Refusal) → ((within : ℕ → List Placed → Got Expr) → o within ≡ p within) → from ≤ mid
     → length (tokens_at text mid) ≤ length (tokens_at text from) → Heads newer look text mid p r → Heads newer look text from o r
-heads_from newer look text from mid o p (Plain axis past) e l f h =
+heads_from newer look text from mid o p (Ok (Plain axis past)) e l f h =
     record {
       way = h.way;
       number = h.number;
@@ -160,7 +170,7 @@ heads_from newer look text from mid o p (Plain axis past) e l f h =
       inside = h.inside;
       fewer = omega (arith, h.fewer);
     }
-heads_from newer look text from mid o p (Tested axis test past) e l f h =
+heads_from newer look text from mid o p (Ok (Tested axis test past)) e l f h =
     record {
       way = h.way;
       kind = h.kind;
@@ -172,19 +182,14 @@ heads_from newer look text from mid o p (Tested axis test past) e l f h =
       inside = h.inside;
       fewer = omega (arith, h.fewer);
     }
-heads_from newer look text from mid o p (Wrong place) e l f h = λ within. e within ∙ h within
-heads_from newer look text from mid o p (Unknown place) e l f h = λ within. e within ∙ h within
+heads_from newer look text from mid o p (Err why) e l f h = λ within.
+    let r = h within in
+    record { number = r.number; place = r.place; told = r.told; is = e within ∙ r.is }
 
 -- `.` and `..`, of which the reader knows the axis a: by version 2 their predicates follow, by version 1 none.
-pub dotted_on : (newer : Bool) (axis : ℕ) (past : Cursor) → newer ≡ true → Tested axis (test_number any_node) past ≡ dotted_head newer axis past
-dotted_on newer axis past n = rw n
-
-pub dotted_off : (newer : Bool) (axis : ℕ) (past : Cursor) → newer ≡ false → Plain axis past ≡ dotted_head newer axis past
-dotted_off newer axis past n = rw n
-
 dotted-head : (newer : Bool) (look : List ℕ → Option ℕ) (text : List ℕ) (from axis : ℕ) (a : Axis) (past : Cursor) (o : Outcome) → axis ≡ axis_number a
     → ((within : ℕ → List Placed → Got Expr) → o within ≡ read_dot newer look within a (tokens_at text past.at)) → Past text from past.at
-    → Heads newer look text from o (dotted_head newer axis past)
+    → Heads newer look text from o (Ok (dotted_head newer axis past))
 dotted-head true look text from axis a past o number s p =
     record {
       way = a;
@@ -209,20 +214,20 @@ dotted-head false look text from axis a past o number s p =
 
 module _ (newer : Bool) (look : List ℕ → Option ℕ) (text : List ℕ) (from : ℕ) where
   pub head_dot : (past : Cursor) (r : Head) → r ≡ dotted_head newer 0 past → sees paper.dot (tokens_at text from) ≡ true → Past text from past.at
-      → Heads newer look text from (λ within. read_step newer look within (tokens_at text from)) r
+      → Heads newer look text from (λ within. read_step newer look within (tokens_at text from)) (Ok r)
   unfolding read_step
   head_dot past r e s p =
-      subst (λ h. Heads newer look text from (λ within. read_step newer look within (tokens_at text from)) h) (sym e)
+      subst (λ h. Heads newer look text from (λ within. read_step newer look within (tokens_at text from)) (Ok h)) (sym e)
       (dotted-head newer look text from 0 self past _ refl (λ within. rw (s, p.rest)) p)
 
   pub head_dots : (past : Cursor) (r : Head) → r ≡ dotted_head newer 2 past → sees paper.dot (tokens_at text from) ≡ false → sees paper.dots (tokens_at text from) ≡ true
-      → Past text from past.at → Heads newer look text from (λ within. read_step newer look within (tokens_at text from)) r
+      → Past text from past.at → Heads newer look text from (λ within. read_step newer look within (tokens_at text from)) (Ok r)
   unfolding read_step
   head_dots past r e d s p =
-      subst (λ h. Heads newer look text from (λ within. read_step newer look within (tokens_at text from)) h) (sym e)
+      subst (λ h. Heads newer look text from (λ within. read_step newer look within (tokens_at text from)) (Ok h)) (sym e)
       (dotted-head newer look text from 2 parent past _ refl (λ within. rw (d, s, p.rest)) p)
 
-  module _ (no_dot : sees paper.dot (tokens_at text from) ≡ false) (no_dots : sees paper.dots (tokens_at text from) ≡ false) (r : Head) where
+  module _ (no_dot : sees paper.dot (tokens_at text from) ≡ false) (no_dots : sees paper.dots (tokens_at text from) ≡ false) (r : Result Head Refusal) where
     pub head_axis : (axis past : ℕ) (w : AxisWritten text from axis past) → Heads newer look text past (λ within. read_tested newer look within w.way (tokens_at text past)) r
         → Heads newer look text from (λ within. read_step newer look within (tokens_at text from)) r
     unfolding read_step

@@ -1,17 +1,10 @@
 // The height of parts that are joined, and the brackets open at a step.
 #![tactic(auto)]
 
-ghost use Rattle.std.specs.Prelude.{◌≡◌, cond, ◌^◌, ◌≤◌, ◌<◌, max};
+ghost use Rattle.std.specs.Prelude.{◌≡◌, cond, ◌^◌, ◌≤◌, ◌<◌};
 ghost use Rattle.paper.specs.Limits.{bracket_limit};
 ghost use Rattle.item.specs.Unpacked.{guarded_number};
 ghost use Rattle.heights.specs.Heights.{joined_height, opened};
-
-// The larger of two numbers.
-pub fn larger(a: usize, b: usize) -> usize
-    ensures { result ≡ max a b }
-{
-    if a < b { b } else { a }
-}
 
 // The height of a part joined to what was read before it, whose height is 0 where nothing was.
 pub fn joined(high: usize, height: usize) -> usize
@@ -21,11 +14,12 @@ pub fn joined(high: usize, height: usize) -> usize
     if high == 0 {
         height
     } else {
-        larger(high, height) + 1
+        high.max(height) + 1
     }
 }
 
 // How many brackets are open at a step, where so many more may be opened and the step is guarded; 0 where it is not.
+#[tactic(auto, unfolding(crate::specs::Heights::opened))]
 pub fn own_depth(axis: u32, depth: usize) -> usize
     requires { depth ≤ bracket_limit }
     ensures { result ≡ cond (guarded_number axis) (opened depth) 0 }

@@ -1,4 +1,2 @@
--- The links from the last name to the first, and the search along them: `one_linked`, `all_linked`, `seek_first`, `seek-next`, `found_first`.
+-- The links and the search along them: `none_linked`, `one_linked`, `all_linked`, `seek_first`, `seek-next`, `found_first`, `none_found`.
 pub mod Linking
--- One answer: `chained_unique`.
-pub mod Unique

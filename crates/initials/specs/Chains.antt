@@ -1,6 +1,7 @@
 -- The names that begin with the same byte, one after the other.
-use Rattle.std.specs.Prelude.{ℕ, suc, ◌+◌, ◌-◌, ◌≤◌, ◌<◌, ◌≡◌, List, eqb, length, get_or}
+use Rattle.std.specs.Prelude.{ℕ, suc, ◌+◌, ◌-◌, ◌≤◌, ◌<◌, ◌≡◌, List, [], eqb, length, get_or}
 use Rattle.std.proofs.Math.Option.{Option, none, some}
+use Rattle.paper.specs.Limits.{names_limit}
 use Rattle.paper.specs.Tools.{first_from}
 use Rattle.name_lines.specs.Lines.{starts_count}
 
@@ -16,17 +17,18 @@ abbrev pub link_of : Option ℕ → ℕ
 link_of none = 0
 link_of (some v) = suc v
 
--- The first byte of line v.
-abbrev pub line_byte : List ℕ → List ℕ → ℕ → ℕ
-line_byte list starts v = get_or list (get_or starts v 0) 0
+-- The first byte of name v.
+abbrev pub first_byte : List (List ℕ) → ℕ → ℕ
+first_byte names v = get_or (get_or names v []) 0 0
 
--- The first of the lines from `from` on that begins with a byte.
-abbrev pub next_of : List ℕ → List ℕ → ℕ → ℕ → ℕ → ℕ
-next_of list starts count b from = link_of (first_from (count - from) from (λ u. eqb (line_byte list starts u) b))
+-- The first of the names from `from` on that begins with a byte.
+abbrev pub next_of : List (List ℕ) → ℕ → ℕ → ℕ
+next_of names b from = link_of (first_from (length names - from) from (λ u. eqb (first_byte names u) b))
 
 -- For each byte the first name that begins with it; for each name the next that begins alike; the rest is 0.
-pub record Chained (list starts : List ℕ) (count : ℕ) (chains : List ℕ) : Type 0 where
+pub record Chained (names : List (List ℕ)) (chains : List ℕ) : Type 0 where
   pub long : length chains ≡ chains_count
-  pub heads : (b : ℕ) → b < bytes_count → get_or chains b 0 ≡ next_of list starts count b 0
-  pub nexts : (v : ℕ) → v < count → get_or chains (bytes_count + v) 0 ≡ next_of list starts count (line_byte list starts v) (suc v)
-  pub rest : (i : ℕ) → bytes_count + count ≤ i → i < chains_count → get_or chains i 0 ≡ 0
+  pub few : length names ≤ names_limit
+  pub heads : (b : ℕ) → b < bytes_count → get_or chains b 0 ≡ next_of names b 0
+  pub nexts : (v : ℕ) → v < length names → get_or chains (bytes_count + v) 0 ≡ next_of names (first_byte names v) (suc v)
+  pub rest : (i : ℕ) → bytes_count + length names ≤ i → i < chains_count → get_or chains i 0 ≡ 0

@@ -1,81 +1,64 @@
 // The names of a list by their first byte: a word is compared only with the names that begin as it does.
 #![tactic(auto)]
 
-ghost use Rattle.std.specs.Prelude.{ℕ, ◌+◌, ◌≤◌, ◌<◌, ◌≡◌, length, replicate, take, drop};
-ghost use Rattle.paper.specs.Tools.{same};
+ghost use Rattle.std.specs.Prelude.{ℕ, ◌<◌, ◌≡◌, List, IfSome, length};
+ghost use Rattle.paper.specs.Limits.{names_limit};
 ghost use Rattle.paper.specs.Names.{names_of, number_of};
-ghost use Rattle.names.specs.Listing.{found_at, Indexed};
-ghost use Rattle.initials.specs.Chains.{chains_count, Chained};
+ghost use Rattle.paper.specs.Told.{found};
+ghost use Rattle.initials.specs.Chains.{Chained};
 
-use names::Found;
+use names::Names;
+use std::marker::Model;
 
 // How many bytes there are.
 const BYTES: usize = 256;
 
 // For each byte the first name that begins with it, and then for each name the next that begins alike: v + 1 for name v, 0 for none.
-pub const CHAINS: usize = BYTES + names::STARTS;
+const CHAINS: usize = BYTES + names::STARTS;
 
-// Do two lines of bytes agree?
-fn same_bytes(line: &[u8], word: &[u8]) -> bool
-    ensures { result ≡ same line.now word.now }
-{
-    let len = line.len();
-    if len != word.len() {
-        return false;
-    }
-    let mut i = 0;
-    while i < len {
-        if line[i] != word[i] {
-            return false;
-        }
-        i += 1;
-    }
-    true
+// A list of names that has no fault, with the names that begin alike linked.
+#[derive(Drop)]
+pub struct Initials<'a> {
+    names: Names<'a>,
+    chains: [u16; CHAINS],
 }
 
-// Links the names that begin alike.
-pub fn link(list: &[u8], starts: &[u16; names::STARTS], count: usize, chains: &mut [u16; CHAINS])
-    requires indexed { Indexed list.now starts.now count }
-    requires chains_value { chains.old ≡ replicate chains_count 0 }
-    ensures { Chained list.now starts.now count chains.new }
-{
-    let mut v = count;
-    while 0 < v {
-        v -= 1;
-        let name = names::spell(list, starts, count, v);
-        let place = name.start;
-        let first = list[place] as usize;
-        chains[BYTES + v] = chains[first];
-        chains[first] = v as u16 + 1;
-    }
+impl<'a> Model for Initials<'a> {
+    ghost Value = { List ℕ };
+
+    ghost view = { λ i. i.names };
+
+    ghost invariant = { λ i. Chained (names_of i.names) i.chains };
 }
 
-// The number of the word of `len` bytes that stands in a text, one at least.
-pub fn find(
-    list: &[u8],
-    starts: &[u16; names::STARTS],
-    count: usize,
-    chains: &[u16; CHAINS],
-    text: &[u8],
-    start: usize,
-    len: usize,
-) -> Found
-    requires indexed { Indexed list.now starts.now count }
-    requires chained { Chained list.now starts.now count chains.now }
-    requires len_nonzero { (0 < len) × (start + len ≤ length text.now) }
-    ensures { found_at result ≡ number_of (names_of list.now) (take len (drop start text.now)) }
-{
-    let first = text[start] as usize;
-    let mut at = chains[first] as usize;
-    while 0 < at {
-        let v = at - 1;
-        let name = names::spell(list, starts, count, v);
-        let place = name.start;
-        let end = place + name.len;
-        if same_bytes(&list[place..end], &text[start..start + len]) {
-            return Found::At(v);
+impl<'a> Initials<'a> {
+    // Links the names that begin alike.
+    pub fn new(names: Names<'a>) -> Initials<'a>
+        ensures { result ≡ names.entry }
+    {
+        let mut chains = [0u16; CHAINS];
+        for v in (0..names.count()).rev() {
+            let first = usize::from(names.spell(v)[0]);
+            chains[BYTES + v] = chains[first];
+            chains[first] = v as u16 + 1;
         }
-        at = chains[BYTES + v] as usize;
+        Initials { names, chains }
     }
-    Found::Nothing
+
+    // The number of a word among the names; the word has a byte at least.
+    pub fn find(&self, word: &[u8]) -> Option<usize>
+        requires { 0 < length word.now }
+        ensures numbered { found result ≡ number_of (names_of self.now) word.now }
+        ensures few { IfSome result (λ v. v < names_limit) }
+    {
+        let mut at = usize::from(self.chains[usize::from(word[0])]);
+        while 0 < at {
+            let v = at - 1;
+            if self.names.spell(v) == word {
+                return Some(v);
+            }
+            at = usize::from(self.chains[BYTES + v]);
+        }
+        None
+    }
 }

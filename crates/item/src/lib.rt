@@ -192,11 +192,7 @@ pub fn put_items(items: &[u32], out: &mut [u32], at: usize)
     requires { at + length items.now ≤ length out.old }
     ensures { out.new ≡ placed items.now at out.old }
 {
-    let mut done = 0;
-    while done < items.len() {
-        out[at + done] = items[done];
-        done += 1;
-    }
+    out[at..at + items.len()].copy_from_slice(items);
 }
 
 // Writes one item at so many places from `at` on.
@@ -204,9 +200,5 @@ pub fn put_same(out: &mut [u32], at: usize, count: usize, w: u32)
     requires { at + count ≤ length out.old }
     ensures { out.new ≡ placed (replicate count w) at out.old }
 {
-    let mut i = 0;
-    while i < count {
-        out[at + i] = w;
-        i += 1;
-    }
+    out[at..at + count].fill(w);
 }

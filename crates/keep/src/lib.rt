@@ -1,7 +1,7 @@
 // The nodes that a query keeps: predicates for all nodes at once, from a path's last step back; top-level paths forward from the root; then all above and below.
 #![tactic(auto)]
 
-ghost use Rattle.std.specs.Prelude.{◌+◌, ◌-◌, ◌*◌, ◌/◌, ◌≤◌, ◌<◌, ◌≡◌, true, ◌&&◌, ◌||◌, ◌⊎◌, eqb, length, get_or, take, drop, replicate};
+ghost use Rattle.std.specs.Prelude.{ℕ, Some, ◌+◌, ◌-◌, ◌*◌, ◌/◌, ◌≤◌, ◌<◌, ◌≡◌, true, ◌&&◌, ◌||◌, ◌⊎◌, eqb, length, get_or, take, drop, replicate};
 ghost use Rattle.std.proofs.Math.Option.{some};
 ghost use Rattle.paper.specs.Limits.{bracket_limit};
 ghost use Rattle.paper.specs.Query.{Query};
@@ -15,7 +15,6 @@ ghost use Rattle.keep.specs.Evals.{Ready, Fits, Joined, Evaluates, Narrows, Move
 
 use item::Item;
 use places::{look, look_first, path_at, step_at};
-use shape::Shape;
 use spread::{restrict, spread};
 
 // Keeps of the set at `base` what the set behind it has too; where no bytes of it are held yet, the set at `base` is new and stays.
@@ -54,11 +53,10 @@ fn left_over(items: &[u32], bytes: usize, n: usize) -> usize
     requires { Runs items.now n bytes }
     ensures { (q : Query) → decode items.now ≡ some q → n * height q + result ≤ bytes }
 {
-    let shape = shape::measure(items);
-    match shape {
-        Shape::Query { height, .. } => bytes - n * height,
-        Shape::Malformed => 0,
-    }
+    let Some(shape) = shape::measure(items) else {
+        return 0;
+    };
+    bytes - n * shape.height
 }
 
 // How many sets of n nodes are kept in so many bytes.
@@ -66,11 +64,7 @@ fn slots_in(bytes: usize, n: usize) -> usize
     requires { 0 < n }
     ensures { (result ≤ 32) × (n * result ≤ bytes) }
 {
-    let slots = bytes / n;
-    if MOST < slots {
-        return MOST;
-    }
-    slots
+    (bytes / n).min(MOST)
 }
 
 // Copies a set of n nodes from one place to another.
@@ -78,11 +72,7 @@ fn copy_set(sets: &mut [u8], from: usize, to: usize, n: usize)
     requires { (from + n ≤ length sets.old) × (to + n ≤ length sets.old) × ((from + n ≤ to) ⊎ (to + n ≤ from)) }
     ensures { Copied from to n sets.old sets.new }
 {
-    let mut i = 0;
-    while i < n {
-        sets[to + i] = sets[from + i];
-        i += 1;
-    }
+    sets.copy_within(from..from + n, to);
 }
 
 // Do so many equal items stand at both places?
@@ -90,50 +80,31 @@ fn same(items: &[u32], a: usize, b: usize, count: usize) -> bool
     requires { (a + count ≤ length items.now) × (b + count ≤ length items.now) }
     ensures { result ≡ true → take count (drop a items.now) ≡ take count (drop b items.now) }
 {
-    let mut i = 0;
-    while i < count {
-        if items[a + i] != items[b + i] {
-            return false;
-        }
-        i += 1;
-    }
-    true
+    items[a..a + count] == items[b..b + count]
 }
 
-// The number of the entry whose items stand at the place too, or that of the entries where there is none.
-fn find(items: &[u32], at: usize, known: &[usize]) -> usize
+// The number of the entry whose items stand at the place too, if there is one.
+fn find(items: &[u32], at: usize, known: &[usize]) -> Option<usize>
     requires { (at ≤ length items.now) × (Inside items.now known.now) }
-    ensures { result < length known.now → Stands items.now at (get_or known.now result 0) }
+    ensures { (slot : ℕ) → result ≡ Some slot → (slot < length known.now) × Stands items.now at (get_or known.now slot 0) }
 {
-    let mut i = 0;
-    while i < known.len() {
-        let span = known[i];
+    for (slot, &span) in known.iter().enumerate() {
         if span == 0 {
-            return known.len();
+            return None;
         }
         let count = span % SPAN;
-        if count <= items.len() - at {
-            if same(items, span / SPAN, at, count) {
-                return i;
-            }
+        if count <= items.len() - at && same(items, span / SPAN, at, count) {
+            return Some(slot);
         }
-        i += 1;
     }
-    i
+    None
 }
 
-// The number of the first entry that is free, or that of the entries.
-fn free(known: &[usize]) -> usize
-    ensures { result ≤ length known.now }
+// The number of the first entry that is free, if one is.
+fn free(known: &[usize]) -> Option<usize>
+    ensures { (slot : ℕ) → result ≡ Some slot → slot < length known.now }
 {
-    let mut i = 0;
-    while i < known.len() {
-        if known[i] == 0 {
-            return i;
-        }
-        i += 1;
-    }
-    i
+    known.iter().position(|&span| span == 0)
 }
 
 // Keeps the first set, of the items from one place to another, where they are worth it, an entry can say them, and one is free.
@@ -141,16 +112,12 @@ fn remember(sets: &mut [u8], known: &mut [usize], n: usize, at: usize, next: usi
     requires { (n + n * length known.old ≤ length sets.old) × (at ≤ next) }
     ensures { Remembered n at next known.old sets.old known.new sets.new }
 {
-    if next - at < LEAST {
+    if next - at < LEAST || SPAN <= next {
         return;
     }
-    if SPAN <= next {
+    let Some(slot) = free(known) else {
         return;
-    }
-    let slot = free(known);
-    if slot == known.len() {
-        return;
-    }
+    };
     let to = sets.len() - n * (known.len() - slot);
     copy_set(sets, 0, to, n);
     known[slot] = at * SPAN + (next - at);
@@ -280,7 +247,7 @@ fn path(
     let mut left = count;
     while 0 < left {
         left -= 1;
-        places = look(items, at, false, places, left, depth);
+        places = look(items, at, Some(places), left, depth);
         let place = places.place;
         let step = step_at(items, place);
         restrict(kind, given, step.test, &mut sets[..n]);
@@ -320,8 +287,7 @@ fn predicate(
     ensures kept_2 { Kept (table_of parent.now kind.now) given.now items.now (length parent.now) known.new sets.new }
 {
     let n = parent.len();
-    let slot = find(items, at, known);
-    if slot < known.len() {
+    if let Some(slot) = find(items, at, known) {
         let from = sets.len() - n * (known.len() - slot);
         copy_set(sets, from, 0, n);
         return at + known[slot] % SPAN;
@@ -353,8 +319,7 @@ fn predicates(
 {
     let n = parent.len();
     let mut place = at;
-    let mut owed = count;
-    while 0 < owed {
+    for _ in 0..count {
         place = predicate(
             items,
             place,
@@ -366,7 +331,6 @@ fn predicates(
             known,
         );
         sets::keep_second(sets, n);
-        owed -= 1;
     }
     place
 }
@@ -390,8 +354,7 @@ fn forward(
 {
     let n = parent.len();
     let mut place = at;
-    let mut left = count;
-    while 0 < left {
+    for _ in 0..count {
         let step = step_at(items, place);
         axes::along(parent, step.axis, &mut sets[..n]);
         restrict(kind, given, step.test, &mut sets[..n]);
@@ -406,7 +369,6 @@ fn forward(
             sets,
             known,
         );
-        left -= 1;
     }
     place
 }

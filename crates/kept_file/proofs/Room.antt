@@ -1,12 +1,12 @@
 -- Line 10 and the file: with no room the bytes are counted, with room enough they stand there. By what putting promises. Assumes nothing.
 use Prim.Native.Nat.{ℕ, ◌≤◌, ◌<◌}
 use native.Mathlib.Omega.{arith}
-use mathlib.Core.Path.{◌≡◌, sym, ◌∙◌, ap, ap₂}
+use mathlib.Core.Path.{◌≡◌, sym, ◌∙◌, ap}
 use mathlib.Core.List.{List, [], ◌++◌}
 use borrow.Author.Tests.{lt-ltb, le-ltb}
 use lib.ListN.{length}
 use Rattle.paper.specs.Tools.{when}
-use Rattle.paper.specs.Answers.{Answer, value, refusal, line}
+use Rattle.paper.specs.Answers.{value, refusal, line}
 use Rattle.pen.specs.Putting.{Puts}
 use Rattle.pen.proofs.Room.{puts_written, puts_nothing}
 use Rattle.kept_file.specs.Filing.{Filed}

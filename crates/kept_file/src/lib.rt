@@ -6,10 +6,10 @@ ghost use Rattle.paper.specs.Document.{table_of};
 ghost use Rattle.paper.specs.WriteXml.{kept_xml};
 ghost use Rattle.paper.specs.Answers.{element_marked};
 ghost use Rattle.paper.specs.Told.{told};
-ghost use Rattle.put_kept.specs.Lending.{Lent};
 ghost use Rattle.kept_file.specs.Filing.{Filed};
 
-use paper::Answer;
+use paper::{Answer, Refusal};
+use put_tags::Marked;
 
 // Is an element marked? Every node is looked at, so that the compiler may do several at a time.
 pub fn element_marked(kind: &[u16], marks: &[u8]) -> bool
@@ -17,31 +17,20 @@ pub fn element_marked(kind: &[u16], marks: &[u8]) -> bool
     ensures { (parents : List ℕ) → length parents ≡ length kind.now → result ≡ element_marked (table_of parents kind.now) marks.now }
 {
     let mut found = false;
-    let mut i = 0;
-    while i < kind.len() {
+    for i in 0..kind.len() {
         found = (marks[i] == 1) & (paper::ELEMENT_KIND <= kind[i]) | found;
-        i += 1;
     }
     found
 }
 
 // Line 10, then the file: the bytes are counted before one is written.
-pub fn file(
-    text: &[u8],
-    parent: &[u16],
-    kind: &[u16],
-    begin: &[u16],
-    end: &[u16],
-    marks: &[u8],
-    out: &mut [u8],
-) -> Answer
-    requires { Lent text.now parent.now kind.now begin.now end.now marks.now }
-    ensures { Filed (kept_xml text.now marks.now) out.old out.new (told result) }
+pub fn file(kept: &Marked, out: &mut [u8]) -> Answer
+    ensures { Filed (kept_xml kept.now.text kept.now.marks) out.old out.new (told result) }
 {
-    let needed = put_xml::write_kept(text, parent, kind, begin, end, marks, &mut out[..0]);
+    let needed = put_xml::write_kept(kept, &mut out[..0]);
     if out.len() < needed {
-        return Answer::Short(needed);
+        return Err(Refusal::Short(needed));
     }
-    put_xml::write_kept(text, parent, kind, begin, end, marks, out);
-    Answer::Value(needed)
+    put_xml::write_kept(kept, out);
+    Ok(needed)
 }

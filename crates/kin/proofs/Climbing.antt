@@ -1,7 +1,6 @@
 -- A column that can be climbed in falls towards the root, whatever kinds stand beside it. Assumes nothing.
-use Prim.Native.Nat.{ℕ}
+use Prim.Native.Nat.{ℕ, ◌+◌, ◌<◌}
 use native.Mathlib.Omega.{arith}
-use mathlib.Core.Path.{◌≡◌}
 use mathlib.Core.List.{List, []}
 use lib.ListN.{length}
 use Rattle.paper.specs.Document.{table_of}
@@ -9,12 +8,12 @@ use Rattle.paper.proofs.Trees.{Tree}
 use Rattle.table.specs.Climbs.{Falls}
 use Rattle.kin.specs.Nearness.{near}
 
-pub falls_near : (parents : List ℕ) → near parents → Falls parents (length parents)
-falls_near parents w =
+pub falls_up : (parents : List ℕ) (from : ℕ) → near parents → from < length parents → Falls parents (from + 1)
+falls_up parents from w l =
     record {
       within = omega arith;
       root = λ z. (w []).root;
-      falls = λ k z l. (w []).falls k z l;
+      falls = λ k z b. (w []).falls k z (omega arith);
     }
 
 -- A tree is one with any kinds.

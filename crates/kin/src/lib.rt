@@ -9,24 +9,14 @@ ghost use Rattle.paper.specs.Items.{axis_number};
 ghost use Rattle.paper.specs.Selection.{child_of, below, sibling_after, after, leads};
 ghost use Rattle.kin.specs.Nearness.{near};
 
-// Is `wanted` the node `from` or an ancestor of it? The way up ends where it would pass `wanted`.
-pub fn is_over(parent: &[u16], from: usize, wanted: usize) -> bool
-    requires { (near parent.now) × (from < length parent.now) }
-    ensures { (kinds : List ℕ) → result ≡ over (table_of parent.now kinds) from wanted }
-{
-    let mut at = from;
-    while wanted < at {
-        at = table::wide(parent[at]);
-    }
-    at == wanted
-}
+use table::is_over;
 
 // Is j a child of i?
 fn is_child(parent: &[u16], i: usize, j: usize) -> bool
     requires { (i < length parent.now) × (j < length parent.now) }
     ensures { (kinds : List ℕ) → result ≡ child_of (table_of parent.now kinds) i j }
 {
-    (j != 0) & (table::wide(parent[j]) == i)
+    (j != 0) & (usize::from(parent[j]) == i)
 }
 
 // Is j a descendant of i?
@@ -42,7 +32,7 @@ fn is_sibling(parent: &[u16], i: usize, j: usize) -> bool
     requires { (i < length parent.now) × (j < length parent.now) }
     ensures { (kinds : List ℕ) → result ≡ sibling_after (table_of parent.now kinds) i j }
 {
-    (i < j) & (i != 0) & (table::wide(parent[i]) == table::wide(parent[j]))
+    (i < j) & (i != 0) & (usize::from(parent[i]) == usize::from(parent[j]))
 }
 
 // Does j come after i, and is it no descendant of i?
@@ -79,21 +69,8 @@ pub fn spread(parent: &[u16], given: &[u8], k: usize, marks: &mut [u8])
     requires { (near parent.now) × (k < length parent.now) × (length given.now ≡ length parent.now) × (length marks.old ≡ length parent.now) }
     ensures { (kinds : List ℕ) (f : ℕ → Bool) → marks.old ≡ column (length parent.now) (λ i. cond (f i) 1 0) → marks.new ≡ column (length parent.now) (λ i. cond (marked given.now i && (over (table_of parent.now kinds) i k || over (table_of parent.now kinds) k i) || f i) 1 0) }
 {
-    let mut i = 0;
-    while i < marks.len() {
+    for i in 0..marks.len() {
         let kept = (given[i] == 1) & (is_over(parent, i, k) | is_over(parent, k, i));
-        marks[i] = marks[i] | (kept as u8);
-        i += 1;
-    }
-}
-
-// Marks no node.
-pub fn clear(marks: &mut [u8])
-    ensures { marks.new ≡ column (length marks.old) (λ i. 0) }
-{
-    let mut i = 0;
-    while i < marks.len() {
-        marks[i] = 0;
-        i += 1;
+        marks[i] |= u8::from(kept);
     }
 }

@@ -154,10 +154,8 @@ fn mark(items: &[u32], marks: &mut [u32])
     requires { (length items.now ≤ item_limit) × (length marks.old ≡ length items.now) }
     ensures { marks.new ≡ turns items.now 0 items.now marks.old }
 {
-    let mut place = 0;
-    while place < items.len() {
+    for place in 0..items.len() {
         mark_item(items, place, marks);
-        place += 1;
     }
 }
 

@@ -16,14 +16,10 @@ use paper::Answer;
 pub fn line_end(bytes: &[u8]) -> usize
     ensures { Ends bytes.now result }
 {
-    let mut at = 0;
-    while at < bytes.len() {
-        if bytes[at] == b'\n' {
-            return at;
-        }
-        at += 1;
-    }
-    at
+    bytes
+        .iter()
+        .position(|b| *b == b'\n')
+        .unwrap_or(bytes.len())
 }
 
 // Where the next line starts, after one that ends here.
@@ -39,16 +35,14 @@ pub fn list_end(bytes: &[u8]) -> usize
     ensures { Parts bytes.now result }
 {
     let mut starts = true;
-    let mut at = 0;
-    while at < bytes.len() {
-        let ends = bytes[at] == b'\n';
+    for (at, b) in bytes.iter().enumerate() {
+        let ends = *b == b'\n';
         if starts & ends {
             return at;
         }
         starts = ends;
-        at += 1;
     }
-    at
+    bytes.len()
 }
 
 // Puts a digit.

@@ -1,5 +1,5 @@
 -- What a token that was taken says of the paper's tokens from there on: its sort, its letters, its place, and where it ends. Assumes nothing.
-use Prim.Native.Nat.{ℕ, suc, ◌+◌, ◌≤◌, ◌<◌}
+use Prim.Native.Nat.{ℕ, suc, ◌+◌, ◌-◌, ◌≤◌, ◌<◌}
 use native.Mathlib.Omega.{arith}
 use mathlib.Core.Path.{◌≡◌, refl, sym, ◌∙◌, ap, subst}
 use mathlib.Core.Bool.{Bool, true, false, cond, false≢true}
@@ -9,99 +9,98 @@ use lib.Dec.{eqb}
 use lib.ListN.{length, get_or, take, drop, length-drop}
 use lib.Seq.{drop-cons, length-take-le}
 use borrow.Author.Tests.{eq-eqb, ne_eqb, eqb-true}
-use denote.Enum.Declared.{tag_of}
-use types.Run.{OneOf, miss}
 use Rattle.paper.specs.Tools.{begins, same}
 use Rattle.paper.specs.Names.{name_start}
 use Rattle.paper.specs.Tokens as paper
 use Rattle.paper.specs.Tokens.{sort, letters, beyond, token_at, tokens_from}
-use Rattle.paper.specs.Reading.{next, at}
+use Rattle.paper.specs.Reading.{next, at, sees}
 use Rattle.paper.proofs.Tests.{decide}
 use Rattle.token.specs.declared.Token.{Token}
-use Rattle.token.specs.declared.Token.TheVariants.{Slash, Slashes, Dot, Dots, Colons, Bar, OpenSquare, CloseSquare, OpenRound, CloseRound, Star, Finish, Stray, Word}
+use Rattle.token.specs.declared.Token.TheVariants.{Mark, Word, Finish, Stray}
+use Rattle.token.specs.declared.Mark.{Mark as MarkKind}
+use Rattle.token.specs.declared.Mark.TheVariants.{Slash, Slashes, Dot, Dots, Colons, Bar, OpenSquare, CloseSquare, OpenRound, CloseRound, Star}
 use Rattle.token.specs.declared.Taken.{Taken}
-use Rattle.token.specs.Taking.{Takes, token_of, width_of, finished}
-use Rattle.token.specs.contracts.Token.{the_type}
-use Rattle.marks.specs.declared.Ahead.TheVariants.{There, Other}
-use Rattle.marks.specs.Marks.{tokens_at, sort_of, end_of, Past, Looks, leads, OtherByte, mark_sorts}
+use Rattle.token.specs.Taking.{Takes, mark_of, token_of, width_of, finished}
+use Rattle.std.specs.Prelude.{Ok, Err}
+use Rattle.marks.specs.Marks.{tokens_at, end_of, Past, Looks, leads, OtherByte}
 
--- The sort of a token is the paper's.
-sort_right : (text : List ℕ) (place : ℕ) (t : Token) → sort (token_of text place t) ≡ sort_of t
-sort_right text place Slash = refl
-sort_right text place Slashes = refl
-sort_right text place Dot = refl
-sort_right text place Dots = refl
-sort_right text place Colons = refl
-sort_right text place Bar = refl
-sort_right text place OpenSquare = refl
-sort_right text place CloseSquare = refl
-sort_right text place OpenRound = refl
-sort_right text place CloseRound = refl
-sort_right text place Star = refl
-sort_right text place Finish = refl
-sort_right text place Stray = refl
-sort_right text place (Word count) = refl
+-- Marks are of the first sorts, those before the end of the text.
+abbrev pub mark_sorts : ℕ
+mark_sorts = sort paper.finish
 
--- The end of the text is of the first sort that is no mark's.
-goes_on_lem : (t : Token) → (sort_of t ≡ mark_sorts → ⊥) → finished t ≡ false
-goes_on_lem Slash h = refl
-goes_on_lem Slashes h = refl
-goes_on_lem Dot h = refl
-goes_on_lem Dots h = refl
-goes_on_lem Colons h = refl
-goes_on_lem Bar h = refl
-goes_on_lem OpenSquare h = refl
-goes_on_lem CloseSquare h = refl
-goes_on_lem OpenRound h = refl
-goes_on_lem CloseRound h = refl
-goes_on_lem Star h = refl
-goes_on_lem Finish h = absurd (h refl)
-goes_on_lem Stray h = refl
-goes_on_lem (Word count) h = refl
+pub mark_few : (m : MarkKind) → sort (mark_of m) < mark_sorts
+mark_few Slash = omega arith
+mark_few Slashes = omega arith
+mark_few Dot = omega arith
+mark_few Dots = omega arith
+mark_few Colons = omega arith
+mark_few Bar = omega arith
+mark_few OpenSquare = omega arith
+mark_few CloseSquare = omega arith
+mark_few OpenRound = omega arith
+mark_few CloseRound = omega arith
+mark_few Star = omega arith
 
--- A token that is not the end takes as many bytes as the paper's.
+-- Two marks of one sort are the same.
+abbrev of_sort : ℕ → MarkKind
+of_sort n = get_or (Slash ∷ Slashes ∷ Dot ∷ Dots ∷ Colons ∷ Bar ∷ OpenSquare ∷ CloseSquare ∷ OpenRound ∷ CloseRound ∷ Star ∷ []) n Slash
+
+of_sort_of : (m : MarkKind) → of_sort (sort (mark_of m)) ≡ m
+of_sort_of Slash = refl
+of_sort_of Slashes = refl
+of_sort_of Dot = refl
+of_sort_of Dots = refl
+of_sort_of Colons = refl
+of_sort_of Bar = refl
+of_sort_of OpenSquare = refl
+of_sort_of CloseSquare = refl
+of_sort_of OpenRound = refl
+of_sort_of CloseRound = refl
+of_sort_of Star = refl
+
+same_mark : (m n : MarkKind) → sort (mark_of m) ≡ sort (mark_of n) → m ≡ n
+same_mark m n e = sym (of_sort_of m) ∙ ap of_sort e ∙ of_sort_of n
+
+-- A mark takes as many bytes as the paper's.
+mark_wide : (m : MarkKind) → width_of (Mark m) ≡ suc (beyond (mark_of m))
+mark_wide Slash = refl
+mark_wide Slashes = refl
+mark_wide Dot = refl
+mark_wide Dots = refl
+mark_wide Colons = refl
+mark_wide Bar = refl
+mark_wide OpenSquare = refl
+mark_wide CloseSquare = refl
+mark_wide OpenRound = refl
+mark_wide CloseRound = refl
+mark_wide Star = refl
+
+-- So does a token that is not the end.
 wide : (text : List ℕ) (place : ℕ) (t : Token) → finished t ≡ false → 0 < width_of t → place + width_of t ≤ length text → width_of t ≡ suc (beyond (token_of text place t))
-wide text place Slash f some l = refl
-wide text place Slashes f some l = refl
-wide text place Dot f some l = refl
-wide text place Dots f some l = refl
-wide text place Colons f some l = refl
-wide text place Bar f some l = refl
-wide text place OpenSquare f some l = refl
-wide text place CloseSquare f some l = refl
-wide text place OpenRound f some l = refl
-wide text place CloseRound f some l = refl
-wide text place Star f some l = refl
-wide text place Finish f some l = absurd (false≢true (sym f))
-wide text place Stray f some l = refl
+wide text place (Mark m) f some l = mark_wide m
 wide text place (Word count) f some l =
     let long : length (take count (drop place text)) ≡ count = length-take-le count (drop place text) (simp length-drop (omega arith)) in
     rw long (omega arith)
+wide text place Finish f some l = absurd (false≢true (sym f))
+wide text place Stray f some l = refl
 
--- The number of a case is the token's sort.
-pub tag_sort : (t : Token) → tag_of the_type t ≡ sort_of t
-tag_sort Slash = refl
-tag_sort Slashes = refl
-tag_sort Dot = refl
-tag_sort Dots = refl
-tag_sort Colons = refl
-tag_sort Bar = refl
-tag_sort OpenSquare = refl
-tag_sort CloseSquare = refl
-tag_sort OpenRound = refl
-tag_sort CloseRound = refl
-tag_sort Star = refl
-tag_sort Finish = refl
-tag_sort Stray = refl
-tag_sort (Word count) = refl
+-- A token that is another than a mark is of another sort.
+other_sort : (text : List ℕ) (place : ℕ) (m : MarkKind) (t : Token) → (t ≡ Mark m → ⊥) → sort (mark_of m) ≡ sort (token_of text place t) → ⊥
+other_sort text place m (Mark n) h e = h (ap Mark (sym (same_mark m n e)))
+other_sort text place m (Word count) h e = omega (arith, mark_few m)
+other_sort text place m Finish h e = omega (arith, mark_few m)
+other_sort text place m Stray h e = omega (arith, mark_few m)
 
--- A token that is no word: one of the cases that a branch leaves.
+-- What is not the end is of another sort.
+not_end : (text : List ℕ) (place : ℕ) (t : Token) → (t ≡ Finish → ⊥) → mark_sorts ≡ sort (token_of text place t) → ⊥
+not_end text place (Mark m) h e = omega (arith, mark_few m)
+not_end text place (Word count) h e = omega arith
+not_end text place Finish h e = h refl
+not_end text place Stray h e = omega arith
+
+-- A token that is no word.
 abbrev pub NoWord : Token → Type 0
-NoWord t = OneOf (0 ∷ 1 ∷ 2 ∷ 3 ∷ 4 ∷ 5 ∷ 6 ∷ 7 ∷ 8 ∷ 9 ∷ 10 ∷ 11 ∷ 12 ∷ []) (tag_of the_type t)
-
-pub no_word : (t : Token) → NoWord t → sort_of t ≡ 13 → ⊥
-no_word t h e =
-    miss (0 ∷ 1 ∷ 2 ∷ 3 ∷ 4 ∷ 5 ∷ 6 ∷ 7 ∷ 8 ∷ 9 ∷ 10 ∷ 11 ∷ 12 ∷ []) 13 tt (subst (OneOf (0 ∷ 1 ∷ 2 ∷ 3 ∷ 4 ∷ 5 ∷ 6 ∷ 7 ∷ 8 ∷ 9 ∷ 10 ∷ 11 ∷ 12 ∷ [])) (tag_sort t ∙ e) h)
+NoWord t = (count : ℕ) → t ≡ Word count → ⊥
 
 -- A word of some letters is not one of none.
 pub no_same : (w : List ℕ) → 0 < length w → same w [] ≡ false
@@ -124,6 +123,19 @@ mark_letters paper.star h = refl
 mark_letters paper.finish h = refl
 mark_letters paper.stray h = refl
 mark_letters (paper.word w) h = absurd (h refl)
+
+-- What is no word has no letters, and is of another sort.
+no_letters : (text : List ℕ) (place : ℕ) (t : Token) → NoWord t → letters (token_of text place t) ≡ []
+no_letters text place (Mark m) h = mark_letters (mark_of m) (λ e. omega (arith, mark_few m))
+no_letters text place (Word count) h = absurd (h count refl)
+no_letters text place Finish h = refl
+no_letters text place Stray h = refl
+
+no_word : (text : List ℕ) (place : ℕ) (t : Token) → NoWord t → sort (token_of text place t) ≡ 13 → ⊥
+no_word text place (Mark m) h e = omega (arith, mark_few m)
+no_word text place (Word count) h e = h count refl
+no_word text place Finish h e = omega arith
+no_word text place Stray h e = omega arith
 
 -- A mark starts with the byte of its sort.
 abbrev Led : ℕ → paper.Token → Type 0
@@ -152,24 +164,23 @@ led b bs =
     (byte_led b 42 _ _ (λ e l. e) (λ l. absurd (omega arith)))))))))))
 
 -- Where another byte stands than a mark starts with, that mark does not come next.
-pub other_here : (text : List ℕ) (from wanted b : ℕ) → wanted < mark_sorts → b ≡ get_or leads wanted 0 → OtherByte text from b
-    → (eqb wanted (sort (next (tokens_at text from))) ≡ false) × (from ≡ at (tokens_at text from))
+pub other_here : (text : List ℕ) (from b : ℕ) (m : MarkKind) → b ≡ get_or leads (sort (mark_of m)) 0 → OtherByte text from b
+    → (sees (mark_of m) (tokens_at text from) ≡ false) × (from ≡ at (tokens_at text from))
 unfolding tokens_at
-other_here text from wanted b few e o =
+other_here text from b m e o =
     let x = get_or text from 0 in
     let t = token_at x (drop (suc from) text) in
+    let wanted = sort (mark_of m) in
+    let few = mark_few m in
     let differs : eqb wanted (sort t) ≡ false =
     ne_eqb wanted (sort t) (λ s. false≢true (sym o.other ∙ eq-eqb x b (led x (drop (suc from) text) (omega arith) ∙ ap (λ k. get_or leads k 0) (sym s) ∙ sym e))) in
     rw (drop-cons text from 0 o.inside, o.solid) (differs, refl)
 
 module _ (text : List ℕ) (from : ℕ) (r : Taken) (t : Takes text from r) where
   -- The token that comes next, and its place.
-  taken_next : next (tokens_at text from) ≡ token_of text r.place r.token
+  pub taken_next : next (tokens_at text from) ≡ token_of text r.place r.token
   unfolding tokens_at
   taken_next = ap next t.first
-
-  pub taken_sort : sort (next (tokens_at text from)) ≡ sort_of r.token
-  taken_sort = ap sort taken_next ∙ sort_right text r.place r.token
 
   pub taken_at : r.place ≡ at (tokens_at text from)
   unfolding tokens_at
@@ -190,17 +201,32 @@ module _ (text : List ℕ) (from : ℕ) (r : Taken) (t : Takes text from r) wher
             ∙ ap end_of (sym ts);
       }
 
-  -- Is it of this sort?
-  pub looks_there : (wanted : ℕ) → wanted < mark_sorts → wanted ≡ sort_of r.token → Looks text from (eqb wanted (sort (next (tokens_at text from)))) (There r.place r.next)
-  looks_there wanted l e = (eq-eqb wanted _ (e ∙ sym taken_sort), taken_at, taken_past (goes_on_lem r.token (λ f. omega arith)))
+  -- Is it this mark?
+  pub is_mark : (m : MarkKind) → r.token ≡ Mark m → sees (mark_of m) (tokens_at text from) ≡ true
+  is_mark m e = eq-eqb _ _ (sym (ap sort (taken_next ∙ ap (token_of text r.place) e)))
 
-  pub looks_other : (wanted : ℕ) → (wanted ≡ sort_of r.token → ⊥) → Looks text from (eqb wanted (sort (next (tokens_at text from)))) (Other r.place)
-  looks_other wanted n = (ne_eqb wanted _ (λ e. n (e ∙ taken_sort)), taken_at)
+  pub no_mark : (m : MarkKind) → (r.token ≡ Mark m → ⊥) → sees (mark_of m) (tokens_at text from) ≡ false
+  no_mark m n = ne_eqb _ _ (λ e. other_sort text r.place m r.token n (e ∙ ap sort taken_next))
+
+  pub mark_past : (m : MarkKind) → r.token ≡ Mark m → Past text from r.next.at
+  mark_past m e = taken_past (ap finished e)
+
+  pub looks_there : (m : MarkKind) → r.token ≡ Mark m → Looks text from (sees (mark_of m) (tokens_at text from)) (Ok (record { place = r.place; next = r.next }))
+  looks_there m e = (is_mark m e, taken_at, mark_past m e)
+
+  pub looks_other : (m : MarkKind) → (r.token ≡ Mark m → ⊥) → Looks text from (sees (mark_of m) (tokens_at text from)) (Err r.place)
+  looks_other m n = (no_mark m n, taken_at)
 
   -- A word that was taken.
   module _ (len : ℕ) (is : r.token ≡ Word len) where
     pub word_letters : letters (next (tokens_at text from)) ≡ take len (drop r.place text)
     word_letters = ap letters taken_next ∙ ap (λ k. letters (token_of text r.place k)) is
+
+    -- The slice of the text that the word is.
+    pub word_slice : letters (next (tokens_at text from)) ≡ take (r.place + len - r.place) (drop r.place text)
+    word_slice =
+        let e : len ≡ r.place + len - r.place = omega arith in
+        word_letters ∙ ap (λ k. take k (drop r.place text)) e
 
     pub word_past : Past text from r.next.at
     word_past = taken_past (ap finished is)
@@ -210,4 +236,17 @@ module _ (text : List ℕ) (from : ℕ) (r : Taken) (t : Takes text from r) wher
 
   -- What is no word.
   pub none_letters : NoWord r.token → letters (next (tokens_at text from)) ≡ []
-  none_letters h = mark_letters (next (tokens_at text from)) (λ e. no_word r.token h (sym taken_sort ∙ e))
+  none_letters h = ap letters taken_next ∙ no_letters text r.place r.token h
+
+  pub not_word : NoWord r.token → sees (paper.word []) (tokens_at text from) ≡ false
+  not_word h = ne_eqb 13 _ (λ e. no_word text r.place r.token h (sym (e ∙ ap sort taken_next)))
+
+  -- The sort of a word, and the end of the text.
+  pub word_sort : (len : ℕ) → r.token ≡ Word len → sort (next (tokens_at text from)) ≡ 13
+  word_sort len is = ap sort (taken_next ∙ ap (token_of text r.place) is)
+
+  pub is_finish : r.token ≡ Finish → sees paper.finish (tokens_at text from) ≡ true
+  is_finish e = eq-eqb _ _ (sym (ap sort (taken_next ∙ ap (token_of text r.place) e)))
+
+  pub no_finish : (r.token ≡ Finish → ⊥) → sees paper.finish (tokens_at text from) ≡ false
+  no_finish n = ne_eqb _ _ (λ e. not_end text r.place r.token n (e ∙ ap sort taken_next))

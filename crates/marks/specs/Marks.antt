@@ -1,38 +1,14 @@
 -- What looking at the next token promises: which of the paper's tokens comes next from a place on, and where it ends.
-use Rattle.std.specs.Prelude.{ℕ, suc, ◌+◌, ◌≤◌, ◌<◌, ◌≡◌, Bool, true, false, List, eqb, length, get_or, drop}
+use Rattle.std.specs.Prelude.{ℕ, suc, ◌+◌, ◌≤◌, ◌<◌, ◌≡◌, Bool, true, false, List, Result, Ok, Err, eqb, length, get_or, drop}
 use Rattle.paper.specs.Tools.{ascii}
 use Rattle.paper.specs.Tokens as paper
 use Rattle.paper.specs.Tokens.{Placed, tokens_from, beyond}
 use Rattle.paper.specs.Reading.{next, at}
-use Rattle.token.specs.declared.Token.{Token}
-use Rattle.token.specs.declared.Token.TheVariants.{Slash, Slashes, Dot, Dots, Colons, Bar, OpenSquare, CloseSquare, OpenRound, CloseRound, Star, Finish, Stray, Word}
-use Rattle.marks.specs.declared.Ahead.{Ahead}
-use Rattle.marks.specs.declared.Ahead.TheVariants.{There, Other}
+use Rattle.marks.specs.declared.There.{There}
 
 -- The tokens from a place of the text on.
 unfoldable pub tokens_at : List ℕ → ℕ → List Placed
 tokens_at text place = tokens_from 0 place (drop place text)
-
--- Which of the paper's tokens a token is, as a number.
-abbrev pub sort_of : Token → ℕ
-sort_of Slash = 0
-sort_of Slashes = 1
-sort_of Dot = 2
-sort_of Dots = 3
-sort_of Colons = 4
-sort_of Bar = 5
-sort_of OpenSquare = 6
-sort_of CloseSquare = 7
-sort_of OpenRound = 8
-sort_of CloseRound = 9
-sort_of Star = 10
-sort_of Finish = 11
-sort_of Stray = 12
-sort_of (Word count) = 13
-
--- The sorts of marks are those before that of the end of the text.
-abbrev pub mark_sorts : ℕ
-mark_sorts = paper.sort paper.finish
 
 -- Where the next token ends.
 abbrev pub end_of : List Placed → ℕ
@@ -57,6 +33,6 @@ pub record OtherByte (text : List ℕ) (at b : ℕ) : Type 0 where
   pub solid : paper.white (get_or text at 0) ≡ false
 
 -- A test of the next token, with its place, and the place past it where the test holds.
-abbrev pub Looks : List ℕ → ℕ → Bool → Ahead → Type 0
-Looks text from test (There place past) = (test ≡ true) × (place ≡ at (tokens_at text from)) × Past text from past.at
-Looks text from test (Other place) = (test ≡ false) × (place ≡ at (tokens_at text from))
+abbrev pub Looks : List ℕ → ℕ → Bool → Result There ℕ → Type 0
+Looks text from test (Ok there) = (test ≡ true) × (there.place ≡ at (tokens_at text from)) × Past text from there.next.at
+Looks text from test (Err place) = (test ≡ false) × (place ≡ at (tokens_at text from))

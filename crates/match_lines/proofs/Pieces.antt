@@ -2,21 +2,24 @@
 use Prim.Native.Nat.{ℕ, suc, ◌+◌, ◌-◌, ◌≤◌, ◌<◌}
 use native.Mathlib.Omega.{arith}
 use mathlib.Core.Path.{◌≡◌, refl, sym, ◌∙◌, ap, subst}
-use mathlib.Core.Bool.{Bool, true, false, ◌&&◌}
+use mathlib.Core.Bool.{Bool, ◌&&◌}
 use mathlib.Core.List.{List, [], ◌∷◌, ◌++◌}
-use mathlib.Core.Option.{Option}
+use mathlib.Core.Option.{Option, none, some}
+use Rattle.std.specs.Prelude.{Option as Given, None, Some}
 use lib.ListN.{length, get_or, set}
+use Rattle.paper.specs.Told.{found}
 use Rattle.paper.specs.Limits.{text_limit}
 use Rattle.paper.specs.Names.{names_of, number_of}
 use Rattle.paper.specs.Xml.{Nodes, nothing, element, chars, Frame, with, named, Row, row, unnamed}
 use Rattle.paper.specs.Xml as xml
 use Rattle.xml.specs.Pieces.{name_at, opened}
 use Rattle.xml.specs.declared.Cursor.{Cursor}
+use Rattle.xml.specs.declared.Piece.{Piece}
 use Rattle.xml.specs.declared.Piece.TheVariants.{Start, Empty, End, Text}
-use Rattle.xml_lines.specs.Open.{begun, innermost, lines, within, open_in, so_far, joined, Moves}
+use Rattle.xml_lines.specs.Open.{begun, innermost, lines, within, open_in, joined, Moves}
 use Rattle.xml_lines.specs.Kept.{Columns}
-use Rattle.xml_lines.specs.Judges.{open_limit, place_of, Counts}
-use Rattle.xml_lines.proofs.Opened.{length_lines, joined_lines}
+use Rattle.xml_lines.specs.Judges.{open_limit, Counts}
+use Rattle.xml_lines.proofs.Opened.{length_lines}
 use Rattle.xml_lines.proofs.Lacking.{lacks_nothing}
 use Rattle.read_listed.proofs.Counted.{progress, start_counts, joined_counts, closed_counts}
 use Rattle.match_lines.specs.Lines.{LineIs, told, told_at}
@@ -24,7 +27,6 @@ use Rattle.line_tests.specs.Telling.{Tells, Has, NamedAt}
 use Rattle.match_lines.specs.Compared.{Compares, Standing, Facing}
 use Rattle.match_lines.specs.declared.Progress.{Progress}
 use Rattle.match_lines.proofs.Agreeing.{told_length, told_joined, told_closed, more_compares, end_compares}
-use Rattle.line_tests.proofs.Tests.{tells_both}
 
 abbrev pub place : ℕ → ℕ → ℕ → ℕ → Bool → Progress
 place at depth inner nodes same = record { at = at; depth = depth; inner = inner; nodes = nodes; same = same }
@@ -32,6 +34,15 @@ place at depth inner nodes same = record { at = at; depth = depth; inner = inner
 joined_inner : (node : Nodes) (frames : List Frame) → innermost (open_in (joined node frames)) ≡ innermost frames
 joined_inner node [] = refl
 joined_inner node (f ∷ fs) = refl
+
+-- An option of the definitions as one of the code.
+abbrev given : Option ℕ → Given ℕ
+given none = None
+given (some n) = Some n
+
+found_given : (o : Option ℕ) → found (given o) ≡ o
+found_given none = refl
+found_given (some n) = refl
 
 -- LINES. A test of one fact is one of another that says the same.
 tells_as : {P Q : Type 0} {b : Bool} → Tells b P → (P → Q) → (Q → P) → Tells b Q
@@ -71,7 +82,10 @@ root_line list cols long check t =
     (λ h. record { parent = h.0.0.0; named = refl; kind = h.0.1; begin = h.0.0.1; end = h.1 })
     (λ l. (((l.parent, l.begin), l.kind), l.end))
 
--- PIECES.
+-- PIECES. One that a value is, stands next.
+pub faced : {text list begins : List ℕ} {cols : Columns} {piece : Piece} {p : Progress} → Facing text list begins cols piece p → {r : Piece} → piece ≡ r → Facing text list begins cols r p
+faced {text} {list} {begins} {cols} {piece} {p} h e = subst (λ q. Facing text list begins cols q p) e h
+
 module _ (text list begins : List ℕ) (cols : Columns) (p : Progress) (long : length cols.ends ≡ length cols.parents) where
   abbrev name : List ℕ
   name = name_at text (suc p.at)
@@ -85,7 +99,7 @@ module _ (text list begins : List ℕ) (cols : Columns) (p : Progress) (long : l
       let t = h.moves.1 in omega (arith, t.1, t.2, h.moves.0.inside, h.counts.room, h.counts.depth)
 
   -- The lines so far are those counted.
-  counted : (frames : List Frame) (u : ℕ) → Counts words begins frames (lines (length text) frames) (progress p.at p.depth 0 p.nodes u) → p.nodes ≡ begun frames
+  counted : (frames : List Frame) (u : Given ℕ) → Counts words begins frames (lines (length text) frames) (progress p.at p.depth 0 p.nodes u) → p.nodes ≡ begun frames
   counted frames u h = h.nodes ∙ length_lines (length text) frames
 
   pub start_comes : (name_end : ℕ) (next : Cursor) → Facing text list begins cols (Start name_end next) p → length text ≤ text_limit → (v n : ℕ) → v ≡ p.at → n ≡ p.nodes → (check : Bool)
@@ -96,13 +110,13 @@ module _ (text list begins : List ℕ) (cols : Columns) (p : Progress) (long : l
       let frames = h.frames in
       let many = counted frames h.unnamed h.counts in
       let r = row (innermost frames) (named name) p.at (get_or cols.ends (begun frames) 0) in
-      let u = place_of (unnamed words (lines (length text) frames ++ (row (innermost frames) (named name) p.at 0 ∷ []))) in (
+      let lacking = unnamed words (lines (length text) frames ++ (row (innermost frames) (named name) p.at 0 ∷ [])) in (
         record {
           stand = within (opened name p.at) frames;
           stands = h.moves.0;
-          unnamed = u;
+          unnamed = given lacking;
           counts =
-              start_counts (length text) words begins (progress p.at p.depth 0 p.nodes h.unnamed) frames h.counts name next.at 0 u v (omega (arith, t.1, t.2)) (omega (arith, h.moves.0.inside)) e refl;
+              start_counts (length text) words begins (progress p.at p.depth 0 p.nodes h.unnamed) frames h.counts name next.at 0 v (given lacking) (omega (arith, t.1, t.2)) (omega (arith, h.moves.0.inside)) e (found_given lacking);
           compares =
               more_compares list cols (told (length text) cols.ends frames) (innermost frames) p.inner p.same h.compares (told (length text) cols.ends (opened name p.at ∷ frames)) r refl check p.nodes
               (many ∙ sym (told_length (length text) cols.ends frames))
@@ -121,12 +135,12 @@ module _ (text list begins : List ℕ) (cols : Columns) (p : Progress) (long : l
       let node = element name p.at next.at nothing nothing in
       let r = row (innermost frames) (named name) p.at next.at in
       let far : p.at < next.at = omega (arith, t.1, t.2) in
-      let u = place_of (unnamed words (lines (length text) frames ++ (r ∷ []))) in (
+      let lacking = unnamed words (lines (length text) frames ++ (r ∷ [])) in (
         record {
           stand = joined node frames;
           stands = h.moves.0;
-          unnamed = u;
-          counts = joined_counts (length text) words begins (progress p.at p.depth 0 p.nodes h.unnamed) frames h.counts node r refl next.at 0 u far refl;
+          unnamed = given lacking;
+          counts = joined_counts (length text) words begins (progress p.at p.depth 0 p.nodes h.unnamed) frames h.counts node r refl next.at 0 (given lacking) far (found_given lacking);
           compares =
               more_compares list cols (told (length text) cols.ends frames) (innermost frames) p.inner p.same h.compares (told_at (length text) cols.ends (joined node frames)) r
               (told_joined (length text) cols.ends node frames) check p.nodes (counted frames h.unnamed h.counts ∙ sym (told_length (length text) cols.ends frames))
@@ -136,14 +150,27 @@ module _ (text list begins : List ℕ) (cols : Columns) (p : Progress) (long : l
       )
 
   -- An end tag and a run of characters stand inside an element alone.
+  end_inside : (next : Cursor) → Facing text list begins cols (End next) p → (0 < p.depth) × (p.at < next.at)
+  end_inside next h = go h.frames h.moves h.counts
+    where
+      go : (frames : List Frame) → Moves text p.at frames (End next) → Counts words begins frames (lines (length text) frames) (progress p.at p.depth 0 p.nodes h.unnamed) → (0 < p.depth) × (p.at < next.at)
+      go [] m c = absurd m
+      go (f ∷ fs) m c = (omega (arith, c.depth), m.1)
+
+  pub end_open : (next : Cursor) → Facing text list begins cols (End next) p → 0 < p.depth
+  end_open next h = (end_inside next h).0
+
+  pub end_far : (next : Cursor) → Facing text list begins cols (End next) p → p.at < next.at
+  end_far next h = (end_inside next h).1
+
   pub end_comes : (next : Cursor) → Facing text list begins cols (End next) p → (up : ℕ) (check : Bool) → Tells check (Has cols.ends p.inner next.at)
       → (p.inner < length cols.parents → up ≡ get_or cols.parents p.inner 0)
-      → Standing text list begins cols (place next.at (p.depth - 1) up p.nodes (p.same && check)) × (p.at < next.at) × (0 < p.depth)
+      → Standing text list begins cols (place next.at (p.depth - 1) up p.nodes (p.same && check)) × (p.at < next.at)
   end_comes next h up check tells parent = go h.frames h.moves h.counts h.compares
     where
       go : (frames : List Frame) → Moves text p.at frames (End next) → Counts words begins frames (lines (length text) frames) (progress p.at p.depth 0 p.nodes h.unnamed)
           → Compares list cols (told (length text) cols.ends frames) (innermost frames) p.same p.inner
-          → Standing text list begins cols (place next.at (p.depth - 1) up p.nodes (p.same && check)) × (p.at < next.at) × (0 < p.depth)
+          → Standing text list begins cols (place next.at (p.depth - 1) up p.nodes (p.same && check)) × (p.at < next.at)
       go [] m c l = absurd m
       go (f ∷ fs) m c l =
           let node = element f.name f.begin next.at f.inside nothing in (
@@ -157,7 +184,6 @@ module _ (text list begins : List ℕ) (cols : Columns) (p : Progress) (long : l
                   (innermost (open_in (joined node fs))) up (λ known there line. parent (omega (arith, known, there)) ∙ ap (λ k. get_or cols.parents k 0) known ∙ line ∙ sym (joined_inner node fs)) long;
             },
             m.1,
-            omega (arith, c.depth),
           )
 
   pub text_comes : (next : Cursor) → Facing text list begins cols (Text next) p → (check : Bool)

@@ -1,5 +1,6 @@
 -- The promise of `outcome` leaves one answer: a text is one tree or is refused, and its lines agree or do not. Assumes nothing.
 use Prim.Native.Nat.{ℕ}
+use Rattle.std.specs.Prelude.{Option, Some, None}
 use mathlib.Core.Path.{◌≡◌, refl, sym, ◌∙◌, ap, ap₂, subst}
 use mathlib.Core.Bool.{Bool, true, false, false≢true}
 use mathlib.Core.List.{List}
@@ -9,8 +10,6 @@ use Rattle.xml_lines.specs.Kept.{Columns}
 use Rattle.match_lines.specs.Lines.{Agree}
 use Rattle.match_lines.specs.Compared.{Says, Tells}
 use Rattle.match_lines.specs.declared.Match.{Match}
-use Rattle.match_lines.specs.declared.Verdict.{Verdict}
-use Rattle.match_lines.specs.declared.Verdict.TheVariants.{On, Refused}
 
 -- A text is one tree, and is not refused too.
 one_tree : (a b : Nodes) → ◌≡◌ {A = Judged} (wanted a) (wanted b) → a ≡ b
@@ -39,8 +38,8 @@ says_unique text list cols r s p q =
     (λ e a. q.no e (subst (λ t. Agree list cols 0 (table (length text) t)) (sym tree) a)) in
     ap₂ (λ n b. record { nodes = n; same = b }) nodes same
 
-pub outcome_unique : (text list : List ℕ) (cols : Columns) (r s : Verdict) → Tells text list cols r → Tells text list cols s → r ≡ s
-outcome_unique text list cols (On r) (On s) p q = ap On (says_unique text list cols r s p q)
-outcome_unique text list cols (On r) Refused p q = not_refused p.tree q.number q.place (sym p.is ∙ q.is)
-outcome_unique text list cols Refused (On s) p q = not_refused q.tree p.number p.place (sym q.is ∙ p.is)
-outcome_unique text list cols Refused Refused p q = refl
+pub outcome_unique : (text list : List ℕ) (cols : Columns) (r s : Option Match) → Tells text list cols r → Tells text list cols s → r ≡ s
+outcome_unique text list cols (Some r) (Some s) p q = ap Some (says_unique text list cols r s p q)
+outcome_unique text list cols (Some r) None p q = not_refused p.tree q.number q.place (sym p.is ∙ q.is)
+outcome_unique text list cols None (Some s) p q = not_refused q.tree p.number p.place (sym q.is ∙ p.is)
+outcome_unique text list cols None None p q = refl

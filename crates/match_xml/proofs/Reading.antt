@@ -1,25 +1,25 @@
 -- Reading the text gives exactly these columns where the lines of its table agree with them and are as many. By induction over the lines, with what is left of each column. Assumes nothing.
-use Prim.Native.Nat.{ℕ, zero, suc, ◌+◌, ◌≤◌, ◌<◌}
+use Prim.Native.Nat.{ℕ, zero, suc, ◌+◌, ◌≤◌}
 use native.Mathlib.Omega.{arith}
-use mathlib.Core.Path.{◌≡◌, refl, sym, ◌∙◌, ap, subst}
-use mathlib.Core.Bool.{Bool, true, false, not, cond, ◌&&◌, ◌||◌, false≢true}
+use mathlib.Core.Path.{◌≡◌, refl, sym, ◌∙◌, ap}
+use mathlib.Core.Bool.{Bool, true, false, ◌&&◌, ◌||◌, false≢true}
 use mathlib.Core.List.{List, [], ◌∷◌, ◌++◌, map, append-nil}
-use mathlib.Core.Option.{Option, none, some}
+use mathlib.Core.Option.{Option, none}
 use lib.Dec.{eqb, ltb}
-use lib.ListN.{length, get_or, drop, length-map, length-drop}
+use lib.ListN.{length, get_or, drop, length-map}
 use lib.Seq.{drop-cons, drop-length}
-use borrow.Author.Tests.{eqb-true, eq-eqb, ltb-false, le-ltb}
+use borrow.Author.Tests.{eqb-true, eq-eqb, le-ltb}
 use Rattle.paper.specs.Tools.{same, when, written}
 use Rattle.paper.specs.Limits.{text_limit, list_limit, node_limit}
 use Rattle.paper.specs.Names.{names_fault, names_of, number_of}
 use Rattle.paper.specs.Document.{Table, table_of}
-use Rattle.paper.specs.Xml.{Nodes, wanted, unwanted, read_xml, Row, row, lacks, unnamed, table}
-use Rattle.paper.specs.Answers.{value, refusal, line, too_long, line_xml, short_of_nodes, rows_got, read_xml_last, read_xml_answer, read_xml_column, parent_field, kind_field, begin_field, end_field, answers, reads_as}
+use Rattle.paper.specs.Xml.{Nodes, wanted, read_xml, Row, lacks, unnamed, table}
+use Rattle.paper.specs.Answers.{value, refusal, line, line_xml, short_of_nodes, rows_got, read_xml_last, read_xml_answer, read_xml_column, parent_field, kind_field, begin_field, end_field, answers, reads_as}
 use Rattle.paper.specs.Answers.{Answer as Told}
 use Rattle.paper.proofs.Tests.{and_true, true_and, agree, none-some}
 use Rattle.paper.proofs.Same.{same_equal, same_refl}
-use Rattle.paper.proofs.Refusing.{line_value, when_none, or_none}
-use Rattle.xml_lines.specs.Kept.{Columns, columns, xml_answer}
+use Rattle.paper.proofs.Refusing.{line_value}
+use Rattle.xml_lines.specs.Kept.{Columns, xml_answer}
 use Rattle.xml_lines.proofs.Answered.{wrong, good_list}
 use Rattle.match_lines.specs.Lines.{LineIs, Agree}
 use Rattle.line_tests.specs.Telling.{Has}

@@ -1,18 +1,20 @@
 -- What the lines before one say: how many they are, and whether one of them passes a test. Assumes nothing.
 use Prim.Native.Nat.{ℕ, zero, suc, ◌<◌}
 use native.Mathlib.Omega.{arith}
-use native.Mathlib.Decide.{dec_lt, ℕ_discrete}
-use borrow.Author.Tests.{lt-ltb, le-ltb}
+use native.Mathlib.Decide.{ℕ_discrete}
 use mathlib.Core.Path.{◌≡◌, refl, sym, ◌∙◌, ap, subst}
 use mathlib.Core.Bool.{Bool, true, false}
 use mathlib.Core.List.{List}
 use mathlib.Core.Logic.{by_cases}
-use lib.Dec.{ltb}
 use lib.ListN.{length}
-use Rattle.paper.specs.Tools.{same, some_of}
+use Rattle.paper.specs.Tools.{same, some_of, first_below}
 use Rattle.paper.proofs.Tests.{or_left, or_right}
 use Rattle.paper.proofs.Same.{same_turned}
-use Rattle.name_lines.specs.Lines.{FirstSame, said}
+use Rattle.paper.proofs.Searches.{first_none}
+use Rattle.paper.specs.Told.{found}
+use Rattle.std.proofs.Common.{Option, Some, None, is_some}
+use Rattle.name_lines.specs.Lines.{said}
+use Rattle.name_lines.proofs.Firsts.{first_some}
 use Rattle.name_keys.specs.Keys.{earlier}
 
 module _ (list starts : List ℕ) where
@@ -32,9 +34,12 @@ module _ (list starts : List ℕ) where
   earlier_none test zero h = refl
   earlier_none test (suc count) h = rw (h count (omega arith)) (earlier_none test count (λ u l. h u (omega arith)))
 
-  -- A word repeats an earlier line exactly if a first line that says it was found.
-  pub repeats_first : (count : ℕ) (word : List ℕ) (v : ℕ) → FirstSame list starts count word v → some_of (same word) (earlier list starts count) ≡ ltb v count
-  repeats_first count word v f =
-      by_cases (dec_lt v count)
-      (λ l. earlier_some (same word) count v l (same_turned word (said list starts v) ∙ f.here l) ∙ sym (lt-ltb v count l))
-      (λ n. earlier_none (same word) count (λ u l. same_turned word (said list starts u) ∙ f.before u (omega arith)) ∙ sym (le-ltb v count (omega arith)))
+  -- A word repeats an earlier line exactly if a first line that says it is found.
+  pub repeats_first : (count : ℕ) (word : List ℕ) (r : Option ℕ) → found r ≡ first_below count (λ v. same (said list starts v) word)
+      → some_of (same word) (earlier list starts count) ≡ is_some r
+  repeats_first count word None f =
+      earlier_none (same word) count
+      (λ u l. same_turned word (said list starts u) ∙ first_none count 0 (λ v. same (said list starts v) word) (sym f) u (omega arith) (omega arith))
+  repeats_first count word (Some v) f =
+      let first = first_some count 0 (λ u. same (said list starts u) word) v (sym f) in
+      earlier_some (same word) count v (omega (arith, first.most)) (same_turned word (said list starts v) ∙ first.here)

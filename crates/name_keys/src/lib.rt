@@ -9,21 +9,14 @@ ghost use Rattle.name_keys.specs.Keys.{Keyed, key_of, earlier};
 
 use name_lines::STARTS;
 
-// A byte as a number of two bytes.
-fn wide_byte(x: u8) -> u16
-    ensures { (result ≡ x) × (result < 256) }
-{
-    x as u16
-}
-
 // The key of a line: its length and its first and last byte in one number, the same for equal lines.
 pub fn key(line: &[u8]) -> u16
     requires { (0 < length line.now) × (length line.now ≤ name_limit) }
     ensures { result ≡ key_of line.now }
 {
     let len = line.len();
-    let first = wide_byte(line[0]);
-    let last = wide_byte(line[len - 1]);
+    let first = u16::from(line[0]);
+    let last = u16::from(line[len - 1]);
     len as u16 * 256 + first + last * 191
 }
 
@@ -33,10 +26,8 @@ fn key_kept(keys: &[u16; STARTS], count: usize, key: u16) -> bool
     ensures { result ≡ some_below count (λ v. eqb (get_or keys.now v 0) key) }
 {
     let mut found = false;
-    let mut v: usize = 0;
-    while v < count {
+    for v in 0..count {
         found = (keys[v] == key) | found;
-        v += 1;
     }
     found
 }
@@ -57,5 +48,5 @@ pub fn repeats(
     if !key_kept(keys, count, key(word)) {
         return false;
     }
-    name_lines::first_same(list, starts, count, word) < count
+    name_lines::first_same(list, starts, count, word).is_some()
 }

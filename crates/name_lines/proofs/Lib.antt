@@ -1,4 +1,4 @@
--- Where a line stands: `part_room`.
-pub mod Parts
--- One answer.
+-- A search among numbers, step by step, and what it finds: `first_here`, `first_on`, `first_some`.
+pub mod Firsts
+-- One answer: `found_unique`.
 pub mod Unique

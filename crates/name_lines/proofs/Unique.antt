@@ -1,14 +1,11 @@
--- The first line that says a word is one line. Assumes nothing.
-use Prim.Native.Nat.{ℕ}
-use native.Mathlib.Omega.{arith}
-use native.Mathlib.Decide.{dec_lt}
-use mathlib.Core.Path.{◌≡◌, sym, ◌∙◌}
-use mathlib.Core.Bool.{false≢true}
-use mathlib.Core.List.{List}
-use mathlib.Core.Logic.{by_cases}
-use Rattle.name_lines.specs.Lines.{FirstSame}
+-- An option of the code is fixed by the option that it stands for. Assumes nothing.
+use mathlib.Core.Path.{◌≡◌, refl, sym, ap}
+use Rattle.paper.specs.Told.{found}
+use Rattle.paper.proofs.Tests.{none-some, some_inj}
+use Rattle.std.proofs.Common.{Option, Some, None}
 
-pub first_same_unique : (list starts : List ℕ) (count : ℕ) (word : List ℕ) (v w : ℕ) → FirstSame list starts count word v → FirstSame list starts count word w → v ≡ w
-first_same_unique list starts count word v w p q =
-    by_cases (dec_lt v w) (λ l. absurd (false≢true (sym (q.before v l) ∙ p.here (omega (arith, q.most)))))
-    (λ m. by_cases (dec_lt w v) (λ l. absurd (false≢true (sym (p.before w l) ∙ q.here (omega (arith, p.most))))) (λ n. omega arith))
+pub found_unique : {A : Type 0} (r s : Option A) → found r ≡ found s → r ≡ s
+found_unique (Some u) (Some v) h = ap Some (some_inj h)
+found_unique (Some u) None h = none-some (sym h)
+found_unique None (Some v) h = none-some h
+found_unique None None h = refl

@@ -1,46 +1,29 @@
 // The lent list of names: is it good, find a word's number, spell a number's name.
 #![tactic(auto)]
 
-ghost use Rattle.std.specs.Prelude.{◌+◌, ◌≤◌, ◌<◌, ◌≡◌, length, take, drop};
-ghost use Rattle.paper.specs.Limits.{list_limit};
-ghost use Rattle.paper.specs.Names.{number_of, names_of, bad_line};
-ghost use Rattle.name_lines.specs.Lines.{starts_count, Rising};
-ghost use Rattle.names.specs.Listing.{Ends, Checked, Indexed, Spelled, line_to, found_at};
+ghost use Rattle.std.specs.Prelude.{ℕ, ◌≤◌, ◌<◌, ◌≡◌, [], List, IfErr, IfOk, IfSome, length, get_or};
+ghost use Rattle.paper.specs.Limits.{list_limit, name_limit, names_limit};
+ghost use Rattle.paper.specs.Names.{number_of, names_of, names_fault, bad_line};
+ghost use Rattle.paper.specs.Told.{found};
+ghost use Rattle.std.proofs.Math.Option.{none};
+ghost use Rattle.name_lines.specs.Lines.{Rising};
+ghost use Rattle.names.specs.Listing.{Ends, Indexed, BadAt, line_to};
 ghost use Rattle.name_keys.specs.Keys.{Keyed, earlier};
 
-use name_lines::Part;
-use paper::{NAME_LIMIT, NAMES_LIMIT};
+use paper::{NAME_LIMIT, NAMES_LIMIT, Refusal};
+use std::marker::Model;
 
 // How many starts are kept: one a name, and the end of the list.
 pub const STARTS: usize = name_lines::STARTS;
 
-// What checking the list finds: so many good names, or where the first bad line starts.
-#[derive(Clone, Copy)]
-pub enum Listed {
-    Good(usize),
-    Bad(usize),
-}
-
-// The number of a word among the names, if it is one of them.
-#[derive(Clone, Copy)]
-pub enum Found {
-    At(usize),
-    Nothing,
-}
-
-// Where the line that starts here ends: at its LF, or at the end of the list.
-fn line_end(list: &[u8], start: usize) -> usize
-    requires { start ≤ length list.now }
-    ensures { Ends list.now start result }
+// How long the first line of these bytes is: up to its LF, or to their end.
+fn line_len(bytes: &[u8]) -> usize
+    ensures { Ends bytes.now result }
 {
-    let mut at = start;
-    while at < list.len() {
-        if list[at] == b'\n' {
-            return at;
-        }
-        at += 1;
-    }
-    at
+    bytes
+        .iter()
+        .position(|&b| b == b'\n')
+        .unwrap_or(bytes.len())
 }
 
 // Is the line from `start` to `end` bad, after these?
@@ -73,55 +56,72 @@ fn bad_line(
     name_keys::repeats(list, starts, keys, count, word)
 }
 
-// Checks the list, and keeps where each line starts; past the last line stands the length of the list.
-pub fn index(list: &[u8], starts: &mut [u16; STARTS]) -> Listed
-    requires list_len_bound { length list.now ≤ list_limit }
-    requires starts_len { length starts.old ≡ starts_count }
-    ensures { Checked list.now starts.old starts.new result }
-{
-    let mut start: usize = 0;
-    let mut count: usize = 0;
-    let mut keys = [0u16; STARTS];
-    starts[0] = 0;
-    while start < list.len() {
-        let end = line_end(list, start);
-        if bad_line(list, starts, &keys, count, start, end) {
-            return Listed::Bad(start);
-        }
-        keys[count] = name_keys::key(&list[start..end]);
-        start = end + 1;
-        count += 1;
-        starts[count] = start as u16;
-    }
-    Listed::Good(count)
-}
-
-// The number of the word of `len` bytes that stands in a text.
-pub fn find(
-    list: &[u8],
-    starts: &[u16; STARTS],
+// A list of names that has no fault, and where each of its lines starts; past the last line stands the length of the list.
+#[derive(Drop)]
+pub struct Names<'a> {
+    list: &'a [u8],
+    starts: [u16; STARTS],
     count: usize,
-    text: &[u8],
-    start: usize,
-    len: usize,
-) -> Found
-    requires indexed { Indexed list.now starts.now count }
-    requires len_in_bounds { start + len ≤ length text.now }
-    ensures { found_at result ≡ number_of (names_of list.now) (take len (drop start text.now)) }
-{
-    let v = name_lines::first_same(list, starts, count, &text[start..start + len]);
-    if v < count {
-        Found::At(v)
-    } else {
-        Found::Nothing
-    }
 }
 
-// Where name v stands in the list.
-pub fn spell(list: &[u8], starts: &[u16; STARTS], count: usize, v: usize) -> Part
-    requires indexed { Indexed list.now starts.now count }
-    requires v_lt_count { v < count }
-    ensures { Spelled list.now starts.now v result }
-{
-    name_lines::line_part(starts, v)
+impl<'a> Model for Names<'a> {
+    ghost Value = { List ℕ };
+
+    ghost view = { λ n. n.list.now };
+
+    ghost invariant = { λ n. Indexed n.list.now n.starts n.count };
+}
+
+impl<'a> Names<'a> {
+    // Checks the list, and keeps where each line starts.
+    pub fn new(list: &'a [u8]) -> Result<Names<'a>, Refusal>
+        requires { length list.now ≤ list_limit }
+        ensures good { IfOk result (λ names. (names ≡ list.now) × (names_fault list.now ≡ none)) }
+        ensures bad { IfErr result (λ why. BadAt list.now why) }
+    {
+        let mut starts = [0u16; STARTS];
+        let mut keys = [0u16; STARTS];
+        let mut start: usize = 0;
+        let mut count: usize = 0;
+        while start < list.len() {
+            let end = start + line_len(&list[start..]);
+            if bad_line(list, &starts, &keys, count, start, end) {
+                return Err(Refusal::BadName(start));
+            }
+            keys[count] = name_keys::key(&list[start..end]);
+            start = end + 1;
+            count += 1;
+            starts[count] = start as u16;
+        }
+        Ok(Names {
+            list,
+            starts,
+            count,
+        })
+    }
+
+    // How many names there are.
+    pub fn count(&self) -> usize
+        ensures counted { result ≡ length (names_of self.now) }
+        ensures few { result ≤ names_limit }
+    {
+        self.count
+    }
+
+    // The number of a word among the names.
+    pub fn find(&self, word: &[u8]) -> Option<usize>
+        ensures numbered { found result ≡ number_of (names_of self.now) word.now }
+        ensures few { IfSome result (λ v. v < names_limit) }
+    {
+        name_lines::first_same(self.list, &self.starts, self.count, word)
+    }
+
+    // What name v says.
+    pub fn spell(&self, v: usize) -> &[u8]
+        requires { v < length (names_of self.now) }
+        ensures says { result.now ≡ get_or (names_of self.now) v [] }
+        ensures long { (0 < length result.now) × (length result.now ≤ name_limit) }
+    {
+        name_lines::line(self.list, &self.starts, v)
+    }
 }

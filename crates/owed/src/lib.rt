@@ -12,12 +12,10 @@ use item::Item;
 pub fn owes(w: u32) -> usize
     ensures { (result ≡ owing w) × (result ≤ count_limit) }
 {
-    let item = item::unpack(w);
-    match item {
+    match item::unpack(w) {
         Item::Path(count) => count,
         Item::Step(step) => step.count,
-        Item::And => 2,
-        Item::Or => 2,
+        Item::And | Item::Or => 2,
         Item::Not => 1,
         Item::Bad => 0,
     }
@@ -28,14 +26,12 @@ pub fn skip(items: &[u32], at: usize, count: usize) -> usize
     requires { (length items.now ≤ item_limit) × (at ≤ length items.now) × (count ≤ count_limit) }
     ensures { (result ≡ at + eaten (drop at items.now) count) × (result ≤ length items.now) }
 {
-    let mut place = at;
     let mut owed = count;
-    while place < items.len() {
+    for place in at..items.len() {
         if owed == 0 {
             return place;
         }
         owed = owed - 1 + owes(items[place]);
-        place += 1;
     }
-    place
+    items.len()
 }

@@ -2,7 +2,7 @@
 -- By splitting the tests of the definition once. Assumes nothing.
 use Prim.Native.Nat.{ℕ, ◌<◌}
 use native.Mathlib.Omega.{arith}
-use mathlib.Core.Path.{◌≡◌, refl, sym, ◌∙◌, ap}
+use mathlib.Core.Path.{◌≡◌, refl}
 use mathlib.Core.Bool.{Bool, true, false, ◌&&◌, cond}
 use mathlib.Core.List.{List, [], ◌∷◌}
 use lib.Dec.{eqb, ltb}
@@ -10,7 +10,7 @@ use borrow.Author.Tests.{eqb-true, ltb-true}
 use Rattle.paper.specs.Query.{Axis, self, child, descendant_or_self, Test, any_node, text_node, named, any_element, Steps, step, Preds, bare, pred}
 use Rattle.paper.specs.Items.{axis_number, test_number, step_count, pred_count}
 use Rattle.paper.specs.Printing.{Piece, slash_sign, slashes_sign, dot_sign, dots_sign, colons_sign, axis_word, test_word}
-use Rattle.paper.specs.Printing.{plain, head_pieces, step_pieces, deepened, relative_pieces, later_pieces, preds_pieces}
+use Rattle.paper.specs.Printing.{plain, head_pieces, deepened, relative_pieces, later_pieces}
 use Rattle.paper.proofs.Tests.{and_true}
 use Rattle.paper.proofs.Axes.{of_number}
 

@@ -3,10 +3,11 @@ use Prim.Native.Nat.{ℕ, ◌+◌, ◌≤◌, ◌<◌}
 use native.Mathlib.Omega.{arith}
 use borrow.Author.Tests.{eq-eqb, eqb-true}
 use mathlib.Core.Path.{◌≡◌, refl, sym, ◌∙◌, ap, ap₂, subst}
-use mathlib.Core.Bool.{true, false, false≢true}
+use mathlib.Core.Bool.{true, false, ◌&&◌, false≢true}
 use mathlib.Core.List.{List, [], ◌∷◌}
 use mathlib.Core.Logic.{⊎_elim}
 use lib.Dec.{eqb}
+use lib.Pointwise.{pointwise}
 use lib.ListN.{length, get_or, take, drop, length-drop}
 use lib.Seq.{length-take-le, get_or-take, get_or-drop, ext_get_or}
 use Rattle.paper.specs.Tools.{same}
@@ -32,6 +33,13 @@ not_same a b h = ⊎_elim (λ p. absurd (h (same_equal a b p))) (λ p. p) (decid
 -- Which of the two comes first does not matter.
 pub same_turned : (a b : List ℕ) → same a b ≡ same b a
 same_turned a b = agree (same a b) (same b a) (λ h. rw (same_equal a b h) (same_refl b)) (λ h. rw (same_equal b a h) (same_refl a))
+
+-- `==` on slices asks the same.
+pub same_pointwise : (a b : List ℕ) → pointwise eqb a b ≡ same a b
+same_pointwise [] [] = refl
+same_pointwise [] (y ∷ ys) = refl
+same_pointwise (x ∷ xs) [] = refl
+same_pointwise (x ∷ xs) (y ∷ ys) = ap (λ b. eqb x y && b) (same_pointwise xs ys)
 
 -- A part of a list against a word.
 module _ (list word : List ℕ) (from len : ℕ) (inside : from + len ≤ length list) where

@@ -1,6 +1,6 @@
 -- A table with no fault is a tree: parents come before their children, and `over` is the order from a node up to the root.
 -- The way up from a node is no longer than the node's number, so more steps than the table has nodes find nothing new. Assumes nothing.
-use Prim.Native.Nat.{ℕ, zero, suc, ◌-◌, ◌≤◌, ◌<◌}
+use Prim.Native.Nat.{ℕ, zero, suc, ◌≤◌, ◌<◌}
 use native.Mathlib.Omega.{arith}
 use native.Mathlib.Decide.{ℕ_discrete}
 use mathlib.Core.Path.{◌≡◌, refl, sym, ◌∙◌, ap, subst}

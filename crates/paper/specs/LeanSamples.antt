@@ -1,5 +1,5 @@
 -- docs/SCOPE.md, "Lean composition", by computation: the sizes and the text that are stated there, small documents on which each slip in the decision shows, and the composition itself as the other side.
-use Rattle.std.specs.Prelude.{ℕ, Bool, true, ◌&&◌, List, [], ◌∷◌, ◌++◌, T, replicate}
+use Rattle.std.specs.Prelude.{ℕ, Bool, ◌&&◌, List, [], ◌∷◌, ◌++◌, T, replicate}
 use Prim.Native.String.{String}
 use Rattle.paper.specs.Tools.{ascii, same}
 use Rattle.paper.specs.Names.{names_fault, names_of, bad_line}
@@ -13,7 +13,7 @@ use Rattle.paper.specs.Selection.{reaches, selects, keeps, kept}
 use Rattle.paper.specs.Composition.{reversed, selected_by, visible, last_step, composed_path, composed}
 use Rattle.paper.specs.Answers.{read_answer, read_out, read_items, compose_answer, compose_out, run_answer, run_marks, print_answer, print_out}
 use Rattle.paper.specs.Lean.{composed_path_by, composed_by, compose_lean_answer, compose_lean_out}
-use Rattle.paper.specs.Samples.{table, items_of, counted, marks_of, marks, numbers, names, printed_items, denied_times}
+use Rattle.paper.specs.Samples.{items_of, counted, marks_of, marks, numbers, names, printed_items, denied_times}
 
 -- The items of a lean composition, of a text with other names, and what the two compositions of two texts answer.
 abbrev pub lean_items : List ℕ → List ℕ → List ℕ

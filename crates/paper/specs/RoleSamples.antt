@@ -1,5 +1,5 @@
 -- The samples of 02, 2026-13, by one table and one statement: what roles see of 01's table, and the refusals in their order.
-use Rattle.std.specs.Prelude.{ℕ, Bool, ◌&&◌, List, [], ◌∷◌, ◌++◌, T, replicate}
+use Rattle.std.specs.Prelude.{ℕ, Bool, ◌&&◌, List, [], ◌∷◌, T, replicate}
 use Prim.Native.String.{String}
 use Rattle.paper.specs.Tools.{ascii, same}
 use Rattle.paper.specs.Names.{names_fault, names_of, bad_line}

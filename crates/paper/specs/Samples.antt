@@ -8,7 +8,7 @@ use Rattle.paper.specs.Tokens.{tokens, token_at}
 use Rattle.paper.specs.Reading.{read_text, read_tail, read_tested, read_step, read_operand, read_term, read_expr, read_path}
 use Rattle.paper.specs.Items.{path_at, step_at, encode, decode, take_operand, take_term, take_expr}
 use Rattle.paper.specs.Measures.{size, nesting, height}
-use Rattle.paper.specs.Printing.{long_form, short_form, head_pieces, deepened, printed, pieces}
+use Rattle.paper.specs.Printing.{long_form, head_pieces, deepened, printed, pieces}
 use Rattle.paper.specs.Document.{Table, over, good_node, table_fault, good_mark, marks_fault}
 use Rattle.paper.specs.Selection.{reaches, selects, keeps, kept}
 use Rattle.paper.specs.Composition.{reversed, selected_by, visible, last_step, composed_path, composed}

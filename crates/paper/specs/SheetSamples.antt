@@ -12,7 +12,7 @@ use Rattle.paper.specs.Selection.{reaches, selects, keeps, kept}
 use Rattle.paper.specs.Xml.{read_xml, left_out}
 use Rattle.paper.specs.Answers.{read_answer, read_items, read_xml_answer, run_answer}
 use Rattle.paper.specs.Program.{decimal}
-use Rattle.paper.specs.Sheet.{all_of, kept_of, hidden_of, table_read, table_outcome, text_outcome, File, unreadable, holding, document_limit, outcomes, tallied, sheet, sheet_prints}
+use Rattle.paper.specs.Sheet.{all_of, kept_of, hidden_of, table_read, table_outcome, text_outcome, File, unreadable, holding, outcomes, tallied, sheet, sheet_prints}
 
 -- Of three files two can be read, and one of these is no wanted text.
 abbrev pub files : List ℕ → File

@@ -1,5 +1,5 @@
 -- Samples of 02, 2026-02, by one table and one statement: a text, read into its columns, with marks, and what is written; then each refusal, and the order of the lines.
-use Rattle.std.specs.Prelude.{ℕ, Bool, true, ◌&&◌, List, [], ◌∷◌, ◌++◌, T, replicate}
+use Rattle.std.specs.Prelude.{ℕ, Bool, true, ◌&&◌, List, [], ◌∷◌, ◌++◌, T}
 use Prim.Native.String.{String}
 use Rattle.paper.specs.Tools.{ascii, same}
 use Rattle.paper.specs.Names.{names_fault, names_of, bad_line}
@@ -8,7 +8,7 @@ use Rattle.paper.specs.Xml.{read_xml, left_out}
 use Rattle.paper.specs.WriteXml.{kept_xml}
 use Rattle.paper.specs.Samples.{counted, numbers, blank, marks}
 use Rattle.paper.specs.XmlSamples.{names, column_of}
-use Rattle.paper.specs.Answers.{Answer, read_xml_answer, parent_field, kind_field, begin_field, end_field, read_xml_column, reads_as, write_xml_answer, write_xml_out}
+use Rattle.paper.specs.Answers.{read_xml_answer, parent_field, kind_field, begin_field, end_field, read_xml_column, reads_as, write_xml_answer, write_xml_out}
 
 -- The table of a text, and its places.
 abbrev pub table_read : List ℕ → Table

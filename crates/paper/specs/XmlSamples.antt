@@ -1,5 +1,5 @@
 -- The samples of 02, 2026-01, by one table and one statement: each text with the answer of reading it, and the four columns of those that are accepted.
-use Rattle.std.specs.Prelude.{ℕ, Bool, true, ◌&&◌, List, [], ◌∷◌, ◌++◌, map, T, replicate}
+use Rattle.std.specs.Prelude.{ℕ, Bool, true, ◌&&◌, List, [], ◌∷◌, ◌++◌, T, replicate}
 use Rattle.paper.specs.Tools.{ascii, same}
 use Rattle.paper.specs.Names.{names_fault, names_of, bad_line}
 use Rattle.paper.specs.Xml.{read_xml, left_out, Row}

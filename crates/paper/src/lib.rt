@@ -26,10 +26,9 @@ pub const ELEMENT_KIND: u16 = 2;
 
 pub const KIND_LIMIT: u16 = 257;
 
-// What an entry point answers: the value, or a refusal with its place. specs/Told.antt gives its number.
+// Why an entry point refuses, with the place. specs/Told.antt gives its number.
 #[derive(Clone, Copy)]
-pub enum Answer {
-    Value(usize),
+pub enum Refusal {
     TooLong,
     BadName(usize),
     NoQuery(usize),
@@ -49,3 +48,6 @@ pub enum Answer {
     UnreadView(usize),
     Unreadable,
 }
+
+// What an entry point answers: the value, or a refusal.
+pub type Answer = Result<usize, Refusal>;

@@ -23,10 +23,8 @@ pub fn put(out: &mut [u8], pen: usize, bytes: &[u8]) -> usize
     ensures { Puts bytes.now pen out.old out.new result }
 {
     let mut at = pen;
-    let mut i = 0;
-    while i < bytes.len() {
-        at = put_byte(out, at, bytes[i]);
-        i += 1;
+    for b in bytes {
+        at = put_byte(out, at, *b);
     }
     at
 }

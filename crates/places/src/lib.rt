@@ -1,31 +1,24 @@
 // Where the steps of a path stand in the items of a query, and what stands at a place.
 #![tactic(auto)]
 
-ghost use Rattle.std.specs.Prelude.{suc, ◌≤◌, ◌<◌, ◌≡◌, true, false, length, get_or, drop};
+ghost use Rattle.std.specs.Prelude.{suc, ◌-◌, ◌%◌, ◌≤◌, ◌<◌, ◌≡◌, Some, length, get_or, drop};
 ghost use Rattle.std.proofs.Math.Option.{some};
 ghost use Rattle.paper.specs.Limits.{bracket_limit};
 ghost use Rattle.paper.specs.Items.{path_at, take_steps, take_within};
+ghost use Rattle.places.specs.declared.Places.{Places};
 ghost use Rattle.places.specs.Standing.{Readable, Ends, Known, StepThere, StepSaid, PathThere};
 
 use item::{Item, Step};
-use shape::Walked;
 
 // Where so many steps end.
 pub fn past_steps(items: &[u32], at: usize, count: usize, depth: usize) -> usize
     requires { (at ≤ length items.now) × (depth ≤ bracket_limit) × (Readable (take_steps (take_within depth) count (drop at items.now))) }
     ensures { Ends items.now at (take_steps (take_within depth) count (drop at items.now)) result }
 {
-    let walked = shape::steps(items, at, count, depth);
-    let Walked::Done {
-        next,
-        nesting: _,
-        height: _,
-        guards: _,
-    } = walked
-    else {
+    let Some(walked) = shape::steps(items, at, count, depth) else {
         return at;
     };
-    next
+    walked.next
 }
 
 // Where steps of a path stand: the last one after a multiple of 256 others, the last one after a multiple of 16, and the one looked for.
@@ -36,40 +29,46 @@ pub struct Places {
     pub place: usize,
 }
 
-// Where so many steps from a place on end, or the place known.
-fn reach(items: &[u32], from: usize, count: usize, depth: usize, anew: bool, known: usize) -> usize
-    requires { anew ≡ true → (from ≤ length items.now) × (depth ≤ bracket_limit) × (Readable (take_steps (take_within depth) count (drop from items.now))) }
-    ensures { (anew ≡ true → Ends items.now from (take_steps (take_within depth) count (drop from items.now)) result) × (anew ≡ false → result ≡ known) }
+// Where the last multiple of 256 steps ends: the place known, where it is not passed, else found anew.
+fn far_end(items: &[u32], at: usize, known: Option<Places>, to: usize, depth: usize) -> usize
+    requires at_in_bounds { (at ≤ length items.now) × (depth ≤ bracket_limit) × ((places : Places) → known ≡ Some places → Known items.now at depth (suc to) places) }
+    requires readable { Readable (take_steps (take_within depth) to (drop at items.now)) }
+    ensures { Ends items.now at (take_steps (take_within depth) (to - to % 256) (drop at items.now)) result }
 {
-    if anew {
-        past_steps(items, from, count, depth)
-    } else {
-        known
+    match known {
+        Some(places) if to % 256 != 255 => places.far,
+        _ => past_steps(items, at, to - to % 256, depth),
     }
 }
 
-// Looks for the step after so many others: anew, or where the one after it was looked for last.
-pub fn look(items: &[u32], at: usize, anew: bool, known: Places, to: usize, depth: usize) -> Places
-    requires at_in_bounds { (at ≤ length items.now) × (depth ≤ bracket_limit) × (anew ≡ false → Known items.now at depth (suc to) known) }
+// Where the last multiple of 16 steps ends: the place known, where it is not passed, else found anew from the last multiple of 256.
+fn near_end(
+    items: &[u32],
+    at: usize,
+    far: usize,
+    known: Option<Places>,
+    to: usize,
+    depth: usize,
+) -> usize
+    requires at_in_bounds { (at ≤ length items.now) × (depth ≤ bracket_limit) × ((places : Places) → known ≡ Some places → Known items.now at depth (suc to) places) }
+    requires readable { Readable (take_steps (take_within depth) to (drop at items.now)) }
+    requires far { Ends items.now at (take_steps (take_within depth) (to - to % 256) (drop at items.now)) far }
+    ensures { Ends items.now at (take_steps (take_within depth) (to - to % 16) (drop at items.now)) result }
+{
+    match known {
+        Some(places) if to % 16 != 15 => places.near,
+        _ => past_steps(items, far, to % 256 - to % 16, depth),
+    }
+}
+
+// Looks for the step after so many others: from where the one after it was looked for last, if it was, else anew.
+pub fn look(items: &[u32], at: usize, known: Option<Places>, to: usize, depth: usize) -> Places
+    requires at_in_bounds { (at ≤ length items.now) × (depth ≤ bracket_limit) × ((places : Places) → known ≡ Some places → Known items.now at depth (suc to) places) }
     requires readable { Readable (take_steps (take_within depth) to (drop at items.now)) }
     ensures { (Known items.now at depth to result) × (Ends items.now at (take_steps (take_within depth) to (drop at items.now)) result.place) }
 {
-    let far = reach(
-        items,
-        at,
-        to - to % 256,
-        depth,
-        anew | (to % 256 == 255),
-        known.far,
-    );
-    let near = reach(
-        items,
-        far,
-        to % 256 - to % 16,
-        depth,
-        anew | (to % 16 == 15),
-        known.near,
-    );
+    let far = far_end(items, at, known, to, depth);
+    let near = near_end(items, at, far, known, to, depth);
     let place = past_steps(items, near, to % 16, depth);
     Places { far, near, place }
 }
@@ -80,12 +79,7 @@ pub fn look_first(items: &[u32], at: usize, count: usize, depth: usize) -> Place
     requires readable { Readable (take_steps (take_within depth) count (drop at items.now)) }
     ensures { (Known items.now at depth count result) × (Ends items.now at (take_steps (take_within depth) count (drop at items.now)) result.place) }
 {
-    let nowhere = Places {
-        far: at,
-        near: at,
-        place: at,
-    };
-    look(items, at, true, nowhere, count, depth)
+    look(items, at, None, count, depth)
 }
 
 // The step at a place where one stands.

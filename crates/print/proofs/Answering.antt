@@ -1,52 +1,39 @@
 -- The answer of a print and what it writes, line by line of 01's table. Assumes nothing.
-use Prim.Native.Nat.{ℕ, zero, suc, ◌+◌, ◌≤◌, ◌<◌}
+use Prim.Native.Nat.{ℕ, ◌+◌, ◌≤◌, ◌<◌}
 use native.Mathlib.Omega.{arith}
-use mathlib.Core.Path.{◌≡◌, refl, sym, ◌∙◌, ap}
+use mathlib.Core.Path.{◌≡◌, refl, sym, ap}
 use mathlib.Core.Bool.{Bool}
 use mathlib.Core.List.{List}
 use mathlib.Core.Option.{Option, none, some}
 use lib.ListN.{length}
 use borrow.Author.Tests.{lt-ltb, le-ltb}
-use Rattle.paper.specs.Tools.{written, column_from}
+use Rattle.paper.specs.Tools.{written}
 use Rattle.paper.specs.Limits.{item_limit, list_limit}
 use Rattle.paper.specs.Query.{Query}
 use Rattle.paper.specs.Names.{names_fault, names_of}
 use Rattle.paper.specs.Items.{decode}
 use Rattle.paper.specs.Printing.{printed}
 use Rattle.paper.specs.Answers.{value, refusal, unknown_from, print_answer, text_got, print_out}
-use Rattle.names.specs.Listing.{Indexed}
-use Rattle.name_lines.specs.Lines.{said}
 use Rattle.shape.specs.Walks.{shape_of}
-use Rattle.shape.specs.declared.Shape.TheVariants.{Query as IsQuery, Malformed as NoQuery}
-use Rattle.put_query.specs.Writing.{Names}
-use Rattle.put_query.specs.Writing.{Query as IsPrintable}
-use Rattle.unknown_names.proofs.Unknowns.{all_known}
-
--- The index counts the names.
-count_names : (list starts : List ℕ) (count : ℕ) → Indexed list starts count → length (names_of list) ≡ count
-count_names list starts count i = ap length i.names ∙ go count 0
-  where
-    go : (n at : ℕ) → length (column_from n at (said list starts)) ≡ n
-    go zero at = refl
-    go (suc n) at = ap suc (go n (suc at))
+use Rattle.shape.specs.declared.Shape.{Shape}
+use Rattle.std.proofs.Common.{Some, None}
 
 -- What the shape of items says of the query that they are.
-pub shape_none : (o : Option Query) → NoQuery ≡ shape_of o → o ≡ none
+pub shape_none : (o : Option Query) → None ≡ shape_of o → o ≡ none
 shape_none none h = refl
-shape_none (some q) h = absurd (let z : ◌≡◌ {A = ℕ} 0 1 = cc in omega arith)
+shape_none (some q) h = cc
 
-pub shape_some : (o : Option Query) (nest high guards : ℕ) → IsQuery nest high guards ≡ shape_of o → (q : Query) × (o ≡ some q)
-shape_some none nest high guards h = absurd (let z : ◌≡◌ {A = ℕ} 0 1 = cc in omega arith)
-shape_some (some q) nest high guards h = (q, refl)
+pub shape_some : (o : Option Query) (shape : Shape) → Some shape ≡ shape_of o → (q : Query) × (o ≡ some q)
+shape_some none shape h = cc
+shape_some (some q) shape h = (q, refl)
 
 -- What has been found of a query and a list before the names are looked at.
-pub record Ready (query list starts : List ℕ) (count : ℕ) : Type 0 where
+pub record Ready (query list : List ℕ) : Type 0 where
   pub few_items : length query ≤ item_limit
   pub few_bytes : length list ≤ list_limit
   pub no_fault : names_fault list ≡ none
   pub is : Query
   pub decoded : decode query ≡ some is
-  pub indexed : Indexed list starts count
 
 module _ (brief : Bool) (query list old : List ℕ) where
   -- A refused call leaves everything as it was, an accepted one writes the text.
@@ -78,36 +65,25 @@ module _ (brief : Bool) (query list old : List ℕ) where
   unfolding print_answer
   bad_query k l n d = rw (le-ltb item_limit (length query) k, le-ltb list_limit (length list) l, n, d)
 
-  module _ (starts : List ℕ) (count : ℕ) (r : Ready query list starts count) where
-    names : length (names_of list) ≡ count
-    names = count_names list starts count r.indexed
-
+  module _ (r : Ready query list) where
     -- Line 5.
-    pub unknown_name : (place : ℕ) → unknown_from count 0 query ≡ some place → print_answer brief query list (length old) ≡ refusal 5 place
+    pub unknown_name : (place : ℕ) → unknown_from (length (names_of list)) 0 query ≡ some place → print_answer brief query list (length old) ≡ refusal 5 place
     unfolding print_answer
-    unknown_name place u = rw (le-ltb item_limit (length query) r.few_items, le-ltb list_limit (length list) r.few_bytes, r.no_fault, r.decoded, names, u)
+    unknown_name place u = rw (le-ltb item_limit (length query) r.few_items, le-ltb list_limit (length list) r.few_bytes, r.no_fault, r.decoded, u)
 
-    module _ (u : unknown_from count 0 query ≡ none) where
-      -- What printing asks.
-      pub can_print : Names list starts count query × IsPrintable query
-      can_print = (
-        record { indexed = r.indexed; few = r.few_bytes; known = all_known count query u },
-        record { query = r.is; decoded = r.decoded; few_items = r.few_items },
-      )
+    module _ (u : unknown_from (length (names_of list)) 0 query ≡ none) (needed : ℕ) (e : needed ≡ 0 + length (text_got brief (names_of list) (decode query))) where
+      counted : length (printed brief (names_of list) r.is) ≡ needed
+      counted =
+          let same : length (text_got brief (names_of list) (decode query)) ≡ length (printed brief (names_of list) r.is) = ap (λ (o : Option Query). length (text_got brief (names_of list) o)) r.decoded in
+          omega arith
 
-      module _ (needed : ℕ) (e : needed ≡ 0 + length (text_got brief (names_of list) (decode query))) where
-        counted : length (printed brief (names_of list) r.is) ≡ needed
-        counted =
-            let same : length (text_got brief (names_of list) (decode query)) ≡ length (printed brief (names_of list) r.is) = ap (λ (o : Option Query). length (text_got brief (names_of list) o)) r.decoded in
-            omega arith
+      -- Line 10.
+      pub short_room : length old < needed → print_answer brief query list (length old) ≡ refusal 10 needed
+      unfolding print_answer
+      short_room s =
+          rw (le-ltb item_limit (length query) r.few_items, le-ltb list_limit (length list) r.few_bytes, r.no_fault, r.decoded, u, counted, lt-ltb (length old) needed s)
 
-        -- Line 10.
-        pub short_room : length old < needed → print_answer brief query list (length old) ≡ refusal 10 needed
-        unfolding print_answer
-        short_room s =
-            rw (le-ltb item_limit (length query) r.few_items, le-ltb list_limit (length list) r.few_bytes, r.no_fault, r.decoded, names, u, counted, lt-ltb (length old) needed s)
-
-        pub value_told : needed ≤ length old → print_answer brief query list (length old) ≡ value needed
-        unfolding print_answer
-        value_told s =
-            rw (le-ltb item_limit (length query) r.few_items, le-ltb list_limit (length list) r.few_bytes, r.no_fault, r.decoded, names, u, counted, le-ltb (length old) needed s)
+      pub value_told : needed ≤ length old → print_answer brief query list (length old) ≡ value needed
+      unfolding print_answer
+      value_told s =
+          rw (le-ltb item_limit (length query) r.few_items, le-ltb list_limit (length list) r.few_bytes, r.no_fault, r.decoded, u, counted, le-ltb (length old) needed s)

@@ -6,9 +6,8 @@ ghost use Rattle.paper.specs.Printing.{long_form, short_form};
 ghost use Rattle.paper.specs.Answers.{print_answer, print_out};
 ghost use Rattle.paper.specs.Told.{told};
 
-use names::Listed;
-use paper::Answer;
-use shape::Shape;
+use names::Names;
+use paper::{Answer, Refusal};
 
 // Prints the query in either form. Everything lent is examined and the text is counted before a byte is written.
 fn print_form(query: &[u32], list: &[u8], out: &mut [u8], brief: bool) -> Answer
@@ -16,33 +15,22 @@ fn print_form(query: &[u32], list: &[u8], out: &mut [u8], brief: bool) -> Answer
     ensures out_after { out.new ≡ print_out brief query.now list.now out.old }
 {
     if paper::ITEM_LIMIT < query.len() {
-        return Answer::TooLong;
+        return Err(Refusal::TooLong);
     }
     if paper::LIST_LIMIT < list.len() {
-        return Answer::TooLong;
+        return Err(Refusal::TooLong);
     }
-    let mut starts: [u16; names::STARTS] = [0; names::STARTS];
-    let listed = names::index(list, &mut starts);
-    let count = match listed {
-        Listed::Bad(start) => {
-            return Answer::BadName(start);
-        }
-        Listed::Good(count) => count,
-    };
-    let shape = shape::measure(query);
-    let Shape::Query { .. } = shape else {
-        return Answer::BadQuery(0);
-    };
-    let at = unknown_names::first_unknown(query, count);
-    if at < query.len() {
-        return Answer::UnknownName(at);
+    let names = Names::new(list)?;
+    shape::measure(query).ok_or(Refusal::BadQuery(0))?;
+    if let Some(at) = unknown_names::first_unknown(query, names.count()) {
+        return Err(Refusal::UnknownName(at));
     }
-    let needed = put_query::paths(query, list, &starts, count, &mut out[..0], brief);
+    let needed = put_query::paths(query, &names, &mut out[..0], brief);
     if out.len() < needed {
-        return Answer::Short(needed);
+        return Err(Refusal::Short(needed));
     }
-    put_query::paths(query, list, &starts, count, out, brief);
-    Answer::Value(needed)
+    put_query::paths(query, &names, out, brief);
+    Ok(needed)
 }
 
 // Prints the query in the short form.

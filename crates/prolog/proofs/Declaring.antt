@@ -7,7 +7,7 @@ use mathlib.Core.Bool.{Bool, true, false, ◌&&◌, ◌||◌, false≢true}
 use mathlib.Core.List.{List, [], ◌∷◌}
 use mathlib.Core.Logic.{⊎_elim}
 use mathlib.Core.Option.{none, some}
-use types.Run.{miss}
+use Rattle.std.specs.Prelude.{Ok, Err}
 use lib.Dec.{eqb, leb, ltb}
 use lib.ListN.{length, get_or, drop, drop_of_length-le}
 use lib.Seq.{drop-cons}
@@ -16,13 +16,12 @@ use Rattle.paper.specs.Tokens.{white}
 use Rattle.paper.specs.Xml.{Pattern, done, one, many, fork, is_done, quote_of, after, say, quoted, digit, any_case, declaration_end, after_encoding, after_version, heading, left_out, left_out_anywhere, other_encoding}
 use Rattle.paper.proofs.Tests.{decide, and_true, or_true}
 use Rattle.paper.proofs.Lexing.{run_more}
-use Rattle.xml_bytes.specs.Seeking.{refused}
-use Rattle.xml_bytes.specs.Promised.{state, Between, refusal_at, calm}
-use Rattle.prolog.specs.Heading.{seek_head, head_at, awaiting, comes, Heads, valued, is_quote, Gives, numbered, utf8, encoding_value, yes_no, standalone_value}
-use Rattle.xml_bytes.specs.declared.Reach.{Reach}
-use Rattle.xml_bytes.specs.declared.Reach.TheVariants.{At, Wrong, LeftOut}
+use Rattle.paper.specs.declared.Refusal.{Refusal}
+use Rattle.paper.specs.declared.Refusal.TheVariants.{NoXml, LeftOut}
+use Rattle.xml_bytes.specs.Seeking.{refused, refusing, refusal_place}
+use Rattle.xml_bytes.specs.Promised.{Reach, state, refusal_at, calm}
+use Rattle.prolog.specs.Heading.{seek_head, head_at, awaiting, Heads, valued, is_quote, Gives, numbered, utf8, encoding_value, yes_no, standalone_value}
 use Rattle.xml_bytes.proofs.Steps.{Calm, is_calm, in_or_out, run_inside, stops_run}
-use Rattle.xml_bytes.proofs.Rows.{Refused}
 use Rattle.prolog.proofs.Heading.{pattern_cut, pattern_takes, pattern_none, pattern_alike, farther, heads_stuck, heads_from, many_run, enters_run, space_calm}
 
 -- LETTERS. In either case.
@@ -48,13 +47,13 @@ module _ (text : List ℕ) (at place : ℕ) (e : place ≡ at + run_of white (dr
   pub past-space : at ≤ place
   past-space = omega arith
 
-  pub equals_stuck : (p : Pattern) (r : Reach) → Refused r → Heads text place (one (eqb 61) (many white p)) (many white p) r → Heads text at (many white (one (eqb 61) (many white p))) p r
-  equals_stuck p r stuck h =
-      heads_from text at place (many white (one (eqb 61) (many white p))) (one (eqb 61) (many white p)) p r past-space
-      (many_run white space_calm text at place e (one (eqb 61) (many white p)) refl refl) (heads_stuck text place (one (eqb 61) (many white p)) (many white p) p r stuck h)
+  pub equals_stuck : (p : Pattern) (why : Refusal) → Heads text place (one (eqb 61) (many white p)) (many white p) (Err why) → Heads text at (many white (one (eqb 61) (many white p))) p (Err why)
+  equals_stuck p why h =
+      heads_from text at place (many white (one (eqb 61) (many white p))) (one (eqb 61) (many white p)) p (Err why) past-space
+      (many_run white space_calm text at place e (one (eqb 61) (many white p)) refl refl) (heads_stuck text place (one (eqb 61) (many white p)) (many white p) p why h)
 
-  pub equals_read : (next end : ℕ) → end ≡ next + run_of white (drop next text) → (p : Pattern) → is_done p ≡ false → quote_of p ≡ none → Heads text place (one (eqb 61) (many white p)) (many white p) (At next)
-      → Heads text at (many white (one (eqb 61) (many white p))) p (At end)
+  pub equals_read : (next end : ℕ) → end ≡ next + run_of white (drop next text) → (p : Pattern) → is_done p ≡ false → quote_of p ≡ none → Heads text place (one (eqb 61) (many white p)) (many white p) (Ok next)
+      → Heads text at (many white (one (eqb 61) (many white p))) p (Ok end)
   equals_read next end f p more plain h =
       record {
         goes = many_run white space_calm text at place e (one (eqb 61) (many white p)) refl refl ∙ h.goes ∙ many_run white space_calm text next end f p more plain ∙ rw more;
@@ -63,10 +62,10 @@ module _ (text : List ℕ) (at place : ℕ) (e : place ≡ at + run_of white (dr
 
 -- THE QUOTE THAT OPENS A VALUE.
 module _ (text : List ℕ) (at : ℕ) where
-  pub quote_cut : at ≤ length text → length text ≤ at → Gives text at quoted (Wrong at)
+  pub quote_cut : at ≤ length text → length text ≤ at → Gives text at quoted (Err (NoXml at))
   quote_cut m l = record { goes = λ value. pattern_cut text at (quoted value) refl l; bounds = m; quote = tt }
 
-  pub quote_taken : (to : ℕ) → at < length text → is_quote (get_or text at 0) ≡ true → to ≡ at + 1 → Gives text at quoted (At to)
+  pub quote_taken : (to : ℕ) → at < length text → is_quote (get_or text at 0) ≡ true → to ≡ at + 1 → Gives text at quoted (Ok to)
   quote_taken to inside h e =
       record {
         goes = λ value. ⊎_elim (λ t. by value 34 (eqb-true (get_or text at 0) 34 t) refl (is_calm 34 refl)) (λ t. by value 39 (eqb-true (get_or text at 0) 39 t) refl (is_calm 39 refl))
@@ -84,8 +83,8 @@ module _ (text : List ℕ) (at : ℕ) where
           pattern_takes text at (quoted value) refl inside (value n) (subst Calm (sym f) c) (ap (after (quoted value)) f ∙ a) ∙ ap (λ m. head_at text m (awaiting (value n))) next
           ∙ ap (λ m. head_at text to (awaiting (value m))) (sym f ∙ ap (λ m. get_or text m 0) (sym before))
 
-  pub quote_other : (r : Reach) → at < length text → is_quote (get_or text at 0) ≡ false → r ≡ refusal_at (left_out_anywhere (drop at text)) at → Gives text at quoted r
-  quote_other r inside h e =
+  pub quote_other : (why : Refusal) → at < length text → is_quote (get_or text at 0) ≡ false → why ≡ refusal_at (left_out_anywhere (drop at text)) at → Gives text at quoted (Err why)
+  quote_other why inside h e =
       rw e (go (left_out_anywhere (drop at text)) refl)
     where
       neither : (value : ℕ → Pattern) → after (quoted value) (get_or text at 0) ≡ none
@@ -94,25 +93,21 @@ module _ (text : List ℕ) (at : ℕ) where
           ⊎_elim (λ (u : eqb 39 (get_or text at 0) ≡ true). absurd (false≢true (sym h ∙ rw (sym (eqb-true 39 (get_or text at 0) u))))) (λ (u : eqb 39 (get_or text at 0) ≡ false). rw (t, u)) (decide (eqb 39 (get_or text at 0))))
           (decide (eqb 34 (get_or text at 0)))
 
-      go : (t : Bool) → left_out_anywhere (drop at text) ≡ t → Gives text at quoted (refusal_at t at)
-      go true o = record { goes = λ value. pattern_none text at (quoted value) refl inside (LeftOut at) (state (heading done) []) (neither value) (ap (λ t. refusal_at t at) (sym o)); bounds = omega arith; quote = tt }
-      go false o = record { goes = λ value. pattern_none text at (quoted value) refl inside (Wrong at) (state (heading done) []) (neither value) (ap (λ t. refusal_at t at) (sym o)); bounds = omega arith; quote = tt }
+      go : (t : Bool) → left_out_anywhere (drop at text) ≡ t → Gives text at quoted (Err (refusal_at t at))
+      go true o = record { goes = λ value. pattern_none text at (quoted value) refl inside (LeftOut at) (neither value) (ap (λ t. refusal_at t at) (sym o)); bounds = omega arith; quote = tt }
+      go false o = record { goes = λ value. pattern_none text at (quoted value) refl inside (NoXml at) (neither value) (ap (λ t. refusal_at t at) (sym o)); bounds = omega arith; quote = tt }
 
   -- A NAME AND THE QUOTE.
   module _ (name : List ℕ) where
-    pub name_stuck : (r : Reach) → Refused r → ((p : Pattern) → Heads text at (say name p) p r) → Gives text at (λ value. say name (valued value)) r
-    name_stuck (At to) stuck h = absurd (miss (1 ∷ 2 ∷ []) 0 tt stuck)
-    name_stuck (Wrong place) stuck h = record { goes = λ value. (h (valued value)).goes; bounds = (h done).bounds; quote = tt }
-    name_stuck (LeftOut place) stuck h = record { goes = λ value. (h (valued value)).goes; bounds = (h done).bounds; quote = tt }
+    pub name_stuck : (why : Refusal) → ((p : Pattern) → Heads text at (say name p) p (Err why)) → Gives text at (λ value. say name (valued value)) (Err why)
+    name_stuck why h = record { goes = λ value. (h (valued value)).goes; bounds = (h done).bounds; quote = tt }
 
-    module _ (name_end : ℕ) (named : (p : Pattern) → Heads text at (say name p) p (At name_end)) where
-      pub mark_stuck : (r : Reach) → Refused r → ((p : Pattern) → is_done p ≡ false → quote_of p ≡ none → Heads text name_end (many white (one (eqb 61) (many white p))) p r)
-          → Gives text at (λ value. say name (valued value)) r
-      mark_stuck (At to) stuck h = absurd (miss (1 ∷ 2 ∷ []) 0 tt stuck)
-      mark_stuck (Wrong place) stuck h = record { goes = λ value. (named (valued value)).goes ∙ (h (quoted value) refl refl).goes; bounds = (h (one white done) refl refl).bounds; quote = tt }
-      mark_stuck (LeftOut place) stuck h = record { goes = λ value. (named (valued value)).goes ∙ (h (quoted value) refl refl).goes; bounds = (h (one white done) refl refl).bounds; quote = tt }
+    module _ (name_end : ℕ) (named : (p : Pattern) → Heads text at (say name p) p (Ok name_end)) where
+      pub mark_stuck : (why : Refusal) → ((p : Pattern) → is_done p ≡ false → quote_of p ≡ none → Heads text name_end (many white (one (eqb 61) (many white p))) p (Err why))
+          → Gives text at (λ value. say name (valued value)) (Err why)
+      mark_stuck why h = record { goes = λ value. (named (valued value)).goes ∙ (h (quoted value) refl refl).goes; bounds = (h (one white done) refl refl).bounds; quote = tt }
 
-      pub name_quote : (place : ℕ) (r : Reach) → ((p : Pattern) → is_done p ≡ false → quote_of p ≡ none → Heads text name_end (many white (one (eqb 61) (many white p))) p (At place))
+      pub name_quote : (place : ℕ) (r : Reach) → ((p : Pattern) → is_done p ≡ false → quote_of p ≡ none → Heads text name_end (many white (one (eqb 61) (many white p))) p (Ok place))
           → Gives text place quoted r → Gives text at (λ value. say name (valued value)) r
       name_quote place r h g =
           record {
@@ -123,12 +118,10 @@ module _ (text : List ℕ) (at : ℕ) where
 
   -- The value behind it.
   module _ (before : (ℕ → Pattern) → Pattern) (value : ℕ → Pattern) (p : Pattern) where
-    pub given_stuck : (r : Reach) → Refused r → Gives text at before r → Heads text at (before value) p r
-    given_stuck (At to) stuck g = absurd (miss (1 ∷ 2 ∷ []) 0 tt stuck)
-    given_stuck (Wrong place) stuck g = record { goes = g.goes value; bounds = g.bounds }
-    given_stuck (LeftOut place) stuck g = record { goes = g.goes value; bounds = g.bounds }
+    pub given_stuck : (why : Refusal) → Gives text at before (Err why) → Heads text at (before value) p (Err why)
+    given_stuck why g = record { goes = g.goes value; bounds = g.bounds }
 
-    pub given_then : (from : ℕ) (r : Reach) → Gives text at before (At from) → Heads text from (value (get_or text (from - 1) 0)) p r → Heads text at (before value) p r
+    pub given_then : (from : ℕ) (r : Reach) → Gives text at before (Ok from) → Heads text from (value (get_or text (from - 1) 0)) p r → Heads text at (before value) p r
     given_then from r g h = record { goes = g.goes value ∙ h.goes; bounds = farther from at (length text) r (omega (arith, g.bounds.0)) h.bounds }
 
 -- A quote is calm.
@@ -137,16 +130,16 @@ quote_calm b h = ⊎_elim (λ t. rw (eqb-true b 34 t)) (λ t. rw (eqb-true b 39 
 
 -- DIGITS.
 module _ (text : List ℕ) (at end q : ℕ) (e : end ≡ at + run_of digit (drop at text)) (l : at ≤ length text) (p : Pattern) where
-  pub number_refused : (r : Reach) → end ≤ at → r ≡ refusal_at (left_out_anywhere (drop at text)) at → Heads text at (numbered q p) p r
-  number_refused r m f =
+  pub number_refused : (why : Refusal) → end ≤ at → why ≡ refusal_at (left_out_anywhere (drop at text)) at → Heads text at (numbered q p) p (Err why)
+  number_refused why m f =
       in_or_out at (length text)
-      (λ inside. record { goes = pattern_none text at (numbered q p) refl inside r (awaiting p) (let h = no_digit inside in rw h) f; bounds = rw f (go (left_out_anywhere (drop at text))) })
-      (λ over. record { goes = pattern_cut text at (numbered q p) refl over ∙ sym (ap (comes text (awaiting p)) f ∙ rw (drop_of_length-le text over)); bounds = rw f (go (left_out_anywhere (drop at text))) })
+      (λ inside. record { goes = pattern_none text at (numbered q p) refl inside why (let h = no_digit inside in rw h) f; bounds = rw f (go (left_out_anywhere (drop at text))) })
+      (λ over. record { goes = pattern_cut text at (numbered q p) refl over ∙ sym (ap refusing f ∙ rw (drop_of_length-le text over)); bounds = rw f (go (left_out_anywhere (drop at text))) })
     where
       no_digit : at < length text → digit (get_or text at 0) ≡ false
       no_digit inside = ⊎_elim (λ (h : digit (get_or text at 0) ≡ true). absurd (let z = run_more text at inside digit h in omega arith)) (λ h. h) (decide (digit (get_or text at 0)))
 
-      go : (t : Bool) → Between at (length text) (refusal_at t at)
+      go : (t : Bool) → refusal_place (refusal_at t at) ≤ length text
       go true = l
       go false = l
 
@@ -244,7 +237,7 @@ module _ (text : List ℕ) (at place : ℕ) (l : at ≤ length text) (e : place 
 
 -- THE ENCODING.
 module _ (text : List ℕ) (at q : ℕ) (l : at ≤ length text) where
-  pub encoding_other : other_encoding (some q) (drop at text) ≡ true → Heads text at (encoding_value q) done (LeftOut at)
+  pub encoding_other : other_encoding (some q) (drop at text) ≡ true → Heads text at (encoding_value q) done (Err (LeftOut at))
   unfolding left_out
   encoding_other h = in_or_out at (length text) (λ inside. record { goes = here inside; bounds = l }) (λ o. absurd (false≢true (sym (ap (other_encoding (some q)) (drop_of_length-le text o)) ∙ h)))
     where

@@ -7,20 +7,19 @@ use mathlib.Core.Path.{◌≡◌, refl, sym, ◌∙◌, ap}
 use mathlib.Core.Bool.{Bool, true, false, ◌||◌, cond}
 use mathlib.Core.List.{List, [], ◌∷◌}
 use mathlib.Core.Option.{none, some}
-use types.Run.{miss}
+use Rattle.std.specs.Prelude.{Ok, Err}
 use lib.Dec.{eqb}
 use lib.ListN.{length, get_or, drop, drop_of_length-le}
 use lib.Seq.{drop-cons, drop-drop}
 use Rattle.paper.specs.Tools.{run_of}
 use Rattle.paper.specs.Tokens.{white}
-use Rattle.paper.specs.Xml.{Pattern, one, many, is_done, quote_of, after, say, State, stands, heading, ahead, heading_goes_on, left_out, left_out_anywhere}
-use Rattle.xml_bytes.specs.Seeking.{refused}
-use Rattle.xml_bytes.specs.Promised.{state, Between, refusal_at, row_of, Reads, calm, all_calm, spelling}
+use Rattle.paper.specs.Xml.{Pattern, one, many, is_done, quote_of, after, say, stands, heading, ahead, heading_goes_on, left_out, left_out_anywhere}
+use Rattle.paper.specs.declared.Refusal.{Refusal}
+use Rattle.xml_bytes.specs.Seeking.{refused, refusing}
+use Rattle.xml_bytes.specs.Promised.{Reach, state, Between, refusal_at, row_of, Reads, calm, all_calm, spelling}
 use Rattle.prolog.specs.Heading.{seek_head, head_at, awaiting, comes, Heads}
-use Rattle.xml_bytes.specs.declared.Reach.{Reach}
-use Rattle.xml_bytes.specs.declared.Reach.TheVariants.{At, Wrong, LeftOut}
 use Rattle.xml_bytes.proofs.Steps.{Calm, calm_opens, in_or_out, stops_run}
-use Rattle.xml_bytes.proofs.Rows.{Refused, CalmSets, landed, row_goes, reads_bounds, exactly_between, byte_calm, word_calm, ones, say_ones}
+use Rattle.xml_bytes.proofs.Rows.{CalmSets, landed, row_goes, reads_bounds, exactly_between, byte_calm, word_calm, ones, say_ones}
 use Rattle.xml_bytes.proofs.Signs.{white_calm}
 
 or_none : (t : Bool) → (t || false) ≡ t
@@ -45,11 +44,11 @@ module _ (text : List ℕ) (at : ℕ) (p : Pattern) (plain : quote_of p ≡ none
     pattern_takes q calm e =
         rw (drop-cons text at 0 inside, plain, calm_opens (get_or text at 0) (drop (suc at) text) calm, e) (rw (goes_awaiting q))
 
-    pub pattern_none : (r : Reach) (s : State) → after p (get_or text at 0) ≡ none → r ≡ refusal_at (left_out_anywhere (drop at text)) at → head_at text at (state (heading p) []) ≡ comes text s r
+    pub pattern_none : (why : Refusal) → after p (get_or text at 0) ≡ none → why ≡ refusal_at (left_out_anywhere (drop at text)) at → head_at text at (state (heading p) []) ≡ refusing why
     unfolding left_out
-    pattern_none r s e f = go (left_out_anywhere (drop at text)) refl ∙ ap (comes text s) (sym f)
+    pattern_none why e f = go (left_out_anywhere (drop at text)) refl ∙ ap refusing (sym f)
       where
-        go : (t : Bool) → left_out_anywhere (drop at text) ≡ t → head_at text at (state (heading p) []) ≡ comes text s (refusal_at (left_out_anywhere (drop at text)) at)
+        go : (t : Bool) → left_out_anywhere (drop at text) ≡ t → head_at text at (state (heading p) []) ≡ refusing (refusal_at (left_out_anywhere (drop at text)) at)
         go true h = let h' = rw (drop-cons text at 0 inside) at h in rw (drop-cons text at 0 inside, h')
         go false h = let h' = rw (drop-cons text at 0 inside) at h in rw (drop-cons text at 0 inside, h', plain, e)
 
@@ -62,19 +61,16 @@ pattern_alike text at p q f g h =
 
 -- FROM PATTERN TO PATTERN.
 pub farther : (least least' most : ℕ) (r : Reach) → least' ≤ least → Between least most r → Between least' most r
-farther least least' most (At to) l b = (omega (arith, b.0), b.1)
-farther least least' most (Wrong place) l b = b
-farther least least' most (LeftOut place) l b = b
+farther least least' most (Ok to) l b = (omega (arith, b.0), b.1)
+farther least least' most (Err why) l b = b
 
 module _ (text : List ℕ) (at : ℕ) where
   -- A refusal is one of the whole.
-  pub heads_stuck : (p q s : Pattern) (r : Reach) → Refused r → Heads text at p q r → Heads text at p s r
-  heads_stuck p q s (At to) stuck h = absurd (miss (1 ∷ 2 ∷ []) 0 tt stuck)
-  heads_stuck p q s (Wrong place) stuck h = record { goes = h.goes; bounds = h.bounds }
-  heads_stuck p q s (LeftOut place) stuck h = record { goes = h.goes; bounds = h.bounds }
+  pub heads_stuck : (p q s : Pattern) (why : Refusal) → Heads text at p q (Err why) → Heads text at p s (Err why)
+  heads_stuck p q s why h = record { goes = h.goes; bounds = h.bounds }
 
   -- One part after the other.
-  pub heads_then : (p q s : Pattern) (to : ℕ) (r : Reach) → Heads text at p q (At to) → Heads text to q s r → Heads text at p s r
+  pub heads_then : (p q s : Pattern) (to : ℕ) (r : Reach) → Heads text at p q (Ok to) → Heads text to q s r → Heads text at p s r
   heads_then p q s to r g h = record { goes = g.goes ∙ h.goes; bounds = farther to at (length text) r g.bounds.0 h.bounds }
 
   -- The same from another place on.
@@ -87,15 +83,14 @@ module _ (text : List ℕ) (at : ℕ) where
       record {
         goes = row_goes text (λ n rest. head_at text n (awaiting (ones rest p))) (λ n set rest m. pattern_cut text n (one set (ones rest p)) refl m)
             (λ n set rest inside t c. pattern_takes text n (one set (ones rest p)) refl inside (ones rest p) c (rw t))
-            (λ n set rest inside t. pattern_none text n (one set (ones rest p)) refl inside (refusal_at (left_out_anywhere (drop n text)) n) (awaiting p) (rw t) refl ∙ as_comes (refusal_at (left_out_anywhere (drop n text)) n)) at sets calm
+            (λ n set rest inside t. pattern_none text n (one set (ones rest p)) refl inside (refusal_at (left_out_anywhere (drop n text)) n) (rw t) refl) at sets calm
             ∙ sym (as_comes (row_of at sets (drop at text))) ∙ ap (comes text (awaiting p)) (sym h.comes);
         bounds = exactly_between (at + length sets) at (length text) r (omega arith) (reads_bounds text at sets r l h);
       }
     where
       as_comes : (q : Reach) → comes text (awaiting p) q ≡ landed (λ to. head_at text to (awaiting p)) q
-      as_comes (At to) = refl
-      as_comes (Wrong place) = refl
-      as_comes (LeftOut place) = refl
+      as_comes (Ok to) = refl
+      as_comes (Err why) = refl
 
   pub byte_heads : (b : ℕ) (r : Reach) → calm b ≡ true → at ≤ length text → Reads text at (eqb b ∷ []) r → (p : Pattern) → Heads text at (one (eqb b) p) p r
   byte_heads b r calm l h p = row_heads (eqb b ∷ []) r (byte_calm b calm, tt) l h p

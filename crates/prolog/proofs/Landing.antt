@@ -8,7 +8,7 @@ use mathlib.Core.Bool.{Bool, true, false, not, ◌&&◌, ◌||◌, false≢true}
 use mathlib.Core.List.{List, [], ◌∷◌, ◌++◌}
 use mathlib.Core.Logic.{⊎_elim}
 use mathlib.Core.Option.{Option, none, some}
-use types.Run.{miss}
+use Rattle.std.specs.Prelude.{Ok, Err}
 use lib.Dec.{eqb}
 use lib.ListN.{length, get_or, drop, drop_of_length-le, length-drop}
 use lib.Seq.{drop-cons, drop-drop}
@@ -17,13 +17,12 @@ use Rattle.paper.specs.Tokens.{white}
 use Rattle.paper.specs.Xml.{Pattern, done, many, is_done, after, say, start, first, heading, ahead, opening, starts, first_is, declares, left_out, left_out_anywhere}
 use Rattle.paper.proofs.Tests.{decide, and_true}
 use Rattle.paper.proofs.Lexing.{begins_within}
+use Rattle.paper.specs.declared.Refusal.{Refusal}
+use Rattle.paper.specs.declared.Refusal.TheVariants.{LeftOut}
 use Rattle.xml_bytes.specs.Seeking.{Sought, stops, refused, seek}
-use Rattle.xml_bytes.specs.Promised.{state, seek_at, reached, refusal_at}
+use Rattle.xml_bytes.specs.Promised.{Reach, state, seek_at, reached, refusal_at}
 use Rattle.prolog.specs.Heading.{seek_head, head_at, Heads, valued, version_value, led, Marked, Lands, Leads}
-use Rattle.xml_bytes.specs.declared.Reach.{Reach}
-use Rattle.xml_bytes.specs.declared.Reach.TheVariants.{At, Wrong, LeftOut}
 use Rattle.xml_bytes.proofs.Steps.{calm_opens, in_or_out, run_inside, stops_run}
-use Rattle.xml_bytes.proofs.Rows.{Refused}
 use Rattle.prolog.proofs.Heading.{many_run, space_calm}
 use Rattle.prolog.proofs.Declaring.{stood}
 
@@ -53,14 +52,14 @@ module _ (text : List ℕ) (at place : ℕ) (l : at ≤ length text) (e : place 
       ∙ ap (λ n. head_at text n (state ahead [])) (sym e)
 
   -- Another byte stands there, or none.
-  pub land_other : (r : Reach) → begins 60 (drop place text) ≡ false → r ≡ refusal_at (left_out_anywhere (drop place text)) place → Lands text at r
+  pub land_other : (why : Refusal) → begins 60 (drop place text) ≡ false → why ≡ refusal_at (left_out_anywhere (drop place text)) place → Lands text at (Err why)
   unfolding left_out
-  land_other r h f = rw f (in_or_out place (length text) here over)
+  land_other why h f = rw f (in_or_out place (length text) here over)
     where
-      over : length text ≤ place → Lands text at (refusal_at (left_out_anywhere (drop place text)) place)
+      over : length text ≤ place → Lands text at (Err (refusal_at (left_out_anywhere (drop place text)) place))
       over o = rw (drop_of_length-le text o) (record { goes = to_place ∙ rw (drop_of_length-le text o); marked = place_inside })
 
-      here : place < length text → Lands text at (refusal_at (left_out_anywhere (drop place text)) place)
+      here : place < length text → Lands text at (Err (refusal_at (left_out_anywhere (drop place text)) place))
       here inside = go (left_out_anywhere (drop place text)) refl
         where
           no_tag : eqb 60 (get_or text place 0) ≡ false
@@ -72,7 +71,7 @@ module _ (text : List ℕ) (at place : ℕ) (l : at ≤ length text) (e : place 
           no_space : white (get_or text place 0) ≡ false
           no_space = stops_run white text at place e inside
 
-          go : (t : Bool) → left_out_anywhere (drop place text) ≡ t → Lands text at (refusal_at t place)
+          go : (t : Bool) → left_out_anywhere (drop place text) ≡ t → Lands text at (Err (refusal_at t place))
           go true o = let o' = rw (drop-cons text place 0 inside) at o in record { goes = to_place ∙ rw (drop-cons text place 0 inside, no_tag, o'); marked = place_inside }
           go false o = let o' = rw (drop-cons text place 0 inside) at o in record { goes = to_place ∙ rw (drop-cons text place 0 inside, no_tag, o', no_space, no_tag'); marked = place_inside }
 
@@ -83,13 +82,13 @@ module _ (text : List ℕ) (at place : ℕ) (l : at ≤ length text) (e : place 
     tag_here : eqb 60 (get_or text place 0) ≡ true
     tag_here = sym (stood text place 60 inside_by) ∙ tag
 
-    pub land_left_out : left_out_anywhere (drop place text) ≡ true → Lands text at (LeftOut place)
+    pub land_left_out : left_out_anywhere (drop place text) ≡ true → Lands text at (Err (LeftOut place))
     unfolding left_out
     land_left_out o =
         let o' = rw (drop-cons text place 0 inside_by) at o in
         record { goes = to_place ∙ rw (drop-cons text place 0 inside_by, tag_here, o'); marked = place_inside }
 
-    pub land_here : left_out_anywhere (drop place text) ≡ false → Lands text at (At place)
+    pub land_here : left_out_anywhere (drop place text) ≡ false → Lands text at (Ok place)
     land_here o =
         let o' = rw (drop-cons text place 0 inside_by) at o in
         record {
@@ -146,9 +145,8 @@ module _ (text : List ℕ) where
   goes_heading at p = (before (drop at text) at refl).1 p
 
   led_goes : (r : Reach) → goes_on_from text (led r) ≡ reached text (state ahead []) r
-  led_goes (At to) = refl
-  led_goes (Wrong place) = refl
-  led_goes (LeftOut place) = refl
+  led_goes (Ok to) = refl
+  led_goes (Err why) = refl
 
 -- THE BEGINNING OF THE TEXT.
 starts_whole : (xs bs : List ℕ) → starts xs bs ≡ true → bs ≡ xs ++ drop (length xs) bs
@@ -210,16 +208,14 @@ module _ (text : List ℕ) where
             only = only;
           }
 
-      pub lead_stuck : (r : Reach) → Refused r → Heads text place versioned done r → Leads text r
-      lead_stuck (At to) stuck h = absurd (miss (1 ∷ 2 ∷ []) 0 tt stuck)
-      lead_stuck (Wrong spot) stuck h = by_head (Wrong spot) h.goes h.bounds
-      lead_stuck (LeftOut spot) stuck h = by_head (LeftOut spot) h.goes h.bounds
+      pub lead_stuck : (why : Refusal) → Heads text place versioned done (Err why) → Leads text (Err why)
+      lead_stuck why h = by_head (Err why) h.goes h.bounds
 
-      pub lead_declared : (end : ℕ) (r : Reach) → Heads text place versioned done (At end) → Lands text end r → Leads text r
+      pub lead_declared : (end : ℕ) (r : Reach) → Heads text place versioned done (Ok end) → Lands text end r → Leads text r
       lead_declared end r h g = by_head r (h.goes ∙ g.goes) g.marked
 
   -- A byte order mark.
-  pub lead_mark : starts (239 ∷ 187 ∷ 191 ∷ []) text ≡ true → Leads text (LeftOut 0)
+  pub lead_mark : starts (239 ∷ 187 ∷ 191 ∷ []) text ≡ true → Leads text (Err (LeftOut 0))
   unfolding left_out
   lead_mark h =
       let whole = starts_whole (239 ∷ 187 ∷ 191 ∷ []) text h in

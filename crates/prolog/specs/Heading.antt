@@ -1,13 +1,11 @@
 -- What stands before the one element: the declaration and white space. The paper's automaton, stopped where the element begins.
-use Rattle.std.specs.Prelude.{ℕ, suc, ◌-◌, ◌≤◌, ◌<◌, ◌≡◌, Bool, true, false, not, ◌&&◌, ◌||◌, cond, List, [], ◌∷◌, eqb, length, get_or, drop}
+use Rattle.std.specs.Prelude.{ℕ, suc, ◌-◌, ◌≤◌, ◌<◌, ◌≡◌, Bool, true, false, not, ◌&&◌, ◌||◌, cond, List, [], ◌∷◌, Ok, Err, eqb, length, get_or, drop}
 use Rattle.paper.specs.Tools.{ascii, begins}
 use Rattle.paper.specs.Tokens.{white}
 use Rattle.paper.specs.Xml.{Pattern, one, many, fork, encoding, is_done, say, quoted, digit, any_case, declaration_end, after_encoding, after_version}
 use Rattle.paper.specs.Xml.{Mode, start, first, heading, ahead, opening, in_name, in_tag, emptied, content, run, partly, closing, ended, State, step, left_out, left_out_anywhere}
-use Rattle.xml_bytes.specs.Seeking.{Sought, stops, refused, onwards, seek}
-use Rattle.xml_bytes.specs.Promised.{state, reached, Between}
-use Rattle.xml_bytes.specs.declared.Reach.{Reach}
-use Rattle.xml_bytes.specs.declared.Reach.TheVariants.{At, Wrong, LeftOut}
+use Rattle.xml_bytes.specs.Seeking.{Sought, stops, refused, refusing, refusal_place, onwards, seek}
+use Rattle.xml_bytes.specs.Promised.{Reach, state, reached, Between}
 
 -- Does an element's tag begin here, and nothing that is left out?
 abbrev pub marks : List ℕ → Bool
@@ -46,9 +44,8 @@ awaiting p = cond (is_done p) (state ahead []) (state (heading p) [])
 
 -- What is left to read where a part was read.
 abbrev pub comes : List ℕ → State → Reach → Sought
-comes text s (At to) = head_at text to s
-comes text s (Wrong place) = refused 11 place
-comes text s (LeftOut place) = refused 12 place
+comes text s (Ok to) = head_at text to s
+comes text s (Err why) = refusing why
 
 -- From one pattern to another.
 pub record Heads (text : List ℕ) (at : ℕ) (p q : Pattern) (r : Reach) : Type 0 where
@@ -64,14 +61,12 @@ is_quote b = eqb b 34 || eqb b 39
 
 -- Behind the quote that opens a value.
 abbrev pub behind_quote : List ℕ → (ℕ → Pattern) → Reach → Sought
-behind_quote text value (At to) = head_at text to (awaiting (value (get_or text (to - 1) 0)))
-behind_quote text value (Wrong place) = refused 11 place
-behind_quote text value (LeftOut place) = refused 12 place
+behind_quote text value (Ok to) = head_at text to (awaiting (value (get_or text (to - 1) 0)))
+behind_quote text value (Err why) = refusing why
 
 abbrev pub QuoteBefore : List ℕ → Reach → Type 0
-QuoteBefore text (At to) = is_quote (get_or text (to - 1) 0) ≡ true
-QuoteBefore text (Wrong place) = Unit
-QuoteBefore text (LeftOut place) = Unit
+QuoteBefore text (Ok to) = is_quote (get_or text (to - 1) 0) ≡ true
+QuoteBefore text (Err why) = Unit
 
 pub record Gives (text : List ℕ) (at : ℕ) (before : (ℕ → Pattern) → Pattern) (r : Reach) : Type 0 where
   pub goes : (value : ℕ → Pattern) → head_at text at (awaiting (before value)) ≡ behind_quote text value r
@@ -99,15 +94,13 @@ standalone_value q = yes_no (one (eqb q) declaration_end)
 
 -- THE PLACE OF THE ELEMENT.
 abbrev pub led : Reach → Sought
-led (At to) = stops to (state ahead [])
-led (Wrong place) = refused 11 place
-led (LeftOut place) = refused 12 place
+led (Ok to) = stops to (state ahead [])
+led (Err why) = refusing why
 
 -- Its `<` stands there, and opens nothing that is left out.
 abbrev pub Marked : List ℕ → Reach → Type 0
-Marked text (At place) = (place < length text) × (get_or text place 0 ≡ 60) × (left_out_anywhere (drop place text) ≡ false)
-Marked text (Wrong place) = place ≤ length text
-Marked text (LeftOut place) = place ≤ length text
+Marked text (Ok place) = (place < length text) × (get_or text place 0 ≡ 60) × (left_out_anywhere (drop place text) ≡ false)
+Marked text (Err why) = refusal_place why ≤ length text
 
 -- Past white space.
 pub record Lands (text : List ℕ) (at : ℕ) (r : Reach) : Type 0 where

@@ -1,15 +1,16 @@
 // What stands before the one element of an XML text: the declaration and white space.
 #![tactic(auto)]
 
-ghost use Rattle.std.specs.Prelude.{◌+◌, ◌-◌, ◌≤◌, ◌<◌, ◌≡◌, true, false, [], ◌∷◌, map, length, take, drop, eqb};
+ghost use Rattle.std.specs.Prelude.{◌+◌, ◌≤◌, ◌<◌, ◌≡◌, true, false, [], ◌∷◌, length, drop, eqb};
 ghost use Rattle.std.proofs.Math.Option.{none, some};
-ghost use Rattle.paper.specs.Tools.{ascii, begins, same, run_of};
+ghost use Rattle.paper.specs.Tools.{ascii, begins, run_of};
 ghost use Rattle.paper.specs.Tokens.{white};
-ghost use Rattle.paper.specs.Xml.{Pattern, one, many, is_done, quote_of, quoted, digit, any_case, starts, lower, other_encoding, declares, declaration_end, after_encoding, after_version};
+ghost use Rattle.paper.specs.Xml.{Pattern, one, many, is_done, quote_of, quoted, digit, any_case, other_encoding, declares, declaration_end, after_encoding, after_version};
 ghost use Rattle.paper.specs.Xml as xml;
 ghost use Rattle.prolog.specs.Heading.{Heads, valued, Gives, numbered, version_value, utf8, encoding_value, yes_no, standalone_value, Lands, Leads};
 ghost use Rattle.xml_bytes.specs.Promised.{calm, all_calm, Reads};
 
+use paper::Refusal;
 use token::{run_end, skip, white_space};
 use xml_bytes::{Reach, byte, markup, refuse, say};
 
@@ -19,13 +20,13 @@ fn any_case(text: &[u8], at: usize, small: u8) -> Reach
     ensures { Reads text.now at (any_case small ∷ []) result }
 {
     if text.len() <= at {
-        return Reach::Wrong(at);
+        return Err(Refusal::NoXml(at));
     }
     let b = text[at];
     if (b == small) | (b == small - 32) {
-        Reach::At(at + 1)
+        Ok(at + 1)
     } else {
-        refuse(text, at)
+        Err(refuse(text, at))
     }
 }
 
@@ -34,11 +35,8 @@ fn equals(text: &[u8], at: usize) -> Reach
     requires { at ≤ length text.now }
     ensures { (p : Pattern) → is_done p ≡ false → quote_of p ≡ none → Heads text.now at (many white (one (eqb 61) (many white p))) p result }
 {
-    let mark = byte(text, skip(text, at), b'=');
-    let Reach::At(next) = mark else {
-        return mark;
-    };
-    Reach::At(skip(text, next))
+    let next = byte(text, skip(text, at), b'=')?;
+    Ok(skip(text, next))
 }
 
 // The quote that opens a value.
@@ -47,13 +45,13 @@ fn quote(text: &[u8], at: usize) -> Reach
     ensures { Gives text.now at quoted result }
 {
     if text.len() <= at {
-        return Reach::Wrong(at);
+        return Err(Refusal::NoXml(at));
     }
     let b = text[at];
     if (b == b'"') | (b == b'\'') {
-        Reach::At(at + 1)
+        Ok(at + 1)
     } else {
-        refuse(text, at)
+        Err(refuse(text, at))
     }
 }
 
@@ -62,14 +60,8 @@ fn given(text: &[u8], at: usize, name: &[u8]) -> Reach
     requires { (at ≤ length text.now) × (all_calm name.now ≡ true) }
     ensures { Gives text.now at (λ value. xml.say name.now (valued value)) result }
 {
-    let named = say(text, at, name);
-    let Reach::At(name_end) = named else {
-        return named;
-    };
-    let marked = equals(text, name_end);
-    let Reach::At(place) = marked else {
-        return marked;
-    };
+    let name_end = say(text, at, name)?;
+    let place = equals(text, name_end)?;
     quote(text, place)
 }
 
@@ -78,15 +70,11 @@ fn digits_end(text: &[u8], from: usize) -> usize
     requires { from ≤ length text.now }
     ensures { result ≡ from + run_of digit (drop from text.now) }
 {
-    let mut at = from;
-    while at < text.len() {
-        let b = text[at];
-        if !((b'0' <= b) & (b <= b'9')) {
-            return at;
-        }
-        at += 1;
-    }
-    at
+    let digits = text[from..]
+        .iter()
+        .position(|b| !b.is_ascii_digit())
+        .unwrap_or(text.len() - from);
+    from + digits
 }
 
 // Digits, at least one, and the quote.
@@ -96,7 +84,7 @@ fn number(text: &[u8], at: usize, closing: u8) -> Reach
 {
     let end = digits_end(text, at);
     if end <= at {
-        return refuse(text, at);
+        return Err(refuse(text, at));
     }
     byte(text, end, closing)
 }
@@ -105,10 +93,7 @@ fn number(text: &[u8], at: usize, closing: u8) -> Reach
 fn stands(text: &[u8], at: usize, wanted: u8) -> bool
     ensures { result ≡ begins wanted (drop at text.now) }
 {
-    if text.len() <= at {
-        return false;
-    }
-    wanted == text[at]
+    at < text.len() && wanted == text[at]
 }
 
 // The end of the declaration.
@@ -136,18 +121,9 @@ fn standalone(text: &[u8], at: usize) -> Reach
     requires { at ≤ length text.now }
     ensures { Heads text.now at (xml.say (ascii "standalone") (valued standalone_value)) xml.done result }
 {
-    let behind = given(text, at, b"standalone");
-    let Reach::At(from) = behind else {
-        return behind;
-    };
-    let word = yes_no(text, from);
-    let Reach::At(end) = word else {
-        return word;
-    };
-    let closed = byte(text, end, text[from - 1]);
-    let Reach::At(next) = closed else {
-        return closed;
-    };
+    let from = given(text, at, b"standalone")?;
+    let end = yes_no(text, from)?;
+    let next = byte(text, end, text[from - 1])?;
     declaration_end(text, next)
 }
 
@@ -164,27 +140,6 @@ fn after_encoding(text: &[u8], at: usize) -> Reach
     }
 }
 
-// A small letter for a capital one.
-fn small(b: u8) -> u8
-    ensures { result ≡ lower b }
-{
-    if (b'A' <= b) & (b <= b'Z') { b + 32 } else { b }
-}
-
-// Is this UTF-8, in any case of letters?
-fn utf_8_named(text: &[u8], at: usize, end: usize) -> bool
-    requires { (at ≤ end) × (end ≤ length text.now) }
-    ensures { result ≡ same (map lower (take (end - at) (drop at text.now))) (ascii "utf-8") }
-{
-    if end - at != 5 {
-        return false;
-    }
-    (small(text[at]) == b'u')
-        & ((small(text[at + 1]) == b't')
-            & ((small(text[at + 2]) == b'f')
-                & ((small(text[at + 3]) == b'-') & (small(text[at + 4]) == b'8'))))
-}
-
 // Does the name of another encoding stand here, in closed quotes?
 fn other_encoding(text: &[u8], at: usize, closing: u8) -> bool
     requires { at ≤ length text.now }
@@ -193,15 +148,14 @@ fn other_encoding(text: &[u8], at: usize, closing: u8) -> bool
     if text.len() <= at {
         return false;
     }
-    let b = text[at];
-    if !((b'A' <= b) & (b <= b'Z') | (b'a' <= b) & (b <= b'z')) {
+    if !text[at].is_ascii_alphabetic() {
         return false;
     }
     let end = run_end(text, at);
     if !stands(text, end, closing) {
         return false;
     }
-    !utf_8_named(text, at, end)
+    !text[at..end].eq_ignore_ascii_case(b"utf-8")
 }
 
 // `utf-8` in any case of letters, and the quote.
@@ -209,22 +163,10 @@ fn utf_8(text: &[u8], at: usize, closing: u8) -> Reach
     requires { (at ≤ length text.now) × (calm closing ≡ true) }
     ensures { Heads text.now at (utf8 closing) after_encoding result }
 {
-    let u = any_case(text, at, b'u');
-    let Reach::At(past_u) = u else {
-        return u;
-    };
-    let t = any_case(text, past_u, b't');
-    let Reach::At(past_t) = t else {
-        return t;
-    };
-    let f = any_case(text, past_t, b'f');
-    let Reach::At(past_f) = f else {
-        return f;
-    };
-    let rest = say(text, past_f, b"-8");
-    let Reach::At(end) = rest else {
-        return rest;
-    };
+    let past_u = any_case(text, at, b'u')?;
+    let past_t = any_case(text, past_u, b't')?;
+    let past_f = any_case(text, past_t, b'f')?;
+    let end = say(text, past_f, b"-8")?;
     byte(text, end, closing)
 }
 
@@ -234,12 +176,9 @@ fn encoding_value(text: &[u8], at: usize, closing: u8) -> Reach
     ensures { Heads text.now at (encoding_value closing) xml.done result }
 {
     if other_encoding(text, at, closing) {
-        return Reach::LeftOut(at);
+        return Err(Refusal::LeftOut(at));
     }
-    let value = utf_8(text, at, closing);
-    let Reach::At(next) = value else {
-        return value;
-    };
+    let next = utf_8(text, at, closing)?;
     after_encoding(text, next)
 }
 
@@ -248,10 +187,7 @@ fn encoding(text: &[u8], at: usize) -> Reach
     requires { at ≤ length text.now }
     ensures { Heads text.now at (xml.say (ascii "encoding") (valued encoding_value)) xml.done result }
 {
-    let behind = given(text, at, b"encoding");
-    let Reach::At(from) = behind else {
-        return behind;
-    };
+    let from = given(text, at, b"encoding")?;
     encoding_value(text, from, text[from - 1])
 }
 
@@ -273,14 +209,8 @@ fn version_value(text: &[u8], at: usize, closing: u8) -> Reach
     requires { (at ≤ length text.now) × (calm closing ≡ true) }
     ensures { Heads text.now at (version_value closing) xml.done result }
 {
-    let one = say(text, at, b"1.");
-    let Reach::At(from) = one else {
-        return one;
-    };
-    let digits = number(text, from, closing);
-    let Reach::At(next) = digits else {
-        return digits;
-    };
+    let from = say(text, at, b"1.")?;
+    let next = number(text, from, closing)?;
     after_version(text, next)
 }
 
@@ -289,41 +219,15 @@ fn version(text: &[u8], at: usize) -> Reach
     requires { at ≤ length text.now }
     ensures { Heads text.now at (xml.say (ascii "version") (valued version_value)) xml.done result }
 {
-    let behind = given(text, at, b"version");
-    let Reach::At(from) = behind else {
-        return behind;
-    };
+    let from = given(text, at, b"version")?;
     version_value(text, from, text[from - 1])
-}
-
-// Does the text begin with the word?
-fn begins_with(text: &[u8], word: &[u8]) -> bool
-    ensures { result ≡ starts word.now text.now }
-{
-    let mut done = 0;
-    while done < word.len() {
-        if text.len() <= done {
-            return false;
-        }
-        if text[done] != word[done] {
-            return false;
-        }
-        done += 1;
-    }
-    true
 }
 
 // Does the text begin with a declaration?
 fn declared(text: &[u8]) -> bool
     ensures { result ≡ declares text.now }
 {
-    if !begins_with(text, b"<?xml") {
-        return false;
-    }
-    if text.len() <= 5 {
-        return false;
-    }
-    white_space(text[5])
+    text.starts_with(b"<?xml") && 5 < text.len() && white_space(text[5])
 }
 
 // The place of the element past white space.
@@ -333,12 +237,12 @@ fn land(text: &[u8], at: usize) -> Reach
 {
     let place = skip(text, at);
     if !stands(text, place, b'<') {
-        return refuse(text, place);
+        return Err(refuse(text, place));
     }
     if markup(text, place) {
-        Reach::LeftOut(place)
+        Err(Refusal::LeftOut(place))
     } else {
-        Reach::At(place)
+        Ok(place)
     }
 }
 
@@ -347,14 +251,11 @@ pub fn lead(text: &[u8]) -> Reach
     ensures { Leads text.now result }
 {
     if declared(text) {
-        let declaration = version(text, skip(text, 6));
-        let Reach::At(end) = declaration else {
-            return declaration;
-        };
+        let end = version(text, skip(text, 6))?;
         return land(text, end);
     }
-    if begins_with(text, &[239, 187, 191]) {
-        return Reach::LeftOut(0);
+    if text.starts_with(&[239, 187, 191]) {
+        return Err(Refusal::LeftOut(0));
     }
     land(text, 0)
 }

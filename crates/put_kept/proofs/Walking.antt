@@ -24,9 +24,9 @@ use Rattle.file_theorems.proofs.Answered.{Reads}
 use Rattle.file_theorems.proofs.Bounds.{kept_small}
 use Rattle.file_theorems.proofs.Naming.{names_stand}
 use Rattle.file_theorems.proofs.Onward.{line_at, length_table, name_of, innermost, shown, closes, onward, Chain, here, below, chain_closes, Rests, kept_onward, start_rests, node_rests, node-told, node_inside}
+use Rattle.put_tags.specs.Lending.{MarkedText, IsLent}
 use Rattle.put_tags.specs.Tags.{name_at, Open, none_open, one_open, Closable}
 use Rattle.put_node.specs.Placing.{past_tags, piece_of, piece_squares, inner_by, PutsNode, Placeable}
-use Rattle.put_kept.specs.Lending.{Lent}
 
 named_kind : (o : Option ℕ) → name_kind o ≡ 1 → ⊥
 named_kind none h = omega arith
@@ -80,7 +80,25 @@ pub walking_as : {text marks old out out' : List ℕ} {lines : List Row} {pen at
     → Walking text marks lines pen old out at k top i → Walking text marks lines pen old out' at' k' top' i
 walking_as o a k t w = rw (o, a, k, t) w
 
-module _ (text parents kinds begins ends marks : List ℕ) (g : Lent text parents kinds begins ends marks) where
+module _ (given : MarkedText) (g : IsLent given) where
+  abbrev text : List ℕ
+  text = given.text
+
+  abbrev parents : List ℕ
+  parents = given.parents
+
+  abbrev kinds : List ℕ
+  kinds = given.kinds
+
+  abbrev begins : List ℕ
+  begins = given.begins
+
+  abbrev ends : List ℕ
+  ends = given.ends
+
+  abbrev marks : List ℕ
+  marks = given.marks
+
   abbrev pub lines : List Row
   lines = table (length text) g.tree
 
@@ -212,7 +230,7 @@ module _ (text parents kinds begins ends marks : List ℕ) (g : Lent text parent
         ∙ ap (λ (x : List ℕ). w.done ++ x) (sym (node_step n.more i top k n.bytes w.past_root (in_lines l) m n.chain))
         ∙ ap (λ j. w.done ++ onward text marks lines j i top k) (sym n.all) ∙ w.goes_on
 
-    pub walk_placeable : i < length parents → marked marks i ≡ true → pen < 4294967296 → Placeable text parents kinds begins ends at top i
+    pub walk_placeable : i < length parents → marked marks i ≡ true → pen < 4294967296 → Placeable given at top i
     walk_placeable l m short =
         let n = next l m in
         let place = node_inside text g.tree g.read i w.past_root (in_lines l) in
@@ -239,7 +257,7 @@ module _ (text parents kinds begins ends marks : List ℕ) (g : Lent text parent
 
     -- A marked node put, one that is not marked passed.
     pub walk_node : {new : List ℕ} {to behind within : ℕ} → i < length parents → marked marks i ≡ true
-        → ((bytes : List ℕ) → Open text parents begins top (get_or parents i 0) bytes → PutsNode text parents kinds begins ends bytes at k top i out new to behind within)
+        → ((bytes : List ℕ) → Open text parents begins top (get_or parents i 0) bytes → PutsNode given bytes at k top i out new to behind within)
         → Walking text marks lines pen old new to behind within (i + 1)
     walk_node l m f =
         let n = next l m in
@@ -298,9 +316,9 @@ module _ (text parents kinds begins ends marks : List ℕ) (g : Lent text parent
     walk_done l f = puts_as (whole l) (puts_both w.puts (f (last l).0 (open_of (last l).1)))
 
 -- WHERE READING ANSWERS as the columns say, with marks without fault, the walk may begin.
-pub walk_lent : (text list parents kinds begins ends marks : List ℕ) → Reads text list (table_of parents kinds) begins ends → marks_fault (table_of parents kinds) marks ≡ none
-    → length marks ≡ length parents → length text ≤ text_limit → Lent text parents kinds begins ends marks
-walk_lent text list parents kinds begins ends marks r fine long short =
+pub walk_lent : (given : MarkedText) (list : List ℕ) → Reads given.text list (table_of given.parents given.kinds) given.begins given.ends
+    → marks_fault (table_of given.parents given.kinds) given.marks ≡ none → length given.marks ≡ length given.parents → length given.text ≤ text_limit → IsLent given
+walk_lent given list r fine long short =
     record {
       list = list;
       tree = r.tree;

@@ -3,6 +3,7 @@ use Rattle.std.specs.Prelude.{ℕ, ◌≤◌, ◌<◌, ◌≡◌, cond, List, []
 use Rattle.paper.specs.Limits.{text_limit}
 use Rattle.paper.specs.WriteXml.{bytes_at, squares_past, escaped}
 use Rattle.pen.specs.Putting.{Puts}
+use Rattle.put_tags.specs.Lending.{MarkedText}
 use Rattle.put_tags.specs.Tags.{name_at, Closable}
 
 -- The count of `]` once the elements from `top` up to `up` are closed.
@@ -25,19 +26,19 @@ abbrev pub inner_by : ℕ → ℕ → ℕ → ℕ
 inner_by kind up node = cond (eqb kind 1) up node
 
 -- A node put, where these bytes close what is open up to its parent.
-pub record PutsNode (text parents kinds begins ends bytes : List ℕ) (pen k top node : ℕ) (old new : List ℕ) (next squares inner : ℕ) : Type 0 where
-  pub puts : Puts (bytes ++ piece_of text (get_or kinds node 0) (get_or begins node 0) (get_or ends node 0) (past_tags k top (get_or parents node 0))) pen old new next
-  pub counts : squares ≡ piece_squares text (get_or kinds node 0) (get_or begins node 0) (get_or ends node 0) (past_tags k top (get_or parents node 0))
-  pub opens : inner ≡ inner_by (get_or kinds node 0) (get_or parents node 0) node
+pub record PutsNode (m : MarkedText) (bytes : List ℕ) (pen k top node : ℕ) (old new : List ℕ) (next squares inner : ℕ) : Type 0 where
+  pub puts : Puts (bytes ++ piece_of m.text (get_or m.kinds node 0) (get_or m.begins node 0) (get_or m.ends node 0) (past_tags k top (get_or m.parents node 0))) pen old new next
+  pub counts : squares ≡ piece_squares m.text (get_or m.kinds node 0) (get_or m.begins node 0) (get_or m.ends node 0) (past_tags k top (get_or m.parents node 0))
+  pub opens : inner ≡ inner_by (get_or m.kinds node 0) (get_or m.parents node 0) node
 
 -- What a node asks: that it has a line and a place in the text, and that what is open up to its parent can be closed.
-pub record Placeable (text parents kinds begins ends : List ℕ) (pen top node : ℕ) : Type 0 where
-  pub in_parents : node < length parents
-  pub in_kinds : node < length kinds
-  pub in_begins : node < length begins
-  pub in_ends : node < length ends
-  pub inside : get_or begins node 0 < length text
-  pub forward : get_or begins node 0 ≤ get_or ends node 0
-  pub ends_inside : get_or ends node 0 ≤ length text
-  pub text_short : length text ≤ text_limit
-  pub closable : Closable text parents begins pen top (get_or parents node 0)
+pub record Placeable (m : MarkedText) (pen top node : ℕ) : Type 0 where
+  pub in_parents : node < length m.parents
+  pub in_kinds : node < length m.kinds
+  pub in_begins : node < length m.begins
+  pub in_ends : node < length m.ends
+  pub inside : get_or m.begins node 0 < length m.text
+  pub forward : get_or m.begins node 0 ≤ get_or m.ends node 0
+  pub ends_inside : get_or m.ends node 0 ≤ length m.text
+  pub text_short : length m.text ≤ text_limit
+  pub closable : Closable m.text m.parents m.begins pen top (get_or m.parents node 0)

@@ -5,7 +5,7 @@ ghost use Rattle.std.specs.Prelude.{◌≡◌, List, ℕ, ◌^◌, ◌≤◌, �
 ghost use Rattle.put_tags.specs.Tags.{Open};
 ghost use Rattle.put_node.specs.Placing.{past_tags, PutsPiece, inner_by, PutsNode, Placeable};
 
-use put_tags::{close, start_at};
+use put_tags::{Line, Marked, start_at};
 use put_text::{Point, put_text};
 
 // How far a walk over the nodes has come: where the pen stands, and the innermost element that is open.
@@ -16,24 +16,16 @@ pub struct Walk {
     pub top: usize,
 }
 
-// Puts what a node of this kind and place has of its own: a text its bytes behind so many `]`, an element its start tag.
-fn put_piece(
-    text: &[u8],
-    kind: u16,
-    begin: usize,
-    end: usize,
-    out: &mut [u8],
-    pen: usize,
-    squares: u8,
-) -> Point
-    requires { (begin < length text.now) × (begin ≤ end) × (end ≤ length text.now) × (length text.now < 2 ^ 36) × (pen < 2 ^ 38) }
-    ensures { PutsPiece text.now kind begin end squares pen out.old out.new result.at result.squares }
+// Puts what a node of this line has of its own: a text its bytes behind so many `]`, an element its start tag.
+fn put_piece(text: &[u8], line: Line, out: &mut [u8], pen: usize, squares: u8) -> Point
+    requires { (line.begin < length text.now) × (line.begin ≤ line.end) × (line.end ≤ length text.now) × (length text.now < 2 ^ 36) × (pen < 2 ^ 38) }
+    ensures { PutsPiece text.now line.kind line.begin line.end squares pen out.old out.new result.at result.squares }
 {
-    if kind != 1 {
-        let at = start_at(text, begin, out, pen);
+    if line.kind != 1 {
+        let at = start_at(text, line.begin, out, pen);
         return Point { at: at, squares: 0 };
     }
-    put_text(out, pen, squares, &text[begin..end])
+    put_text(out, pen, squares, &text[line.begin..line.end])
 }
 
 // The count of `]` once the elements from one up to another are closed: a tag ends it.
@@ -51,29 +43,17 @@ fn inner_by(kind: u16, up: usize, node: usize) -> usize
 }
 
 // Puts a node: the end tags up to its parent, then its own.
-pub fn put_node(
-    text: &[u8],
-    parent: &[u16],
-    kind: &[u16],
-    begin: &[u16],
-    end: &[u16],
-    out: &mut [u8],
-    walk: Walk,
-    node: usize,
-) -> Walk
-    requires { Placeable text.now parent.now kind.now begin.now end.now walk.at walk.top node }
-    ensures { (bytes : List ℕ) → Open text.now parent.now begin.now walk.top (get_or parent.now node 0) bytes → PutsNode text.now parent.now kind.now begin.now end.now bytes walk.at walk.squares walk.top node out.old out.new result.at result.squares result.top }
+pub fn put_node(kept: &Marked, out: &mut [u8], walk: Walk, node: usize) -> Walk
+    requires { Placeable kept.now walk.at walk.top node }
+    ensures { (bytes : List ℕ) → Open kept.now.text kept.now.parents kept.now.begins walk.top (get_or kept.now.parents node 0) bytes → PutsNode kept.now bytes walk.at walk.squares walk.top node out.old out.new result.at result.squares result.top }
 {
-    let up = parent[node] as usize;
-    let first = begin[node] as usize;
-    let past = end[node] as usize;
-    let what = kind[node];
-    let closed = close(text, parent, begin, out, walk.at, walk.top, up);
-    let squares = past_tags(walk.squares, walk.top, up);
-    let point = put_piece(text, what, first, past, out, closed, squares);
+    let line = kept.line(node);
+    let closed = kept.close(out, walk.at, walk.top, line.up);
+    let squares = past_tags(walk.squares, walk.top, line.up);
+    let point = put_piece(kept.text(), line, out, closed, squares);
     Walk {
         at: point.at,
         squares: point.squares,
-        top: inner_by(what, up, node),
+        top: inner_by(line.kind, line.up, node),
     }
 }

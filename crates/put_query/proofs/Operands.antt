@@ -7,8 +7,6 @@ use mathlib.Core.List.{List, [], ◌∷◌, ◌++◌, append_assoc}
 use mathlib.Core.Logic.{⊎_elim}
 use mathlib.Core.Option.{none, some}
 use lib.ListN.{length, get_or, drop}
-use denote.Enum.Declared.{tag_of}
-use types.Run.{OneOf, miss}
 use Rattle.paper.specs.Tools.{found, ascii}
 use Rattle.paper.specs.Query.{path, negated}
 use Rattle.paper.specs.Items.{not_item, path_at, Taken, take_steps, take_operand, take_expr, take_within}
@@ -17,7 +15,6 @@ use Rattle.paper.proofs.Tests.{found_some, none-some}
 use Rattle.item.specs.declared.Item.{Item}
 use Rattle.item.specs.declared.Item.TheVariants.{Path, Step as StepItem, And, Or, Not, Bad}
 use Rattle.item.proofs.Saying.{Said}
-use Rattle.item.specs.contracts.Item.{the_type}
 use Rattle.shape.specs.Walks.{operators}
 use Rattle.shape.proofs.Operators.{Operator, each}
 use Rattle.shape.proofs.Operands.{at_place, operand_past, operand_path, operand_bare, operand_other, operand_step, operand_denied, operand_same, joined_there, in_bracket, operators_there}
@@ -89,13 +86,13 @@ unfolding take_operand
 shut_joined ws = each (λ operator. take_operand (take_within 0) (operator ∷ ws) ≡ none) refl refl
 
 -- What is left after a path and `not` is an operator.
-is_operator : (depth w : ℕ) (i : Item) (ws : List ℕ) → Said w i → OneOf (1 ∷ 2 ∷ 3 ∷ 4 ∷ 5 ∷ []) (tag_of the_type i) → OneOf (0 ∷ 1 ∷ 2 ∷ 3 ∷ 5 ∷ []) (tag_of the_type i)
+is_operator : (depth w : ℕ) (i : Item) (ws : List ℕ) → Said w i → ((number : ℕ) → i ≡ Path number → ⊥) → (i ≡ Not → ⊥)
     → Some (take_operand (take_within depth) (w ∷ ws)) → Operator w
-is_operator depth w (Path number) ws s p n t = absurd (miss (1 ∷ 2 ∷ 3 ∷ 4 ∷ 5 ∷ []) 0 tt p)
+is_operator depth w (Path number) ws s p n t = absurd (p number refl)
 is_operator depth w (StepItem st) ws s p n t = none-some (sym (operand_step (take_within depth) w ws s.0 s.1) ∙ t.taken_whole)
 is_operator depth w And ws s p n t = (omega arith, omega arith)
 is_operator depth w Or ws s p n t = (omega arith, omega arith)
-is_operator depth w Not ws s p n t = absurd (miss (0 ∷ 1 ∷ 2 ∷ 3 ∷ 5 ∷ []) 4 tt n)
+is_operator depth w Not ws s p n t = absurd (n refl)
 is_operator depth w Bad ws s p n t = none-some (sym (operand_other (take_within depth) w ws s.0 s.2 s.3 s.4) ∙ t.taken_whole)
 
 -- The text in brackets.
@@ -107,7 +104,7 @@ module _ (items : List ℕ) (at depth : ℕ) (s : Some (take_operand (take_withi
   there : at < length items
   there = operand_there depth items at s
 
-  pub operator_there : (i : Item) → Said (get_or items at 0) i → OneOf (1 ∷ 2 ∷ 3 ∷ 4 ∷ 5 ∷ []) (tag_of the_type i) → OneOf (0 ∷ 1 ∷ 2 ∷ 3 ∷ 5 ∷ []) (tag_of the_type i) → Operator (get_or items at 0)
+  pub operator_there : (i : Item) → Said (get_or items at 0) i → ((number : ℕ) → i ≡ Path number → ⊥) → (i ≡ Not → ⊥) → Operator (get_or items at 0)
   operator_there i g p n =
       is_operator depth (get_or items at 0) i (drop (at + 1) items) g p n (some_same (ap (take_operand (take_within depth)) (at_place items at there)) s)
 

@@ -1,14 +1,13 @@
 -- What printing asks and promises: the items are those of a query whose names the list has, and the text of what is taken from them is put.
-use Rattle.std.specs.Prelude.{ℕ, ◌+◌, ◌-◌, ◌*◌, ◌≤◌, ◌≡◌, Bool, false, ◌||◌, List, length, get_or, drop}
+use Rattle.std.specs.Prelude.{ℕ, ◌+◌, ◌*◌, ◌≤◌, ◌≡◌, Bool, false, ◌||◌, List, length, get_or, drop}
 use Rattle.std.proofs.Math.Option.{some}
-use Rattle.paper.specs.Limits.{list_limit, item_limit}
+use Rattle.paper.specs.Limits.{item_limit}
 use Rattle.paper.specs.Query.{Expr}
 use Rattle.paper.specs.Query.{Query as Queried}
 use Rattle.paper.specs.Items.{step_at, Taken, decode}
 use Rattle.paper.specs.Measures.{is_or, is_and}
 use Rattle.paper.specs.Printing.{Piece, grouped, expr_pieces, text_of}
 use Rattle.paper.specs.Answers.{unknown_item}
-use Rattle.names.specs.Listing.{Indexed}
 use Rattle.pen.specs.Putting.{Puts}
 use Rattle.put_query.specs.declared.Reached.{Reached}
 
@@ -19,11 +18,9 @@ term_pieces brief e = grouped (is_or e) (expr_pieces brief e)
 abbrev pub operand_pieces : Bool → Expr → List Piece
 operand_pieces brief e = grouped (is_or e || is_and e) (expr_pieces brief e)
 
--- The list is indexed and no longer than it may be, and has a name for each that the items have.
-pub record Names (list starts : List ℕ) (count : ℕ) (items : List ℕ) : Type 0 where
-  pub indexed : Indexed list starts count
-  pub few : length list ≤ list_limit
-  pub known : (i : ℕ) → unknown_item count (step_at (get_or items i 0)) ≡ false
+-- There is a name for each that the items have.
+pub record Named (names : List (List ℕ)) (items : List ℕ) : Type 0 where
+  pub known : (i : ℕ) → unknown_item (length names) (step_at (get_or items i 0)) ≡ false
 
 -- Something is taken: the items are what they are printed as.
 pub record Some {A : Type 0} (taken : Taken A) : Type 0 where

@@ -11,9 +11,18 @@ ghost use Rattle.paper.specs.Printing.{expr_pieces, relative_pieces, preds_piece
 ghost use Rattle.paper.specs.Answers.{text_got};
 ghost use Rattle.shape.specs.Walks.{operators};
 ghost use Rattle.pen.specs.Putting.{Puts};
-ghost use Rattle.put_query.specs.Writing.{operand_pieces, Names, Some, Prints, Query, item_room, sign_room};
+ghost use Rattle.put_query.specs.Writing.{operand_pieces, Named, Some, Prints, Query, item_room, sign_room};
 
 use item::Item;
+use names::Names;
+
+// What is printed: items, with the list that has their names, in the long form or in the short one.
+#[derive(Clone, Copy)]
+struct Source<'a> {
+    items: &'a [u32],
+    names: &'a Names<'a>,
+    brief: bool,
+}
 
 // How far printing has come: the next item, and the place of the next byte.
 #[derive(Clone, Copy)]
@@ -29,37 +38,24 @@ fn closed(out: &mut [u8], reached: Reached) -> Reached
     ensures item_value { result.item ≡ reached.item }
 {
     let byte = pen::put(out, reached.byte, b")");
-    Reached {
-        item: reached.item,
-        byte,
-    }
+    Reached { byte, ..reached }
 }
 
 // Prints an expression, terms of `or`, each of them operands of `and`; so many brackets may still be opened.
 // Its bytes are counted from its first operand on, so that the operators before it pay for a bracket around it.
 #[cycle(expression_operand_predicates_steps)]
-fn expression(
-    items: &[u32],
-    list: &[u8],
-    starts: &[u16; names::STARTS],
-    count: usize,
-    out: &mut [u8],
-    at: usize,
-    pen: usize,
-    depth: usize,
-    brief: bool,
-) -> Reached
-    requires names { Names list.now starts.now count items.now }
-    requires at_in_bounds { (at ≤ length items.now) × (pen + item_room * length items.now ≤ 2 ^ 38 + item_room * (at + operators (drop at items.now))) }
-    requires some { Some (take_expr (take_within depth) (drop at items.now)) }
-    ensures { Prints (names_of list.now) items.now (at + operators (drop at items.now)) pen sign_room (take_expr (take_within depth) (drop at items.now)) (expr_pieces brief) out.old out.new result }
+fn expression(source: &Source, out: &mut [u8], at: usize, pen: usize, depth: usize) -> Reached
+    requires names { Named (names_of source.now.names.now) source.now.items.now }
+    requires at_in_bounds { (at ≤ length source.now.items.now) × (pen + item_room * length source.now.items.now ≤ 2 ^ 38 + item_room * (at + operators (drop at source.now.items.now))) }
+    requires some { Some (take_expr (take_within depth) (drop at source.now.items.now)) }
+    ensures { Prints (names_of source.now.names.now) source.now.items.now (at + operators (drop at source.now.items.now)) pen sign_room (take_expr (take_within depth) (drop at source.now.items.now)) (expr_pieces source.now.brief) out.old out.new result }
 {
-    let mut ors = shape::run_of(items, at, item::OR);
-    let mut ands = shape::run_of(items, at + ors, item::AND);
+    let mut ors = shape::run_of(source.items, at, item::OR);
+    let mut ands = shape::run_of(source.items, at + ors, item::AND);
     let mut place = at + ors + ands;
     let mut byte = pen;
     loop {
-        let one = operand(items, list, starts, count, out, place, byte, depth, brief);
+        let one = operand(source, out, place, byte, depth);
         place = one.item;
         if 0 < ands {
             byte = pen::put_and(out, one.byte);
@@ -70,7 +66,7 @@ fn expression(
             }
             byte = pen::put_or(out, one.byte);
             ors -= 1;
-            ands = shape::run_of(items, place, item::AND);
+            ands = shape::run_of(source.items, place, item::AND);
             place += ands;
         }
     }
@@ -78,113 +74,55 @@ fn expression(
 
 // Prints an operand of `and`: a path, or what stands in a bracket of `not`, `and` or `or`.
 #[cycle(expression_operand_predicates_steps)]
-fn operand(
-    items: &[u32],
-    list: &[u8],
-    starts: &[u16; names::STARTS],
-    count: usize,
-    out: &mut [u8],
-    at: usize,
-    pen: usize,
-    depth: usize,
-    brief: bool,
-) -> Reached
-    requires names { Names list.now starts.now count items.now }
-    requires at_in_bounds { (at ≤ length items.now) × (pen + item_room * length items.now ≤ 2 ^ 38 + item_room * at) }
-    requires some { Some (take_operand (take_within depth) (drop at items.now)) }
-    ensures { Prints (names_of list.now) items.now at pen sign_room (take_operand (take_within depth) (drop at items.now)) (operand_pieces brief) out.old out.new result }
+fn operand(source: &Source, out: &mut [u8], at: usize, pen: usize, depth: usize) -> Reached
+    requires names { Named (names_of source.now.names.now) source.now.items.now }
+    requires at_in_bounds { (at ≤ length source.now.items.now) × (pen + item_room * length source.now.items.now ≤ 2 ^ 38 + item_room * at) }
+    requires some { Some (take_operand (take_within depth) (drop at source.now.items.now)) }
+    ensures { Prints (names_of source.now.names.now) source.now.items.now at pen sign_room (take_operand (take_within depth) (drop at source.now.items.now)) (operand_pieces source.now.brief) out.old out.new result }
 {
-    let item = item::unpack(items[at]);
+    let item = item::unpack(source.items[at]);
     if let Item::Path(number) = item {
-        return steps(
-            items,
-            list,
-            starts,
-            count,
-            out,
-            at + 1,
-            pen,
-            number,
-            depth,
-            brief,
-        );
+        return steps(source, out, at + 1, pen, number, depth);
     }
     if let Item::Not = item {
         let opened = pen::put_not(out, pen);
-        let denied = expression(
-            items,
-            list,
-            starts,
-            count,
-            out,
-            at + 1,
-            opened,
-            depth - 1,
-            brief,
-        );
+        let denied = expression(source, out, at + 1, opened, depth - 1);
         return closed(out, denied);
     }
     let opened = pen::put_open(out, pen);
-    let inner = expression(
-        items,
-        list,
-        starts,
-        count,
-        out,
-        at,
-        opened,
-        depth - 1,
-        brief,
-    );
+    let inner = expression(source, out, at, opened, depth - 1);
     closed(out, inner)
 }
 
 // Prints so many steps of a path, with `/` between them, or `//` for a step.
 #[cycle(expression_operand_predicates_steps)]
 fn steps(
-    items: &[u32],
-    list: &[u8],
-    starts: &[u16; names::STARTS],
-    count: usize,
+    source: &Source,
     out: &mut [u8],
     at: usize,
     pen: usize,
     number: usize,
     depth: usize,
-    brief: bool,
 ) -> Reached
-    requires names { Names list.now starts.now count items.now }
-    requires at_in_bounds { (at ≤ length items.now) × (pen + item_room * length items.now ≤ 2 ^ 38 + item_room * at) }
-    requires some { Some (take_steps (take_within depth) number (drop at items.now)) }
-    ensures { Prints (names_of list.now) items.now at pen 0 (take_steps (take_within depth) number (drop at items.now)) (relative_pieces brief) out.old out.new result }
+    requires names { Named (names_of source.now.names.now) source.now.items.now }
+    requires at_in_bounds { (at ≤ length source.now.items.now) × (pen + item_room * length source.now.items.now ≤ 2 ^ 38 + item_room * at) }
+    requires some { Some (take_steps (take_within depth) number (drop at source.now.items.now)) }
+    ensures { Prints (names_of source.now.names.now) source.now.items.now at pen 0 (take_steps (take_within depth) number (drop at source.now.items.now)) (relative_pieces source.now.brief) out.old out.new result }
 {
     let mut place = at;
     let mut byte = pen;
     let mut owed = number;
     while 0 < owed {
-        let item = item::unpack(items[place]);
+        let item = item::unpack(source.items[place]);
         let Item::Step(step) = item else {
             return Reached { item: place, byte };
         };
-        let headed = put_steps::put_head(
-            list, starts, count, out, byte, step.axis, step.test, step.count, brief,
-        );
-        let more = predicates(
-            items,
-            list,
-            starts,
-            count,
-            out,
-            place + 1,
-            headed,
-            step.count,
-            depth,
-            brief,
-        );
+        let headed = put_steps::put_head(source.names, out, byte, step, source.brief);
+        let more = predicates(source, out, place + 1, headed, step.count, depth);
         place = more.item;
         owed -= 1;
         let parted = pen::put_slash(out, more.byte, owed);
-        let skipped = slashes::deep(items, place, owed, brief);
+        let skipped = slashes::deep(source.items, place, owed, source.brief);
         byte = pen::put_slash(out, parted, skipped);
         place += skipped;
         owed -= skipped;
@@ -195,58 +133,40 @@ fn steps(
 // Prints so many predicates, each an expression in its bracket.
 #[cycle(expression_operand_predicates_steps)]
 fn predicates(
-    items: &[u32],
-    list: &[u8],
-    starts: &[u16; names::STARTS],
-    count: usize,
+    source: &Source,
     out: &mut [u8],
     at: usize,
     pen: usize,
     number: usize,
     depth: usize,
-    brief: bool,
 ) -> Reached
-    requires names { Names list.now starts.now count items.now }
-    requires at_in_bounds { (at ≤ length items.now) × (pen + item_room * length items.now + sign_room ≤ 2 ^ 38 + item_room * at) }
-    requires some { Some (take_preds (take_within depth) number (drop at items.now)) }
-    ensures { Prints (names_of list.now) items.now at pen 0 (take_preds (take_within depth) number (drop at items.now)) (preds_pieces brief) out.old out.new result }
+    requires names { Named (names_of source.now.names.now) source.now.items.now }
+    requires at_in_bounds { (at ≤ length source.now.items.now) × (pen + item_room * length source.now.items.now + sign_room ≤ 2 ^ 38 + item_room * at) }
+    requires some { Some (take_preds (take_within depth) number (drop at source.now.items.now)) }
+    ensures { Prints (names_of source.now.names.now) source.now.items.now at pen 0 (take_preds (take_within depth) number (drop at source.now.items.now)) (preds_pieces source.now.brief) out.old out.new result }
 {
     let mut place = at;
     let mut byte = pen;
-    let mut owed = number;
-    while 0 < owed {
+    for _ in 0..number {
         let opened = pen::put_byte(out, byte, b'[');
-        let more = expression(
-            items,
-            list,
-            starts,
-            count,
-            out,
-            place,
-            opened,
-            depth - 1,
-            brief,
-        );
+        let more = expression(source, out, place, opened, depth - 1);
         place = more.item;
         byte = pen::put_byte(out, more.byte, b']');
-        owed -= 1;
     }
     Reached { item: place, byte }
 }
 
 // Prints a query, and tells how many bytes its text has.
-pub fn paths(
-    items: &[u32],
-    list: &[u8],
-    starts: &[u16; names::STARTS],
-    count: usize,
-    out: &mut [u8],
-    brief: bool,
-) -> usize
-    requires names { Names list.now starts.now count items.now }
+pub fn paths(items: &[u32], names: &Names, out: &mut [u8], brief: bool) -> usize
+    requires names { Named (names_of names.now) items.now }
     requires query { Query items.now }
-    ensures { Puts (text_got brief (names_of list.now) (decode items.now)) 0 out.old out.new result }
+    ensures { Puts (text_got brief (names_of names.now) (decode items.now)) 0 out.old out.new result }
 {
+    let source = Source {
+        items,
+        names,
+        brief,
+    };
     let mut place = 0;
     let mut byte = 0;
     while place < items.len() {
@@ -258,16 +178,12 @@ pub fn paths(
         let skipped = slashes::deep(items, place + 1, number, brief);
         let ready = pen::put_slash(out, opened, skipped);
         let more = steps(
-            items,
-            list,
-            starts,
-            count,
+            &source,
             out,
             place + 1 + skipped,
             ready,
             number - skipped,
             paper::BRACKET_LIMIT,
-            brief,
         );
         place = more.item;
         byte = pen::put_bar(out, more.byte, items.len() - place);

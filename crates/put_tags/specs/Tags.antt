@@ -1,5 +1,5 @@
 -- What putting tags asks and promises: the name of an element in the text, and the end tags of the elements that are open.
-use Rattle.std.specs.Prelude.{ℕ, suc, ◌+◌, ◌<◌, List, [], ◌∷◌, ◌++◌, length, get_or, drop}
+use Rattle.std.specs.Prelude.{ℕ, suc, ◌+◌, ◌<◌, ◌≡◌, List, [], ◌∷◌, ◌++◌, length, get_or, drop}
 use Rattle.paper.specs.Tools.{run_of}
 use Rattle.paper.specs.Names.{name_part}
 use Rattle.paper.specs.WriteXml.{bytes_at}
@@ -19,3 +19,10 @@ pub record Closable (text parents begins : List ℕ) (pen top up : ℕ) : Type 0
   pub bytes : List ℕ
   pub chain : Open text parents begins top up bytes
   pub room : pen + length bytes + length text < 274877906944
+
+-- What the columns say of a node.
+pub record Says (parents kinds begins ends : List ℕ) (node up kind begin end : ℕ) : Type 0 where
+  pub up_is : up ≡ get_or parents node 0
+  pub kind_is : kind ≡ get_or kinds node 0
+  pub begin_is : begin ≡ get_or begins node 0
+  pub end_is : end ≡ get_or ends node 0

@@ -44,12 +44,9 @@ pub fn put_text(out: &mut [u8], pen: usize, squares: u8, bytes: &[u8]) -> Point
 {
     let mut at = pen;
     let mut k = squares;
-    let mut i = 0;
-    while i < bytes.len() {
-        let b = bytes[i];
+    for &b in bytes {
         at = put_char(out, at, k, b);
         k = squares_by(k, b);
-        i += 1;
     }
-    Point { at: at, squares: k }
+    Point { at, squares: k }
 }

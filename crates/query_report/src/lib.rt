@@ -10,22 +10,15 @@ ghost use Rattle.lines.specs.Lines.{report_limit, Reports};
 ghost use Rattle.query_report.specs.Ways.{way_answer, way_out, queries_print_by};
 
 use paper::Answer;
-use shape::Shape;
 
 // The nesting of a query.
 fn nesting_of(query: &[u32]) -> usize
     ensures { result ≡ nesting_got (decode query.now) }
 {
-    let shape = shape::measure(query);
-    let Shape::Query {
-        nesting,
-        height: _,
-        guards: _,
-    } = shape
-    else {
+    let Some(shape) = shape::measure(query) else {
         return 0;
     };
-    nesting
+    shape.nesting
 }
 
 // The report on a composed query of this nesting, which is printed in the long form.
@@ -35,7 +28,7 @@ fn report_query(query: &[u32], nesting: usize, list: &[u8], out: &mut [u8]) -> u
 {
     let mut text = [0u8; paper::TEXT_LIMIT];
     let answer = print::print_long(query, list, &mut text);
-    let Answer::Value(count) = answer else {
+    let Ok(count) = answer else {
         return lines::put_refusal(out, b"print", answer);
     };
     lines::put_result(out, &text[..count], query.len(), nesting)
@@ -64,7 +57,7 @@ pub fn report_queries(
 {
     let mut room = [0u32; paper::ITEM_LIMIT];
     let answer = compose_way(outer, inner, &mut room, lean);
-    let Answer::Value(size) = answer else {
+    let Ok(size) = answer else {
         return lines::put_refusal(out, b"compose", answer);
     };
     let query = &room[..size];

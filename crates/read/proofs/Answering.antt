@@ -1,15 +1,14 @@
 -- What is measured and kept of a text, and the answers of the whole reader. Assumes nothing.
-use Prim.Native.Nat.{ℕ, ◌+◌, ◌≤◌, ◌<◌}
+use Prim.Native.Nat.{ℕ, ◌≤◌, ◌<◌}
 use native.Mathlib.Omega.{arith}
 use mathlib.Core.Path.{◌≡◌, refl, sym, ◌∙◌, ap}
 use mathlib.Core.Bool.{Bool, true, false}
-use mathlib.Core.List.{List, [], ◌∷◌, ◌++◌}
+use mathlib.Core.List.{List, [], ◌++◌}
 use mathlib.Core.Option.{Option, none, some}
 use lib.ListN.{length, take, drop, take-append-drop}
 use lib.Seq.{length-take-le, take_at}
 use borrow.Author.Tests.{lt-ltb, le-ltb}
 use Rattle.paper.specs.Tools.{written}
-use Rattle.paper.specs.Tokens as paper
 use Rattle.paper.specs.Tokens.{Placed}
 use Rattle.paper.specs.Limits.{text_limit, list_limit, item_limit}
 use Rattle.paper.specs.Names.{names_fault, names_of, number_of}
@@ -17,39 +16,29 @@ use Rattle.paper.specs.Query.{Query}
 use Rattle.paper.specs.Items.{encode}
 use Rattle.paper.specs.Measures.{size}
 use Rattle.paper.specs.Reading.{Got, got, refused, read_text}
-use Rattle.paper.specs.Answers.{value, refusal, line, line_got, is_newer, no_version, any_name, short_of_items, read_last, read_answer, items_got, read_items, read_out, at_exit}
+use Rattle.paper.specs.Answers.{value, line, line_got, is_newer, no_version, any_name, short_of_items, read_last, read_answer, items_got, read_items, read_out, at_exit}
 use Rattle.paper.specs.Answers.{Answer as Told}
-use Rattle.paper.specs.Told.{told}
-use Rattle.paper.specs.declared.Answer.{Answer}
-use Rattle.paper.specs.declared.Answer.TheVariants.{Value, TooLong, BadName, Short}
+use Rattle.std.specs.Prelude.{Result, Ok, Err}
+use Rattle.paper.specs.Told.{told, told_refusal}
+use Rattle.paper.specs.declared.Refusal.{Refusal}
+use Rattle.paper.specs.declared.Refusal.TheVariants.{TooLong, BadName, Short}
 use Rattle.paper.proofs.Sizes.{size_items}
-use Rattle.paper.proofs.Refusing.{Refuses, refused_keeps}
+use Rattle.paper.proofs.Refusing.{refused_keeps}
 use Rattle.query_refusals.proofs.Exactly.{read_any_names}
 use Rattle.item.specs.Placed.{placed}
 use Rattle.item.proofs.Placing.{placed_first}
 use Rattle.read_paths.specs.declared.Part.{Part}
-use Rattle.read_paths.specs.declared.Part.TheVariants.{Done, NoQuery, TooDeep, UnknownName}
+use Rattle.heads.specs.Heads.{Refused}
 use Rattle.read_paths.specs.Parts.{ReadsAll, Whole}
-use Rattle.read.specs.Parts.{Sized, Measures, AnswerOf, Kept}
-use types.Run.{miss}
-use Rattle.read_paths.proofs.Runs.{Refused}
+use Rattle.read.specs.Parts.{Sized, Kept}
 
 -- MEASURING: size is the number of items.
 pub whole_sized : (old new : List ℕ) (o : Got Query) (end : ℕ) → Whole old new o end → Sized o end
 whole_sized old new o end w = record { what = w.what; left = w.left; reads = w.reads; ends = w.ends ∙ size_items w.what }
 
-pub measured : (old new : List ℕ) (o : Got Query) (r : Part) → ReadsAll old new o r → Measures o r
-measured old new o (Done past end) w = whole_sized old new o end w
-measured old new o (NoQuery place) w = w
-measured old new o (TooDeep place) w = w
-measured old new o (UnknownName place) w = w
-
 -- THE ANSWER.
-pub refused_told : (o : Got Query) (r : Part) (a : Answer) (later : Query → Told) → Refused r → Measures o r → AnswerOf r a → told a ≡ line_got o later
-refused_told o (Done past end) a later n m h = absurd (miss (1 ∷ 2 ∷ 3 ∷ []) 0 tt n)
-refused_told o (NoQuery place) a later n m h = h ∙ rw m
-refused_told o (TooDeep place) a later n m h = h ∙ rw m
-refused_told o (UnknownName place) a later n m h = h ∙ rw m
+pub refused_told : (o : Got Query) (why : Refusal) (later : Query → Told) → Refused o why → told_refusal why ≡ line_got o later
+refused_told o why later r = r.told ∙ rw r.is
 
 abbrev last_line : ℕ → Query → Told
 last_line room q = line 10 (short_of_items room (size q)) (value (size q))
@@ -62,48 +51,44 @@ pub any_later : (newer : Bool) (look : List ℕ → Option ℕ) (text : List ℕ
 any_later newer look text end later m = sym (ap (λ o. line_got o (λ q. later)) (read_any_names newer look text m.what m.left m.reads).1)
 
 module _ (o : Got Query) (room end : ℕ) (m : Sized o end) where
-  pub short_room : room < end → told (Short end) ≡ line_got o (last_line room)
+  pub short_room : room < end → told (Err (Short end)) ≡ line_got o (last_line room)
   short_room l = rw (m.reads, ← m.ends, lt-ltb room end l)
 
-  pub over_items : end ≤ room → item_limit < end → told (Short end) ≡ line_got o (last_line room)
+  pub over_items : end ≤ room → item_limit < end → told (Err (Short end)) ≡ line_got o (last_line room)
   over_items f l = rw (m.reads, ← m.ends, le-ltb room end f, lt-ltb item_limit end l)
 
-  pub enough_room : end ≤ room → end ≤ item_limit → told (Value end) ≡ line_got o (last_line room)
+  pub enough_room : end ≤ room → end ≤ item_limit → told (Ok end) ≡ line_got o (last_line room)
   enough_room f l = rw (m.reads, ← m.ends, le-ltb room end f, le-ltb item_limit end l)
 
 -- READ: the lines in their order.
 module _ (text : List ℕ) (version : ℕ) (list : List ℕ) (room : ℕ) where
-  pub text_long : text_limit < length text → told TooLong ≡ read_answer text version list room
+  pub text_long : text_limit < length text → told (Err TooLong) ≡ read_answer text version list room
   unfolding read_answer
   text_long l = rw (lt-ltb text_limit (length text) l)
 
-  pub list_long : length text ≤ text_limit → list_limit < length list → told TooLong ≡ read_answer text version list room
+  pub list_long : length text ≤ text_limit → list_limit < length list → told (Err TooLong) ≡ read_answer text version list room
   unfolding read_answer
   list_long t l = rw (le-ltb text_limit (length text) t, lt-ltb list_limit (length list) l)
 
   module _ (t : length text ≤ text_limit) (l : length list ≤ list_limit) where
-    pub no-version : no_version version ≡ true → told TooLong ≡ read_answer text version list room
+    pub no-version : no_version version ≡ true → told (Err TooLong) ≡ read_answer text version list room
     unfolding read_answer
     no-version v = rw (le-ltb text_limit (length text) t, le-ltb list_limit (length list) l, v)
 
     module _ (v : no_version version ≡ false) where
-      pub bad_list : (start : ℕ) → some start ≡ names_fault list → told (BadName start) ≡ read_answer text version list room
+      pub bad_list : (start : ℕ) → names_fault list ≡ some start → told (Err (BadName start)) ≡ read_answer text version list room
       unfolding read_answer
-      bad_list start h = rw (le-ltb text_limit (length text) t, le-ltb list_limit (length list) l, v, ← h)
+      bad_list start h = rw (le-ltb text_limit (length text) t, le-ltb list_limit (length list) l, v, h)
 
-      pub good_list : none ≡ names_fault list
+      pub good_list : names_fault list ≡ none
           → line_got (read_text (is_newer version) any_name text) (λ q. read_last (is_newer version) text list room) ≡ read_answer text version list room
       unfolding read_answer
-      good_list h = rw (le-ltb text_limit (length text) t, le-ltb list_limit (length list) l, v, ← h)
+      good_list h = rw (le-ltb text_limit (length text) t, le-ltb list_limit (length list) l, v, h)
 
 -- A refused call leaves what is lent as it was.
-pub kept : (text : List ℕ) (version : ℕ) (list old : List ℕ) (a : Answer) → Refuses a → told a ≡ read_answer text version list (length old) → old ≡ read_out text version list old
+pub kept : (text : List ℕ) (version : ℕ) (list old : List ℕ) (why : Refusal) → told (Err why) ≡ read_answer text version list (length old) → old ≡ read_out text version list old
 unfolding read_out
-kept text version list old a r h = sym (ap (λ x. at_exit x (read_items text version list) old) (sym h) ∙ refused_keeps a (read_items text version list) old r)
-
-pub kept_refusal : (text : List ℕ) (version : ℕ) (list old : List ℕ) (number place : ℕ) → refusal number place ≡ read_answer text version list (length old) → old ≡ read_out text version list old
-unfolding read_out
-kept_refusal text version list old number place h = ap (λ x. at_exit x (read_items text version list) old) h
+kept text version list old why h = sym (ap (λ x. at_exit x (read_items text version list) old) (sym h) ∙ refused_keeps why (read_items text version list) old)
 
 -- A query was read that fits.
 record Fits (o : Got Query) (room : ℕ) : Type 0 where
@@ -116,9 +101,9 @@ record Fits (o : Got Query) (room : ℕ) : Type 0 where
 never_refused : (o : Got Query) (room : ℕ) (number place : ℕ) → Fits o room → o ≡ refused number place → ⊥
 never_refused o room number place f h = let e : got f.what f.left ≡ refused number place = sym f.reads ∙ h in let z : ◌≡◌ {A = ℕ} 0 1 = cc in omega arith
 
-wrote_all : (o : Got Query) (old new : List ℕ) (r : Part) → Fits o (length old) → ReadsAll old new o r → (items_of : Got Query → List ℕ) → ((q : Query) (left : List Placed) → items_of (got q left) ≡ encode q)
+wrote_all : (o : Got Query) (old new : List ℕ) (r : Result Part Refusal) → Fits o (length old) → ReadsAll old new o r → (items_of : Got Query → List ℕ) → ((q : Query) (left : List Placed) → items_of (got q left) ≡ encode q)
     → new ≡ written (items_of o) old
-wrote_all o old new (Done past end) f w items_of is =
+wrote_all o old new (Ok part) f w items_of is =
     let code = encode w.what in
     let same : got w.what w.left ≡ got f.what f.left = sym w.reads ∙ f.reads in
     let e : w.what ≡ f.what = cc in
@@ -126,9 +111,7 @@ wrote_all o old new (Done past end) f w items_of is =
     let room : length code ≤ length old = omega (arith, f.room_enough) in
     w.wrote.puts [] (take (length code) old) (drop (length code) old) (sym (take-append-drop (length code) old)) refl (length-take-le (length code) old room) (omega (arith, f.few)) ∙
     ap (λ x. written x old) (sym (ap items_of w.reads ∙ is w.what w.left))
-wrote_all o old new (NoQuery place) f w items_of is = absurd (never_refused o (length old) 3 place f w)
-wrote_all o old new (TooDeep place) f w items_of is = absurd (never_refused o (length old) 4 place f w)
-wrote_all o old new (UnknownName place) f w items_of is = absurd (never_refused o (length old) 5 place f w)
+wrote_all o old new (Err why) f w items_of is = absurd (never_refused o (length old) w.number w.place f w.is)
 
 -- What was kept fits where there is room for so many items.
 kept_fits : (few : List ℕ) (o : Got Query) (end room : ℕ) → Kept few o end → end ≤ room → Fits o room
@@ -141,7 +124,7 @@ pub copied : (few old new : List ℕ) (o : Got Query) (end : ℕ) → Kept few o
 copied few old new o end k l w = w ∙ placed_first (take end few) old ∙ ap (λ x. written x old) (k.stands l ∙ sym (ap items_got k.reads))
 
 -- and so are those that are read again.
-pub reread : (few old new : List ℕ) (o : Got Query) (end : ℕ) (r : Part) → Kept few o end → end ≤ length old → ReadsAll old new o r → new ≡ written (items_got o) old
+pub reread : (few old new : List ℕ) (o : Got Query) (end : ℕ) (r : Result Part Refusal) → Kept few o end → end ≤ length old → ReadsAll old new o r → new ≡ written (items_got o) old
 reread few old new o end r k l w = wrote_all o old new r (kept_fits few o end (length old) k l) w items_got (λ q left. refl)
 
 -- What was read into the room is kept there.
@@ -160,22 +143,6 @@ kept_few old few o end e w l =
           w.wrote.puts [] (take end old) (drop end old) (sym (take-append-drop end old)) refl (length-take-le end old (omega arith) ∙ w.ends) (omega (arith, w.ends)) in
           ap (take end) puts ∙ take_at code (drop end old) end (sym w.ends);
     }
-
--- A refusal is no value.
-refusal-value {ℓ} : {X : Type ℓ} (number place n : ℕ) → refusal number place ≡ value n → X
-refusal-value number place n h = absurd (let z : ◌≡◌ {A = ℕ} 0 1 = cc in omega arith)
-
-pub short-value {ℓ} : {X : Type ℓ} (m n : ℕ) → Short m ≡ Value n → X
-short-value m n e = refusal-value 10 m n (ap told e)
-
-pub refused_value {ℓ} : {X : Type ℓ} (r : Part) (a : Answer) → Refused r → AnswerOf r a → (n : ℕ) → a ≡ Value n → X
-refused_value (Done past end) a m h n e = absurd (miss (1 ∷ 2 ∷ 3 ∷ []) 0 tt m)
-refused_value (NoQuery place) a m h n e = refusal-value 3 place n (sym h ∙ ap told e)
-refused_value (TooDeep place) a m h n e = refusal-value 4 place n (sym h ∙ ap told e)
-refused_value (UnknownName place) a m h n e = refusal-value 5 place n (sym h ∙ ap told e)
-
-pub value_same : (m n : ℕ) → Value m ≡ Value n → m ≡ n
-value_same m n e = cc
 
 pub accepted : (text : List ℕ) (version : ℕ) (list old new : List ℕ) (n : ℕ) → read_answer text version list (length old) ≡ value n
     → new ≡ written (items_got (read_text (is_newer version) (number_of (names_of list)) text)) old → new ≡ read_out text version list old

@@ -1,24 +1,28 @@
 -- What is counted and what is kept stays right past each piece: the lines grow by one, or an element's end is told. Assumes nothing.
-use Prim.Native.Nat.{ℕ, suc, ◌+◌, ◌-◌, ◌*◌, ◌≤◌, ◌<◌}
+use Prim.Native.Nat.{ℕ, suc, ◌+◌, ◌-◌, ◌≤◌, ◌<◌}
 use native.Mathlib.Omega.{arith}
 use mathlib.Core.Path.{◌≡◌, refl, sym, ◌∙◌, ap, subst}
 use mathlib.Core.List.{List, [], ◌∷◌, ◌++◌}
-use mathlib.Core.Option.{Option}
+use mathlib.Core.Bool.{cond}
+use mathlib.Core.Option.{Option, some}
+use Rattle.std.specs.Prelude.{Option as Given}
 use lib.ListN.{length, get_or, set, length-append, length-set}
 use lib.Seq.{get_or-set_same, get_or-set_other}
+use Rattle.paper.specs.Told.{found}
 use Rattle.paper.specs.Limits.{text_limit, node_limit}
 use Rattle.paper.specs.Names.{names_of, number_of}
-use Rattle.paper.specs.Xml.{Nodes, nothing, element, chars, Frame, with, named, What, Row, row, rows, name_kind, unnamed}
+use Rattle.paper.specs.Xml.{Nodes, nothing, element, chars, Frame, with, named, What, Row, row, rows, name_kind, lacks, unnamed}
 use Rattle.paper.specs.Xml as xml
 use Rattle.paper.specs.Answers.{parent_field, kind_field, begin_field, end_field}
 use Rattle.xml.specs.Pieces.{name_at, opened}
 use Rattle.xml.specs.declared.Cursor.{Cursor}
+use Rattle.xml.specs.declared.Piece.{Piece}
 use Rattle.xml.specs.declared.Piece.TheVariants.{Start, Empty, End, Text}
 use Rattle.xml_lines.specs.Open.{begun, innermost, lines, within, open_in, so_far, joined, Moves}
 use Rattle.xml_lines.specs.Kept.{Columns, columns, line_set, Filled}
-use Rattle.xml_lines.specs.Judges.{open_limit, place_of, Kept, Counts, Lined, Standing, Facing}
+use Rattle.xml_lines.specs.Judges.{open_limit, Kept, Counts, Lined, Standing, Facing}
 use Rattle.xml_lines.specs.declared.Progress.{Progress}
-use Rattle.xml_lines.proofs.Lacking.{front, lacks_nothing}
+use Rattle.xml_lines.proofs.Lacking.{lacks_nothing}
 use Rattle.xml_lines.proofs.Opened.{length_lines, joined_lines, closed_lines, length_ending}
 use Rattle.xml_lines.proofs.Filling.{filled_more, filled_end, parent_there}
 
@@ -37,19 +41,19 @@ joined_open node (f ∷ fs) = refl
 
 -- Where an element ends says nothing of its name.
 same_lacking : (look : List ℕ → Option ℕ) (xs rs : List Row) (up begin a b : ℕ) (what : What)
-    → place_of (unnamed look (xs ++ (row up what begin a ∷ rs))) ≡ place_of (unnamed look (xs ++ (row up what begin b ∷ rs)))
+    → unnamed look (xs ++ (row up what begin a ∷ rs)) ≡ unnamed look (xs ++ (row up what begin b ∷ rs))
 same_lacking look [] rs up begin a b what = refl
-same_lacking look (x ∷ xs) rs up begin a b what = front look x (xs ++ (row up what begin a ∷ rs)) (xs ++ (row up what begin b ∷ rs)) (same_lacking look xs rs up begin a b what)
+same_lacking look (x ∷ xs) rs up begin a b what = ap (cond (lacks look x.what) (some (suc x.begin))) (same_lacking look xs rs up begin a b what)
 
-abbrev pub progress : ℕ → ℕ → ℕ → ℕ → ℕ → Progress
+abbrev pub progress : ℕ → ℕ → ℕ → ℕ → Given ℕ → Progress
 progress at depth inner nodes unnamed = record { at = at; depth = depth; inner = inner; nodes = nodes; unnamed = unnamed }
 
 module _ (long : ℕ) (look : List ℕ → Option ℕ) (begins : List ℕ) (p : Progress) where
   -- A start tag.
-  pub start_counts : (frames : List Frame) → Counts look begins frames (lines long frames) p → (name : List ℕ) (next inner u v : ℕ) → p.at + 3 ≤ next → next ≤ text_limit → v ≡ p.at
-      → u ≡ place_of (unnamed look (lines long frames ++ (row (innermost frames) (named name) p.at 0 ∷ [])))
+  pub start_counts : (frames : List Frame) → Counts look begins frames (lines long frames) p → (name : List ℕ) (next inner v : ℕ) (u : Given ℕ) → p.at + 3 ≤ next → next ≤ text_limit → v ≡ p.at
+      → found u ≡ unnamed look (lines long frames ++ (row (innermost frames) (named name) p.at 0 ∷ []))
       → Counts look (set begins p.depth v) (opened name p.at ∷ frames) (lines long (opened name p.at ∷ frames)) (progress next (p.depth + 1) inner (p.nodes + 1) u)
-  start_counts frames h name next inner u v far most e lacks =
+  start_counts frames h name next inner v u far most e lacks =
       let n = length-append (lines long frames) (row (innermost frames) (named name) p.at 0 ∷ []) in
       let d = h.depth in
       let room : p.depth < length begins = omega (arith, h.room, h.long, d) in
@@ -64,8 +68,8 @@ module _ (long : ℕ) (look : List ℕ → Option ℕ) (begins : List ℕ) (p : 
       }
 
   -- One line more.
-  pub joined_counts : (frames : List Frame) → Counts look begins frames (lines long frames) p → (node : Nodes) (r : Row) → rows (innermost frames) (begun frames) node ≡ r ∷ [] → (next inner u : ℕ) → p.at < next
-      → u ≡ place_of (unnamed look (lines long frames ++ (r ∷ []))) → Counts look begins (open_in (joined node frames)) (so_far long (joined node frames)) (progress next p.depth inner (p.nodes + 1) u)
+  pub joined_counts : (frames : List Frame) → Counts look begins frames (lines long frames) p → (node : Nodes) (r : Row) → rows (innermost frames) (begun frames) node ≡ r ∷ [] → (next inner : ℕ) (u : Given ℕ) → p.at < next
+      → found u ≡ unnamed look (lines long frames ++ (r ∷ [])) → Counts look begins (open_in (joined node frames)) (so_far long (joined node frames)) (progress next p.depth inner (p.nodes + 1) u)
   joined_counts frames h node r one next inner u far lacks =
       let same : so_far long (joined node frames) ≡ lines long frames ++ (r ∷ []) = joined_lines long node frames ∙ ap (λ l. lines long frames ++ l) one in
       let n : length (so_far long (joined node frames)) ≡ suc (length (lines long frames)) = ap length same ∙ omega (arith, length-append (lines long frames) (r ∷ [])) in
@@ -75,7 +79,7 @@ module _ (long : ℕ) (look : List ℕ → Option ℕ) (begins : List ℕ) (p : 
         depth = h.depth ∙ sym o;
         kept = joined_kept begins node frames h.kept;
         nodes = omega (arith, h.nodes, n);
-        lacking = lacks ∙ ap (λ l. place_of (unnamed look l)) (sym same);
+        lacking = lacks ∙ ap (unnamed look) (sym same);
         room = omega (arith, h.room, o);
         few = omega (arith, h.few, n);
       }
@@ -96,7 +100,7 @@ module _ (long : ℕ) (look : List ℕ → Option ℕ) (begins : List ℕ) (p : 
         kept = joined_kept begins node fs h.kept.1;
         nodes = omega (arith, h.nodes, n);
         lacking =
-            h.lacking ∙ same_lacking look (lines long fs) inside (innermost fs) f.begin 0 next (named f.name) ∙ ap (λ l. place_of (unnamed look l)) (sym same);
+            h.lacking ∙ same_lacking look (lines long fs) inside (innermost fs) f.begin 0 next (named f.name) ∙ ap (unnamed look) (sym same);
         room = omega (arith, h.room, o);
         few = omega (arith, h.few, n);
       }
@@ -136,7 +140,11 @@ module _ (long : ℕ) (list : List ℕ) (cols new : Columns) (p : Progress) wher
         wrote.1 ∙ ap (λ k. get_or cols.parents k 0) i ∙ parent_there list cols long f fs before.0 ∙ sym (joined_inner node fs),
       )
 
--- PIECES. Where they end, and that there is room for them.
+-- PIECES. One that a value is, stands next.
+pub faced : {text list begins : List ℕ} {cols : Columns} {piece : Piece} {p : Progress} → Facing text list begins cols piece p → {r : Piece} → piece ≡ r → Facing text list begins cols r p
+faced {text} {list} {begins} {cols} {piece} {p} h e = subst (λ q. Facing text list begins cols q p) e h
+
+-- Where they end, and that there is room for them.
 module _ (text list begins : List ℕ) (cols : Columns) (p : Progress) where
   -- There is room for the place of an element more.
   pub start_room : (name_end : ℕ) (next : Cursor) → Facing text list begins cols (Start name_end next) p → length text ≤ text_limit → p.depth < open_limit
@@ -160,9 +168,9 @@ module _ (text list begins : List ℕ) (cols : Columns) (p : Progress) where
       go (f ∷ fs) m = m.0.inside
 
 -- What was promised of the first name that is lacking, with a start tag more.
-abbrev pub Lacks : (List ℕ → Option ℕ) → List ℕ → ℕ → ℕ → ℕ → Type 0
+abbrev pub Lacks : (List ℕ → Option ℕ) → List ℕ → ℕ → Given ℕ → Given ℕ → Type 0
 Lacks look name begin before u =
-    (rows : List Row) (up end : ℕ) → before ≡ place_of (unnamed look rows) → u ≡ place_of (unnamed look (rows ++ (row up (named name) begin end ∷ [])))
+    (rows : List Row) (up end : ℕ) → found before ≡ unnamed look rows → found u ≡ unnamed look (rows ++ (row up (named name) begin end ∷ []))
 
 module _ (text list begins : List ℕ) (cols new : Columns) (p : Progress) where
   abbrev look : List ℕ → Option ℕ
@@ -172,7 +180,7 @@ module _ (text list begins : List ℕ) (cols new : Columns) (p : Progress) where
   abbrev name : List ℕ
   name = name_at text (suc p.at)
 
-  pub start_comes : (name_end : ℕ) (next : Cursor) → Facing text list begins cols (Start name_end next) p → length text ≤ text_limit → (u v n k : ℕ) → v ≡ p.at → n ≡ p.nodes → Lacks look name p.at p.unnamed u
+  pub start_comes : (name_end : ℕ) (next : Cursor) → Facing text list begins cols (Start name_end next) p → length text ≤ text_limit → (u : Given ℕ) (v n k : ℕ) → v ≡ p.at → n ≡ p.nodes → Lacks look name p.at p.unnamed u
       → k ≡ name_kind (look name) → (p.nodes < node_limit → new ≡ line_set p.nodes p.inner k p.at 0 cols)
       → Standing text list (set begins p.depth v) new (progress next.at (p.depth + 1) n (p.nodes + 1) u) × (p.at < next.at)
   start_comes name_end next h short u v n k e number lacks kind wrote =
@@ -182,7 +190,7 @@ module _ (text list begins : List ℕ) (cols new : Columns) (p : Progress) where
           stand = within (opened name p.at) h.frames;
           stands = h.moves.0;
           counts =
-              start_counts (length text) look begins p h.frames h.counts name next.at n u v (omega (arith, t.1, t.2)) (omega (arith, h.moves.0.inside)) e
+              start_counts (length text) look begins p h.frames h.counts name next.at n v u (omega (arith, t.1, t.2)) (omega (arith, h.moves.0.inside)) e
               (lacks (lines (length text) h.frames) (innermost h.frames) 0 h.counts.lacking);
           lined =
               more_lined (length text) list cols new p h.frames h.lined h.counts.nodes (lines (length text) (opened name p.at ∷ h.frames)) (begun h.frames) n (row (innermost h.frames) (named name) p.at 0) refl k p.at 0 refl
@@ -191,7 +199,7 @@ module _ (text list begins : List ℕ) (cols new : Columns) (p : Progress) where
         omega (arith, t.1, t.2),
       )
 
-  pub empty_comes : (name_end : ℕ) (next : Cursor) → Facing text list begins cols (Empty name_end next) p → (u k : ℕ) → Lacks look name p.at p.unnamed u
+  pub empty_comes : (name_end : ℕ) (next : Cursor) → Facing text list begins cols (Empty name_end next) p → (u : Given ℕ) (k : ℕ) → Lacks look name p.at p.unnamed u
       → k ≡ name_kind (look name) → (p.nodes < node_limit → new ≡ line_set p.nodes p.inner k p.at next.at cols)
       → Standing text list begins new (progress next.at p.depth p.inner (p.nodes + 1) u) × (p.at < next.at)
   empty_comes name_end next h u k lacks kind wrote =

@@ -1,35 +1,24 @@
 -- Reading from piece to piece: inside an element the next piece is taken, and where no element is open the one element is read. Assumes nothing.
-use Prim.Native.Nat.{ℕ, suc, ◌+◌, ◌-◌, ◌≤◌, ◌<◌}
+use Rattle.std.specs.Prelude.{None, Ok, Err}
+use Prim.Native.Nat.{ℕ, ◌-◌, ◌≤◌, ◌<◌}
 use native.Mathlib.Omega.{arith}
 use mathlib.Core.Path.{◌≡◌, refl, sym, ◌∙◌, ap, subst}
-use mathlib.Core.List.{List, [], ◌∷◌, ◌++◌}
-use mathlib.Core.Option.{Option, none, some}
-use lib.ListN.{length, get_or, drop}
-use denote.Enum.Declared.{tag_of}
-use types.Run.{OneOf, miss}
-use Rattle.paper.specs.Limits.{text_limit, node_limit}
+use mathlib.Core.List.{List, [], ◌∷◌}
+use lib.ListN.{length, get_or}
+use Rattle.paper.specs.Limits.{text_limit}
 use Rattle.paper.specs.Names.{names_of, number_of}
-use Rattle.paper.specs.Xml.{Nodes, Frame, ahead, ended, Judged, wanted, unwanted, judge, read_xml, Row, row, root, table}
-use Rattle.xml_bytes.specs.Promised.{state}
-use Rattle.xml.specs.Pieces.{Takes, Roots, Finishes, finished}
+use Rattle.paper.specs.declared.Refusal.{Refusal}
+use Rattle.paper.specs.Xml.{Frame, row, root}
+use Rattle.xml.specs.Pieces.{Takes, Roots, Finishes}
 use Rattle.prolog.specs.Heading.{Leads}
-use Rattle.xml_bytes.specs.declared.Reach.{Reach}
-use Rattle.xml_bytes.specs.declared.Reach.TheVariants as reach
 use Rattle.xml.specs.declared.Piece.{Piece}
-use Rattle.xml_lines.specs.Open.{innermost, lines, Stand, within, past, open_in, so_far, Stands, Moves}
-use Rattle.xml_lines.specs.Kept.{Columns, columns, blank, line_set, Filled}
-use Rattle.xml_lines.specs.Judges.{open_limit, Counts, Lined, Standing, Facing, Comes, Counted, Element, Ends, Inside, Wanted, Judges}
+use Rattle.xml_lines.specs.Open.{innermost, lines, Stand, within, past, open_in, so_far, Stands}
+use Rattle.xml_lines.specs.Kept.{Columns, blank, line_set, Filled}
+use Rattle.xml_lines.specs.Judges.{open_limit, Counts, Lined, Standing, Facing, Refuses, Element, Wanted}
 use Rattle.xml_lines.specs.declared.Progress.{Progress}
-use Rattle.xml_lines.specs.declared.Step.{Step}
-use Rattle.xml_lines.specs.declared.Step.TheVariants.{On, Wrong, LeftOut}
-use Rattle.read_listed.proofs.Moved.{take_moves, root_moves, lead_on}
-use Rattle.xml_lines.specs.contracts.Step.{the_type}
+use Rattle.read_listed.proofs.Moved.{take_moves, take_refused, root_moves, root_refused, lead_on}
 use Rattle.xml_lines.proofs.Filling.{filled_more}
 use Rattle.read_listed.proofs.Counted.{progress}
-
--- A step that is a refusal.
-abbrev pub Refused : Step → Type 0
-Refused r = OneOf (1 ∷ 2 ∷ []) (tag_of the_type r)
 
 -- Before the first line nothing is kept,
 nothing_kept : (list : List ℕ) → Filled list [] blank
@@ -68,19 +57,22 @@ module _ (text list : List ℕ) where
       go (past tree) t c n = absurd (omega (arith, c.depth))
 
   -- The piece that is taken.
-  pub takes : (begins : List ℕ) (cols : Columns) (p : Progress) (h : Deep begins cols p) (inner : ℕ) (r : Piece) → inner ≡ h.inner.begin → Takes text p.at inner r → Facing text list begins cols r p
+  pub takes : (begins : List ℕ) (cols : Columns) (p : Progress) (h : Deep begins cols p) (inner : ℕ) (r : Piece) → inner ≡ h.inner.begin → Takes text p.at inner (Ok r) → Facing text list begins cols r p
   takes begins cols p h inner r e t =
       record {
         frames = h.inner ∷ h.outer;
         inside = h.stands.inside;
-        moves = take_moves text p.at h.inner h.outer r h.stands (subst (λ i. Takes text p.at i r) e t);
+        moves = take_moves text p.at h.inner h.outer r h.stands (subst (λ i. Takes text p.at i (Ok r)) e t);
         counts = h.counts;
         lined = h.lined;
       }
 
+  pub takes_refused : (begins : List ℕ) (cols : Columns) (p : Progress) (h : Deep begins cols p) (inner : ℕ) (why : Refusal) → inner ≡ h.inner.begin → Takes text p.at inner (Err why) → Refuses text why
+  takes_refused begins cols p h inner why e t = take_refused text p.at h.inner h.outer why h.stands (subst (λ i. Takes text p.at i (Err why)) e t)
+
   -- AT BOTH ENDS. Before the one element the root is counted.
-  pub root_faces : (begins : List ℕ) (cols : Columns) (at : ℕ) (r : Piece) → length begins ≡ open_limit → cols ≡ line_set 0 0 0 0 (length text) blank → Leads text (reach.At at) → Roots text at r
-      → Facing text list begins cols r (progress at 0 0 1 0)
+  pub root_faces : (begins : List ℕ) (cols : Columns) (at : ℕ) (r : Piece) → length begins ≡ open_limit → cols ≡ line_set 0 0 0 0 (length text) blank → Leads text (Ok at) → Roots text at (Ok r)
+      → Facing text list begins cols r (progress at 0 0 1 None)
   root_faces begins cols at r long e h t =
       record {
         frames = [];
@@ -98,27 +90,12 @@ module _ (text list : List ℕ) where
       go (within f fs) t c n = absurd (flat (omega (arith, c.depth)))
       go (past tree) t c n = record { tree = tree; stands = t; counted = record { nodes = c.nodes; lacking = c.lacking; filled = λ few. (n few).0 } }
 
-  -- A refusal is one of the whole.
-  pub comes_ends : (begins : List ℕ) (cols : Columns) (r : Step) → Refused r → Comes text list begins cols r → Ends text list cols r
-  comes_ends begins cols (On p) other h = absurd (miss (1 ∷ 2 ∷ []) 0 tt other)
-  comes_ends begins cols (Wrong place) other h = h
-  comes_ends begins cols (LeftOut place) other h = h
+  pub root_stops : (at : ℕ) (why : Refusal) → Leads text (Ok at) → Roots text at (Err why) → Refuses text why
+  root_stops at why h t = root_refused text at why (lead_on text at h) t
 
-  module _ (cols : Columns) where
-    pub ends_judges : (r : Step) → Refused r → Ends text list cols r → Judges text list cols r
-    ends_judges (On p) other h = absurd (miss (1 ∷ 2 ∷ []) 0 tt other)
-    ends_judges (Wrong place) other h = h
-    ends_judges (LeftOut place) other h = h
+  -- Behind the one element the text ends, or is refused.
+  pub ends_wanted : (cols : Columns) (p : Progress) (end : ℕ) → Element text list cols p → Finishes text p.at (Ok end) → Wanted text list cols p
+  ends_wanted cols p end h f = record { tree = h.tree; is = h.stands.judged ∙ f.goes h.tree; counted = h.counted }
 
-    pub ends_inside : (r : Step) → Ends text list cols r → Inside text r
-    ends_inside (On p) h = h.stands.inside
-    ends_inside (Wrong place) h = tt
-    ends_inside (LeftOut place) h = tt
-
-    -- Behind it the text ends, or is refused.
-    module _ (p : Progress) (h : Element text list cols p) where
-      pub ends_wanted : (end : ℕ) → Finishes text p.at (reach.At end) → Wanted text list cols p
-      ends_wanted end f = record { tree = h.tree; is = h.stands.judged ∙ f.goes h.tree; counted = h.counted }
-
-      pub ends_refused : (r : Reach) (number place : ℕ) → finished h.tree r ≡ unwanted number place → Finishes text p.at r → read_xml text ≡ unwanted number place
-      ends_refused r number place e f = h.stands.judged ∙ f.goes h.tree ∙ e
+  pub ends_refused : (cols : Columns) (p : Progress) (why : Refusal) → Element text list cols p → Finishes text p.at (Err why) → Refuses text why
+  ends_refused cols p why h f = h.stands.judged ∙ f.goes h.tree

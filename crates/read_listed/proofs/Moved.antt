@@ -1,22 +1,21 @@
 -- Where a piece leads from inside the open elements, by what the cursor promises of it. Assumes nothing.
-use Prim.Native.Nat.{ℕ, suc, ◌+◌, ◌≤◌, ◌<◌}
+use Rattle.std.specs.Prelude.{Ok, Err}
+use Prim.Native.Nat.{ℕ, suc, ◌≤◌}
 use native.Mathlib.Omega.{arith}
-use mathlib.Core.Path.{◌≡◌, refl, sym, ◌∙◌, ap, subst}
+use mathlib.Core.Path.{◌≡◌, refl, sym, ◌∙◌, ap}
 use mathlib.Core.List.{List, [], ◌∷◌}
 use lib.ListN.{length, drop}
-use Rattle.paper.specs.Tools.{run_of}
-use Rattle.paper.specs.Names.{name_part}
-use Rattle.paper.specs.Xml.{Nodes, nothing, element, chars, Frame, State, start, ahead, content, ended, with, Judged, unwanted, judge, read_xml}
-use Rattle.xml_bytes.specs.Seeking.{stops, refused}
-use Rattle.xml_bytes.specs.Promised.{state, seek_at, reached}
+use Rattle.paper.specs.Xml.{Nodes, nothing, element, chars, Frame, State, start, ahead, content, judge, read_xml}
+use Rattle.paper.specs.declared.Refusal.{Refusal}
+use Rattle.xml_bytes.specs.Seeking.{refusal_number, refusal_place}
+use Rattle.xml_bytes.specs.Promised.{state}
 use Rattle.xml.specs.Pieces.{name_at, opened, added, Named, Takes, Roots}
 use Rattle.prolog.specs.Heading.{Leads}
-use Rattle.xml_bytes.specs.declared.Reach.{Reach}
-use Rattle.xml_bytes.specs.declared.Reach.TheVariants as reach
 use Rattle.xml.specs.declared.Piece.{Piece}
-use Rattle.xml.specs.declared.Piece.TheVariants.{Start, Empty, End, Text, Wrong, LeftOut}
+use Rattle.xml.specs.declared.Piece.TheVariants.{Start, Empty, End, Text}
 use Rattle.xml.proofs.Judging.{gone_on, judged, judged_on, judged_refused, judged_next_on, judged_next_refused}
-use Rattle.xml_lines.specs.Open.{Stand, within, past, state_of, open_in, joined, Names, Stands, NameEnds, Tagged, Moves}
+use Rattle.xml_lines.specs.Open.{within, open_in, joined, Names, Stands, Tagged, Moves}
+use Rattle.xml_lines.specs.Judges.{Refuses}
 use Rattle.xml_lines.proofs.Opened.{joined_state}
 
 module _ (text : List ℕ) where
@@ -41,7 +40,7 @@ module _ (text : List ℕ) where
         }
 
   -- A piece inside an element.
-  pub take_moves : (at : ℕ) (f : Frame) (fs : List Frame) (r : Piece) → Stands text at (within f fs) → Takes text at f.begin r → Moves text at (f ∷ fs) r
+  pub take_moves : (at : ℕ) (f : Frame) (fs : List Frame) (r : Piece) → Stands text at (within f fs) → Takes text at f.begin (Ok r) → Moves text at (f ∷ fs) r
   take_moves at f fs (Start name_end next) h t =
       let b = t.bounds in
       let tagged : Tagged text at name_end next.at = ((b.0, omega arith, b.1), b.1, b.2) in (
@@ -66,24 +65,21 @@ module _ (text : List ℕ) where
         (judged_next_on text at next.at (state content (f ∷ fs)) _ refl (t.goes f fs h.named.0)),
     t.bounds.0,
   )
-  take_moves at f fs (Wrong place) h t = h.judged ∙ judged_next_refused text at 11 place (state content (f ∷ fs)) refl (t.goes f fs h.named.0)
-  take_moves at f fs (LeftOut place) h t = h.judged ∙ judged_next_refused text at 12 place (state content (f ∷ fs)) refl (t.goes f fs h.named.0)
+
+  pub take_refused : (at : ℕ) (f : Frame) (fs : List Frame) (why : Refusal) → Stands text at (within f fs) → Takes text at f.begin (Err why) → Refuses text why
+  take_refused at f fs why h t = h.judged ∙ judged_next_refused text at (refusal_number why) (refusal_place why) (state content (f ∷ fs)) refl (t.goes f fs h.named.0)
 
   -- Before the one element.
-  pub lead_on : (at : ℕ) → Leads text (reach.At at) → read_xml text ≡ judge at (state ahead []) (drop at text)
+  pub lead_on : (at : ℕ) → Leads text (Ok at) → read_xml text ≡ judge at (state ahead []) (drop at text)
   unfolding read_xml
   lead_on at h = judged text 0 (state start []) ∙ ap (gone_on text) h.goes ∙ sym (judged text at (state ahead []))
 
-  pub lead_wrong : (place : ℕ) → Leads text (reach.Wrong place) → read_xml text ≡ unwanted 11 place
+  pub lead_refused : (why : Refusal) → Leads text (Err why) → Refuses text why
   unfolding read_xml
-  lead_wrong place h = judged text 0 (state start []) ∙ ap (gone_on text) h.goes
-
-  pub lead_left_out : (place : ℕ) → Leads text (reach.LeftOut place) → read_xml text ≡ unwanted 12 place
-  unfolding read_xml
-  lead_left_out place h = judged text 0 (state start []) ∙ ap (gone_on text) h.goes
+  lead_refused why h = judged text 0 (state start []) ∙ ap (gone_on text) h.goes
 
   -- Its start tag.
-  pub root_moves : (at : ℕ) (r : Piece) → read_xml text ≡ judge at (state ahead []) (drop at text) → Roots text at r → Moves text at [] r
+  pub root_moves : (at : ℕ) (r : Piece) → read_xml text ≡ judge at (state ahead []) (drop at text) → Roots text at (Ok r) → Moves text at [] r
   root_moves at (Start name_end next) h t =
       let b = t.bounds in
       let tagged : Tagged text at name_end next.at = ((b.0, omega (arith, b.0, b.1, b.2), omega (arith, b.0, t.named)), omega (arith, b.0, t.named), omega (arith, b.0, b.1)) in (
@@ -98,5 +94,6 @@ module _ (text : List ℕ) where
       )
   root_moves at (End next) h t = absurd t.bounds
   root_moves at (Text next) h t = absurd t.bounds
-  root_moves at (Wrong place) h t = h ∙ judged_refused text at 11 place (state ahead []) t.goes
-  root_moves at (LeftOut place) h t = h ∙ judged_refused text at 12 place (state ahead []) t.goes
+
+  pub root_refused : (at : ℕ) (why : Refusal) → read_xml text ≡ judge at (state ahead []) (drop at text) → Roots text at (Err why) → Refuses text why
+  root_refused at why h t = h ∙ judged_refused text at (refusal_number why) (refusal_place why) (state ahead []) t.goes

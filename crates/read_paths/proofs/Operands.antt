@@ -5,30 +5,36 @@ use mathlib.Core.Path.{◌≡◌, refl, sym, ◌∙◌, ap, subst}
 use mathlib.Core.Bool.{Bool, true, false}
 use mathlib.Core.List.{List, [], ◌∷◌}
 use mathlib.Core.Option.{Option}
-use lib.Dec.{eqb}
 use lib.ListN.{length, drop}
 use lib.Seq.{drop-drop}
-use Rattle.paper.specs.Tokens.{Placed, sort}
+use Rattle.paper.specs.Tokens.{Placed, close_round}
 use Rattle.paper.specs.Query.{Expr, path, negated, Steps}
 use Rattle.paper.specs.Items.{not_item, encode_expr, count_bound}
-use Rattle.paper.specs.Reading.{Got, got, refused, then, next, at, read_tail, read_step, read_steps, read_operand, read_expr, read_within}
+use Rattle.paper.specs.Reading.{Got, got, refused, then, at, sees, pass, read_tail, read_step, read_steps, read_operand, read_expr, read_within}
+use Rattle.std.specs.Prelude.{Result, Ok, Err}
+use Rattle.paper.specs.declared.Refusal.{Refusal}
+use Rattle.paper.specs.declared.Refusal.TheVariants.{NoQuery, TooDeep}
 use Rattle.read_paths.specs.declared.Part.{Part}
-use Rattle.read_paths.specs.declared.Part.TheVariants.{Done, NoQuery, TooDeep, UnknownName}
+use Rattle.token.specs.declared.Mark.{Mark}
+use Rattle.token.specs.Taking.{mark_of}
+use Rattle.marks.specs.declared.There.{There}
+use Rattle.heads.specs.Heads.{Refused}
+use Rattle.read_paths.proofs.Runs.{passed_on}
 use Rattle.token.specs.declared.Cursor.{Cursor}
 use Rattle.item.specs.Unpacked.{packed}
 use Rattle.ahead.specs.declared.Opens.TheVariants.{Round, Path}
 use Rattle.marks.specs.Marks.{tokens_at, Past}
 use Rattle.ahead.specs.Looking.{NotBegins, Begins}
 use Rattle.slots.specs.Slots.{Wrote}
-use Rattle.read_paths.specs.Parts.{Gives, Reads, pass_sort, step_items, path_items}
+use Rattle.read_paths.specs.Parts.{Gives, Reads, step_items, path_items}
 use Rattle.heads.specs.Heads.{PlainStep, TestedStep}
 use Rattle.slots.proofs.Writing.{wrote_head}
 
 -- What is read from a later place on is what is read from here.
-pub reads_from : {A : Type 0} (text old new : List ℕ) (from mid slot low high low' high' : ℕ) (o o' : Got A) (items : A → List ℕ) (r : Part) → o' ≡ o → from ≤ mid
+pub reads_from : {A : Type 0} (text old new : List ℕ) (from mid slot low high low' high' : ℕ) (o o' : Got A) (items : A → List ℕ) (r : Result Part Refusal) → o' ≡ o → from ≤ mid
     → length (tokens_at text mid) ≤ length (tokens_at text from) → low' + high ≤ low + high' → Reads text old new mid slot low high o items r
     → Reads text old new from slot low' high' o' items r
-reads_from text old new from mid slot low high low' high' o o' items (Done past end) e l f k g =
+reads_from text old new from mid slot low high low' high' o o' items (Ok part) e l f k g =
     record {
       what = g.what;
       reads = e ∙ g.reads;
@@ -39,26 +45,24 @@ reads_from text old new from mid slot low high low' high' o o' items (Done past 
       fewer = omega (arith, g.fewer);
       grows = omega (arith, g.grows);
     }
-reads_from text old new from mid slot low high low' high' o o' items (NoQuery place) e l f k g = e ∙ g
-reads_from text old new from mid slot low high low' high' o o' items (TooDeep place) e l f k g = e ∙ g
-reads_from text old new from mid slot low high low' high' o o' items (UnknownName place) e l f k g = e ∙ g
+reads_from text old new from mid slot low high low' high' o o' items (Err why) e l f k g = passed_on o o' why g (λ n place h. e ∙ h)
 
 -- BRACKETS.
 module _ (newer : Bool) (look : List ℕ → Option ℕ) where
-  pub too_deep : (depth bracket closer : ℕ) (ts : List Placed) → depth ≡ 0 → then (read_within newer look depth bracket ts) (pass_sort closer) ≡ refused 4 bracket
-  too_deep depth bracket closer ts z = rw z
+  pub too_deep : (depth bracket : ℕ) (closer : Mark) (ts : List Placed) → depth ≡ 0 → Refused (then (read_within newer look depth bracket ts) (pass (mark_of closer))) (TooDeep bracket)
+  too_deep depth bracket closer ts z = record { number = 4; place = bracket; told = refl; is = rw z }
 
   pub opened : (depth bracket : ℕ) (ts : List Placed) → (depth ≡ 0 → ⊥) → read_within newer look depth bracket ts ≡ read_expr newer look (read_within newer look (depth - 1)) ts
   opened zero bracket ts z = absurd (z refl)
   opened (suc d) bracket ts z = ap (λ (k : ℕ). read_expr newer look (read_within newer look k) ts) (let e : d ≡ suc d - 1 = omega arith in e)
 
-module _ (text old new : List ℕ) (from slot closer : ℕ) (o o' : Got Expr) (is : o ≡ o') where
-  pub closed : (mid past end : ℕ) → Gives text old new from slot (3 * from) slot o' encode_expr mid end → eqb closer (sort (next (tokens_at text mid))) ≡ true → Past text mid past
-      → Gives text old new from slot (3 * from) slot (then o (pass_sort closer)) encode_expr past end
+module _ (text old new : List ℕ) (from slot : ℕ) (closer : Mark) (o o' : Got Expr) (is : o ≡ o') where
+  pub closed : (mid past end : ℕ) → Gives text old new from slot (3 * from) slot o' encode_expr mid end → sees (mark_of closer) (tokens_at text mid) ≡ true → Past text mid past
+      → Gives text old new from slot (3 * from) slot (then o (pass (mark_of closer))) encode_expr past end
   closed mid past end g s p =
       record {
         what = g.what;
-        reads = ap (λ x. then x (pass_sort closer)) (is ∙ g.reads) ∙ rw (s, p.rest);
+        reads = ap (λ x. then x (pass (mark_of closer))) (is ∙ g.reads) ∙ rw (s, p.rest);
         wrote = g.wrote;
         ends = g.ends;
         onward = omega (arith, g.onward, p.onward);
@@ -67,9 +71,9 @@ module _ (text old new : List ℕ) (from slot closer : ℕ) (o o' : Got Expr) (i
         grows = omega (arith, g.grows, p.onward);
       }
 
-  pub unclosed : (mid end place : ℕ) → Gives text old new from slot (3 * from) slot o' encode_expr mid end → eqb closer (sort (next (tokens_at text mid))) ≡ false
-      → place ≡ at (tokens_at text mid) → then o (pass_sort closer) ≡ refused 3 place
-  unclosed mid end place g s e = ap (λ x. then x (pass_sort closer)) (is ∙ g.reads) ∙ rw (s, ← e)
+  pub unclosed : (mid end place : ℕ) → Gives text old new from slot (3 * from) slot o' encode_expr mid end → sees (mark_of closer) (tokens_at text mid) ≡ false
+      → place ≡ at (tokens_at text mid) → Refused (then o (pass (mark_of closer))) (NoQuery place)
+  unclosed mid end place g s e = record { number = 3; place = place; told = refl; is = ap (λ x. then x (pass (mark_of closer))) (is ∙ g.reads) ∙ rw (s, ← e) }
 
 -- OPERANDS.
 once : (o : Got Steps) → then o (λ s. got (path s)) ≡ then (then o (λ s. got s)) (λ s. got (path s))
@@ -78,7 +82,7 @@ once (refused n place) = refl
 
 module _ (newer : Bool) (look : List ℕ → Option ℕ) (within : ℕ → List Placed → Got Expr) (text old : List ℕ) (from slot : ℕ) where
   abbrev inner : ℕ → ℕ → Got Expr
-  inner place past = then (within place (tokens_at text past)) (pass_sort 9)
+  inner place past = then (within place (tokens_at text past)) (pass close_round)
 
   pub not_reads : (place past : ℕ) → NotBegins text from place past → read_operand newer look within (tokens_at text from) ≡ then (inner place past) (λ e. got (negated e))
   unfolding read_operand
@@ -105,12 +109,12 @@ module _ (newer : Bool) (look : List ℕ → Option ℕ) (within : ℕ → List 
         grows = omega (arith, g.grows, b.first.onward, b.second.onward);
       }
 
-  pub round_done : (new : List ℕ) (place : ℕ) (past : Cursor) (r : Part) → Begins text from (Round place past)
-      → Reads text old new past.at slot (3 * past.at) slot (inner place past.at) encode_expr r
+  pub round_done : (new : List ℕ) (round : There) (r : Result Part Refusal) → Begins text from (Round round)
+      → Reads text old new round.next.at slot (3 * round.next.at) slot (inner round.place round.next.at) encode_expr r
       → Reads text old new from slot (3 * from) slot (read_operand newer look within (tokens_at text from)) encode_expr r
   unfolding read_operand
-  round_done new place past r b g =
-      reads_from text old new from past.at slot (3 * past.at) slot (3 * from) slot (inner place past.at) (read_operand newer look within (tokens_at text from)) encode_expr r
+  round_done new round r b g =
+      reads_from text old new from round.next.at slot (3 * round.next.at) slot (3 * from) slot (inner round.place round.next.at) (read_operand newer look within (tokens_at text from)) encode_expr r
       (rw (b.0, b.1, ← b.2, b.3.rest)) (omega (arith, b.3.onward)) (omega (arith, b.3.fewer)) (omega (arith, b.3.onward)) g
 
   abbrev run : Got Steps
@@ -120,9 +124,9 @@ module _ (newer : Bool) (look : List ℕ → Option ℕ) (within : ℕ → List 
   unfolding read_operand
   as_path b = rw (b.0, b.1) (once (read_steps newer look within (length (tokens_at text from)) (tokens_at text from)))
 
-  pub path_done : (new : List ℕ) (r : Part) → Begins text from Path → Reads text old new from slot (3 * from) slot run path_items r
+  pub path_done : (new : List ℕ) (r : Result Part Refusal) → Begins text from Path → Reads text old new from slot (3 * from) slot run path_items r
       → Reads text old new from slot (3 * from) slot (read_operand newer look within (tokens_at text from)) encode_expr r
-  path_done new (Done past end) b g =
+  path_done new (Ok part) b g =
       record {
         what = path g.what;
         reads = as_path b ∙ ap (λ x. then x (λ s. got (path s))) g.reads;
@@ -133,9 +137,7 @@ module _ (newer : Bool) (look : List ℕ → Option ℕ) (within : ℕ → List 
         fewer = g.fewer;
         grows = g.grows;
       }
-  path_done new (NoQuery place) b g = as_path b ∙ ap (λ x. then x (λ s. got (path s))) g
-  path_done new (TooDeep place) b g = as_path b ∙ ap (λ x. then x (λ s. got (path s))) g
-  path_done new (UnknownName place) b g = as_path b ∙ ap (λ x. then x (λ s. got (path s))) g
+  path_done new (Err why) b g = passed_on run (read_operand newer look within (tokens_at text from)) why g (λ n place h. as_path b ∙ ap (λ x. then x (λ s. got (path s))) h)
 
 -- STEPS BY THEIR HEADS.
 module _ (newer : Bool) (look : List ℕ → Option ℕ) (within : ℕ → List Placed → Got Expr) (text old new : List ℕ) (from slot : ℕ) where
@@ -153,7 +155,7 @@ module _ (newer : Bool) (look : List ℕ → Option ℕ) (within : ℕ → List 
         grows = omega (arith, h.onward);
       }
 
-  pub tested_done : (axis test : ℕ) (past : Cursor) (r : Part) (h : TestedStep newer look text from axis test past.at (λ w. read_step newer look w (tokens_at text from)))
+  pub tested_done : (axis test : ℕ) (past : Cursor) (r : Result Part Refusal) (h : TestedStep newer look text from axis test past.at (λ w. read_step newer look w (tokens_at text from)))
       → Reads text old new past.at slot (3 * past.at) (slot + 1) (read_tail newer look within h.way h.kind (tokens_at text past.at)) step_items r
       → Reads text old new from slot (3 * from + 2) slot (read_step newer look within (tokens_at text from)) step_items r
   tested_done axis test past r h g =

@@ -13,56 +13,56 @@ use Rattle.paper.specs.Query.{Expr, Steps, stop, Query, paths}
 use Rattle.paper.specs.Items.{pack_path, encode}
 use Rattle.paper.specs.Reading.{Got, got, refused, then, at, sees, joins, read_steps, read_path, read_paths, read_within, read_text}
 use Rattle.token.specs.declared.Cursor.{Cursor}
-use Rattle.ahead.specs.declared.Lead.TheVariants.{Alone, Before, NoPath}
+use Rattle.std.specs.Prelude.{Result, Ok, Err}
+use Rattle.paper.specs.declared.Refusal.{Refusal}
+use Rattle.paper.specs.declared.Refusal.TheVariants.{NoQuery}
+use Rattle.ahead.specs.declared.Lead.TheVariants.{Alone, Before}
 use Rattle.marks.specs.Marks.{tokens_at, Past}
-use Rattle.ahead.specs.Looking.{Leads}
+use Rattle.ahead.specs.Looking.{NoSlash, Leads}
 use Rattle.read_paths.specs.declared.Part.{Part}
-use Rattle.read_paths.specs.declared.Part.TheVariants.{Done, NoQuery, TooDeep, UnknownName}
+use Rattle.heads.specs.Heads.{Refused}
 use Rattle.slots.specs.Slots.{Wrote}
-use Rattle.read_paths.specs.Parts.{Gives, Reads, deep_if, path_items, Finishes, Stops, ReadsAll}
-use types.Run.{miss}
+use Rattle.read_paths.specs.Parts.{Gives, Reads, deep_if, path_items, Finishes, ReadsAll}
 use Rattle.slots.proofs.Writing.{wrote_nothing, wrote_more}
-use Rattle.read_paths.proofs.Runs.{some_token, some-fuel, Refused}
+use Rattle.read_paths.proofs.Runs.{some_token, some-fuel}
 use Rattle.read_paths.proofs.Rows.{then_then, then_got}
 use Rattle.read_paths.proofs.Operands.{reads_from}
 
 -- AN ABSOLUTE PATH.
 module _ (newer : Bool) (look : List ℕ → Option ℕ) (within : ℕ → List Placed → Got Expr) (text old new : List ℕ) (from slot : ℕ) where
-  pub path_alone : (made : ℕ) (past : Cursor) → Leads text from (Alone past) → made ≡ pack_path 0 → Wrote old new slot (made ∷ [])
+  pub path_alone : (made : ℕ) (past : Cursor) → Leads text from (Ok (Alone past)) → made ≡ pack_path 0 → Wrote old new slot (made ∷ [])
       → Gives text old new from slot (3 * from) slot (read_path newer look within (tokens_at text from)) path_items past.at (slot + 1)
   unfolding read_path
   path_alone made past l e v =
       record {
         what = stop;
-        reads = rw (l.0, l.1, l.2.rest, l.3);
+        reads = rw (l.0.double, l.0.single, l.0.passed.rest, l.1);
         wrote = subst (λ (w : ℕ). Wrote old new slot (w ∷ [])) e v;
         ends = refl;
-        onward = omega (arith, l.2.onward);
-        inside = l.2.inside;
-        fewer = omega (arith, l.2.fewer);
-        grows = omega (arith, l.2.onward);
+        onward = omega (arith, l.0.passed.onward);
+        inside = l.0.passed.inside;
+        fewer = omega (arith, l.0.passed.fewer);
+        grows = omega (arith, l.0.passed.onward);
       }
 
-  pub path_before : (past : Cursor) (lead : Bool) (r : Part) → Leads text from (Before past lead)
+  pub path_before : (past : Cursor) (lead : Bool) (r : Result Part Refusal) → Leads text from (Ok (Before (record { next = past; deep = lead })))
       → Reads text old new past.at slot (3 * past.at) slot
       (then (read_steps newer look within (length (tokens_at text past.at)) (tokens_at text past.at)) (λ s. got (deep_if lead s))) path_items r
       → Reads text old new from slot (3 * from) slot (read_path newer look within (tokens_at text from)) path_items r
   unfolding read_path
   path_before past true r l g =
-      reads_from text old new from past.at slot (3 * past.at) slot (3 * from) slot _ _ path_items r (rw (l.0, l.1.rest)) (omega (arith, l.1.onward)) (omega (arith, l.1.fewer))
-      (omega (arith, l.1.onward)) g
+      let p = l.0.passed in
+      reads_from text old new from past.at slot (3 * past.at) slot (3 * from) slot _ _ path_items r (rw (l.0.double, p.rest)) (omega (arith, p.onward)) (omega (arith, p.fewer))
+      (omega (arith, p.onward)) g
   path_before past false r l g =
+      let p = l.0.passed in
       reads_from text old new from past.at slot (3 * past.at) slot (3 * from) slot _ _ path_items r
-      (rw (l.0, l.1, l.2.rest, l.3) (then_got (read_steps newer look within (length (tokens_at text past.at)) (tokens_at text past.at)))) (omega (arith, l.2.onward))
-      (omega (arith, l.2.fewer)) (omega (arith, l.2.onward)) g
+      (rw (l.0.double, l.0.single, p.rest, l.1) (then_got (read_steps newer look within (length (tokens_at text past.at)) (tokens_at text past.at)))) (omega (arith, p.onward))
+      (omega (arith, p.fewer)) (omega (arith, p.onward)) g
 
-  pub path_none : (place : ℕ) → Leads text from (NoPath place) → read_path newer look within (tokens_at text from) ≡ refused 3 place
+  pub path_none : (place : ℕ) → NoSlash text from place → Refused (read_path newer look within (tokens_at text from)) (NoQuery place)
   unfolding read_path
-  path_none place l = rw (l.0, l.1, ← l.2)
-
-pub leads_past : (text : List ℕ) (from : ℕ) (past : Cursor) (lead : Bool) → Leads text from (Before past lead) → Past text from past.at
-leads_past text from past true l = l.1
-leads_past text from past false l = l.2
+  path_none place l = record { number = 3; place = place; told = refl; is = rw (l.0, l.1, ← l.2) }
 
 -- ABSOLUTE PATHS, one after the other.
 pub record PathRow (newer : Bool) (look : List ℕ → Option ℕ) (within : ℕ → List Placed → Got Expr) (text old out : List ℕ) (all : Got Query) (here filled : ℕ) : Type 0 where
@@ -142,8 +142,8 @@ module _ (newer : Bool) (look : List ℕ → Option ℕ) (within : ℕ → List 
           grows = omega (arith, l.grows, g.grows, p.onward);
         })
 
-    pub paths_done : (r : Part) → joins newer (tokens_at text past) ≡ false → Finishes text past end r → ReadsAll old new all r
-    paths_done (Done last end') s h =
+    pub paths_done : (r : Result Part Refusal) → joins newer (tokens_at text past) ≡ false → Finishes text past end r → ReadsAll old new all r
+    paths_done (Ok part) s h =
         some-fuel l.fuel (omega (arith, l.enough, some_token text here))
         (λ f z.
         let q = l.build (record { first = g.what; others = [] }) in
@@ -155,21 +155,6 @@ module _ (newer : Bool) (look : List ℕ → Option ℕ) (within : ℕ → List 
           wrote = rw code all_wrote;
           ends = omega (arith, h.0, g.ends, l.ends, ap length code, length-append l.raw (path_items g.what));
         })
-    paths_done (NoQuery place) s h =
-        some-fuel l.fuel (omega (arith, l.enough, some_token text here)) (λ f z. after f z ∙ rw (s, h.0, ← h.1))
-    paths_done (TooDeep place) s h = absurd h
-    paths_done (UnknownName place) s h = absurd h
-
--- A refused path, passed upward.
-pub all_refused : {A : Type 0} (text old new old' new' : List ℕ) (from slot low high : ℕ) (o : Got A) (items : A → List ℕ) (o' : Got Query) (r : Part) → Refused r
-    → Reads text old new from slot low high o items r → ((n place : ℕ) → o ≡ refused n place → o' ≡ refused n place) → ReadsAll old' new' o' r
-all_refused text old new old' new' from slot low high o items o' (Done past end) n h k = absurd (miss (1 ∷ 2 ∷ 3 ∷ []) 0 tt n)
-all_refused text old new old' new' from slot low high o items o' (NoQuery place) n h k = k 3 place h
-all_refused text old new old' new' from slot low high o items o' (TooDeep place) n h k = k 4 place h
-all_refused text old new old' new' from slot low high o items o' (UnknownName place) n h k = k 5 place h
-
-pub stops_not : (text : List ℕ) (r : Part) → Refused r → Stops text r
-stops_not text (Done past end) n = absurd (miss (1 ∷ 2 ∷ 3 ∷ []) 0 tt n)
-stops_not text (NoQuery place) n = tt
-stops_not text (TooDeep place) n = tt
-stops_not text (UnknownName place) n = tt
+    paths_done (Err why) s h =
+        some-fuel l.fuel (omega (arith, l.enough, some_token text here))
+        (λ f z. record { number = 3; place = at (tokens_at text past); told = rw h.1; is = after f z ∙ rw (s, h.0) })

@@ -10,14 +10,13 @@ use Rattle.paper.specs.Tokens as paper
 use Rattle.paper.specs.Tokens.{Placed}
 use Rattle.paper.specs.Query.{Axis, Test, Expr, path, both, either, negated, Steps, stop, Preds, bare, pred}
 use Rattle.paper.specs.Items.{axis_number, test_number, pack_path, pack_step, step_count, pred_count, encode_expr, encode_steps, encode_preds, count_bound}
-use Rattle.paper.specs.Reading.{Got, got, refused, then, at, sees, Step, before, deep, read_preds, read_tail, read_step, read_steps}
+use Rattle.paper.specs.Reading.{Got, got, refused, then, at, sees, pass, Step, before, deep, read_preds, read_tail, read_step, read_steps}
 use Rattle.token.specs.declared.Cursor.{Cursor}
 use Rattle.item.specs.Unpacked.{packed}
-use Rattle.ahead.specs.declared.Joint.TheVariants.{Next, Nothing}
 use Rattle.marks.specs.Marks.{tokens_at, Past}
-use Rattle.ahead.specs.Looking.{Joins}
+use Rattle.ahead.specs.Looking.{Slashed, NoSlash}
 use Rattle.slots.specs.Slots.{Wrote, deep_items}
-use Rattle.read_paths.specs.Parts.{Gives, pass_sort, deep_if, step_items, path_items}
+use Rattle.read_paths.specs.Parts.{Gives, deep_if, step_items, path_items}
 use Rattle.slots.proofs.Writing.{wrote_nothing, wrote_more, wrote_head}
 use Rattle.read_paths.proofs.Runs.{some_token, some-fuel}
 
@@ -77,7 +76,7 @@ module _ (newer : Bool) (look : List ℕ → Option ℕ) (within : ℕ → List 
     -- A `[` comes next.
     module _ (mid bracket : ℕ) (s : sees paper.open_square (tokens_at text here) ≡ true) (e : bracket ≡ at (tokens_at text here)) (p : Past text here mid) where
       abbrev inner : Got Expr
-      inner = then (within bracket (tokens_at text mid)) (pass_sort 7)
+      inner = then (within bracket (tokens_at text mid)) (pass paper.close_square)
 
       there : (f : ℕ) → l.fuel ≡ suc f
           → read_preds newer look within l.fuel (tokens_at text here) ≡ then inner (λ e left. then (read_preds newer look within f left) (λ ps. got (pred e ps)))
@@ -172,7 +171,7 @@ pub record StepRow (newer : Bool) (look : List ℕ → Option ℕ) (within : ℕ
   pub fewer : length (tokens_at text here) ≤ length (tokens_at text from)
   pub grows : filled + 3 * from ≤ slot + 1 + 3 * here
 
--- After a step was read, before what stands after it is lookup.
+-- After a step was read, before what stands after it is looked at.
 pub record Stepped (newer : Bool) (look : List ℕ → Option ℕ) (within : ℕ → List Placed → Got Expr) (text old out : List ℕ) (from slot : ℕ) (all : Got Steps) (past filled taken : ℕ) : Type 0 where
   pub build : Steps → Steps
   pub fuel : ℕ
@@ -263,7 +262,7 @@ module _ (newer : Bool) (look : List ℕ → Option ℕ) (within : ℕ → List 
 
   module _ (out : List ℕ) (past filled taken : ℕ) (l : Stepped newer look within text old out from slot all past filled taken) where
     -- `/` or `//` comes next.
-    pub steps_more : (here : Cursor) (lead : Bool) → Joins text past (Next here lead) → StepRow newer look within text old out from slot all here.at filled lead taken
+    pub steps_more : (here : Cursor) (lead : Bool) → Slashed text past lead here.at → StepRow newer look within text old out from slot all here.at filled lead taken
     steps_more here true j =
         record {
           build = l.build;
@@ -271,15 +270,15 @@ module _ (newer : Bool) (look : List ℕ → Option ℕ) (within : ℕ → List 
           raw = l.raw;
           counts = l.counts;
           codes = l.codes;
-          goes_on = l.goes_on ∙ rw (j.0, j.1, j.2.rest);
-          enough = omega (arith, l.enough, j.2.fewer);
+          goes_on = l.goes_on ∙ rw (j.single, j.double, j.passed.rest);
+          enough = omega (arith, l.enough, j.passed.fewer);
           wrote = l.wrote;
           ends = l.ends;
           few = l.few;
-          onward = omega (arith, l.onward, j.2.onward);
-          inside = j.2.inside;
-          fewer = omega (arith, l.fewer, j.2.fewer);
-          grows = omega (arith, l.grows, j.2.onward);
+          onward = omega (arith, l.onward, j.passed.onward);
+          inside = j.passed.inside;
+          fewer = omega (arith, l.fewer, j.passed.fewer);
+          grows = omega (arith, l.grows, j.passed.onward);
         }
     steps_more here false j =
         record {
@@ -288,19 +287,19 @@ module _ (newer : Bool) (look : List ℕ → Option ℕ) (within : ℕ → List 
           raw = l.raw;
           counts = l.counts;
           codes = l.codes;
-          goes_on = l.goes_on ∙ rw (j.0, j.1.rest);
-          enough = omega (arith, l.enough, j.1.fewer);
+          goes_on = l.goes_on ∙ rw (j.single, j.passed.rest);
+          enough = omega (arith, l.enough, j.passed.fewer);
           wrote = l.wrote;
           ends = l.ends;
           few = l.few;
-          onward = omega (arith, l.onward, j.1.onward);
-          inside = j.1.inside;
-          fewer = omega (arith, l.fewer, j.1.fewer);
-          grows = omega (arith, l.grows, j.1.onward);
+          onward = omega (arith, l.onward, j.passed.onward);
+          inside = j.passed.inside;
+          fewer = omega (arith, l.fewer, j.passed.fewer);
+          grows = omega (arith, l.grows, j.passed.onward);
         }
 
     -- Neither comes: the path's item is put before its steps.
-    pub steps_done : (new : List ℕ) (made place : ℕ) → Joins text past (Nothing place) → (taken < count_bound → made ≡ pack_path taken) → Wrote out new slot (made ∷ [])
+    pub steps_done : (new : List ℕ) (made place : ℕ) → NoSlash text past place → (taken < count_bound → made ≡ pack_path taken) → Wrote out new slot (made ∷ [])
         → Gives text old new from slot (3 * from) slot all path_items past filled
     steps_done new made place j right v =
         let s = l.build stop in

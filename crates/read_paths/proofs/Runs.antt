@@ -7,19 +7,16 @@ use mathlib.Core.Bool.{Bool, true, false, cond}
 use mathlib.Core.List.{List, [], ◌∷◌, ◌++◌, append_assoc}
 use mathlib.Core.Option.{Option}
 use lib.ListN.{length, drop, replicate, length-append, length-replicate}
-use denote.Enum.Declared.{tag_of}
-use types.Run.{OneOf, miss}
 use Rattle.paper.specs.Tools.{ascii}
 use Rattle.paper.specs.Tokens.{Placed, tokens_from, token_at, beyond, white}
 use Rattle.paper.specs.Query.{Expr, both, either}
 use Rattle.paper.specs.Items.{and_item, or_item, encode_expr}
 use Rattle.paper.specs.Reading.{Got, got, refused, then, says, read_operand, read_ands, read_term, read_ors, read_expr}
 use Rattle.marks.specs.Marks.{tokens_at, Past}
-use Rattle.read_paths.specs.declared.Part.{Part}
-use Rattle.read_paths.specs.declared.Part.TheVariants.{Done, NoQuery, TooDeep, UnknownName}
 use Rattle.slots.specs.Slots.{Wrote, Grouped}
-use Rattle.read_paths.specs.Parts.{Gives, Reads}
-use Rattle.read_paths.specs.contracts.Part.{the_type}
+use Rattle.paper.specs.declared.Refusal.{Refusal}
+use Rattle.heads.specs.Heads.{Refused}
+use Rattle.read_paths.specs.Parts.{Gives}
 use Rattle.slots.proofs.Writing.{wrote_more, wrote_grouped}
 
 -- There is always a token, the end of the text at least.
@@ -43,16 +40,8 @@ some-fuel zero z k = absurd (omega arith)
 some-fuel (suc f) z k = k f refl
 
 -- A refusal, which is passed upward as it is.
-abbrev pub Refused : Part → Type 0
-Refused r = OneOf (1 ∷ 2 ∷ 3 ∷ []) (tag_of the_type r)
-
-pub passed_on : {A B : Type 0} (text old new text' old' new' : List ℕ) (from slot low high from' slot' low' high' : ℕ) (o : Got A) (items : A → List ℕ) (o' : Got B) (items' : B → List ℕ) (r : Part)
-    → Refused r → Reads text old new from slot low high o items r → ((n place : ℕ) → o ≡ refused n place → o' ≡ refused n place)
-    → Reads text' old' new' from' slot' low' high' o' items' r
-passed_on text old new text' old' new' from slot low high from' slot' low' high' o items o' items' (Done past end) n h k = absurd (miss (1 ∷ 2 ∷ 3 ∷ []) 0 tt n)
-passed_on text old new text' old' new' from slot low high from' slot' low' high' o items o' items' (NoQuery place) n h k = k 3 place h
-passed_on text old new text' old' new' from slot low high from' slot' low' high' o items o' items' (TooDeep place) n h k = k 4 place h
-passed_on text old new text' old' new' from slot low high from' slot' low' high' o items o' items' (UnknownName place) n h k = k 5 place h
+pub passed_on : {A B : Type 0} (o : Got A) (o' : Got B) (why : Refusal) → Refused o why → ((n place : ℕ) → o ≡ refused n place → o' ≡ refused n place) → Refused o' why
+passed_on o o' why r k = record { number = r.number; place = r.place; told = r.told; is = k r.number r.place r.is }
 
 -- AN OPERATOR: `one` reads an operand, `more n e` reads at most n more and joins each to e.
 pub record Operator : Type 0 where

@@ -5,8 +5,9 @@ ghost use Rattle.std.specs.Prelude.{◌≡◌, length};
 ghost use Rattle.paper.specs.Answers.{read_xml_answer, read_xml_column, parent_field, kind_field, begin_field, end_field};
 ghost use Rattle.paper.specs.Told.{told};
 
-use names::Listed;
-use paper::Answer;
+use initials::Initials;
+use names::Names;
+use paper::{Answer, Refusal};
 use read_listed::fill;
 
 // Reads XML text: writes its nodes in document order with their places and answers their number, or refuses and writes nothing.
@@ -31,17 +32,8 @@ pub fn read_xml(
         | (begin.len() != room)
         | (end.len() != room)
     {
-        return Answer::TooLong;
+        return Err(Refusal::TooLong);
     }
-    let mut starts = [0u16; names::STARTS];
-    match names::index(list, &mut starts) {
-        Listed::Bad(start) => Answer::BadName(start),
-        Listed::Good(count) => {
-            let mut chains = [0u16; initials::CHAINS];
-            initials::link(list, &starts, count, &mut chains);
-            fill(
-                text, list, &starts, count, &chains, parent, kind, begin, end,
-            )
-        }
-    }
+    let names = Initials::new(Names::new(list)?);
+    fill(text, &names, parent, kind, begin, end)
 }

@@ -6,7 +6,7 @@ ghost use Rattle.paper.specs.Program.{program_prints};
 ghost use Rattle.lines.specs.Lines.{report_limit, Reports};
 ghost use Rattle.report.specs.Printing.{program_prints_by, lean_prints};
 
-use paper::Answer;
+use paper::Refusal;
 
 // The most bytes of an input.
 pub const INPUT_LIMIT: usize = 49152;
@@ -20,7 +20,7 @@ fn report_by(input: &[u8], out: &mut [u8], lean: bool) -> usize
     ensures { Reports (program_prints_by lean input.now) report_limit out.old out.new result }
 {
     if INPUT_LIMIT < input.len() {
-        return lines::put_refusal(out, b"input", Answer::TooLong);
+        return lines::put_refusal(out, b"input", Err(Refusal::TooLong));
     }
     let outer_end = lines::line_end(input);
     let outer = &input[..outer_end];

@@ -8,7 +8,7 @@ ghost use Rattle.paper.specs.Told.{told};
 ghost use Rattle.paper.specs.Roles.{beyond, mask_answer, mask_out, role_answer, role_out};
 ghost use Rattle.roles.specs.Judging.{views_counted, list_answer};
 
-use paper::Answer;
+use paper::{Answer, Refusal};
 
 // A role: the views that it may see, bit v for view v. Its number is its index among the roles.
 #[repr(C)]
@@ -41,10 +41,8 @@ fn left_of(mask: u32, views: usize) -> u32
     ensures { result ≡ beyond mask views }
 {
     let mut left = mask;
-    let mut taken = 0;
-    while taken < views {
+    for taken in 0..views {
         left = left / 2;
-        taken += 1;
     }
     left
 }
@@ -75,25 +73,22 @@ pub fn for_mask(
         | (paper::TEXT_LIMIT < text.len())
         | (paper::ROLE_LIMIT < roles);
     if long {
-        return Answer::TooLong;
+        return Err(Refusal::TooLong);
     }
     let count = count_views(views);
     if paper::VIEW_LIMIT < count {
-        return Answer::TooLong;
+        return Err(Refusal::TooLong);
     }
-    let listed = judge_list(list);
-    let Answer::Value(_) = listed else {
-        return listed;
-    };
+    judge_list(list)?;
     let number = role as usize;
     if roles <= number {
-        return Answer::NoRole(number);
+        return Err(Refusal::NoRole(number));
     }
     if mask == 0 {
-        return Answer::NoView(number);
+        return Err(Refusal::NoView(number));
     }
     if left_of(mask, count) != 0 {
-        return Answer::NoView(number);
+        return Err(Refusal::NoView(number));
     }
     view_union::compose_union(views, list, mask, text, out)
 }
@@ -102,11 +97,7 @@ pub fn for_mask(
 fn mask_of(roles: &[Role], index: usize) -> u32
     ensures { result ≡ get_or (map (λ x. x.views) roles.now) index 0 }
 {
-    if index < roles.len() {
-        return roles[index].views;
-    } else {
-        return 0;
-    }
+    roles.get(index).map_or(0, |role| role.views)
 }
 
 // Writes the composition of a role's query with the union of the views that the role names, and answers the number of its items.

@@ -5,8 +5,7 @@ ghost use Rattle.std.specs.Prelude.{◌≡◌};
 ghost use Rattle.paper.specs.Room.{height_answer, paths_answer, outside, scratch_answer};
 ghost use Rattle.paper.specs.Told.{told};
 
-use paper::Answer;
-use shape::Shape;
+use paper::{Answer, Refusal};
 
 // Is a number 0 or over its limit?
 fn outside(limit: usize, n: usize) -> bool
@@ -20,18 +19,10 @@ pub fn height(query: &[u32]) -> Answer
     ensures { told result ≡ height_answer query.now }
 {
     if paper::ITEM_LIMIT < query.len() {
-        return Answer::TooLong;
+        return Err(Refusal::TooLong);
     }
-    let shaped = shape::measure(query);
-    let Shape::Query {
-        nesting: _,
-        height,
-        guards: _,
-    } = shaped
-    else {
-        return Answer::BadQuery(0);
-    };
-    Answer::Value(height)
+    let shape = shape::measure(query).ok_or(Refusal::BadQuery(0))?;
+    Ok(shape.height)
 }
 
 // The number of top-level paths of a query in memory.
@@ -39,12 +30,10 @@ pub fn paths(query: &[u32]) -> Answer
     ensures { told result ≡ paths_answer query.now }
 {
     if paper::ITEM_LIMIT < query.len() {
-        return Answer::TooLong;
+        return Err(Refusal::TooLong);
     }
-    if let Shape::Malformed = shape::measure(query) {
-        return Answer::BadQuery(0);
-    }
-    Answer::Value(reverse::count_paths(query))
+    shape::measure(query).ok_or(Refusal::BadQuery(0))?;
+    Ok(reverse::count_paths(query))
 }
 
 // The bytes of scratch with which a run of an accepted composition is not refused for want of room, by the nodes of the table and the heights and path counts of the two queries.
@@ -63,8 +52,8 @@ pub fn scratch(
         | outside(paper::ITEM_LIMIT, inner_height)
         | outside(paper::ITEM_LIMIT, inner_paths);
     if wrong {
-        return Answer::TooLong;
+        return Err(Refusal::TooLong);
     }
-    let bound = outer_height + heights::larger(3, inner_height) + inner_paths + 1;
-    Answer::Value(nodes * 2 * (bound + 1))
+    let bound = outer_height + inner_height.max(3) + inner_paths + 1;
+    Ok(nodes * 2 * (bound + 1))
 }

@@ -1,14 +1,20 @@
 -- The nodes kept for the selected nodes below a number. Assumes nothing.
-use Prim.Native.Nat.{ℕ, ◌+◌}
+use Prim.Native.Nat.{ℕ, zero, suc, ◌+◌}
 use native.Mathlib.Numerals.{add-one}
 use mathlib.Core.Path.{◌≡◌, refl, sym, ◌∙◌, ap}
 use mathlib.Core.Bool.{Bool, true, false, ◌&&◌, ◌||◌, cond}
-use mathlib.Core.List.{List}
-use Rattle.paper.specs.Tools.{some_below, column}
+use mathlib.Core.List.{List, ◌∷◌}
+use lib.ListN.{replicate}
+use Rattle.paper.specs.Tools.{some_below, column, column_from}
 use Rattle.paper.specs.Query.{Query}
 use Rattle.paper.specs.Document.{Table, nodes, marked, over}
 use Rattle.paper.specs.Selection.{selects, keeps, kept}
 use Rattle.paper.proofs.Searches.{column_same}
+
+-- Marks that are filled with 0.
+pub cleared : (n at : ℕ) → replicate {A = ℕ} n 0 ≡ column_from n at (λ i. 0)
+cleared zero at = refl
+cleared (suc n) at = ap (λ (xs : List ℕ). 0 ∷ xs) (cleared n (suc at))
 
 module _ (t : Table) (m : List ℕ) (q : Query) where
   -- Is the node i marked, and above or below a selected node that is before k, or one?

@@ -1,26 +1,23 @@
 -- What an operand needs of what it holds, and what it says from that, by its first item. Assumes nothing.
-use Prim.Native.Nat.{ℕ, suc, ◌+◌, ◌-◌, ◌≤◌, ◌<◌}
+use Prim.Native.Nat.{ℕ, suc, ◌+◌, ◌-◌, ◌<◌}
 use native.Mathlib.Omega.{arith}
 use mathlib.Core.Path.{◌≡◌, refl, sym, ◌∙◌, ap}
 use mathlib.Core.Bool.{Bool, not}
-use mathlib.Core.List.{List, [], ◌∷◌}
+use mathlib.Core.List.{List, ◌∷◌}
 use mathlib.Core.Logic.{by_cases}
 use mathlib.Core.Option.{some}
 use native.Mathlib.Decide.{ℕ_discrete, dec_lt}
 use lib.ListN.{length, get_or, drop}
-use denote.Enum.Declared.{tag_of}
-use types.Run.{OneOf, miss}
 use Rattle.paper.specs.Tools.{found}
-use Rattle.paper.specs.Query.{Expr, path, negated}
-use Rattle.paper.specs.Items.{not_item, path_at, Taken, take_steps, take_operand, take_expr, take_within}
+use Rattle.paper.specs.Query.{path, negated}
+use Rattle.paper.specs.Items.{not_item, path_at, take_steps, take_operand, take_expr, take_within}
 use Rattle.paper.specs.Document.{Table, nodes}
 use Rattle.paper.specs.Selection.{holds}
-use Rattle.paper.proofs.Tests.{found_some, none-some, some_inj}
+use Rattle.paper.proofs.Tests.{found_some, none-some}
 use Rattle.item.specs.declared.Item.{Item}
 use Rattle.item.specs.declared.Item.TheVariants.{Path, Step as StepItem, And, Or, Not, Bad}
 use Rattle.item.proofs.Saying.{Said}
-use Rattle.item.specs.contracts.Item.{the_type}
-use Rattle.shape.proofs.Operands.{operand_past, operand_path, operand_bare, operand_other, operand_step, operand_same, operand_denied, operand_deep, at_place, deeper}
+use Rattle.shape.proofs.Operands.{operand_past, operand_path, operand_bare, operand_other, operand_step, operand_same, operand_denied, operand_shut, at_place, deeper}
 use Rattle.shape.proofs.Operators.{Operator}
 use Rattle.shape.specs.Ending.{Ends}
 use Rattle.search.specs.Searches.{Fits, Decides, Settles, goes, ending}
@@ -38,8 +35,8 @@ module _ (items : List ℕ) (at room depth : ℕ) (f : Fits items at room (take_
   operand_read = ap (take_operand (take_within depth)) (sym (at_place items at operand_there)) ∙ f.reads
 
   -- A bracket can be opened for anything but a path.
-  pub not_deep : (i : Item) → Said (get_or items at 0) i → OneOf (1 ∷ 2 ∷ 3 ∷ 4 ∷ 5 ∷ []) (tag_of the_type i) → depth ≡ 0 → ⊥
-  not_deep i s k z = none-some (sym (operand_deep (get_or items at 0) i (drop (at + 1) items) s k) ∙ ap (λ (d : ℕ). take_operand (take_within d) (get_or items at 0 ∷ drop (at + 1) items)) (sym z) ∙ operand_read)
+  pub not_deep : (i : Item) → Said (get_or items at 0) i → ((count : ℕ) → i ≡ Path count → ⊥) → depth ≡ 0 → ⊥
+  not_deep i s k z = none-some (sym (operand_shut (get_or items at 0) i (drop (at + 1) items) s k) ∙ ap (λ (d : ℕ). take_operand (take_within d) (get_or items at 0 ∷ drop (at + 1) items)) (sym z) ∙ operand_read)
 
   -- A path.
   pub path_fits : (count : ℕ) → path_at (get_or items at 0) ≡ some count → Fits items (at + 1) room (take_steps (take_within depth) count (drop (at + 1) items))
@@ -71,12 +68,12 @@ module _ (items : List ℕ) (at room depth : ℕ) (f : Fits items at room (take_
       })
 
   -- An item that is neither a path nor `not`, and can be read, is an operator's.
-  pub must_join : (i : Item) → Said (get_or items at 0) i → OneOf (1 ∷ 2 ∷ 3 ∷ 4 ∷ 5 ∷ []) (tag_of the_type i) → OneOf (0 ∷ 1 ∷ 2 ∷ 3 ∷ 5 ∷ []) (tag_of the_type i) → Operator (get_or items at 0)
-  must_join (Path count) s k l = absurd (miss (1 ∷ 2 ∷ 3 ∷ 4 ∷ 5 ∷ []) 0 tt k)
+  pub must_join : (i : Item) → Said (get_or items at 0) i → ((count : ℕ) → i ≡ Path count → ⊥) → (i ≡ Not → ⊥) → Operator (get_or items at 0)
+  must_join (Path count) s k l = absurd (k count refl)
   must_join (StepItem st) s k l = none-some (sym (operand_step (take_within depth) (get_or items at 0) (drop (at + 1) items) s.0 s.1) ∙ operand_read)
   must_join And s k l = (omega arith, omega arith)
   must_join Or s k l = (omega arith, omega arith)
-  must_join Not s k l = absurd (miss (0 ∷ 1 ∷ 2 ∷ 3 ∷ 5 ∷ []) 4 tt l)
+  must_join Not s k l = absurd (l refl)
   must_join Bad s k l = none-some (sym (operand_other (take_within depth) (get_or items at 0) (drop (at + 1) items) s.0 s.2 s.3 s.4) ∙ operand_read)
 
 -- A bracket of an operator and of `not`, where d brackets may still be opened in it.

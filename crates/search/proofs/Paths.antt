@@ -1,27 +1,26 @@
 -- The state of a path's search: where its first steps stand, where the next one's items are and what candidates it has left; the answer of the whole is the answer of what is left.
 -- The moves: a step more stands, or the one before goes on. Assumes nothing.
+use Rattle.std.specs.Prelude.{Some, None}
 use Prim.Native.Nat.{ℕ, zero, suc, ◌+◌, ◌-◌, ◌≤◌, ◌<◌}
 use native.Mathlib.Omega.{arith}
-use native.Mathlib.Decide.{ℕ_discrete}
-use native.Mathlib.Numerals.{add-one}
 use mathlib.Core.Path.{◌≡◌, refl, sym, ◌∙◌, ap, subst}
 use mathlib.Core.Bool.{Bool, true, false, ◌&&◌}
 use mathlib.Core.List.{List, [], ◌∷◌, ◌++◌}
-use mathlib.Core.Logic.{by_cases, ⊎_elim}
+use mathlib.Core.Logic.{⊎_elim}
 use mathlib.Core.Option.{some}
 use lib.Dec.{ltb}
-use lib.ListN.{length, get_or, drop, length-append, get_or-append}
-use lib.Seq.{get_or-append-add}
-use borrow.Author.Tests.{ltb-true, ltb-false, lt-ltb, le-ltb}
-use Rattle.paper.specs.Query.{Steps, stop, step, Preds}
-use Rattle.paper.specs.Items.{Head, step_at, step_count, take_steps, take_within}
+use lib.ListN.{length, get_or, drop, length-append}
+use borrow.Author.Tests.{ltb-true, ltb-false}
+use Rattle.paper.specs.Query.{Steps, step, Preds}
+use Rattle.paper.specs.Items.{Head, step_at, step_count, take_preds, take_steps, take_within}
 use Rattle.paper.specs.Document.{Table, nodes}
 use Rattle.paper.specs.Selection.{reaches, all_hold}
 use Rattle.paper.proofs.Tests.{some_inj, decide}
-use Rattle.candidates.specs.Best.{Best}
+use Rattle.candidates.specs.Best.{Last}
 use Rattle.shape.specs.Ending.{Ends}
 use Rattle.search.specs.Searches.{Fits, StepFits, Settles, Seeks, last_of, ending, goes}
 use Rattle.search.specs.declared.Sought.{Sought}
+use Rattle.search.proofs.Seeking.{not_none}
 use Rattle.search.proofs.Stands.{last_more}
 use Rattle.shape.proofs.Stepping.{later, later_all}
 use Rattle.search.proofs.Steps.{count_steps, begin_ends, steps_far, step-here, step_fits, step_ends}
@@ -113,26 +112,22 @@ module _ (t : Table) (m : List ℕ) (items : List ℕ) (at depth count node want
     abbrev pub Dead : Type 0
     Dead = left t m (ending (nodes t) wanted) (later k s.what) (last_of node js) [] bound ≡ false
 
-    pub state_dead : (from : ℕ) (r : Sought) → from ≡ last_of node js → Seeks items place (ltb k count) depth t m from bound r → r.bound ≡ 0 → (k ≡ count → ending (nodes t) wanted from ≡ false) → Dead
-    state_dead from r e q z never =
+    pub state_dead : (from : ℕ) → from ≡ last_of node js → Seeks items place (ltb k count) depth t m from bound None → (k ≡ count → ending (nodes t) wanted from ≡ false) → Dead
+    state_dead from e q never =
         ⊎_elim
         (λ l.
         step-here items at room depth count f k place (ltb-true k count l) s.there
         (λ h ps rest on p u is.
-        let b = subst (λ n. Best' h ps n) z (q.best l h ps rest p u) in
         ap (λ (v : Steps). left t m (ending (nodes t) wanted) (later k v) (last_of node js) [] bound) same
         ∙ ap (λ (v : Steps). left t m (ending (nodes t) wanted) v (last_of node js) [] bound) is
         ∙ ap (λ i. left t m (ending (nodes t) wanted) (step h.axis h.test ps (later (suc k) f.what)) i [] bound) (sym e)
-        ∙ step_dry t m (ending (nodes t) wanted) h.axis h.test ps (later (suc k) f.what) from bound b))
+        ∙ step_dry t m (ending (nodes t) wanted) h.axis h.test ps (later (suc k) f.what) from bound (q.best l h ps rest p u)))
         (λ l.
         let all : k ≡ count = omega (arith, ltb-false k count l, s.few) in
         ap (λ (v : Steps). left t m (ending (nodes t) wanted) v (last_of node js) [] bound)
         (ap (λ i. later i s.what) (all ∙ sym (count_steps items at room depth count f) ∙ ap step_count (sym same)) ∙ later_all s.what)
         ∙ ap (ending (nodes t) wanted) (sym e) ∙ never all)
         (decide (ltb k count))
-      where
-        Best' : Head → Preds → ℕ → Type 0
-        Best' h ps n = Best (λ j. reaches t m h.axis h.test from j && all_hold t m ps j) bound n
 
     pub state_dry : Dead → k ≡ 0 → Settles (take_steps (take_within depth) count (drop at items)) (λ u. goes t m (ending (nodes t) wanted) u node) false
     state_dry d z =
@@ -174,14 +169,18 @@ module _ (t : Table) (m : List ℕ) (items : List ℕ) (at depth count node want
       back_less = subst (λ (xs : List ℕ). worth (nodes t) count ks j < worth (nodes t) count xs bound) (sym e) (worth_pop (nodes t) count ks j bound (omega (arith, long, s.few)))
 
     -- One step more stands.
-    module _ (from : ℕ) (r : Sought) (e : from ≡ last_of node js) (q : Seeks items place (ltb k count) depth t m from bound r) (z : 0 < r.bound) where
+    module _ (from : ℕ) (r : Sought) (e : from ≡ last_of node js) (q : Seeks items place (ltb k count) depth t m from bound (Some r)) where
       more_steps : ltb k count ≡ true
-      more_steps = ⊎_elim (λ h. h) (λ h. absurd (omega (arith, q.no_more h))) (decide (ltb k count))
+      more_steps = ⊎_elim (λ h. h) (λ h. absurd (not_none (q.no_more h))) (decide (ltb k count))
 
-      pub state_within : r.bound ≤ bound
-      state_within = step-here items at room depth count f k place (ltb-true k count more_steps) s.there (λ h ps rest on p u is. (q.best more_steps h ps rest p u).within)
+      best_at : (h : Head) (ps : Preds) (rest : List ℕ) → step_at (get_or items place 0) ≡ some h → take_preds (take_within depth) h.count (drop (place + 1) items) ≡ some (ps, rest)
+          → Last (λ j. reaches t m h.axis h.test from j && all_hold t m ps j) bound r.node
+      best_at h ps rest p u = q.best more_steps h ps rest p u
 
-      pub state_push : State (js ++ ((r.bound - 1) ∷ [])) (k + 1) r.next (nodes t)
+      pub state_within : r.node < bound
+      state_within = step-here items at room depth count f k place (ltb-true k count more_steps) s.there (λ h ps rest on p u is. (best_at h ps rest p u).within)
+
+      pub state_push : State (js ++ (r.node ∷ [])) (k + 1) r.next (nodes t)
       state_push =
           step-here items at room depth count f k place (ltb-true k count more_steps) s.there
           (λ h ps rest on p u is.
@@ -189,17 +188,17 @@ module _ (t : Table) (m : List ℕ) (items : List ℕ) (at depth count node want
             what = s.what;
             rest = s.rest;
             reads = s.reads;
-            size = length-append js ((r.bound - 1) ∷ []) ∙ ap (λ n. n + 1) s.size;
+            size = length-append js (r.node ∷ []) ∙ ap (λ n. n + 1) s.size;
             few = omega (arith, ltb-true k count more_steps);
-            there = step_ends items at room depth count f k place r.next h (ltb-true k count more_steps) s.there p on (q.ends more_steps z h p);
-            below = λ i b. more_below (nodes t) (r.bound - 1) js (omega (arith, state_within, s.under, z)) s.below i (omega (arith, length-append js ((r.bound - 1) ∷ [])));
+            there = step_ends items at room depth count f k place r.next h (ltb-true k count more_steps) s.there p on (q.ends more_steps r refl h p);
+            below = λ i b. more_below (nodes t) r.node js (omega (arith, state_within, s.under)) s.below i (omega (arith, length-append js (r.node ∷ [])));
             under = omega arith;
             answer =
                 s.answer
-                ∙ left_push t m (ending (nodes t) wanted) s.what node js bound r.bound h.axis h.test ps (later (suc k) f.what)
+                ∙ left_push t m (ending (nodes t) wanted) s.what node js bound r.node h.axis h.test ps (later (suc k) f.what)
                 (ap (λ i. later i s.what) s.size ∙ ap (later k) same ∙ is)
-                (subst (λ i. Best (λ j. reaches t m h.axis h.test i j && all_hold t m ps j) bound r.bound) e (q.best more_steps h ps rest p u)) z;
+                (subst (λ i. Last (λ j. reaches t m h.axis h.test i j && all_hold t m ps j) bound r.node) e (best_at h ps rest p u));
           })
 
-      pub push_less : worth (nodes t) count (js ++ ((r.bound - 1) ∷ [])) (nodes t) < worth (nodes t) count js bound
-      push_less = worth_push (nodes t) count js bound r.bound (omega (arith, ltb-true k count more_steps, s.size)) z state_within
+      pub push_less : worth (nodes t) count (js ++ (r.node ∷ [])) (nodes t) < worth (nodes t) count js bound
+      push_less = worth_push (nodes t) count js bound r.node (omega (arith, ltb-true k count more_steps, s.size)) state_within

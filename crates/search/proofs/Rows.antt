@@ -1,13 +1,13 @@
 -- Predicates in a row at one node: those read so far hold, and what is left decides the whole. Assumes nothing.
-use Prim.Native.Nat.{ℕ, zero, suc, ◌+◌, ◌-◌, ◌≤◌, ◌<◌}
+use Prim.Native.Nat.{ℕ, zero, suc, ◌-◌, ◌≤◌, ◌<◌}
 use native.Mathlib.Omega.{arith}
 use mathlib.Core.Path.{◌≡◌, refl, sym, ◌∙◌, ap, subst}
-use mathlib.Core.Bool.{Bool, true, false, ◌&&◌}
-use mathlib.Core.List.{List, [], ◌∷◌}
-use mathlib.Core.Option.{none, some}
+use mathlib.Core.Bool.{true, false, ◌&&◌}
+use mathlib.Core.List.{List}
+use mathlib.Core.Option.{some}
 use lib.ListN.{length, drop}
-use Rattle.paper.specs.Query.{Expr, Preds, bare, pred}
-use Rattle.paper.specs.Items.{Taken, take_preds, take_expr, take_within}
+use Rattle.paper.specs.Query.{Expr, Preds}
+use Rattle.paper.specs.Items.{take_preds, take_expr, take_within}
 use Rattle.paper.specs.Document.{Table}
 use Rattle.paper.specs.Selection.{holds, all_hold}
 use Rattle.paper.proofs.Tests.{found_some, none-some, some_inj}

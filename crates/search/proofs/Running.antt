@@ -5,18 +5,16 @@ use native.Mathlib.Omega.{arith}
 use mathlib.Core.Path.{◌≡◌, refl, sym, ◌∙◌, ap, ap₂}
 use mathlib.Core.Bool.{Bool, true, false, ◌&&◌, ◌||◌}
 use mathlib.Core.List.{List}
-use mathlib.Core.Option.{some}
 use lib.ListN.{length, drop, length-append, length-drop}
 use Rattle.paper.specs.Tools.{found}
 use Rattle.paper.specs.Query.{Expr, path, both, either, negated}
 use Rattle.paper.specs.Items.{and_item, or_item, encode_expr, leading, Taken, take_operand, take_expr, take_within}
 use Rattle.paper.specs.Document.{Table}
 use Rattle.paper.specs.Selection.{holds}
-use Rattle.paper.proofs.Tests.{found_some, some_inj}
+use Rattle.paper.proofs.Tests.{found_some}
 use Rattle.shape.specs.Walks.{operators}
 use Rattle.shape.proofs.Operators.{by_operator, take_run, take_part, take_more, join_by, Run, run_starts, operators_run}
 use Rattle.shape.proofs.Operators.{ands as ands-laws, ors as ors-laws}
-use Rattle.shape.specs.Ending.{Ends}
 use Rattle.search.specs.Searches.{Fits, Decides}
 use Rattle.search.specs.declared.Held.{Held}
 

@@ -1,8 +1,8 @@
 -- The search of a path with back-tracking: what is left to find where the first steps stand at nodes and the next has candidates left below a bound, and how each move keeps it; and how many moves are left. Assumes nothing.
-use Prim.Native.Nat.{ℕ, zero, suc, ◌+◌, ◌-◌, ◌≤◌, ◌<◌}
+use Prim.Native.Nat.{ℕ, zero, suc, ◌+◌, ◌≤◌, ◌<◌}
 use native.Mathlib.Omega.{arith}
 use native.Mathlib.Decide.{ℕ_discrete}
-use mathlib.Core.Path.{◌≡◌, refl, sym, ◌∙◌, ap, ap₂, subst}
+use mathlib.Core.Path.{◌≡◌, refl, sym, ◌∙◌, ap, subst}
 use mathlib.Core.Bool.{Bool, true, false, ◌&&◌, ◌||◌}
 use mathlib.Core.List.{List, [], ◌∷◌, ◌++◌}
 use mathlib.Core.Logic.{by_cases}
@@ -14,7 +14,7 @@ use Rattle.paper.specs.Query.{Axis, Test, Steps, stop, step, Preds}
 use Rattle.paper.specs.Items.{step_count}
 use Rattle.paper.specs.Document.{Table, nodes}
 use Rattle.paper.specs.Selection.{reaches, all_hold}
-use Rattle.candidates.specs.Best.{Best}
+use Rattle.candidates.specs.Best.{Last}
 use Rattle.search.specs.Searches.{goes, last_of}
 use Rattle.shape.proofs.Stepping.{later, later_next}
 
@@ -71,23 +71,22 @@ module _ (t : Table) (marks : List ℕ) (more : ℕ → Bool) where
     Here j = reaches t marks a x from j && all_hold t marks ps j
 
     -- Where a step has no candidate, nothing is left of it;
-    pub step_dry : (c : ℕ) → Best Here c 0 → left (step a x ps rest) from [] c ≡ false
-    step_dry c b = some_none c (onward a x ps rest from) (λ j l. none_and (goes t marks more rest j) (b.last j (omega arith) l))
+    pub step_dry : (c : ℕ) → ((j : ℕ) → j < c → Here j ≡ false) → left (step a x ps rest) from [] c ≡ false
+    step_dry c h = some_none c (onward a x ps rest from) (λ j l. none_and (goes t marks more rest j) (h j l))
 
     -- and the best candidate is where it stands next.
-    step_on : (c r : ℕ) → Best Here c r → 0 < r → left (step a x ps rest) from [] c ≡ left (step a x ps rest) from ((r - 1) ∷ []) (nodes t)
-    step_on c r b z =
-        some_cut c r (onward a x ps rest from) b.within (λ j u v. none_and (goes t marks more rest j) (b.last j u v))
-        ∙ ap (λ k. some_below k (onward a x ps rest from)) (let e : r ≡ suc (r - 1) = omega arith in e)
-        ∙ ap (λ y. (y && goes t marks more rest (r - 1)) || some_below (r - 1) (onward a x ps rest from)) (b.here z)
-        ∙ ap (λ y. y || some_below (r - 1) (onward a x ps rest from)) (left_begin rest (r - 1))
+    step_on : (c n : ℕ) → Last Here c n → left (step a x ps rest) from [] c ≡ left (step a x ps rest) from (n ∷ []) (nodes t)
+    step_on c n b =
+        some_cut c (suc n) (onward a x ps rest from) (omega (arith, b.within)) (λ j u v. none_and (goes t marks more rest j) (b.later j (omega arith) v))
+        ∙ ap (λ y. (y && goes t marks more rest n) || some_below n (onward a x ps rest from)) b.here
+        ∙ ap (λ y. y || some_below n (onward a x ps rest from)) (left_begin rest n)
 
   -- A step more stands: its candidates below are left to it, and all to the one behind.
-  pub left_push : (s : Steps) (i : ℕ) (js : List ℕ) (c r : ℕ) (a : Axis) (x : Test) (ps : Preds) (rest : Steps) → later (length js) s ≡ step a x ps rest
-      → Best (λ j. reaches t marks a x (last_of i js) j && all_hold t marks ps j) c r → 0 < r → left s i js c ≡ left s i (js ++ ((r - 1) ∷ [])) (nodes t)
-  left_push s i js c r a x ps rest e b z =
-      left_deep s i js ((r - 1) ∷ []) c (nodes t)
-      (subst (λ (u : Steps). left u (last_of i js) [] c ≡ left u (last_of i js) ((r - 1) ∷ []) (nodes t)) (sym e) (step_on a x ps rest (last_of i js) c r b z))
+  pub left_push : (s : Steps) (i : ℕ) (js : List ℕ) (c n : ℕ) (a : Axis) (x : Test) (ps : Preds) (rest : Steps) → later (length js) s ≡ step a x ps rest
+      → Last (λ j. reaches t marks a x (last_of i js) j && all_hold t marks ps j) c n → left s i js c ≡ left s i (js ++ (n ∷ [])) (nodes t)
+  left_push s i js c n a x ps rest e b =
+      left_deep s i js (n ∷ []) c (nodes t)
+      (subst (λ (u : Steps). left u (last_of i js) [] c ≡ left u (last_of i js) (n ∷ []) (nodes t)) (sym e) (step_on a x ps rest (last_of i js) c n b))
 
   -- Where nothing is left behind a step, it goes on below where it stood.
   pub left_pop : (s : Steps) (i : ℕ) (js : List ℕ) (j c : ℕ) → left (later (suc (length js)) s) j [] c ≡ false → left s i (js ++ (j ∷ [])) c ≡ left s i js j
@@ -113,10 +112,10 @@ worth n zero js c = 0
 worth n (suc m) [] c = pay c (worth n m [] n)
 worth n (suc m) (j ∷ js) c = 1 + pay j (worth n m [] n) + worth n m js c
 
-pub worth_push : (n m : ℕ) (js : List ℕ) (c r : ℕ) → length js < m → 0 < r → r ≤ c → worth n m (js ++ ((r - 1) ∷ [])) n < worth n m js c
-worth_push n zero js c r l z u = absurd (omega arith)
-worth_push n (suc m) [] c r l z u = omega (arith, pay_less (r - 1) c (worth n m [] n) (omega arith))
-worth_push n (suc m) (j ∷ js) c r l z u = omega (arith, worth_push n m js c r (omega arith) z u)
+pub worth_push : (n m : ℕ) (js : List ℕ) (c r : ℕ) → length js < m → r < c → worth n m (js ++ (r ∷ [])) n < worth n m js c
+worth_push n zero js c r l u = absurd (omega arith)
+worth_push n (suc m) [] c r l u = omega (arith, pay_less r c (worth n m [] n) u)
+worth_push n (suc m) (j ∷ js) c r l u = omega (arith, worth_push n m js c r (omega arith) u)
 
 pub worth_pop : (n m : ℕ) (js : List ℕ) (j c : ℕ) → length js < m → worth n m js j < worth n m (js ++ (j ∷ [])) c
 worth_pop n zero js j c l = absurd (omega arith)

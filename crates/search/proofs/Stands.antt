@@ -1,7 +1,8 @@
 -- The nodes where the first k steps stand, as the front of a list: one more, one less, and the last of them. Assumes nothing.
 use Prim.Native.Nat.{ℕ, zero, suc, ◌+◌, ◌-◌, ◌≤◌, ◌<◌}
 use native.Mathlib.Omega.{arith}
-use mathlib.Core.Path.{◌≡◌, refl, sym, ◌∙◌, ap, subst}
+use native.Mathlib.Numerals.{add-one}
+use mathlib.Core.Path.{◌≡◌, refl, sym, ◌∙◌, ap}
 use mathlib.Core.List.{List, [], ◌∷◌, ◌++◌}
 use lib.ListN.{length, get_or, set, take, drop, length-take, length-drop}
 use borrow.Rule.Slice.PartMut.{put_mid, take_put, same_len_mid}
@@ -38,3 +39,15 @@ pub front_set : (xs : List ℕ) (k v : ℕ) → k < length xs → take (suc k) (
 front_set [] k v l = absurd (omega arith)
 front_set (x ∷ xs) zero v l = refl
 front_set (x ∷ xs) (suc k) v l = ap (λ (ys : List ℕ). x ∷ ys) (front_set xs k v (omega arith))
+
+-- What the front is where the part behind the first k has come back: with one node more, and without the last.
+module _ (xs part : List ℕ) (k : ℕ) (l : k ≤ length xs) (e : length part ≡ length (take (length xs - k) (drop k xs))) where
+  pub pushed_front : (v : ℕ) → k < length xs → take (k + 1) (set (put_mid k (length xs - k) xs part) k v) ≡ take k xs ++ (v ∷ [])
+  pushed_front v on =
+      let all = put_mid k (length xs - k) xs part in
+      ap (λ (n : ℕ). take n (set all k v)) (add-one k) ∙ front_set all k v (omega (arith, on, length_stays k xs part l e)) ∙ ap (λ (ys : List ℕ). ys ++ (v ∷ [])) (front_stays k xs part l)
+
+  pub popped_front : (k ≡ 0 → ⊥) → take k xs ≡ take (k - 1) (put_mid k (length xs - k) xs part) ++ (get_or (put_mid k (length xs - k) xs part) (k - 1) 0 ∷ [])
+  popped_front z =
+      let all = put_mid k (length xs - k) xs part in
+      sym (front_stays k xs part l) ∙ ap (λ (n : ℕ). take n all) (let q : k ≡ suc (k - 1) = omega arith in q) ∙ front_more all (k - 1) (omega (arith, length_stays k xs part l e, z))

@@ -1,5 +1,5 @@
 -- What following the definition node by node gives: what items say of one node, and where a step leads next.
-use Rattle.std.specs.Prelude.{ℕ, ◌+◌, ◌≤◌, ◌<◌, ◌≡◌, Bool, true, false, ◌&&◌, ◌||◌, List, [], ◌∷◌, eqb, length, get_or, drop}
+use Rattle.std.specs.Prelude.{ℕ, ◌+◌, ◌≤◌, ◌<◌, ◌≡◌, Bool, true, false, ◌&&◌, ◌||◌, List, [], ◌∷◌, eqb, length, get_or, drop, Option, Some, None}
 use Rattle.std.proofs.Math.Option.{some}
 use Rattle.paper.specs.Tools.{some_below}
 use Rattle.paper.specs.Limits.{item_limit}
@@ -43,12 +43,17 @@ pub record StepFits (items : List ℕ) (place depth room : ℕ) : Type 0 where
   pub on : place < length items
   pub preds : Fits items (place + 1) room (take_preds (take_within depth) head.count (drop (place + 1) items))
 
+-- The node that was found.
+abbrev pub node_of : Option Sought → Option ℕ
+node_of None = None
+node_of (Some s) = Some s.node
+
 -- The last node below the bound to which the step at `place` leads and at which its predicates hold, and where they end; none where there is no step more.
-pub record Seeks (items : List ℕ) (place : ℕ) (more : Bool) (depth : ℕ) (t : Table) (marks : List ℕ) (from bound : ℕ) (r : Sought) : Type 0 where
-  pub no_more : more ≡ false → r.bound ≡ 0
+pub record Seeks (items : List ℕ) (place : ℕ) (more : Bool) (depth : ℕ) (t : Table) (marks : List ℕ) (from bound : ℕ) (r : Option Sought) : Type 0 where
+  pub no_more : more ≡ false → r ≡ None
   pub best : more ≡ true → (h : Head) (ps : Preds) (rest : List ℕ) → step_at (get_or items place 0) ≡ some h → take_preds (take_within depth) h.count (drop (place + 1) items) ≡ some (ps, rest)
-      → Best (λ j. reaches t marks h.axis h.test from j && all_hold t marks ps j) bound r.bound
-  pub ends : more ≡ true → 0 < r.bound → (h : Head) → step_at (get_or items place 0) ≡ some h → Ends items (place + 1) (take_preds (take_within depth) h.count (drop (place + 1) items)) r.next
+      → Best (λ j. reaches t marks h.axis h.test from j && all_hold t marks ps j) bound (node_of r)
+  pub ends : more ≡ true → (s : Sought) → r ≡ Some s → (h : Head) → step_at (get_or items place 0) ≡ some h → Ends items (place + 1) (take_preds (take_within depth) h.count (drop (place + 1) items)) s.next
 
 -- The last of the nodes where steps stand, or the one that they start from.
 abbrev pub last_of : ℕ → List ℕ → ℕ

@@ -14,7 +14,7 @@ ghost use Rattle.search.specs.Searches.{StepSaid, Fits, Decides, Settles, StepFi
 
 use candidates::candidate;
 use item::{Item, Step};
-use kin::{clear, spread};
+use kin::spread;
 use owed::skip;
 
 // ONE ITEM, AND A RUN OF ONE.
@@ -40,14 +40,10 @@ fn joins(items: &[u32], at: usize, operator: u32) -> usize
     requires { at ≤ length items.now }
     ensures { (result ≡ leading operator (drop at items.now)) × (at + result ≤ length items.now) }
 {
-    let mut more = 0;
-    while more < items.len() - at {
-        if items[at + more] != operator {
-            return more;
-        }
-        more += 1;
-    }
-    more
+    items[at..]
+        .iter()
+        .position(|&item| item != operator)
+        .unwrap_or(items.len() - at)
 }
 
 // Where k steps led that stand at the nodes of the list: to the last of them, or nowhere from the node.
@@ -58,7 +54,7 @@ fn stood(stand: &[u16], k: usize, node: usize) -> usize
     if k == 0 {
         node
     } else {
-        table::wide(stand[k - 1])
+        usize::from(stand[k - 1])
     }
 }
 
@@ -78,10 +74,10 @@ pub struct Held {
     pub holds: bool,
 }
 
-// One more than the node found, or 0, and where the step's items end.
+// The node found, and where the step's items end.
 #[derive(Clone, Copy)]
 pub struct Sought {
-    pub bound: usize,
+    pub node: usize,
     pub next: usize,
 }
 
@@ -204,7 +200,7 @@ fn path(
         if (k == count) & arrived(from, wanted, n) {
             return true;
         }
-        let sought = seek(
+        let found = seek(
             items,
             place,
             k < count,
@@ -216,18 +212,21 @@ fn path(
             bound,
             &mut stand[k..],
         );
-        if sought.bound == 0 {
-            if k == 0 {
-                return false;
+        match found {
+            Some(sought) => {
+                stand[k] = sought.node as u16;
+                k += 1;
+                place = sought.next;
+                bound = n;
             }
-            k -= 1;
-            place = skip(items, at, k);
-            bound = table::wide(stand[k]);
-        } else {
-            stand[k] = (sought.bound - 1) as u16;
-            k += 1;
-            place = sought.next;
-            bound = n;
+            None => {
+                if k == 0 {
+                    return false;
+                }
+                k -= 1;
+                place = skip(items, at, k);
+                bound = usize::from(stand[k]);
+            }
         }
     }
 }
@@ -245,7 +244,7 @@ fn seek(
     from: usize,
     bound: usize,
     stand: &mut [u16],
-) -> Sought
+) -> Option<Sought>
     requires depth_le_bracket_limit { depth ≤ bracket_limit }
     requires ready { Ready parent.now kind.now given.now }
     requires from_in_bounds { (from < length parent.now) × (bound ≤ length parent.now) }
@@ -253,21 +252,12 @@ fn seek(
     ensures { Seeks items.now place more depth (table_of parent.now kind.now) given.now from bound result }
 {
     if !more {
-        return Sought {
-            bound: 0,
-            next: place,
-        };
+        return None;
     }
     let step = step_at(items, place);
-    let mut c = bound;
+    let mut below = bound;
     loop {
-        c = candidate(parent, kind, given, step.axis, step.test, from, c);
-        if c == 0 {
-            return Sought {
-                bound: 0,
-                next: place,
-            };
-        }
+        let node = candidate(parent, kind, given, step.axis, step.test, from, below)?;
         let held = predicates(
             items,
             place + 1,
@@ -276,16 +266,16 @@ fn seek(
             parent,
             kind,
             given,
-            c - 1,
+            node,
             stand,
         );
         if held.holds {
-            return Sought {
-                bound: c,
+            return Some(Sought {
+                node,
                 next: held.next,
-            };
+            });
         }
-        c -= 1;
+        below = node;
     }
 }
 
@@ -309,8 +299,7 @@ fn predicates(
     ensures { (Settles (take_preds (take_within depth) count (drop at items.now)) (λ ps. all_hold (table_of parent.now kind.now) given.now ps node) result.holds) × (result.holds ≡ true → Ends items.now at (take_preds (take_within depth) count (drop at items.now)) result.next) }
 {
     let mut place = at;
-    let mut owed = count;
-    while 0 < owed {
+    for _ in 0..count {
         let one = expression(items, place, depth - 1, parent, kind, given, node, stand);
         place = one.next;
         if !one.holds {
@@ -319,7 +308,6 @@ fn predicates(
                 holds: false,
             };
         }
-        owed -= 1;
     }
     Held {
         next: place,
@@ -380,13 +368,11 @@ fn keep(
     requires marks_len { (length marks.old ≡ length parent.now) × (length items.now ≤ length stand.old) × (length items.now ≤ item_limit) × (Readable (decode items.now)) }
     ensures { (q : Query) → decode items.now ≡ some q → marks.new ≡ kept (table_of parent.now kind.now) given.now q }
 {
-    clear(marks);
-    let mut k = 0;
-    while k < parent.len() {
+    marks.fill(0);
+    for k in 0..parent.len() {
         if selected(items, parent, kind, given, k, stand) {
             spread(parent, given, k, marks);
         }
-        k += 1;
     }
 }
 

@@ -82,6 +82,12 @@ first_at list n f e k l = sym (get_or-take n list k 0 l) ∙ bits_at n f e k l
 pub second_at : (list : List ℕ) (n : ℕ) (f : ℕ → Bool) → take n (drop n list) ≡ bits n f → (k : ℕ) → k < n → get_or list (n + k) 0 ≡ bit (f k)
 second_at list n f e k l = sym (get_or-drop n list k 0) ∙ first_at (drop n list) n f e k l
 
+-- A list of n bytes that are those of the tests is the set's bytes.
+pub bits_of : {new : List ℕ} (n : ℕ) (h : ℕ → Bool) → length new ≡ n → ((k : ℕ) → k < n → get_or new k 0 ≡ bit (h k)) → new ≡ bits n h
+bits_of {new} n h s e =
+    ext_get_or 0 new (bits n h) (s ∙ sym (length_column n 0 (λ k. bit (h k))))
+    (λ k b. let l : k < n = omega (arith, s) in e k l ∙ sym (bits_at n h refl k l))
+
 -- Tests that agree below n make the same bytes.
 pub bits_same : (n : ℕ) (f g : ℕ → Bool) → ((k : ℕ) → k < n → f k ≡ g k) → bits n f ≡ bits n g
 bits_same n f g h = column_same n 0 (λ i. bit (f i)) (λ i. bit (g i)) (λ i _ l. ap bit (h i (omega arith)))

@@ -10,3 +10,5 @@ pub mod Operands
 pub mod Queries
 -- The steps of a path one by one: `later`, `split`; steps from a place on: `fewer_readable`, `further_readable`, `further`.
 pub mod Stepping
+-- The shape of items and the query that they are: `shaped_none`, `Shaped`, `shaped_some`; as `ok_or` has it, `shape_refused`, `shape_accepted`.
+pub mod Shaping

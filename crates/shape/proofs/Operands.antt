@@ -6,6 +6,7 @@ use mathlib.Core.Path.{◌≡◌, refl, sym, ◌∙◌, ap, subst}
 use mathlib.Core.Bool.{true, false, ◌||◌}
 use mathlib.Core.List.{List, [], ◌∷◌}
 use mathlib.Core.Option.{none, some}
+use Rattle.std.specs.Prelude.{Option, Some, None}
 use lib.Dec.{eqb}
 use lib.ListN.{length, get_or, drop, drop_of_length-le}
 use lib.Seq.{drop-cons}
@@ -22,12 +23,13 @@ use Rattle.paper.proofs.Encoding.{from_operand, from_within}
 use Rattle.item.specs.declared.Item.{Item}
 use Rattle.item.specs.declared.Item.TheVariants.{Path, Step as StepItem, And, Or, Not, Bad}
 use Rattle.item.proofs.Saying.{Said}
-use Rattle.item.proofs.Unpacking.{no_path}
+use Rattle.item.specs.declared.Step.{Step}
+use Rattle.item.proofs.Unpacking.{no_path, no_step}
+use mathlib.Core.Logic.{◌⊎◌, inl, inr}
 use Rattle.item.specs.contracts.Item.{the_type}
 use denote.Enum.Declared.{tag_of}
 use types.Run.{OneOf, miss}
 use Rattle.shape.specs.declared.Walked.{Walked}
-use Rattle.shape.specs.declared.Walked.TheVariants.{Done, Malformed}
 use Rattle.shape.specs.Walks.{nest_operand, open_in_expr, open_in_operand, open_in_steps, operators, Walks, raised_by, Small}
 use Rattle.heights.specs.Heights.{opened}
 use Rattle.shape.proofs.Operators.{Operator, is_joined, each, run, operators_some}
@@ -70,33 +72,52 @@ unfolding take_operand
 operand_denied within ws = refl
 
 -- None of them where no bracket may be opened, for an item that is no path.
-pub operand_deep : (w : ℕ) (i : Item) (ws : List ℕ) → Said w i → OneOf (1 ∷ 2 ∷ 3 ∷ 4 ∷ 5 ∷ []) (tag_of the_type i) → take_operand (take_within 0) (w ∷ ws) ≡ none
+pub operand_shut : (w : ℕ) (i : Item) (ws : List ℕ) → Said w i → ((count : ℕ) → i ≡ Path count → ⊥) → take_operand (take_within 0) (w ∷ ws) ≡ none
 unfolding take_operand
-operand_deep w (Path count) ws s k = absurd (miss (1 ∷ 2 ∷ 3 ∷ 4 ∷ 5 ∷ []) 0 tt k)
-operand_deep w (StepItem st) ws s k = operand_step (take_within 0) w ws s.0 s.1
-operand_deep w And ws s k = rw s
-operand_deep w Or ws s k = rw s
-operand_deep w Not ws s k = rw s
-operand_deep w Bad ws s k = operand_other (take_within 0) w ws s.0 s.2 s.3 s.4
+operand_shut w (Path count) ws s never = absurd (never count refl)
+operand_shut w (StepItem st) ws s never = operand_step (take_within 0) w ws s.0 s.1
+operand_shut w And ws s never = rw s
+operand_shut w Or ws s never = rw s
+operand_shut w Not ws s never = rw s
+operand_shut w Bad ws s never = operand_other (take_within 0) w ws s.0 s.2 s.3 s.4
+
+-- The same by the tags that are left for the item.
+pub operand_deep : (w : ℕ) (i : Item) (ws : List ℕ) → Said w i → OneOf (1 ∷ 2 ∷ 3 ∷ 4 ∷ 5 ∷ []) (tag_of the_type i) → take_operand (take_within 0) (w ∷ ws) ≡ none
+operand_deep w i ws s k =
+    operand_shut w i ws s (λ count e. miss (1 ∷ 2 ∷ 3 ∷ 4 ∷ 5 ∷ []) 0 tt (subst (λ (j : Item). OneOf (1 ∷ 2 ∷ 3 ∷ 4 ∷ 5 ∷ []) (tag_of the_type j)) e k))
 
 -- An item that is neither a path nor an operator nor `not`.
-pub operand_rest : (within : List ℕ → Taken Expr) (w : ℕ) (i : Item) (ws : List ℕ) → Said w i → OneOf (1 ∷ 2 ∷ 3 ∷ 4 ∷ 5 ∷ []) (tag_of the_type i) → OneOf (0 ∷ 1 ∷ 5 ∷ []) (tag_of the_type i)
+pub operand_rest : (within : List ℕ → Taken Expr) (w : ℕ) (i : Item) (ws : List ℕ) → Said w i → ((count : ℕ) → i ≡ Path count → ⊥) → (i ≡ And → ⊥) → (i ≡ Or → ⊥) → (i ≡ Not → ⊥)
     → take_operand within (w ∷ ws) ≡ none
-operand_rest within w (Path count) ws s k l = absurd (miss (1 ∷ 2 ∷ 3 ∷ 4 ∷ 5 ∷ []) 0 tt k)
-operand_rest within w (StepItem st) ws s k l = operand_step within w ws s.0 s.1
-operand_rest within w And ws s k l = absurd (miss (0 ∷ 1 ∷ 5 ∷ []) 2 tt l)
-operand_rest within w Or ws s k l = absurd (miss (0 ∷ 1 ∷ 5 ∷ []) 3 tt l)
-operand_rest within w Not ws s k l = absurd (miss (0 ∷ 1 ∷ 5 ∷ []) 4 tt l)
-operand_rest within w Bad ws s k l = operand_other within w ws s.0 s.2 s.3 s.4
+operand_rest within w (Path count) ws s never a o n = absurd (never count refl)
+operand_rest within w (StepItem st) ws s never a o n = operand_step within w ws s.0 s.1
+operand_rest within w And ws s never a o n = absurd (a refl)
+operand_rest within w Or ws s never a o n = absurd (o refl)
+operand_rest within w Not ws s never a o n = absurd (n refl)
+operand_rest within w Bad ws s never a o n = operand_other within w ws s.0 s.2 s.3 s.4
+
+-- An item that is no step.
+pub no_step_said : (w : ℕ) (i : Item) → Said w i → ((s : Step) → i ≡ StepItem s → ⊥) → step_at w ≡ none
+no_step_said w (Path count) s never = no_step w (λ e. omega (arith, (path_found w count s).0))
+no_step_said w (StepItem st) s never = absurd (never st refl)
+no_step_said w And s never = no_step w (λ e. omega arith)
+no_step_said w Or s never = no_step w (λ e. omega arith)
+no_step_said w Not s never = no_step w (λ e. omega arith)
+no_step_said w Bad s never = s.1
+
+-- An item that is no path.
+pub no_path_said : (w : ℕ) (i : Item) → Said w i → ((count : ℕ) → i ≡ Path count → ⊥) → path_at w ≡ none
+no_path_said w (Path count) s never = absurd (never count refl)
+no_path_said w (StepItem st) s never = no_path w (λ e. omega (arith, (step_found w s.0 s.1).0))
+no_path_said w And s never = no_path w (λ e. omega arith)
+no_path_said w Or s never = no_path w (λ e. omega arith)
+no_path_said w Not s never = no_path w (λ e. omega arith)
+no_path_said w Bad s never = s.0
 
 -- The item of `and` or of `or`.
-pub operator_item : (w : ℕ) (i : Item) → Said w i → OneOf (2 ∷ 3 ∷ []) (tag_of the_type i) → Operator w
-operator_item w (Path count) s k = absurd (miss (2 ∷ 3 ∷ []) 0 tt k)
-operator_item w (StepItem st) s k = absurd (miss (2 ∷ 3 ∷ []) 1 tt k)
-operator_item w And s k = (omega arith, omega arith)
-operator_item w Or s k = (omega arith, omega arith)
-operator_item w Not s k = absurd (miss (2 ∷ 3 ∷ []) 4 tt k)
-operator_item w Bad s k = absurd (miss (2 ∷ 3 ∷ []) 5 tt k)
+pub operator_item : (w : ℕ) (i : Item) → Said w i → (i ≡ And) ⊎ (i ≡ Or) → Operator w
+operator_item w i s (inl e) = let a : w ≡ and_item = subst (Said w) e s in (omega arith, omega arith)
+operator_item w i s (inr e) = let o : w ≡ or_item = subst (Said w) e s in (omega arith, omega arith)
 
 -- What stands at a place of the items.
 pub at_place : (items : List ℕ) (at : ℕ) → at < length items → drop at items ≡ get_or items at 0 ∷ drop (at + 1) items
@@ -111,12 +132,17 @@ pub one_opened : (depth : ℕ) → suc depth ≤ bracket_limit → opened depth 
 unfolding opened
 one_opened depth few = omega arith
 
+-- A walk with more nesting and height, where there is one.
+abbrev pub raise : Option Walked → ℕ → ℕ → Option Walked
+raise None nesting height = None
+raise (Some w) nesting height = Some (raised_by w nesting height)
+
 -- The walks of an operand, from those of what it holds.
 module _ (items : List ℕ) (at depth : ℕ) (l : at < length items) where
-  pub walk_path : (count : ℕ) → path_at (get_or items at 0) ≡ some count → 1 ≤ count → (r : Walked)
+  pub walk_path : (count : ℕ) → path_at (get_or items at 0) ≡ some count → 1 ≤ count → (r : Option Walked)
       → Walks items (at + 1) depth (take_steps (take_within depth) count (drop (at + 1) items)) nest_steps height_steps (open_in_steps depth) r
-      → Walks items at depth (take_operand (take_within depth) (drop at items)) nest_operand height_expr (open_in_operand depth) (raised_by r 0 1)
-  walk_path count p some-step (Done next nest high guard) w =
+      → Walks items at depth (take_operand (take_within depth) (drop at items)) nest_operand height_expr (open_in_operand depth) (raise r 0 1)
+  walk_path count p some-step (Some r) w =
       record {
         what = path w.what;
         reads = rw (at_place items at l, operand_path (take_within depth) (get_or items at 0) count (drop (at + 1) items) p some-step, w.reads);
@@ -128,13 +154,13 @@ module _ (items : List ℕ) (at depth : ℕ) (l : at < length items) where
         shallow = omega (arith, w.shallow);
         low = omega (arith, w.low);
       }
-  walk_path count p some-step Malformed w =
+  walk_path count p some-step None w =
       rw (at_place items at l, operand_path (take_within depth) (get_or items at 0) count (drop (at + 1) items) p some-step, w)
 
-  pub walk_not : suc depth ≤ bracket_limit → get_or items at 0 ≡ not_item → (r : Walked)
+  pub walk_not : suc depth ≤ bracket_limit → get_or items at 0 ≡ not_item → (r : Option Walked)
       → Walks items (at + 1) depth (take_expr (take_within depth) (drop (at + 1) items)) nest_expr height_expr (open_in_expr depth) r
-      → Walks items at (suc depth) (take_operand (take_within (suc depth)) (drop at items)) nest_operand height_expr (open_in_operand (suc depth)) (raised_by r 1 1)
-  walk_not few e (Done next nest high guard) w =
+      → Walks items at (suc depth) (take_operand (take_within (suc depth)) (drop at items)) nest_operand height_expr (open_in_operand (suc depth)) (raise r 1 1)
+  walk_not few e (Some r) w =
       record {
         what = negated w.what;
         reads = rw (at_place items at l, e, operand_denied (take_within (suc depth)) (drop (at + 1) items), w.reads);
@@ -146,7 +172,7 @@ module _ (items : List ℕ) (at depth : ℕ) (l : at < length items) where
         shallow = omega (arith, w.shallow);
         low = omega (arith, w.low);
       }
-  walk_not few e Malformed w = rw (at_place items at l, e, operand_denied (take_within (suc depth)) (drop (at + 1) items), w)
+  walk_not few e None w = rw (at_place items at l, e, operand_denied (take_within (suc depth)) (drop (at + 1) items), w)
 
   -- A bracket of an operator holds the expression that begins with its item, which is joined by it.
   pub operand_same : Operator (get_or items at 0) → take_operand (take_within (suc depth)) (drop at items) ≡ take_expr (take_within depth) (drop at items)
@@ -160,24 +186,24 @@ module _ (items : List ℕ) (at depth : ℕ) (l : at < length items) where
       let f = from_operand (suc depth) (take_within (suc depth)) (from_within (suc depth)) (drop at items) (e, drop next items) h in
       sym ((run depth w o).begins-with e (drop next items)) ∙ ap (begins w) (sym f.items ∙ at_place items at l) ∙ eq-eqb w w refl
 
-  pub walk_joined : suc depth ≤ bracket_limit → Operator (get_or items at 0) → (r : Walked) → Walks items at depth (take_expr (take_within depth) (drop at items)) nest_expr height_expr (open_in_expr depth) r
-      → Walks items at (suc depth) (take_operand (take_within (suc depth)) (drop at items)) nest_operand height_expr (open_in_operand (suc depth)) (raised_by r 1 0)
-  walk_joined few o (Done next nest high guard) w =
-      let read : take_operand (take_within (suc depth)) (drop at items) ≡ some (w.what, drop next items) = operand_same o ∙ w.reads in
+  pub walk_joined : suc depth ≤ bracket_limit → Operator (get_or items at 0) → (r : Option Walked) → Walks items at depth (take_expr (take_within depth) (drop at items)) nest_expr height_expr (open_in_expr depth) r
+      → Walks items at (suc depth) (take_operand (take_within (suc depth)) (drop at items)) nest_operand height_expr (open_in_operand (suc depth)) (raise r 1 0)
+  walk_joined few o (Some r) w =
+      let read : take_operand (take_within (suc depth)) (drop at items) ≡ some (w.what, drop r.next items) = operand_same o ∙ w.reads in
       record {
         what = w.what;
         reads = read;
-        nests = rw (in_bracket (get_or items at 0) o w.what (joined_there o w.what next read)) (omega (arith, w.nests));
+        nests = rw (in_bracket (get_or items at 0) o w.what (joined_there o w.what r.next read)) (omega (arith, w.nests));
         heights = omega (arith, w.heights);
         guards =
             w.guards ∙ ap (guard_depth_expr w.what) (one_opened depth few) ∙
-            rw (in_bracket (get_or items at 0) o w.what (joined_there o w.what next read));
+            rw (in_bracket (get_or items at 0) o w.what (joined_there o w.what r.next read));
         onward = w.onward;
         inside = w.inside;
         shallow = omega (arith, w.shallow);
         low = omega (arith, w.low);
       }
-  walk_joined few o Malformed w = operand_same o ∙ w
+  walk_joined few o None w = operand_same o ∙ w
 
   -- The operators that an expression begins with, where an item of one stands.
   pub operators_there : Operator (get_or items at 0) → 1 ≤ operators (drop at items)
@@ -194,9 +220,8 @@ operand_past within items at l = rw (drop_of_length-le items l)
 
 -- What can be raised: walks are no deeper than brackets may be, and no higher than the items.
 pub small : {A : Type 0} (items : List ℕ) (at depth : ℕ) (taken : Taken A) (nest_of height_of guard_of : A → ℕ) (r : Walked) → depth ≤ bracket_limit → length items * 4 < 2 ^ 63
-    → Walks items at depth taken nest_of height_of guard_of r → Small r
-small items at depth taken nest_of height_of guard_of (Done next nest high guard) d l w = (omega (arith, w.shallow), omega (arith, w.low, w.inside))
-small items at depth taken nest_of height_of guard_of Malformed d l w = tt
+    → Walks items at depth taken nest_of height_of guard_of (Some r) → Small r
+small items at depth taken nest_of height_of guard_of r d l w = (omega (arith, w.shallow), omega (arith, w.low, w.inside))
 
 -- What holds of each number and the next one holds of any number but 0 and the one before it.
 pub deeper : (P : ℕ → ℕ → Type 0) → ((d : ℕ) → P d (suc d)) → (depth : ℕ) → (depth ≡ 0 → ⊥) → P (depth - 1) depth
@@ -207,21 +232,21 @@ pub less_opened : (depth : ℕ) → (depth ≡ 0 → ⊥) → depth ≤ bracket_
 less_opened depth z few = deeper (λ less d. d ≤ bracket_limit → opened less ≡ 1 + opened d) one_opened depth z few
 
 -- The brackets, where d brackets may be opened and d is not 0.
-module _ (items : List ℕ) (at depth : ℕ) (l : at < length items) (z : depth ≡ 0 → ⊥) (few : depth ≤ bracket_limit) (r : Walked) where
+module _ (items : List ℕ) (at depth : ℕ) (l : at < length items) (z : depth ≡ 0 → ⊥) (few : depth ≤ bracket_limit) (r : Option Walked) where
   pub opens_joined : Operator (get_or items at 0) → Walks items at (depth - 1) (take_expr (take_within (depth - 1)) (drop at items)) nest_expr height_expr (open_in_expr (depth - 1)) r
-      → Walks items at depth (take_operand (take_within depth) (drop at items)) nest_operand height_expr (open_in_operand depth) (raised_by r 1 0)
+      → Walks items at depth (take_operand (take_within depth) (drop at items)) nest_operand height_expr (open_in_operand depth) (raise r 1 0)
   opens_joined o =
       deeper
       (λ less d.
       d ≤ bracket_limit → Walks items at less (take_expr (take_within less) (drop at items)) nest_expr height_expr (open_in_expr less) r
-      → Walks items at d (take_operand (take_within d) (drop at items)) nest_operand height_expr (open_in_operand d) (raised_by r 1 0))
+      → Walks items at d (take_operand (take_within d) (drop at items)) nest_operand height_expr (open_in_operand d) (raise r 1 0))
       (λ d few. walk_joined items at d l few o r) depth z few
 
   pub opens_not : get_or items at 0 ≡ not_item → Walks items (at + 1) (depth - 1) (take_expr (take_within (depth - 1)) (drop (at + 1) items)) nest_expr height_expr (open_in_expr (depth - 1)) r
-      → Walks items at depth (take_operand (take_within depth) (drop at items)) nest_operand height_expr (open_in_operand depth) (raised_by r 1 1)
+      → Walks items at depth (take_operand (take_within depth) (drop at items)) nest_operand height_expr (open_in_operand depth) (raise r 1 1)
   opens_not e =
       deeper
       (λ less d.
       d ≤ bracket_limit → Walks items (at + 1) less (take_expr (take_within less) (drop (at + 1) items)) nest_expr height_expr (open_in_expr less) r
-      → Walks items at d (take_operand (take_within d) (drop at items)) nest_operand height_expr (open_in_operand d) (raised_by r 1 1))
+      → Walks items at d (take_operand (take_within d) (drop at items)) nest_operand height_expr (open_in_operand d) (raise r 1 1))
       (λ d few. walk_not items at d l few e r) depth z few

@@ -5,6 +5,7 @@ use native.Mathlib.Numerals.{add-one}
 use mathlib.Core.Path.{◌≡◌, refl, sym, ◌∙◌, ap}
 use mathlib.Core.List.{List, [], ◌∷◌, ◌++◌, append_assoc, append-nil}
 use mathlib.Core.Option.{Option, none, some}
+use Rattle.std.specs.Prelude.{Some, None}
 use lib.Dec.{leb}
 use lib.ListN.{length, get_or, drop, drop_of_length-le}
 use lib.Seq.{drop-cons}
@@ -17,7 +18,6 @@ use Rattle.paper.specs.Composition.{guard_depth_steps, guard_depth_paths, guard_
 use Rattle.paper.proofs.Tests.{or_right}
 use Rattle.heights.specs.Heights.{opened}
 use Rattle.shape.specs.Walks.{open_in_steps, Walk, shape_of}
-use Rattle.shape.specs.declared.Shape.TheVariants.{Query as IsQuery, Malformed as NoQuery}
 
 -- What has been read: these paths, and as many more as the items that are left hold.
 pub record PathsLeft (items : List ℕ) (place deep high guard : ℕ) : Type 0 where
@@ -111,21 +111,21 @@ paths_more items place deep high guard count next nesting height' guards deep' h
     ends (q ∷ ps) s h = let z : ◌≡◌ {A = ℕ} (suc (length (ps ++ (s ∷ [])))) 0 = ap length h in omega arith
 
 -- A path that is none, or is malformed.
-pub paths_none : (items : List ℕ) (place deep high guard : ℕ) → place < length items → PathsLeft items place deep high guard → path_at (get_or items place 0) ≡ none → NoQuery ≡ shape_of (decode items)
+pub paths_none : (items : List ℕ) (place deep high guard : ℕ) → place < length items → PathsLeft items place deep high guard → path_at (get_or items place 0) ≡ none → None ≡ shape_of (decode items)
 unfolding decode
 paths_none items place deep high guard l p e =
     some-fuel p.fuel (omega (arith, p.enough))
     (λ f ef. let h : take_paths (length items) items ≡ none = p.goes_on ∙ rw (ef, drop-cons items place 0 l, e) in rw h)
 
 pub paths_bad : (items : List ℕ) (place deep high guard count : ℕ) → place < length items → PathsLeft items place deep high guard → path_at (get_or items place 0) ≡ some count
-    → take_steps (take_within bracket_limit) count (drop (place + 1) items) ≡ none → NoQuery ≡ shape_of (decode items)
+    → take_steps (take_within bracket_limit) count (drop (place + 1) items) ≡ none → None ≡ shape_of (decode items)
 unfolding decode
 paths_bad items place deep high guard count l p e s =
     some-fuel p.fuel (omega (arith, p.enough))
     (λ f ef. let h : take_paths (length items) items ≡ none = p.goes_on ∙ rw (ef, one_path items place count f l e, s) in rw h)
 
 -- The end of the items.
-pub paths_done : (items : List ℕ) (place deep high guard : ℕ) → 0 < length items → length items ≤ place → PathsLeft items place deep high guard → IsQuery deep high guard ≡ shape_of (decode items)
+pub paths_done : (items : List ℕ) (place deep high guard : ℕ) → 0 < length items → length items ≤ place → PathsLeft items place deep high guard → Some (record { nesting = deep; height = high; guards = guard }) ≡ shape_of (decode items)
 unfolding decode nesting height guard_depth
 paths_done items place deep high guard some_item l p =
     let h : take_paths (length items) items ≡ some p.so_far = p.goes_on ∙ rw (drop_of_length-le items l) (nothing_more p.fuel) in
@@ -135,12 +135,12 @@ paths_done items place deep high guard some_item l p =
     nothing_more zero = ap some (append-nil p.so_far)
     nothing_more (suc f) = ap some (append-nil p.so_far)
 
-    go : (ps : List Steps) → p.so_far ≡ ps → take_paths (length items) items ≡ some p.so_far → IsQuery deep high guard ≡ shape_of (found (take_paths (length items) items) as_query)
+    go : (ps : List Steps) → p.so_far ≡ ps → take_paths (length items) items ≡ some p.so_far → Some (record { nesting = deep; height = high; guards = guard }) ≡ shape_of (found (take_paths (length items) items) as_query)
     go [] e h = absurd (omega (arith, p.begun e))
     go (q ∷ qs) e h = rw (h, p.nests, p.heights, p.guards, e)
 
 -- No items are no query.
-pub no_items : (items : List ℕ) → length items ≡ 0 → NoQuery ≡ shape_of (decode items)
+pub no_items : (items : List ℕ) → length items ≡ 0 → None ≡ shape_of (decode items)
 unfolding decode
 no_items [] e = refl
 no_items (x ∷ xs) e = absurd (omega arith)

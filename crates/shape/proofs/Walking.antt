@@ -250,12 +250,12 @@ module _ {A : Type 0} (k : Rows A) where
     pub low : high + at ≤ place
 
   -- Nothing read yet.
-  pub row_start : (items : List ℕ) (at depth count : ℕ) → at ≤ length items
-      → Row items at depth (k.rows count (drop at items)) at 0 0 0 count
-  row_start items at depth count l =
+  pub row_start : (items : List ℕ) (at depth count owed : ℕ) → count ≡ owed → at ≤ length items
+      → Row items at depth (k.rows count (drop at items)) at 0 0 0 owed
+  row_start items at depth count owed e l =
       record {
         so_far = k.empty;
-        goes_on = go (k.rows count (drop at items));
+        goes_on = ap (λ (n : ℕ). k.rows n (drop at items)) e ∙ go (k.rows owed (drop at items));
         nests = sym k.nest_empty;
         heights = sym k.height_empty;
         guards = sym k.guard_empty;
@@ -269,19 +269,18 @@ module _ {A : Type 0} (k : Rows A) where
       go none = refl
       go (some r) = ap (λ (a : A). some (a, r.1)) (sym (k.empty_join r.0))
 
-  -- One more: `rest` is what reading one then goes on with.
-  pub row_more : (items : List ℕ) (at depth : ℕ) (whole : Taken A) (place deep high guard owed next nesting height guards deep' high' guard' : ℕ) (one : A) → 0 < owed
+  -- One more: `goes` is what reading one then goes on with.
+  pub row_more : (items : List ℕ) (at depth : ℕ) (whole : Taken A) (place deep high guard owed left next nesting height guards deep' high' guard' : ℕ) (one : A) → owed ≡ suc left
       → Row items at depth whole place deep high guard owed
       → ((n : ℕ) → k.rows (suc n) (drop place items) ≡ ahead (k.join one) (k.rows n (drop next items)))
       → place ≤ next → next ≤ length items → nesting ≡ k.nest_of one → height ≡ k.height_of one → guards ≡ k.guard_of one → nesting ≤ depth → height + place ≤ next
-      → deep' ≡ max deep nesting → high' ≡ max high height → guard' ≡ max guard guards → Row items at depth whole next deep' high' guard' (owed - 1)
-  row_more items at depth whole place deep high guard zero next nesting height guards deep' high' guard' one z l goes o i en eh eg s b ed ei ej = absurd (omega arith)
-  row_more items at depth whole place deep high guard (suc owed) next nesting height guards deep' high' guard' one z l goes o i en eh eg s b ed ei ej =
+      → deep' ≡ max deep nesting → high' ≡ max high height → guard' ≡ max guard guards → Row items at depth whole next deep' high' guard' left
+  row_more items at depth whole place deep high guard owed left next nesting height guards deep' high' guard' one z l goes o i en eh eg s b ed ei ej =
       record {
         so_far = k.join l.so_far one;
         goes_on =
-            l.goes_on ∙ ap (ahead (k.join l.so_far)) (goes owed) ∙ go (k.rows owed (drop next items)) ∙
-            ap (λ (n : ℕ). ahead (k.join (k.join l.so_far one)) (k.rows n (drop next items))) (let e : owed ≡ suc owed - 1 = omega arith in e);
+            l.goes_on ∙ ap (λ (n : ℕ). ahead (k.join l.so_far) (k.rows n (drop place items))) z ∙ ap (ahead (k.join l.so_far)) (goes left) ∙
+            go (k.rows left (drop next items));
         nests = ed ∙ ap₂ max l.nests en ∙ sym (k.nest_join l.so_far one);
         heights = ei ∙ ap₂ max l.heights eh ∙ sym (k.height_join l.so_far one);
         guards = ej ∙ ap₂ max l.guards eg ∙ sym (k.guard_join l.so_far one);

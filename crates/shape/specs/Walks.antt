@@ -1,6 +1,7 @@
 -- What walking over items tells: where it ends, and nesting and height of what stands there, with the brackets open at its deepest guarded step.
-use Rattle.std.specs.Prelude.{ℕ, ◌+◌, ◌^◌, ◌≤◌, ◌<◌, ◌≡◌, ◌||◌, List, length, drop}
-use Rattle.std.proofs.Math.Option.{Option, none, some}
+use Rattle.std.specs.Prelude.{ℕ, ◌+◌, ◌^◌, ◌≤◌, ◌<◌, ◌≡◌, ◌||◌, List, length, drop, Option, Some, None}
+use Rattle.std.proofs.Math.Option as maybe
+use Rattle.std.proofs.Math.Option.{none, some}
 use Rattle.paper.specs.Limits.{bracket_limit}
 use Rattle.paper.specs.Query.{Expr, Steps, Preds, Query}
 use Rattle.paper.specs.Items.{and_item, or_item, leading, Taken}
@@ -8,9 +9,7 @@ use Rattle.paper.specs.Measures.{is_or, is_and, in_brackets, nest_expr}
 use Rattle.paper.specs.Measures.{nesting as nesting_of, height as height_of}
 use Rattle.paper.specs.Composition.{guard_depth_expr, guard_depth_steps, guard_depth_preds, guard_depth}
 use Rattle.shape.specs.declared.Walked.{Walked}
-use Rattle.shape.specs.declared.Walked.TheVariants.{Done, Malformed}
 use Rattle.shape.specs.declared.Shape.{Shape}
-use Rattle.shape.specs.declared.Shape.TheVariants.{Query as IsQuery, Malformed as NoQuery}
 use Rattle.heights.specs.Heights.{opened}
 
 -- The nesting of an expression as a term of `or` and as an operand of `and`: with the bracket that it gets there.
@@ -54,21 +53,19 @@ pub record Walk {A : Type 0} (items : List ℕ) (at depth : ℕ) (taken : Taken 
   pub low : high + at ≤ next
 
 -- What an answer says of the walk.
-abbrev pub Walks : {A : Type 0} → List ℕ → ℕ → ℕ → Taken A → (A → ℕ) → (A → ℕ) → (A → ℕ) → Walked → Type 0
-Walks items at depth taken nest_of height_of guard_of (Done next nest high guard) = Walk items at depth taken nest_of height_of guard_of next nest high guard
-Walks items at depth taken nest_of height_of guard_of Malformed = taken ≡ none
+abbrev pub Walks : {A : Type 0} → List ℕ → ℕ → ℕ → Taken A → (A → ℕ) → (A → ℕ) → (A → ℕ) → Option Walked → Type 0
+Walks items at depth taken nest_of height_of guard_of (Some w) = Walk items at depth taken nest_of height_of guard_of w.next w.nesting w.height w.guards
+Walks items at depth taken nest_of height_of guard_of None = taken ≡ none
 
 -- The shape of items: nesting and height of the query that they are, and how deep its guarded steps stand.
-abbrev pub shape_of : Option Query → Shape
-shape_of none = NoQuery
-shape_of (some q) = IsQuery (nesting_of q) (height_of q) (guard_depth q)
+abbrev pub shape_of : maybe.Option Query → Option Shape
+shape_of none = None
+shape_of (some q) = Some (record { nesting = nesting_of q; height = height_of q; guards = guard_depth q })
 
 -- The walk with more nesting and height.
 abbrev pub raised_by : Walked → ℕ → ℕ → Walked
-raised_by (Done next nest high guard) nesting height = Done next (nest + nesting) (high + height) guard
-raised_by Malformed nesting height = Malformed
+raised_by w nesting height = record { next = w.next; nesting = w.nesting + nesting; height = w.height + height; guards = w.guards }
 
 -- Measures that can be raised.
 abbrev pub Small : Walked → Type 0
-Small (Done next nest high guard) = (nest ≤ bracket_limit) × (high < 2 ^ 63)
-Small Malformed = Unit {0}
+Small w = (w.nesting ≤ bracket_limit) × (w.height < 2 ^ 63)

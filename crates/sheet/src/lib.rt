@@ -8,12 +8,11 @@ ghost use Rattle.paper.specs.Tools.{ascii};
 ghost use Rattle.paper.specs.Limits.{list_limit, names_limit};
 ghost use Rattle.paper.specs.Names.{names_fault, names_of};
 ghost use Rattle.paper.specs.Sheet.{number_limit, sum_below, sheet_line, refused_line, refused_lines, name_lines, tallied};
-ghost use Rattle.names.specs.Listing.{Indexed};
 ghost use Rattle.pen.specs.Putting.{Puts};
 ghost use Rattle.lines.specs.Lines.{line_room, Reports};
 ghost use Rattle.sheet.specs.Sheets.{counts_text, at, sheet_limit};
 
-use names::Listed;
+use names::Names;
 
 // No line has more bytes beside a name.
 const LINE_ROOM: usize = 64;
@@ -26,22 +25,14 @@ pub const SHEET_LIMIT: usize = paper::LIST_LIMIT + (paper::NAMES_LIMIT + NUMBERS
 fn number_at(column: &[u32], v: usize) -> usize
     ensures { (result ≡ at column.now v) × (result < 2 ^ 32) }
 {
-    if v < column.len() {
-        column[v] as usize
-    } else {
-        0
-    }
+    column.get(v).map_or(0, |number| *number as usize)
 }
 
 // How often a refusal number was given.
 fn times_at(refusals: &[u64], number: usize) -> usize
     ensures { result ≡ at refusals.now number }
 {
-    if number < refusals.len() {
-        refusals[number] as usize
-    } else {
-        0
-    }
+    refusals.get(number).map_or(0, |times| *times as usize)
 }
 
 // The sum of the first numbers of a column.
@@ -50,10 +41,8 @@ fn sum(column: &[u32], count: usize) -> usize
     ensures { result ≡ sum_below count (at column.now) }
 {
     let mut total = 0;
-    let mut v = 0;
-    while v < count {
+    for v in 0..count {
         total += number_at(column, v);
-        v += 1;
     }
     total
 }
@@ -75,9 +64,7 @@ fn put_counts(out: &mut [u8], pen: usize, all: usize, kept: usize, hidden: usize
 
 // Puts the line of name v.
 fn put_line(
-    list: &[u8],
-    starts: &[u16; names::STARTS],
-    count: usize,
+    names: &Names,
     all: &[u32],
     kept: &[u32],
     hidden: &[u32],
@@ -85,12 +72,11 @@ fn put_line(
     pen: usize,
     v: usize,
 ) -> usize
-    requires indexed { Indexed list.now starts.now count }
-    requires v_lt_count { (v < count) × (length list.now ≤ list_limit) × (pen < 2 ^ 36) }
-    ensures puts { Puts (sheet_line (get_or (names_of list.now) v []) (at all.now v) (at kept.now v) (at hidden.now v)) pen out.old out.new result }
-    ensures upper_bound { result ≤ pen + length (get_or (names_of list.now) v []) + line_room }
+    requires { (v < length (names_of names.now)) × (pen < 2 ^ 36) }
+    ensures puts { Puts (sheet_line (get_or (names_of names.now) v []) (at all.now v) (at kept.now v) (at hidden.now v)) pen out.old out.new result }
+    ensures upper_bound { result ≤ pen + length (get_or (names_of names.now) v []) + line_room }
 {
-    let named = put_steps::put_name(list, starts, count, out, pen, v);
+    let named = put_steps::put_name(names, out, pen, v);
     let in_all = number_at(all, v);
     let in_kept = number_at(kept, v);
     let in_hidden = number_at(hidden, v);
@@ -98,25 +84,14 @@ fn put_line(
 }
 
 // Puts the line of each name.
-fn put_names(
-    list: &[u8],
-    starts: &[u16; names::STARTS],
-    count: usize,
-    all: &[u32],
-    kept: &[u32],
-    hidden: &[u32],
-    out: &mut [u8],
-) -> usize
-    requires indexed { Indexed list.now starts.now count }
-    requires list_len_bound { length list.now ≤ list_limit }
-    ensures puts { Puts (name_lines (at all.now) (at kept.now) (at hidden.now) 0 (names_of list.now)) 0 out.old out.new result }
+fn put_names(names: &Names, all: &[u32], kept: &[u32], hidden: &[u32], out: &mut [u8]) -> usize
+    requires { length names.now ≤ list_limit }
+    ensures puts { Puts (name_lines (at all.now) (at kept.now) (at hidden.now) 0 (names_of names.now)) 0 out.old out.new result }
     ensures upper_bound { result ≤ list_limit + names_limit * line_room }
 {
     let mut pen = 0;
-    let mut v = 0;
-    while v < count {
-        pen = put_line(list, starts, count, all, kept, hidden, out, pen, v);
-        v += 1;
+    for v in 0..names.count() {
+        pen = put_line(names, all, kept, hidden, out, pen, v);
     }
     pen
 }
@@ -164,10 +139,8 @@ fn put_refusals(refusals: &[u64], out: &mut [u8], pen: usize) -> usize
     ensures upper_bound { result ≤ pen + (1 + number_limit) * line_room }
 {
     let mut next = pen;
-    let mut number = 0;
-    while number < NUMBERS {
+    for number in 0..NUMBERS {
         next = put_refused(out, next, number, times_at(refusals, number));
-        number += 1;
     }
     next
 }
@@ -184,12 +157,10 @@ pub fn put_sheet(
     requires { (length list.now ≤ list_limit) × (names_fault list.now ≡ none) }
     ensures { Reports (tallied (at all.now) (at kept.now) (at hidden.now) (names_of list.now) (at refusals.now)) sheet_limit out.old out.new result }
 {
-    let mut starts = [0u16; names::STARTS];
-    let listed = names::index(list, &mut starts);
-    let Listed::Good(count) = listed else {
+    let Ok(names) = Names::new(list) else {
         return 0;
     };
-    let named = put_names(list, &starts, count, all, kept, hidden, out);
-    let summed = put_sums(count, all, kept, hidden, out, named);
+    let named = put_names(&names, all, kept, hidden, out);
+    let summed = put_sums(names.count(), all, kept, hidden, out, named);
     put_refusals(refusals, out, summed)
 }

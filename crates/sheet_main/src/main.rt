@@ -8,7 +8,7 @@ ghost use Rattle.paper.specs.Names.{names_fault};
 ghost use Rattle.sheet.specs.Sheets.{head_room, sheet_limit};
 ghost use Rattle.sheet_main.specs.Reading.{Fits, Holds, Reached};
 
-use paper::Answer;
+use paper::{Answer, Refusal};
 use std::fs::File;
 use std::io;
 use std::io::{IsTerminal, Read};
@@ -24,13 +24,6 @@ const VERSION: u32 = 1;
 // The count on a terminal moves on after so many documents.
 const TELLING: usize = 100;
 
-// What reading a file came to: so many bytes, or a failure.
-#[derive(Clone, Copy)]
-enum Got {
-    Bytes(usize),
-    Failed,
-}
-
 // What is left of the bytes read: from one place to another.
 #[derive(Clone, Copy)]
 struct Span {
@@ -38,42 +31,43 @@ struct Span {
     end: usize,
 }
 
-// How far the file names have been read: what is left of the bytes read, the length of a name, and whether there is one.
+// A file name that was read: its length, and what is left of the bytes read.
 #[derive(Clone, Copy)]
-struct Stream {
-    at: usize,
-    end: usize,
+struct Name {
     len: usize,
-    found: bool,
+    left: Span,
 }
 
-// Reads once, into the room from a place on.
-fn read_part(file: &mut File, text: &mut [u8], done: usize) -> Got
+// The tallies of a sheet: for each name how many elements there were, how many were kept and how many hidden, and how often each refusal number was given.
+#[derive(Drop)]
+struct Counts {
+    all: [u32; paper::NAMES_LIMIT],
+    kept: [u32; paper::NAMES_LIMIT],
+    hidden: [u32; paper::NAMES_LIMIT],
+    refusals: [u64; sheet::NUMBERS],
+}
+
+// Reads once, into the room from a place on, and answers how many bytes it was.
+fn read_part(file: &mut File, text: &mut [u8], done: usize) -> Option<usize>
     requires { done ≤ length text.old }
     ensures { (length text.new ≡ length text.old) × Fits result (length text.old - done) }
 {
-    match file.read(&mut text[done..]) {
-        Ok(n) => Got::Bytes(n),
-        Err(_) => Got::Failed,
-    }
+    file.read(&mut text[done..]).ok()
 }
 
-// Reads a file as far as the room goes.
-fn read_file(file: &mut File, text: &mut [u8]) -> Got
+// Reads a file as far as the room goes, and answers how many bytes it has.
+fn read_file(file: &mut File, text: &mut [u8]) -> Option<usize>
     ensures { Holds result text.new }
 {
     let mut done = 0;
     while done < text.len() {
-        let got = read_part(file, text, done);
-        let Got::Bytes(more) = got else {
-            return got;
-        };
+        let more = read_part(file, text, done)?;
         if more == 0 {
-            return Got::Bytes(done);
+            break;
         }
         done += more;
     }
-    Got::Bytes(done)
+    Some(done)
 }
 
 // Adds one to how often the number of a refusal was given.
@@ -88,26 +82,23 @@ fn open_file(rt: &HostRuntime, path: &[u8]) -> Option<File> {
 }
 
 // Adds the document of a file: its outcome, or 18 where it can't be read.
-fn add_file(
-    rt: &HostRuntime,
-    path: &[u8],
-    view: &[u32],
-    list: &[u8],
-    all: &mut [u32],
-    kept: &mut [u32],
-    hidden: &mut [u32],
-    refusals: &mut [u64],
-) {
+fn add_file(rt: &HostRuntime, path: &[u8], view: &[u32], list: &[u8], counts: &mut Counts) {
     let Some(mut file) = open_file(rt, path) else {
-        add_refusal(Answer::Unreadable, refusals);
+        add_refusal(Err(Refusal::Unreadable), &mut counts.refusals);
         return;
     };
     let mut text = [0u8; TEXT_ROOM];
     match read_file(&mut file, &mut text) {
-        Got::Bytes(n) => {
-            documents::add_text(&text[..n], view, list, all, kept, hidden, refusals)
-        }
-        Got::Failed => add_refusal(Answer::Unreadable, refusals),
+        Some(n) => documents::add_text(
+            &text[..n],
+            view,
+            list,
+            &mut counts.all,
+            &mut counts.kept,
+            &mut counts.hidden,
+            &mut counts.refusals,
+        ),
+        None => add_refusal(Err(Refusal::Unreadable), &mut counts.refusals),
     }
 }
 
@@ -134,16 +125,13 @@ fn add_document(
     before: usize,
     view: &[u32],
     list: &[u8],
-    all: &mut [u32],
-    kept: &mut [u32],
-    hidden: &mut [u32],
-    refusals: &mut [u64],
+    counts: &mut Counts,
 ) -> usize {
     if !tally::is_counted(before) {
-        add_refusal(Answer::Short(0), refusals);
+        add_refusal(Err(Refusal::Short(0)), &mut counts.refusals);
         return before;
     }
-    add_file(rt, path, view, list, all, kept, hidden, refusals);
+    add_file(rt, path, view, list, counts);
     let count = before + 1;
     if count % TELLING == 0 {
         tell(rt, count);
@@ -171,97 +159,64 @@ fn read_some(rt: &HostRuntime, chunk: &mut [u8]) -> usize
 }
 
 // Reads on where nothing is left; nothing is left then at the end of the input alone.
-fn fill(rt: &HostRuntime, chunk: &mut [u8], at: usize, end: usize) -> Span
-    requires { (at ≤ end) × (end ≤ length chunk.old) }
+fn fill(rt: &HostRuntime, chunk: &mut [u8], left: Span) -> Span
+    requires { (left.at ≤ left.end) × (left.end ≤ length chunk.old) }
     ensures { (length chunk.new ≡ length chunk.old) × (result.at ≤ result.end) × (result.end ≤ length chunk.old) }
 {
-    if at < end {
-        return Span { at, end };
+    if left.at < left.end {
+        return left;
     }
-    let more = read_some(rt, chunk);
-    Span { at: 0, end: more }
+    let end = read_some(rt, chunk);
+    Span { at: 0, end }
 }
 
 // Goes on to the next file name, which an LF or the end of the input ends. A proved loop has to end, so it takes a number of turns that no run uses up.
-fn next_name(rt: &HostRuntime, chunk: &mut [u8], path: &mut [u8], at: usize, end: usize) -> Stream
-    requires { (at ≤ end) × (end ≤ length chunk.old) }
+fn next_name(rt: &HostRuntime, chunk: &mut [u8], path: &mut [u8], from: Span) -> Option<Name>
+    requires { (from.at ≤ from.end) × (from.end ≤ length chunk.old) }
     ensures { (length chunk.new ≡ length chunk.old) × (length path.new ≡ length path.old) × Reached result (length chunk.old) (length path.old) }
 {
-    let mut place = at;
-    let mut last = end;
+    let mut left = from;
     let mut len = 0;
     for _ in 0..u64::MAX {
-        let span = fill(rt, chunk, place, last);
-        let from = span.at;
-        let to = span.end;
-        if to <= from {
-            let found = 0 < len;
-            return Stream {
-                at: 0,
-                end: 0,
-                len,
-                found,
-            };
+        left = fill(rt, chunk, left);
+        if left.end <= left.at {
+            if len == 0 {
+                return None;
+            }
+            return Some(Name { len, left });
         }
-        let b = chunk[from];
-        place = from + 1;
-        last = to;
+        let b = chunk[left.at];
+        left = Span {
+            at: left.at + 1,
+            end: left.end,
+        };
         if b == b'\n' {
-            return Stream {
-                at: place,
-                end: last,
-                len,
-                found: true,
-            };
+            return Some(Name { len, left });
         }
         len = push(path, len, b);
     }
-    Stream {
-        at: place,
-        end: last,
-        len,
-        found: false,
-    }
+    None
 }
 
 // Adds all documents, of whose names the first bytes are given.
-fn add_all(
-    rt: &HostRuntime,
-    first: &[u8],
-    view: &[u32],
-    list: &[u8],
-    all: &mut [u32],
-    kept: &mut [u32],
-    hidden: &mut [u32],
-    refusals: &mut [u64],
-)
+fn add_all(rt: &HostRuntime, first: &[u8], view: &[u32], list: &[u8], counts: &mut Counts)
     requires { length first.now ≤ head_room }
 {
     let mut chunk = [0u8; HEAD_ROOM];
     let mut path = [0u8; PATH_ROOM];
-    let mut at = 0;
-    let mut end = first.len();
-    chunk[..end].copy_from_slice(first);
+    let mut left = Span {
+        at: 0,
+        end: first.len(),
+    };
+    chunk[..first.len()].copy_from_slice(first);
     let mut before = 0;
     for _ in 0..u64::MAX {
-        let stream = next_name(rt, &mut chunk, &mut path, at, end);
-        if !stream.found {
+        let Some(name) = next_name(rt, &mut chunk, &mut path, left) else {
             end_telling(rt, before);
             return;
-        }
-        before = add_document(
-            rt,
-            &path[..stream.len],
-            before,
-            view,
-            list,
-            all,
-            kept,
-            hidden,
-            refusals,
-        );
-        at = stream.at;
-        end = stream.end;
+        };
+        before = add_document(rt, &path[..name.len], before, view, list, counts);
+        left = name.left;
     }
 }
 
@@ -270,21 +225,21 @@ fn sheet_of(rt: &HostRuntime, view: &[u32], list: &[u8], first: &[u8], out: &mut
     requires { (length list.now ≤ list_limit) × (names_fault list.now ≡ none) × (length first.now ≤ head_room) }
     ensures { result ≤ sheet_limit }
 {
-    let mut all = [0u32; paper::NAMES_LIMIT];
-    let mut kept = [0u32; paper::NAMES_LIMIT];
-    let mut hidden = [0u32; paper::NAMES_LIMIT];
-    let mut refusals = [0u64; sheet::NUMBERS];
-    add_all(
-        rt,
-        first,
-        view,
+    let mut counts = Counts {
+        all: [0; paper::NAMES_LIMIT],
+        kept: [0; paper::NAMES_LIMIT],
+        hidden: [0; paper::NAMES_LIMIT],
+        refusals: [0; sheet::NUMBERS],
+    };
+    add_all(rt, first, view, list, &mut counts);
+    sheet::put_sheet(
         list,
-        &mut all,
-        &mut kept,
-        &mut hidden,
-        &mut refusals,
-    );
-    sheet::put_sheet(list, &all, &kept, &hidden, &refusals, out)
+        &counts.all,
+        &counts.kept,
+        &counts.hidden,
+        &counts.refusals,
+        out,
+    )
 }
 
 // Puts the sheet of a view by its text, or the line of its refusal.
@@ -294,7 +249,7 @@ fn sheet_by(rt: &HostRuntime, text: &[u8], list: &[u8], first: &[u8], out: &mut 
 {
     let mut room = [0u32; paper::ITEM_LIMIT];
     let said = read::read(text, VERSION, list, &mut room);
-    let Answer::Value(size) = said else {
+    let Ok(size) = said else {
         return lines::put_refusal(out, b"view", said);
     };
     sheet_of(rt, &room[..size], list, first, out)

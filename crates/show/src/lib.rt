@@ -6,7 +6,7 @@ ghost use Rattle.std.specs.Prelude.{◌+◌};
 ghost use Rattle.paper.specs.Show.{file_room, text_shows, query_shows, show_prints};
 ghost use Rattle.lines.specs.Lines.{Reports};
 
-use paper::Answer;
+use paper::Refusal;
 
 // The most bytes of an input.
 pub const INPUT_LIMIT: usize = 81920;
@@ -24,7 +24,7 @@ fn show_text(query: &[u32], list: &[u8], text: &[u8], out: &mut [u8]) -> usize
     let mut begin = [0u16; paper::NODE_LIMIT];
     let mut end = [0u16; paper::NODE_LIMIT];
     let said = read_xml::read_xml(text, list, &mut parent, &mut kind, &mut begin, &mut end);
-    let Answer::Value(n) = said else {
+    let Ok(n) = said else {
         return lines::put_refusal(out, b"text", said);
     };
     show_kept::show_rows(
@@ -45,7 +45,7 @@ fn show_query(query: &[u8], list: &[u8], text: &[u8], out: &mut [u8]) -> usize
 {
     let mut room = [0u32; paper::ITEM_LIMIT];
     let said = read::read(query, VERSION, list, &mut room);
-    let Answer::Value(size) = said else {
+    let Ok(size) = said else {
         return lines::put_refusal(out, b"query", said);
     };
     show_text(&room[..size], list, text, out)
@@ -56,7 +56,7 @@ pub fn show(input: &[u8], out: &mut [u8]) -> usize
     ensures { Reports (show_prints input.now) (file_room + 1) out.old out.new result }
 {
     if INPUT_LIMIT < input.len() {
-        return lines::put_refusal(out, b"input", Answer::TooLong);
+        return lines::put_refusal(out, b"input", Err(Refusal::TooLong));
     }
     let query_end = lines::line_end(input);
     let list_start = lines::line_start(input, query_end);

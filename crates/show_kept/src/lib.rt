@@ -2,16 +2,11 @@
 // The file is put into the lent bytes as far as these go, and its length is answered.
 #![tactic(auto)]
 
-ghost use Rattle.std.specs.Prelude.{◌+◌, ◌^◌, ◌≤◌, ◌<◌, ◌≡◌, length};
+ghost use Rattle.std.specs.Prelude.{◌+◌, ◌≤◌, ◌≡◌, length};
 ghost use Rattle.paper.specs.Limits.{node_limit};
 ghost use Rattle.paper.specs.Document.{table_of};
-ghost use Rattle.paper.specs.Answers.{run_answer, run_marks};
-ghost use Rattle.paper.specs.Told.{told};
-ghost use Rattle.paper.specs.Sheet.{all_marked};
 ghost use Rattle.paper.specs.Show.{file_room, file_shows, table_shows};
 ghost use Rattle.lines.specs.Lines.{Reports};
-
-use paper::Answer;
 
 // The room for a file.
 pub const FILE_ROOM: usize = 65536;
@@ -33,27 +28,11 @@ fn show_file(
 {
     let mut file = [0u8; FILE_ROOM];
     let answer = write_xml::write_xml(text, list, parent, kind, begin, end, marks, &mut file);
-    let Answer::Value(count) = answer else {
+    let Ok(count) = answer else {
         return lines::put_refusal(out, b"write", answer);
     };
     let shown = pen::put(out, 0, &file[..count]);
     pen::put(out, shown, b"\n")
-}
-
-// Runs the query with every mark 1 and so many bytes of scratch.
-fn run_within<const N: usize>(
-    query: &[u32],
-    parent: &[u16],
-    kind: &[u16],
-    marks: &mut [u8],
-) -> Answer
-    requires few { length parent.now ≤ node_limit }
-    requires room { N < 2 ^ 62 }
-    ensures result_value { told result ≡ run_answer query.now (table_of parent.now kind.now) (all_marked (table_of parent.now kind.now)) (length marks.old) N }
-    ensures marks_after { marks.new ≡ run_marks query.now (table_of parent.now kind.now) (all_marked (table_of parent.now kind.now)) marks.old N }
-{
-    let mut scratch = [0u8; N];
-    whole::run_whole(query, parent, kind, marks, &mut scratch)
 }
 
 // Shows what the query keeps of a text that was read into these columns, with room for its marks.
@@ -71,8 +50,8 @@ fn show_table(
     requires { (length parent.now ≤ node_limit) × (length marks.old ≡ length parent.now) }
     ensures { Reports (table_shows query.now list.now text.now (table_of parent.now kind.now) begin.now end.now) (file_room + 1) out.old out.new result }
 {
-    let ran = run_within::<SCRATCH_LENT>(query, parent, kind, marks);
-    let Answer::Value(kept) = ran else {
+    let ran = whole::run_within::<SCRATCH_LENT>(query, parent, kind, marks);
+    let Ok(kept) = ran else {
         return lines::put_refusal(out, b"run", ran);
     };
     if kept == 0 {

@@ -14,10 +14,8 @@ use vertical::above;
 fn first_bits(set: &mut [u8])
     ensures { set.new ≡ column (length set.old) (λ k. get_or set.old k 0 % 2) }
 {
-    let mut i = 0;
-    while i < set.len() {
+    for i in 0..set.len() {
         set[i] = set[i] % 2;
-        i += 1;
     }
 }
 
@@ -26,14 +24,12 @@ fn behind_siblings(parent: &[u16], set: &mut [u8])
     requires { (length parent.now ≡ length set.old) × ((kinds : List ℕ) → Tree (table_of parent.now kinds)) }
     ensures { (kinds : List ℕ) (f : ℕ → Bool) → set.old ≡ bits (length set.old) f → column (length set.old) (λ k. get_or set.new k 0 % 2) ≡ bits (length set.old) (image (table_of parent.now kinds) following_sibling f) }
 {
-    let mut younger = 1;
-    while younger < set.len() {
+    for younger in 1..set.len() {
         let up = parent[younger] as usize;
         let member = set[younger];
         let told = set[up];
         set[younger] = told / 2;
         set[up] = told | (member % 2 * 2);
-        younger += 1;
     }
     set[0] = 0;
 }
@@ -52,9 +48,7 @@ pub fn preceding_siblings(parent: &[u16], set: &mut [u8])
     requires { (length parent.now ≡ length set.old) × ((kinds : List ℕ) → Tree (table_of parent.now kinds)) }
     ensures { (kinds : List ℕ) (f : ℕ → Bool) → set.old ≡ bits (length set.old) f → set.new ≡ bits (length set.old) (image (table_of parent.now kinds) preceding_sibling f) }
 {
-    let mut elder = set.len();
-    while elder > 1 {
-        elder -= 1;
+    for elder in (1..set.len()).rev() {
         let up = parent[elder] as usize;
         let member = set[elder];
         let told = set[up];
@@ -78,13 +72,11 @@ pub fn following(parent: &[u16], set: &mut [u8])
 {
     set[0] = 0;
     let mut last = 0;
-    let mut i = 1;
-    while i < set.len() {
+    for i in 1..set.len() {
         let up = parent[i] as usize;
         let member = set[i];
         set[i] = ((up < last) as u8) | set[up];
         last = chosen(member == 1, i, last);
-        i += 1;
     }
 }
 
@@ -94,9 +86,7 @@ fn passed_by(parent: &[u16], set: &mut [u8])
     ensures { (kinds : List ℕ) (f : ℕ → Bool) → set.old ≡ bits (length set.old) (image (table_of parent.now kinds) ancestor_or_self f) → set.new ≡ bits (length set.old) (image (table_of parent.now kinds) Axis.preceding f) }
 {
     let mut low = set.len();
-    let mut at = set.len();
-    while at > 1 {
-        at -= 1;
+    for at in (1..set.len()).rev() {
         let up = parent[at] as usize;
         let member = set[at];
         set[at] = (low < at) as u8;

@@ -1,7 +1,6 @@
 -- Items put into the slots of an output: where there is room for them they stand from a slot on, and all else is as it was.
 use Rattle.std.specs.Prelude.{ℕ, ◌+◌, ◌≤◌, ◌≡◌, Bool, true, false, List, [], ◌∷◌, ◌++◌, length, replicate}
 use Rattle.paper.specs.Limits.{item_limit}
-use Rattle.paper.specs.Tokens as paper
 use Rattle.paper.specs.Query.{descendant_or_self, any_node}
 use Rattle.paper.specs.Items.{pack_step}
 

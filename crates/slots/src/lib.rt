@@ -58,16 +58,12 @@ pub fn item_of_step(axis: u32, test: u32, count: usize) -> u32
     }
 }
 
-// Moves what stands from `slot` to `end` up by `count`, its end first.
+// Moves what stands from `slot` to `end` up by `count`.
 fn move_up(out: &mut [u32], slot: usize, end: usize, count: usize)
     requires { (slot ≤ end) × (end + count ≤ length out.old) × (0 < count) }
     ensures { Moved out.old out.new slot end count }
 {
-    let mut i = end;
-    while slot < i {
-        i -= 1;
-        out[i + count] = out[i];
-    }
+    out.copy_within(slot..end, slot + count);
 }
 
 // Puts so many of an operator's items before what stands from `slot` to `end`, where there is room for them.
@@ -76,10 +72,7 @@ pub fn group(out: &mut [u32], slot: usize, end: usize, count: usize, item: u32)
     ensures grouped { Grouped out.old out.new slot end count item }
     ensures out_unchanged { length out.old < end + count → out.new ≡ out.old }
 {
-    if count == 0 {
-        return;
-    }
-    if out.len() < end + count {
+    if count == 0 || out.len() < end + count {
         return;
     }
     move_up(out, slot, end, count);

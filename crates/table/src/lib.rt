@@ -5,34 +5,20 @@ ghost use Rattle.std.specs.Prelude.{◌≡◌, true, List, ℕ, ◌+◌, ◌<◌
 ghost use Rattle.paper.specs.Limits.{node_limit};
 ghost use Rattle.paper.specs.Document.{over, good_node, table_fault, good_mark, marks_fault, table_of};
 ghost use Rattle.paper.specs.Extraction.{rank};
-ghost use Rattle.table.specs.Faults.{fault_of};
+ghost use Rattle.paper.specs.Told.{found};
 ghost use Rattle.table.specs.Climbs.{Falls};
 ghost use Rattle.table.specs.Passing.{fits_kind, good_parent, KindsFit, AllGood, AllMarked, Inside};
-
-// The first bad node, if there is one.
-#[derive(Clone, Copy)]
-pub enum Fault {
-    Nothing,
-    At(usize),
-}
-
-// An entry of a column as an index.
-pub fn wide(x: u16) -> usize
-    ensures { result ≡ x }
-{
-    x as usize
-}
 
 // THE TABLE.
 
 // Is `wanted` the node `from` or an ancestor of it? The way up ends where it would pass `wanted`.
-fn is_over(parent: &[u16], from: usize, wanted: usize) -> bool
+pub fn is_over(parent: &[u16], from: usize, wanted: usize) -> bool
     requires { Falls parent.now (from + 1) }
     ensures { (kinds : List ℕ) → result ≡ over (table_of parent.now kinds) from wanted }
 {
     let mut at = from;
     while wanted < at {
-        at = wide(parent[at]);
+        at = usize::from(parent[at]);
     }
     at == wanted
 }
@@ -41,7 +27,7 @@ fn is_over(parent: &[u16], from: usize, wanted: usize) -> bool
 fn fits(kind: u16) -> bool
     ensures { result ≡ fits_kind kind }
 {
-    (1 <= kind) & (kind <= paper::KIND_LIMIT)
+    (paper::TEXT_KIND <= kind) & (kind <= paper::KIND_LIMIT)
 }
 
 // Is node 0 as it must be?
@@ -49,10 +35,7 @@ fn good_root(parent: &[u16], kind: &[u16]) -> bool
     requires { (0 < length parent.now) × (length kind.now ≡ length parent.now) }
     ensures { result ≡ good_node (table_of parent.now kind.now) 0 }
 {
-    if wide(parent[0]) != 0 {
-        return false;
-    }
-    wide(kind[0]) == 0
+    (parent[0] == 0) & (kind[0] == 0)
 }
 
 // Is the parent of the node i the node before or above that, and no text?
@@ -61,12 +44,8 @@ fn good_parent(parent: &[u16], kind: &[u16], i: usize) -> bool
     requires falls { Falls parent.now i }
     ensures { result ≡ good_parent (table_of parent.now kind.now) i }
 {
-    let above = wide(parent[i]);
-    if is_over(parent, i - 1, above) {
-        wide(kind[above]) != 1
-    } else {
-        false
-    }
+    let above = usize::from(parent[i]);
+    is_over(parent, i - 1, above) && kind[above] != paper::TEXT_KIND
 }
 
 // Is the node i as it must be, if those before it are?
@@ -78,10 +57,7 @@ fn good_node(parent: &[u16], kind: &[u16], i: usize) -> bool
     if i == 0 {
         return good_root(parent, kind);
     }
-    if !fits(kind[i]) {
-        return false;
-    }
-    good_parent(parent, kind, i)
+    fits(kind[i]) && good_parent(parent, kind, i)
 }
 
 // Are all kinds but the root's those of text and of elements? No branch, so that many are looked at together.
@@ -89,10 +65,8 @@ fn kinds_fit(kind: &[u16]) -> bool
     ensures { result ≡ true → KindsFit kind.now }
 {
     let mut fit = true;
-    let mut i = 1;
-    while i < kind.len() {
+    for i in 1..kind.len() {
         fit = fit & fits(kind[i]);
-        i += 1;
     }
     fit
 }
@@ -108,36 +82,31 @@ fn all_good(parent: &[u16], kind: &[u16]) -> bool
     if !kinds_fit(kind) {
         return false;
     }
-    let mut i = 1;
-    while i < parent.len() {
+    for i in 1..parent.len() {
         if !good_parent(parent, kind, i) {
             return false;
         }
-        i += 1;
     }
     true
 }
 
-// The first bad node of a table, looked for where there is one. A way up from a good node is paid for by the depth, so all of them together are linear in the nodes.
-pub fn table_fault(parent: &[u16], kind: &[u16]) -> Fault
+// The first bad node of a table, if there is one, looked for where not all are good. A way up from a good node is paid for by the depth, so all of them together are linear in the nodes.
+pub fn table_fault(parent: &[u16], kind: &[u16]) -> Option<usize>
     requires { length kind.now ≡ length parent.now }
-    ensures { fault_of result ≡ table_fault (table_of parent.now kind.now) }
+    ensures { found result ≡ table_fault (table_of parent.now kind.now) }
 {
     if parent.len() == 0 {
-        return Fault::At(0);
+        return Some(0);
     }
     if all_good(parent, kind) {
-        return Fault::Nothing;
+        return None;
     }
-    let mut i = 0;
-    while i < parent.len() {
-        if good_node(parent, kind, i) {
-            i += 1;
-        } else {
-            return Fault::At(i);
+    for i in 0..parent.len() {
+        if !good_node(parent, kind, i) {
+            return Some(i);
         }
     }
-    Fault::Nothing
+    None
 }
 
 // THE MARKS.
@@ -148,52 +117,45 @@ fn good_mark(parent: &[u16], marks: &[u8], i: usize) -> bool
     ensures { (kinds : List ℕ) → result ≡ good_mark (table_of parent.now kinds) marks.now i }
 {
     let own = marks[i];
-    let above = wide(parent[i]);
+    let above = usize::from(parent[i]);
     (own == 0) | (own == 1) & (marks[above] == 1)
 }
 
-// Is every node marked?
+// Is every node marked? No branch, so that many are looked at together.
 fn all_marked(marks: &[u8]) -> bool
     ensures { result ≡ true → AllMarked marks.now }
 {
     let mut all = true;
-    let mut i = 0;
-    while i < marks.len() {
-        all = all & (marks[i] == 1);
-        i += 1;
+    for &mark in marks {
+        all = all & (mark == 1);
     }
     all
 }
 
-// The first node whose mark is bad; none is where all are marked.
-pub fn marks_fault(parent: &[u16], marks: &[u8]) -> Fault
+// The first node whose mark is bad, if there is one; there is none where all are marked.
+pub fn marks_fault(parent: &[u16], marks: &[u8]) -> Option<usize>
     requires { (length marks.now ≡ length parent.now) × (Inside parent.now) }
-    ensures { (kinds : List ℕ) → fault_of result ≡ marks_fault (table_of parent.now kinds) marks.now }
+    ensures { (kinds : List ℕ) → found result ≡ marks_fault (table_of parent.now kinds) marks.now }
 {
     if all_marked(marks) {
-        return Fault::Nothing;
+        return None;
     }
-    let mut i = 0;
-    while i < parent.len() {
-        if good_mark(parent, marks, i) {
-            i += 1;
-        } else {
-            return Fault::At(i);
+    for i in 0..parent.len() {
+        if !good_mark(parent, marks, i) {
+            return Some(i);
         }
     }
-    Fault::Nothing
+    None
 }
 
-// How many nodes are marked.
+// How many nodes are marked. No branch, so that many are looked at together.
 pub fn count(marks: &[u8]) -> usize
     requires { length marks.now ≤ node_limit }
     ensures { result ≡ rank marks.now (length marks.now) }
 {
     let mut n: u16 = 0;
-    let mut i = 0;
-    while i < marks.len() {
-        n += (marks[i] == 1) as u16;
-        i += 1;
+    for &mark in marks {
+        n += u16::from(mark == 1);
     }
-    wide(n)
+    usize::from(n)
 }

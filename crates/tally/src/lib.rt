@@ -22,7 +22,7 @@ fn add_at(column: &mut [u32], v: usize)
     ensures { Grows sums column.old column.new (λ u. (if nat_eq v u then 1 else 0)) }
 {
     if v < column.len() {
-        column[v] = std::num::wrapping_add_u32(column[v], 1);
+        column[v] = column[v].wrapping_add(1);
     }
 }
 
@@ -30,11 +30,8 @@ fn add_at(column: &mut [u32], v: usize)
 fn add_node(column: &mut [u32], kind: u16, counts: bool)
     ensures { Grows sums column.old column.new (λ v. (if nat_eq kind (element_kind + v) && counts then 1 else 0)) }
 {
-    if kind < paper::ELEMENT_KIND {
-        return;
-    }
-    if counts {
-        add_at(column, (kind - paper::ELEMENT_KIND) as usize);
+    if paper::ELEMENT_KIND <= kind && counts {
+        add_at(column, usize::from(kind - paper::ELEMENT_KIND));
     }
 }
 
@@ -43,13 +40,11 @@ pub fn add_nodes(kind: &[u16], marks: &[u8], all: &mut [u32], kept: &mut [u32], 
     requires { length marks.now ≡ length kind.now }
     ensures { NodesTold (length kind.now) kind.now marks.now all.old all.new kept.old kept.new hidden.old hidden.new }
 {
-    let mut i = 0;
-    while i < kind.len() {
+    for (i, of) in kind.iter().enumerate() {
         let is_kept = marks[i] == 1;
-        add_node(all, kind[i], true);
-        add_node(kept, kind[i], is_kept);
-        add_node(hidden, kind[i], !is_kept);
-        i += 1;
+        add_node(all, *of, true);
+        add_node(kept, *of, is_kept);
+        add_node(hidden, *of, !is_kept);
     }
 }
 
@@ -58,6 +53,6 @@ pub fn add_refusal(number: usize, refusals: &mut [u64])
     ensures { Grows times refusals.old refusals.new (λ n. (if nat_eq number n then 1 else 0)) }
 {
     if number < refusals.len() {
-        refusals[number] = std::num::wrapping_add_u64(refusals[number], 1);
+        refusals[number] = refusals[number].wrapping_add(1);
     }
 }

@@ -4,8 +4,6 @@
 ghost use Rattle.lines.specs.Lines.{report_limit, Reports};
 ghost use Rattle.text_report.specs.Texts.{texts_print_by};
 
-use paper::Answer;
-
 // The version of XPath that the program reads by.
 const VERSION: u32 = 1;
 
@@ -15,12 +13,12 @@ pub fn report_texts(outer: &[u8], inner: &[u8], list: &[u8], out: &mut [u8], lea
 {
     let mut outer_room = [0u32; paper::ITEM_LIMIT];
     let outer_answer = read::read(outer, VERSION, list, &mut outer_room);
-    let Answer::Value(outer_size) = outer_answer else {
+    let Ok(outer_size) = outer_answer else {
         return lines::put_refusal(out, b"outer", outer_answer);
     };
     let mut inner_room = [0u32; paper::ITEM_LIMIT];
     let inner_answer = read::read(inner, VERSION, list, &mut inner_room);
-    let Answer::Value(inner_size) = inner_answer else {
+    let Ok(inner_size) = inner_answer else {
         return lines::put_refusal(out, b"inner", inner_answer);
     };
     let outer_query = &outer_room[..outer_size];

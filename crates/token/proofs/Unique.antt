@@ -8,42 +8,47 @@ use lib.Seq.{length-take-le}
 use Rattle.paper.specs.Tokens as paper
 use Rattle.paper.specs.Tokens.{Placed, tokens_from}
 use Rattle.token.specs.declared.Token.{Token}
-use Rattle.token.specs.declared.Token.TheVariants.{Slash, Slashes, Dot, Dots, Colons, Bar, OpenSquare, CloseSquare, OpenRound, CloseRound, Star, Finish, Stray, Word}
+use Rattle.token.specs.declared.Token.TheVariants.{Mark, Word, Finish, Stray}
+use Rattle.token.specs.declared.Mark.{Mark as MarkKind}
+use Rattle.token.specs.declared.Mark.TheVariants.{Slash, Slashes, Dot, Dots, Colons, Bar, OpenSquare, CloseSquare, OpenRound, CloseRound, Star}
 use Rattle.token.specs.declared.Taken.{Taken}
-use Rattle.token.specs.Taking.{token_of, width_of, Takes}
+use Rattle.token.specs.Taking.{mark_of, token_of, width_of, Takes}
 
 -- The token for one of the paper's.
 abbrev back : paper.Token → Token
-back paper.slash = Slash
-back paper.slashes = Slashes
-back paper.dot = Dot
-back paper.dots = Dots
-back paper.colons = Colons
-back paper.bar = Bar
-back paper.open_square = OpenSquare
-back paper.close_square = CloseSquare
-back paper.open_round = OpenRound
-back paper.close_round = CloseRound
-back paper.star = Star
+back paper.slash = Mark Slash
+back paper.slashes = Mark Slashes
+back paper.dot = Mark Dot
+back paper.dots = Mark Dots
+back paper.colons = Mark Colons
+back paper.bar = Mark Bar
+back paper.open_square = Mark OpenSquare
+back paper.close_square = Mark CloseSquare
+back paper.open_round = Mark OpenRound
+back paper.close_round = Mark CloseRound
+back paper.star = Mark Star
 back paper.finish = Finish
 back paper.stray = Stray
 back (paper.word w) = Word (length w)
 
+back_mark : (m : MarkKind) → back (mark_of m) ≡ Mark m
+back_mark Slash = refl
+back_mark Slashes = refl
+back_mark Dot = refl
+back_mark Dots = refl
+back_mark Colons = refl
+back_mark Bar = refl
+back_mark OpenSquare = refl
+back_mark CloseSquare = refl
+back_mark OpenRound = refl
+back_mark CloseRound = refl
+back_mark Star = refl
+
 back_of : (text : List ℕ) (place : ℕ) (t : Token) → place + width_of t ≤ length text → back (token_of text place t) ≡ t
-back_of text place Slash l = refl
-back_of text place Slashes l = refl
-back_of text place Dot l = refl
-back_of text place Dots l = refl
-back_of text place Colons l = refl
-back_of text place Bar l = refl
-back_of text place OpenSquare l = refl
-back_of text place CloseSquare l = refl
-back_of text place OpenRound l = refl
-back_of text place CloseRound l = refl
-back_of text place Star l = refl
+back_of text place (Mark m) l = back_mark m
+back_of text place (Word count) l = ap Word (length-take-le count (drop place text) (simp length-drop (omega arith)))
 back_of text place Finish l = refl
 back_of text place Stray l = refl
-back_of text place (Word count) l = ap Word (length-take-le count (drop place text) (simp length-drop (omega arith)))
 
 -- The first of the tokens.
 abbrev head : List Placed → Placed

@@ -1,48 +1,61 @@
 -- What taking a token promises: the code's token as the paper's, and what stands where it was taken.
 use Rattle.std.specs.Prelude.{ℕ, suc, ◌+◌, ◌≤◌, ◌<◌, ◌≡◌, Bool, true, false, List, [], ◌∷◌, length, get_or, take, drop}
 use Rattle.paper.specs.Tokens as paper
-use Rattle.paper.specs.Tokens.{is, white, beyond, token_at, tokens_from, Placed}
+use Rattle.paper.specs.Tokens.{white, beyond, token_at, tokens_from, Placed}
 use Rattle.token.specs.declared.Token.{Token}
-use Rattle.token.specs.declared.Token.TheVariants.{Slash, Slashes, Dot, Dots, Colons, Bar, OpenSquare, CloseSquare, OpenRound, CloseRound, Star, Finish, Stray, Word}
+use Rattle.token.specs.declared.Token.TheVariants.{Mark, Word, Finish, Stray}
+use Rattle.token.specs.declared.Mark.{Mark as MarkKind}
+use Rattle.token.specs.declared.Mark.TheVariants.{Slash, Slashes, Dot, Dots, Colons, Bar, OpenSquare, CloseSquare, OpenRound, CloseRound, Star}
 use Rattle.token.specs.declared.Taken.{Taken}
+
+-- The paper's token for a mark.
+abbrev pub mark_of : MarkKind → paper.Token
+mark_of Slash = paper.slash
+mark_of Slashes = paper.slashes
+mark_of Dot = paper.dot
+mark_of Dots = paper.dots
+mark_of Colons = paper.colons
+mark_of Bar = paper.bar
+mark_of OpenSquare = paper.open_square
+mark_of CloseSquare = paper.close_square
+mark_of OpenRound = paper.open_round
+mark_of CloseRound = paper.close_round
+mark_of Star = paper.star
 
 -- The paper's token for one that was taken at a place of the text.
 abbrev pub token_of : List ℕ → ℕ → Token → paper.Token
-token_of text place Slash = paper.slash
-token_of text place Slashes = paper.slashes
-token_of text place Dot = paper.dot
-token_of text place Dots = paper.dots
-token_of text place Colons = paper.colons
-token_of text place Bar = paper.bar
-token_of text place OpenSquare = paper.open_square
-token_of text place CloseSquare = paper.close_square
-token_of text place OpenRound = paper.open_round
-token_of text place CloseRound = paper.close_round
-token_of text place Star = paper.star
+token_of text place (Mark m) = mark_of m
+token_of text place (Word count) = paper.word (take count (drop place text))
 token_of text place Finish = paper.finish
 token_of text place Stray = paper.stray
-token_of text place (Word count) = paper.word (take count (drop place text))
+
+-- How many bytes of the text a mark takes.
+abbrev pub mark_width : MarkKind → ℕ
+mark_width Slash = 1
+mark_width Slashes = 2
+mark_width Dot = 1
+mark_width Dots = 2
+mark_width Colons = 2
+mark_width Bar = 1
+mark_width OpenSquare = 1
+mark_width CloseSquare = 1
+mark_width OpenRound = 1
+mark_width CloseRound = 1
+mark_width Star = 1
 
 -- How many bytes of the text a token takes.
 abbrev pub width_of : Token → ℕ
-width_of Slash = 1
-width_of Slashes = 2
-width_of Dot = 1
-width_of Dots = 2
-width_of Colons = 2
-width_of Bar = 1
-width_of OpenSquare = 1
-width_of CloseSquare = 1
-width_of OpenRound = 1
-width_of CloseRound = 1
-width_of Star = 1
+width_of (Mark m) = mark_width m
+width_of (Word count) = count
 width_of Finish = 0
 width_of Stray = 1
-width_of (Word count) = count
 
 -- Is this the end of the text?
 abbrev pub finished : Token → Bool
-finished t = is (token_of [] 0 t) paper.finish
+finished (Mark m) = false
+finished (Word count) = false
+finished Finish = true
+finished Stray = false
 
 -- White space from `from` up to `at` changes no token.
 pub record Skips (text : List ℕ) (from at : ℕ) : Type 0 where

@@ -5,7 +5,7 @@ ghost use Rattle.std.specs.Prelude.{suc, ◌+◌, ◌≤◌, ◌<◌, ◌≡◌,
 ghost use Rattle.paper.specs.Tools.{begins, run_of};
 ghost use Rattle.paper.specs.Names.{name_start, name_part};
 ghost use Rattle.paper.specs.Tokens.{white};
-ghost use Rattle.token.specs.Taking.{Longest, Takes, width_of};
+ghost use Rattle.token.specs.Taking.{Longest, Takes, mark_width, width_of};
 
 use good_names::{name_part, name_start};
 
@@ -15,9 +15,9 @@ pub struct Cursor {
     pub at: usize,
 }
 
-// The tokens; a word holds its number of bytes. Finish is the end of the text, Stray a byte that starts no token.
-#[derive(Clone, Copy)]
-pub enum Token {
+// The marks: the tokens that are no words.
+#[derive(Clone, Copy, PartialEq, Eq)]
+pub enum Mark {
     Slash,
     Slashes,
     Dot,
@@ -29,9 +29,15 @@ pub enum Token {
     OpenRound,
     CloseRound,
     Star,
+}
+
+// The tokens; a word holds its number of bytes. Finish is the end of the text, Stray a byte that starts no token.
+#[derive(Clone, Copy, PartialEq, Eq)]
+pub enum Token {
+    Mark(Mark),
+    Word(usize),
     Finish,
     Stray,
-    Word(usize),
 }
 
 // A token, where it starts, and the cursor past it.
@@ -54,14 +60,11 @@ pub fn skip(text: &[u8], from: usize) -> usize
     requires { from ≤ length text.now }
     ensures { result ≡ from + run_of white (drop from text.now) }
 {
-    let mut at = from;
-    while at < text.len() {
-        if !white_space(text[at]) {
-            return at;
-        }
-        at += 1;
-    }
-    at
+    let blanks = text[from..]
+        .iter()
+        .position(|&b| !white_space(b))
+        .unwrap_or(text.len() - from);
+    from + blanks
 }
 
 // Where the bytes that go on with a name end, from `from` on.
@@ -69,14 +72,11 @@ pub fn run_end(text: &[u8], from: usize) -> usize
     requires { from ≤ length text.now }
     ensures { result ≡ from + run_of name_part (drop from text.now) }
 {
-    let mut end = from;
-    while end < text.len() {
-        if !name_part(text[end]) {
-            return end;
-        }
-        end += 1;
-    }
-    end
+    let letters = text[from..]
+        .iter()
+        .position(|&b| !name_part(b))
+        .unwrap_or(text.len() - from);
+    from + letters
 }
 
 // Does this byte stand right after the place?
@@ -102,31 +102,31 @@ fn mark_at(text: &[u8], place: usize) -> Token
     match b {
         b'/' => {
             if follows(text, place, b'/') {
-                Token::Slashes
+                Token::Mark(Mark::Slashes)
             } else {
-                Token::Slash
+                Token::Mark(Mark::Slash)
             }
         }
         b'.' => {
             if follows(text, place, b'.') {
-                Token::Dots
+                Token::Mark(Mark::Dots)
             } else {
-                Token::Dot
+                Token::Mark(Mark::Dot)
             }
         }
         b':' => {
             if follows(text, place, b':') {
-                Token::Colons
+                Token::Mark(Mark::Colons)
             } else {
                 Token::Stray
             }
         }
-        b'|' => Token::Bar,
-        b'[' => Token::OpenSquare,
-        b']' => Token::CloseSquare,
-        b'(' => Token::OpenRound,
-        b')' => Token::CloseRound,
-        b'*' => Token::Star,
+        b'|' => Token::Mark(Mark::Bar),
+        b'[' => Token::Mark(Mark::OpenSquare),
+        b']' => Token::Mark(Mark::CloseSquare),
+        b'(' => Token::Mark(Mark::OpenRound),
+        b')' => Token::Mark(Mark::CloseRound),
+        b'*' => Token::Mark(Mark::Star),
         _ => Token::Stray,
     }
 }
@@ -142,25 +142,25 @@ fn token_at(text: &[u8], place: usize) -> Token
     mark_at(text, place)
 }
 
+// How many bytes a mark takes.
+fn mark_width(m: Mark) -> usize
+    ensures { result ≡ mark_width m }
+{
+    match m {
+        Mark::Slashes | Mark::Dots | Mark::Colons => 2,
+        _ => 1,
+    }
+}
+
 // How many bytes a token takes.
 fn width(t: Token) -> usize
     ensures { result ≡ width_of t }
 {
     match t {
-        Token::Slash => 1,
-        Token::Slashes => 2,
-        Token::Dot => 1,
-        Token::Dots => 2,
-        Token::Colons => 2,
-        Token::Bar => 1,
-        Token::OpenSquare => 1,
-        Token::CloseSquare => 1,
-        Token::OpenRound => 1,
-        Token::CloseRound => 1,
-        Token::Star => 1,
+        Token::Mark(m) => mark_width(m),
+        Token::Word(n) => n,
         Token::Finish => 0,
         Token::Stray => 1,
-        Token::Word(n) => n,
     }
 }
 

@@ -10,17 +10,20 @@ use Rattle.paper.specs.WriteXml.{kept_xml}
 use Rattle.paper.specs.Answers.{Answer, at_exit}
 use Rattle.paper.specs.Items.{count_bound, Taken}
 use Rattle.paper.proofs.Tests.{none-some, some_inj}
-use Rattle.names.proofs.Unique as names
-use Rattle.name_lines.proofs.Unique.{first_same_unique}
-use Rattle.initials.proofs.Unique.{chained_unique}
+use Rattle.std.specs.Prelude.{Option, Some, None, Result, Ok, Err, IfOk, IfErr}
+use Rattle.std.proofs.Math.Option.{none}
+use Rattle.paper.specs.Names.{names_fault}
+use Rattle.paper.specs.declared.Refusal.{Refusal}
+use Rattle.names.specs.Listing.{BadAt}
+use Rattle.names.proofs.Unique.{refused_unique}
+use Rattle.name_lines.proofs.Unique.{found_unique}
 use Rattle.token.proofs.Unique as token
 use Rattle.xml_runs.proofs.Unique as runs
 use Rattle.prolog.proofs.Unique as prolog
 use Rattle.end_tags.proofs.Unique.{end_unique}
 use Rattle.xml.proofs.Unique as xml
-use Rattle.names.specs.Listing.{found_at}
 use Rattle.xml_lines.specs.Kept.{Columns, columns, exit_columns}
-use Rattle.paper.specs.Told.{told}
+use Rattle.paper.specs.Told.{told, found}
 use Rattle.line_tests.proofs.Tests.{tells_unique}
 use Rattle.match_lines.proofs.Unique as match_lines
 use Rattle.ahead.proofs.Unique as ahead
@@ -30,35 +33,30 @@ use Rattle.slots.specs.Slots.{deep_items}
 use Rattle.slots.proofs.Unique.{deep_small, said_unique, wrote_unique, grouped_unique}
 use Rattle.read_paths.proofs.Unique.{reads_unique, reads_left}
 use Rattle.shape.specs.declared.Walked.{Walked}
-use Rattle.shape.specs.declared.Walked.TheVariants.{Done, Malformed}
 use Rattle.shape.specs.Walks.{Walks}
 use Rattle.pen.specs.Putting.{Puts}
-use Rattle.unknown_names.proofs.Unique.{first_unique}
-use Rattle.table.specs.declared.Fault.{Fault}
-use Rattle.table.specs.declared.Fault.TheVariants.{Nothing, At}
-use Rattle.table.specs.Faults.{fault_of}
 use Rattle.uniqueness.specs.UniqueParts.{UnpackUnique, PackPathUnique, PackStepUnique, TurnUnique, GuardedUnique, PutItemsUnique, PutSameUnique}
-use Rattle.uniqueness.specs.UniqueParts.{NameStartUnique, NamePartUnique, IndexUnique, FindUnique, LinkUnique, FindInitialUnique, SpellUnique, WhiteSpaceUnique, TakeUnique}
+use Rattle.uniqueness.specs.UniqueParts.{NameStartUnique, NamePartUnique, NewNamesUnique, CountNamesUnique, FindUnique, NewInitialsUnique, FindInitialUnique, SpellUnique, WhiteSpaceUnique, TakeUnique}
 use Rattle.uniqueness.specs.UniqueParts.{SkipSpaceUnique, RunEndUnique, MarkupUnique, RefuseUnique, ByteUnique, SayUnique, SoonerUnique, RunPieceUnique, TakePieceUnique, RootPieceUnique, FinishUnique, LeadUnique}
 use Rattle.uniqueness.specs.UniqueParts.{MarkUnique, WordAheadUnique, JoinedUnique, PathLeadUnique, OpeningUnique, AxisAheadUnique, TestCallUnique}
-use Rattle.uniqueness.specs.UniqueParts.{LargerUnique, RunOfUnique, StepsUnique, MeasureUnique, WideUnique, TableFaultUnique, MarksFaultUnique, CountUnique}
+use Rattle.uniqueness.specs.UniqueParts.{RunOfUnique, StepsUnique, MeasureUnique, TableFaultUnique, MarksFaultUnique, CountUnique}
 use Rattle.uniqueness.specs.UniqueParts.{PutByteUnique, PutUnique, PutSlashUnique, PutBarUnique, PutOpenUnique, PutOrUnique, PutAndUnique, PutNotUnique, PutHeadUnique}
 use Rattle.uniqueness.specs.UniqueParts.{LineEndUnique, LineStartUnique, PutRefusalUnique, PutResultUnique}
-use Rattle.uniqueness.specs.UniqueParts.{NumberOfUnique, PlaceOfUnique, CodeUnique, ComposeUnionUnique, ReportQueriesUnique, ReportTextsUnique, RunWholeUnique, ShowRowsUnique}
+use Rattle.uniqueness.specs.UniqueParts.{NumberOfUnique, PlaceOfUnique, CodeUnique, ComposeUnionUnique, ReportQueriesUnique, ReportTextsUnique, RunWholeUnique, RunWithinUnique, ShowRowsUnique}
 use Rattle.uniqueness.specs.UniqueParts.{FillUnique, CopyUnique, KeepUnique, AddUnique, FlipUnique, KeepSecondUnique, AddSecondUnique, KeepMetUnique}
 use Rattle.uniqueness.specs.UniqueParts.{ChildrenUnique, ParentsUnique, BelowUnique, AboveUnique, DescendantsUnique, AncestorsUnique}
 use Rattle.uniqueness.specs.UniqueParts.{FollowingSiblingsUnique, PrecedingSiblingsUnique, FollowingUnique, PrecedingUnique, AlongUnique}
 use Rattle.uniqueness.specs.UniqueParts.{RestrictUnique, SpreadUnique, KeepQueryUnique, OwesUnique, SkipUnique, CountPathsUnique, PutSelectedUnique, SelectedSizeUnique}
 use Rattle.uniqueness.specs.UniqueParts.{MarkQueryUnique, ComposeByUnique}
-use Rattle.uniqueness.specs.UniqueParts.{NarrowUnique, WideEntryUnique, FindNameUnique, FirstUnnamedUnique, KindOfUnique, AnswerUnique}
+use Rattle.uniqueness.specs.UniqueParts.{NarrowUnique, FindNameUnique, FirstUnnamedUnique, KindOfUnique, AnswerUnique}
 use Rattle.uniqueness.specs.UniqueParts.{SaysUnique, KindIsUnique, BeginsLineUnique, ReadsAsUnique, WriteKeptUnique}
 use Rattle.uniqueness.specs.UniqueParts.{EndTagUnique, FillListedUnique, OutcomeUnique}
 use Rattle.uniqueness.specs.UniqueParts.{RowStandsUnique, AllStandUnique, ElementMarkedUnique, FileUnique, JudgeListedUnique}
 use Rattle.uniqueness.specs.UniqueParts.{PastStepsUnique, LookUnique, LookFirstUnique, StepAtUnique, PathAtUnique}
-use Rattle.uniqueness.specs.UniqueParts.{IsOverUnique, AxisLeadsUnique, SpreadKinUnique, ClearUnique, CandidateUnique, MarkKeptUnique}
-use Rattle.uniqueness.specs.UniqueParts.{PutTextUnique, CloseUnique, StartAtUnique, PutNodeUnique, PutKeptUnique}
-use Rattle.uniqueness.specs.UniqueParts.{IsNameUnique, LinePartUnique, FirstSameUnique, KeyUnique, RepeatsUnique}
-use Rattle.uniqueness.specs.UniqueParts.{SameWordUnique, AxisOfUnique, SortOfUnique}
+use Rattle.uniqueness.specs.UniqueParts.{IsOverUnique, AxisLeadsUnique, SpreadKinUnique, JudgeUnique, CandidateUnique, MarkKeptUnique}
+use Rattle.uniqueness.specs.UniqueParts.{PutTextUnique, NewMarkedUnique, CountMarkedUnique, TextOfUnique, MarkOfUnique, LineOfUnique, CloseUnique, StartAtUnique, PutNodeUnique, PutKeptUnique}
+use Rattle.uniqueness.specs.UniqueParts.{IsNameUnique, NameLineUnique, FirstSameUnique, KeyUnique, RepeatsUnique}
+use Rattle.uniqueness.specs.UniqueParts.{SameWordUnique, AxisOfUnique}
 use Rattle.uniqueness.specs.UniqueParts.{JoinsAheadUnique, PutItemUnique, PutDeepUnique, ItemOfPathUnique, ItemOfStepUnique, GroupUnique, StepHeadUnique, ReadPathsUnique, ReadPathsLeft}
 use Rattle.uniqueness.specs.UniqueParts.{JoinedHeightUnique, OwnDepthUnique}
 use Rattle.uniqueness.specs.UniqueParts.{PutAlongUnique}
@@ -98,11 +96,11 @@ name_part_unique κs a u v x y g p q = same p q
 pub is_name_unique : IsNameUnique
 is_name_unique κs a u v x y g p q = same p q
 
-pub line_part_unique : LinePartUnique
-line_part_unique κs a u v x y g p q = same p q
+pub name_line_unique : NameLineUnique
+name_line_unique κs a u v x y g p q = same p q
 
 pub first_line_unique : FirstSameUnique
-first_line_unique κs a u v x y g p q = first_same_unique a.0.now a.1.0.now a.1.1.0 a.1.1.1.0.now u v p q
+first_line_unique κs a u v x y g p q = found_unique u v (same p q)
 
 pub key_unique : KeyUnique
 key_unique κs a u v x y g p q = same p q
@@ -110,22 +108,32 @@ key_unique κs a u v x y g p q = same p q
 pub repeats_unique : RepeatsUnique
 repeats_unique κs a u v x y g p q = same p q
 
-pub index_unique : IndexUnique
-index_unique κs a u v x y g p q =
-    let both = names.index_unique a.0.now a.1.0.now x.1.0.now y.1.0.now u v p q in
-    (both.0, same_slice both.1 refl)
+-- A list is good or bad, and bad in one way.
+checked_unique : (list : List ℕ) (r s : Result (List ℕ) Refusal)
+    → IfOk r (λ names. (names ≡ list) × (names_fault list ≡ none)) → IfErr r (λ why. BadAt list why)
+    → IfOk s (λ names. (names ≡ list) × (names_fault list ≡ none)) → IfErr s (λ why. BadAt list why) → r ≡ s
+checked_unique list (Ok m) (Ok n) p f q g = ap (λ names. Ok names) (same p.0 q.0)
+checked_unique list (Ok m) (Err why) p f q g = none-some (sym p.1 ∙ g.fault)
+checked_unique list (Err why) (Ok n) p f q g = none-some (sym q.1 ∙ f.fault)
+checked_unique list (Err why) (Err other) p f q g = ap (λ w. Err w) (refused_unique f g)
+
+pub new_names_unique : NewNamesUnique
+new_names_unique κs a u v x y g p q = checked_unique a.0.now u v p.0 p.1 q.0 q.1
+
+pub count_names_unique : CountNamesUnique
+count_names_unique κs a u v x y g p q = same p.0 q.0
 
 pub find_unique : FindUnique
-find_unique κs a u v x y g p q = names.find_unique u v (same p q)
+find_unique κs a u v x y g p q = found_unique u v (same p.0 q.0)
 
-pub link_unique : LinkUnique
-link_unique κs a u v x y g p q = (refl, ap (λ l. l ∷ []) (chained_unique _ _ _ _ _ p q))
+pub new_initials_unique : NewInitialsUnique
+new_initials_unique κs a u v x y g p q = same p q
 
 pub find_initial_unique : FindInitialUnique
-find_initial_unique κs a u v x y g p q = names.find_unique u v (same p q)
+find_initial_unique κs a u v x y g p q = found_unique u v (same p.0 q.0)
 
 pub spell_unique : SpellUnique
-spell_unique κs a u v x y g p q = names.spell_unique a.0.now a.1.0.now a.1.1.1.0 u v p q
+spell_unique κs a u v x y g p q = same p.0 q.0
 
 pub white_space_unique : WhiteSpaceUnique
 white_space_unique κs a u v x y g p q = same p q
@@ -178,10 +186,7 @@ pub same_word_unique : SameWordUnique
 same_word_unique κs a u v x y g p q = same p q
 
 pub axis_of_unique : AxisOfUnique
-axis_of_unique κs a u v x y g p q = same p q
-
-pub sort_of_unique : SortOfUnique
-sort_of_unique κs a u v x y g p q = same p q
+axis_of_unique κs a u v x y g p q = found_unique u v (same p q)
 
 pub mark_unique : MarkUnique
 mark_unique κs a u v x y g p q = ahead.looks_unique a.0.now a.1.0.at _ u v p q
@@ -205,7 +210,7 @@ pub axis_ahead_unique : AxisAheadUnique
 axis_ahead_unique κs a u v x y g p q = ahead.axis_ahead_unique a.0.now a.1.0.at u v p q
 
 pub test_call_unique : TestCallUnique
-test_call_unique κs a u v x y g p q = ahead.test_call_unique a.0.now a.1.1.1.0.at (take a.1.1.0 (drop a.1.0 a.0.now)) u v p q
+test_call_unique κs a u v x y g p q = ahead.test_call_unique a.0.now a.1.1.0.at a.1.0.now u v p q
 
 -- READING.
 pub put_item_unique : PutItemUnique
@@ -235,7 +240,7 @@ read_paths_unique κs a u v x y g p q = reads_unique a.0.now _ _ _ _ _ u v p.0 q
 pub read_paths_left : ReadPathsLeft
 read_paths_left κs a u v x y (query, left, (reads, small, fits)) p q = (
   reads_unique a.0.now _ _ _ _ _ u v p.0 q.0 p.1 q.1,
-  same_slice (reads_left a.1.1.1.1.1.0.now _ _ query left reads small fits u p.0) (reads_left a.1.1.1.1.1.0.now _ _ query left reads small fits v q.0),
+  same_slice (reads_left a.1.1.0.now _ _ query left reads small fits u p.0) (reads_left a.1.1.0.now _ _ query left reads small fits v q.0),
 )
 
 -- SHAPES. What is left of a list from a place on tells the place.
@@ -244,21 +249,20 @@ place_left list m n a b h = omega (arith, length-drop m list, length-drop n list
 
 -- Two walks that took the same end at one place with the same measures.
 module _ {A : Type 0} (items : List ℕ) (at depth : ℕ) (taken : Taken A) (nest_of height_of guard_of : A → ℕ) where
-  walk_unique : (r s : Walked) → Walks items at depth taken nest_of height_of guard_of r → Walks items at depth taken nest_of height_of guard_of s → r ≡ s
-  walk_unique (Done m nest high guard) (Done n nest' high' guard') p q =
+  walk_unique : (r s : Option Walked) → Walks items at depth taken nest_of height_of guard_of r → Walks items at depth taken nest_of height_of guard_of s → r ≡ s
+  walk_unique (Some w) (Some z) p q =
       let e = some_inj (same (sym p.reads) (sym q.reads)) in
       let what = ap (λ w. w.0) e in
-      let place : m ≡ n = place_left items m n p.inside q.inside (ap (λ w. w.1) e) in
-      let nests : nest ≡ nest' = p.nests ∙ ap nest_of what ∙ sym q.nests in
-      let heights : high ≡ high' = p.heights ∙ ap height_of what ∙ sym q.heights in
-      let guards : guard ≡ guard' = p.guards ∙ ap guard_of what ∙ sym q.guards in
-      cc
-  walk_unique (Done m nest high guard) Malformed p q = none-some (same (sym q) (sym p.reads))
-  walk_unique Malformed (Done n nest high guard) p q = none-some (same (sym p) (sym q.reads))
-  walk_unique Malformed Malformed p q = refl
-
-pub larger_unique : LargerUnique
-larger_unique κs a u v x y g p q = same p q
+      let place : w.next ≡ z.next = place_left items w.next z.next p.inside q.inside (ap (λ w. w.1) e) in
+      let nests : w.nesting ≡ z.nesting = p.nests ∙ ap nest_of what ∙ sym q.nests in
+      let heights : w.height ≡ z.height = p.heights ∙ ap height_of what ∙ sym q.heights in
+      let guards : w.guards ≡ z.guards = p.guards ∙ ap guard_of what ∙ sym q.guards in
+      let high : ◌≡◌ {A = ℕ × ℕ} (w.nesting, w.height) (z.nesting, z.height) = ap₂ (λ nesting height. (nesting, height)) nests heights in
+      let ends : ◌≡◌ {A = ℕ × ℕ} (w.next, w.guards) (z.next, z.guards) = ap₂ (λ next guards. (next, guards)) place guards in
+      ap₂ (λ (h : ℕ × ℕ) (e : ℕ × ℕ). Some (record { next = e.0; nesting = h.0; height = h.1; guards = e.1 })) high ends
+  walk_unique (Some w) None p q = none-some (same (sym q) (sym p.reads))
+  walk_unique None (Some w) p q = none-some (same (sym p) (sym q.reads))
+  walk_unique None None p q = refl
 
 pub joined_height_unique : JoinedHeightUnique
 joined_height_unique κs a u v x y g p q = same p q
@@ -315,7 +319,7 @@ pub deep_unique : DeepUnique
 deep_unique κs a u v x y g p q = same p q
 
 pub first_unknown_unique : FirstUnknownUnique
-first_unknown_unique κs a u v x y g p q = first_unique (length a.0.now) u v p.1 q.1 (same (sym p.0) (sym q.0))
+first_unknown_unique κs a u v x y g p q = found_unique u v (same p.0 q.0)
 
 pub put_paths_unique : PutPathsUnique
 put_paths_unique κs a u v x y g p q = both_put p q
@@ -358,24 +362,18 @@ report_texts_unique κs a u v x y g p q = both_put p.puts q.puts
 pub run_whole_unique : RunWholeUnique
 run_whole_unique κs a u v x y g p q = (same_told p.0 q.0, same_slices p.1.0 p.1.1 q.1.0 q.1.1)
 
+pub run_within_unique : RunWithinUnique
+run_within_unique room fits κs a u v x y g p q = (same_told p.0 q.0, ap (λ l. l ∷ []) (p.1 ∙ sym q.1))
+
 pub show_rows_unique : ShowRowsUnique
 show_rows_unique κs a u v x y g p q = both_put p.puts q.puts
 
 -- TABLES.
-fault_same : (r s : Fault) → fault_of r ≡ fault_of s → r ≡ s
-fault_same Nothing Nothing h = refl
-fault_same Nothing (At j) h = none-some h
-fault_same (At i) Nothing h = none-some (sym h)
-fault_same (At i) (At j) h = ap At (some_inj h)
-
-pub wide_unique : WideUnique
-wide_unique κs a u v x y g p q = same p q
-
 pub table_fault_unique : TableFaultUnique
-table_fault_unique κs a u v x y g p q = fault_same u v (same p q)
+table_fault_unique κs a u v x y g p q = found_unique u v (same p q)
 
 pub marks_fault_unique : MarksFaultUnique
-marks_fault_unique κs a u v x y g p q = fault_same u v (same (p []) (q []))
+marks_fault_unique κs a u v x y g p q = found_unique u v (same (p []) (q []))
 
 pub count_unique : CountUnique
 count_unique κs a u v x y g p q = same p q
@@ -467,7 +465,7 @@ pub past_steps_unique : PastStepsUnique
 past_steps_unique κs a u v x y g p q = places.ends_unique u v p q
 
 pub look_unique : LookUnique
-look_unique κs a u v x y g p q = places.places_unique a.1.1.1.1.1.0 a.1.1.1.1.0 u v p.0 q.0 p.1 q.1
+look_unique κs a u v x y g p q = places.places_unique a.1.1.1.1.0 a.1.1.1.0 u v p.0 q.0 p.1 q.1
 
 pub look_first_unique : LookFirstUnique
 look_first_unique κs a u v x y g p q = places.places_unique a.1.1.1.0 a.1.1.0 u v p.0 q.0 p.1 q.1
@@ -488,8 +486,8 @@ axis_leads_unique κs a u v x y g p q = same (p [] g.0 g.1) (q [] g.0 g.1)
 pub spread_kin_unique : SpreadKinUnique
 spread_kin_unique κs a u v x y g p q = (refl, same_slice (p [] g.0 g.1) (q [] g.0 g.1))
 
-pub clear_unique : ClearUnique
-clear_unique κs a u v x y g p q = (refl, same_slice p q)
+pub judge_unique : JudgeUnique
+judge_unique κs a u v x y g p q = same_told p q
 
 pub candidate_unique : CandidateUnique
 candidate_unique κs a u v x y g p q =
@@ -546,15 +544,12 @@ compose_by_unique κs a u v x y g p q =
 pub narrow_unique : NarrowUnique
 narrow_unique κs a u v x y g p q = same p q
 
-pub wide_entry_unique : WideEntryUnique
-wide_entry_unique κs a u v x y g p q = same p q
-
 pub find_name_unique : FindNameUnique
-find_name_unique κs a u v x y g p q = names.find_unique u v (same p q)
+find_name_unique κs a u v x y g p q = found_unique u v (same p.0 q.0)
 
 pub first_unnamed_unique : FirstUnnamedUnique
 first_unnamed_unique κs a u v x y (look, rows, name, (found, before)) p q =
-    same (p look rows name 0 0 found before) (q look rows name 0 0 found before)
+    found_unique u v (same (p look rows name 0 0 found before) (q look rows name 0 0 found before))
 
 pub kind_of_unique : KindOfUnique
 kind_of_unique κs a u v x y g p q = same p q
@@ -564,7 +559,7 @@ answer_unique κs a u v x y (text, list, cols, judged) p q = same_told (p text l
 
 pub fill_listed_unique : FillListedUnique
 fill_listed_unique κs a u v x y g p q =
-    let old : Columns = columns a.1.1.1.1.1.0.now a.1.1.1.1.1.1.0.now a.1.1.1.1.1.1.1.0.now a.1.1.1.1.1.1.1.1.0.now in
+    let old : Columns = columns a.1.1.0.now a.1.1.1.0.now a.1.1.1.1.0.now a.1.1.1.1.1.0.now in
     let answer = same_told p.0 q.0 in
     (answer, ap (λ (c : Columns). c.parents ∷ c.kinds ∷ c.begins ∷ c.ends ∷ []) (p.1 ∙ ap (λ r. exit_columns a.0.now a.1.0.now (told r) old) answer ∙ sym q.1))
 
@@ -572,14 +567,14 @@ pub says_unique : SaysUnique
 says_unique κs a u v x y g p q = tells_unique _ u v p q
 
 pub kind_is_unique : KindIsUnique
-kind_is_unique κs a u v x y g p q = tells_unique _ u v (p (λ name. found_at a.1.1.0) [] refl) (q (λ name. found_at a.1.1.0) [] refl)
+kind_is_unique κs a u v x y g p q = tells_unique _ u v (p (λ name. found a.1.1.0) [] refl) (q (λ name. found a.1.1.0) [] refl)
 
 pub begins_line_unique : BeginsLineUnique
 begins_line_unique κs a u v x y g p q = tells_unique _ u v p q
 
 pub outcome_unique : OutcomeUnique
 outcome_unique κs a u v x y g p q =
-    let cols : Columns = columns a.1.1.1.1.1.0.now a.1.1.1.1.1.1.0.now a.1.1.1.1.1.1.1.0.now a.1.1.1.1.1.1.1.1.0.now in
+    let cols : Columns = columns a.1.1.0.now a.1.1.1.0.now a.1.1.1.1.0.now a.1.1.1.1.1.0.now in
     match_lines.outcome_unique a.0.now a.1.0.now cols u v p q
 
 pub reads_as_unique : ReadsAsUnique
@@ -589,6 +584,24 @@ pub put_text_unique : PutTextUnique
 put_text_unique κs a u v x y g p q =
     let put = both_put p.puts q.puts in
     (ap₂ (λ at squares. record { at = at; squares = squares }) put.0 (same p.counts q.counts), put.1)
+
+pub new_marked_unique : NewMarkedUnique
+new_marked_unique κs a u v x y g p q = same p q
+
+pub count_marked_unique : CountMarkedUnique
+count_marked_unique κs a u v x y g p q = same p.0 q.0
+
+pub text_of_unique : TextOfUnique
+text_of_unique κs a u v x y g p q = same p q
+
+pub mark_of_unique : MarkOfUnique
+mark_of_unique κs a u v x y g p q = same p q
+
+pub line_of_unique : LineOfUnique
+line_of_unique κs a u v x y g p q =
+    let of : ◌≡◌ {A = ℕ × ℕ} (u.up, u.kind) (v.up, v.kind) = ap₂ (λ up kind. (up, kind)) (same p.up_is q.up_is) (same p.kind_is q.kind_is) in
+    let place : ◌≡◌ {A = ℕ × ℕ} (u.begin, u.end) (v.begin, v.end) = ap₂ (λ begin end. (begin, end)) (same p.begin_is q.begin_is) (same p.end_is q.end_is) in
+    ap₂ (λ (o : ℕ × ℕ) (w : ℕ × ℕ). record { up = o.0; kind = o.1; begin = w.0; end = w.1 }) of place
 
 pub close_unique : CloseUnique
 close_unique κs a u v x y g p q = both_put (p g.bytes g.chain) (q g.bytes g.chain)
@@ -615,7 +628,7 @@ element_marked_unique κs a u v x y g p q = same (p a.0.now refl) (q a.0.now ref
 
 pub file_unique : FileUnique
 file_unique κs a u v x y g p q =
-    let leaves : Answer → List ℕ = λ said. at_exit said (kept_xml a.0.now a.1.1.1.1.1.0.now) a.1.1.1.1.1.1.0.now in
+    let leaves : Answer → List ℕ = λ said. at_exit said (kept_xml a.0.now.text a.0.now.marks) a.1.0.now in
     (same_told p.says q.says, same_slice (p.leaves ∙ ap leaves p.says) (q.leaves ∙ ap leaves q.says))
 
 pub judge_listed_unique : JudgeListedUnique

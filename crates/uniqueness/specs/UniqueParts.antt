@@ -2,6 +2,8 @@
 -- Ten of the contracts speak of some arguments only: `turn`, `along`, `put_along` and `axis_leads` of the numbers of axes, `keep_met` and `restrict` of those of tests, `put_head` and `candidate` of both, `first_unnamed` of a name that was looked for behind lines, `answer` of a text that was judged; and `sets`, `vertical`, `sideways`, `axes`, `spread` and the `spread` of `kin` speak of bytes that are 0 or 1.
 -- The answer of `paths` of `read_paths` is one for every text, and so is what it leaves in the slice where the text is read and its items have room.
 use Rattle.std.specs.Prelude.{ℕ, ◌≤◌, ◌≡◌, Bool, true, List, [], ◌∷◌, length, take, drop}
+use Rattle.std.specs.Prelude.{Result}
+use Rattle.std.specs.Prelude.{Option as Maybe}
 use Rattle.std.proofs.Math.Option.{Option}
 use Rattle.paper.specs.Limits.{item_limit}
 use Rattle.paper.specs.Tokens.{Placed}
@@ -9,12 +11,12 @@ use Rattle.paper.specs.Query.{Axis, Test, Query}
 use Rattle.paper.specs.Items.{axis_number, test_number, good_test, encode}
 use Rattle.paper.specs.Reading.{got, read_text}
 use Rattle.paper.specs.Xml.{Row, unnamed}
-use Rattle.names.specs.Listing.{found_at}
+use Rattle.paper.specs.Told.{found}
+use Rattle.paper.specs.declared.Refusal.{Refusal}
 use Rattle.heads.specs.Heads.{look_of}
-use Rattle.names.specs.declared.Found.{Found}
 use Rattle.xml_lines.specs.Kept.{Columns}
-use Rattle.xml_lines.specs.Judges.{place_of, Judges}
-use Rattle.xml_lines.specs.declared.Step.{Step}
+use Rattle.xml_lines.specs.Judges.{Judges}
+use Rattle.xml_lines.specs.declared.Progress.{Progress}
 use Rattle.sets.specs.Sets.{bits}
 use Rattle.item.proofs.unpack
 use Rattle.item.proofs.pack_path
@@ -26,17 +28,17 @@ use Rattle.item.proofs.put_same
 use Rattle.good_names.proofs.name_start
 use Rattle.good_names.proofs.name_part
 use Rattle.good_names.proofs.is_name
-use Rattle.name_lines.proofs.line_part
+use Rattle.name_lines.proofs.line as name_line
 use Rattle.name_lines.proofs.first_same
 use Rattle.name_keys.proofs.key
 use Rattle.name_keys.proofs.repeats
-use Rattle.names.proofs.index
-use Rattle.names.proofs.find
-use Rattle.names.proofs.spell
-use Rattle.initials.proofs.link
-use Rattle.initials.proofs.find as find_initial
+use Rattle.names.proofs.Names.new as new_names
+use Rattle.names.proofs.Names.count as count_names
+use Rattle.names.proofs.Names.find
+use Rattle.names.proofs.Names.spell
+use Rattle.initials.proofs.Initials.new as new_initials
+use Rattle.initials.proofs.Initials.find as find_initial
 use Rattle.xml_lines.proofs.narrow
-use Rattle.xml_lines.proofs.wide as wide_entry
 use Rattle.xml_lines.proofs.find_name
 use Rattle.xml_lines.proofs.first_unnamed
 use Rattle.xml_lines.proofs.kind_of
@@ -48,8 +50,13 @@ use Rattle.line_tests.proofs.begins_line
 use Rattle.match_lines.proofs.outcome
 use Rattle.match_xml.proofs.reads_as
 use Rattle.put_text.proofs.put_text
-use Rattle.put_tags.proofs.close
 use Rattle.put_tags.proofs.start_at
+use Rattle.put_tags.proofs.Marked.new as new_marked
+use Rattle.put_tags.proofs.Marked.nodes as count_marked
+use Rattle.put_tags.proofs.Marked.text as text_of
+use Rattle.put_tags.proofs.Marked.mark as mark_of
+use Rattle.put_tags.proofs.Marked.line as line_of
+use Rattle.put_tags.proofs.Marked.close
 use Rattle.put_node.proofs.put_node
 use Rattle.put_kept.proofs.put_kept
 use Rattle.put_xml.proofs.write_kept
@@ -73,7 +80,6 @@ use Rattle.prolog.proofs.lead
 use Rattle.token.proofs.Cursor.take as take_token
 use Rattle.words.proofs.same_word
 use Rattle.axis_words.proofs.axis_of
-use Rattle.marks.proofs.sort_of
 use Rattle.marks.proofs.mark
 use Rattle.ahead.proofs.word_ahead
 use Rattle.ahead.proofs.joined
@@ -82,7 +88,6 @@ use Rattle.ahead.proofs.opening
 use Rattle.ahead.proofs.joins_ahead
 use Rattle.ahead.proofs.axis_ahead
 use Rattle.ahead.proofs.test_call
-use Rattle.heights.proofs.larger
 use Rattle.heights.proofs.joined as joined_height
 use Rattle.heights.proofs.own_depth
 use Rattle.shape.proofs.run_of
@@ -119,8 +124,9 @@ use Rattle.view_union.proofs.compose_union
 use Rattle.query_report.proofs.report_queries
 use Rattle.text_report.proofs.report_texts
 use Rattle.whole.proofs.run_whole
+use Rattle.whole.proofs.run_within
 use Rattle.show_kept.proofs.show_rows
-use Rattle.table.proofs.wide
+use Rattle.table.proofs.is_over
 use Rattle.table.proofs.table_fault
 use Rattle.table.proofs.marks_fault
 use Rattle.table.proofs.count
@@ -153,10 +159,9 @@ use Rattle.places.proofs.look_first
 use Rattle.places.proofs.step_at
 use Rattle.places.proofs.path_at
 use Rattle.keep.proofs.keep as keep_query
-use Rattle.kin.proofs.is_over
 use Rattle.kin.proofs.axis_leads
 use Rattle.kin.proofs.spread as spread_kin
-use Rattle.kin.proofs.clear
+use Rattle.judge.proofs.judge
 use Rattle.candidates.proofs.candidate
 use Rattle.search.proofs.mark_kept
 use Rattle.owed.proofs.owes
@@ -172,7 +177,9 @@ use Rattle.guards.proofs.guard_steps
 use Rattle.composed.proofs.put_composed
 use Rattle.composed.proofs.composed_size
 use Rattle.compose.proofs.compose_by
-use Rattle.uniqueness.specs.Uniqueness.{Unique, UniqueAnswer}
+use mir.Syntax.{w64}
+use mir.Val.{Fits}
+use Rattle.uniqueness.specs.Uniqueness.{Unique, UniqueAnswer, UniqueBytes}
 
 -- The number is that of an axis.
 abbrev pub IsAxis : ℕ → Type 0
@@ -187,12 +194,12 @@ abbrev pub IsSet : ℕ → List ℕ → Type 0
 IsSet n bytes = (f : ℕ → Bool) × (bytes ≡ bits n f)
 
 -- What was looked for and the place so far are those of a name and of lines.
-abbrev pub IsLooked : Found → ℕ → Type 0
-IsLooked found before =
-    (look : List ℕ → Option ℕ) × (rows : List Row) × (name : List ℕ) × ((found_at found ≡ look name) × (before ≡ place_of (unnamed look rows)))
+abbrev pub IsLooked : Maybe ℕ → Maybe ℕ → Type 0
+IsLooked number before =
+    (look : List ℕ → Option ℕ) × (rows : List Row) × (name : List ℕ) × ((found number ≡ look name) × (found before ≡ unnamed look rows))
 
 -- It is what judging a text came to.
-abbrev pub IsJudged : Step → Type 0
+abbrev pub IsJudged : Result Progress Refusal → Type 0
 IsJudged judged = (text : List ℕ) × (list : List ℕ) × (cols : Columns) × Judges text list cols judged
 
 -- The text is read, and there is room for its items.
@@ -232,8 +239,8 @@ NamePartUnique = UniqueAnswer name_part.Kinds.ps name_part.Kinds.r name_part.Rea
 abbrev pub IsNameUnique : Type 0
 IsNameUnique = UniqueAnswer is_name.Kinds.ps is_name.Kinds.r is_name.Reads.Pre is_name.Reads.Post
 
-abbrev pub LinePartUnique : Type 0
-LinePartUnique = UniqueAnswer line_part.Kinds.ps line_part.Kinds.r line_part.Reads.Pre line_part.Reads.Post
+abbrev pub NameLineUnique : Type 0
+NameLineUnique = UniqueBytes name_line.Kinds.ps name_line.Kinds.r name_line.Reads.Pre name_line.Reads.Post (λ κs u. u.now)
 
 abbrev pub FirstSameUnique : Type 0
 FirstSameUnique = UniqueAnswer first_same.Kinds.ps first_same.Kinds.r first_same.Reads.Pre first_same.Reads.Post
@@ -244,20 +251,23 @@ KeyUnique = UniqueAnswer key.Kinds.ps key.Kinds.r key.Reads.Pre key.Reads.Post
 abbrev pub RepeatsUnique : Type 0
 RepeatsUnique = UniqueAnswer repeats.Kinds.ps repeats.Kinds.r repeats.Reads.Pre repeats.Reads.Post
 
-abbrev pub IndexUnique : Type 0
-IndexUnique = Unique index.Kinds.ps index.Kinds.r index.Reads.Pre index.Reads.Post (λ κs x. x.1.0.now ∷ [])
+abbrev pub NewNamesUnique : Type 0
+NewNamesUnique = UniqueAnswer new_names.Kinds.ps new_names.Kinds.r new_names.Reads.Pre new_names.Reads.Post
+
+abbrev pub CountNamesUnique : Type 0
+CountNamesUnique = UniqueAnswer count_names.Kinds.ps count_names.Kinds.r count_names.Reads.Pre count_names.Reads.Post
 
 abbrev pub FindUnique : Type 0
 FindUnique = UniqueAnswer find.Kinds.ps find.Kinds.r find.Reads.Pre find.Reads.Post
 
-abbrev pub LinkUnique : Type 0
-LinkUnique = Unique link.Kinds.ps link.Kinds.r link.Reads.Pre link.Reads.Post (λ κs x. x.1.1.1.0.now ∷ [])
+abbrev pub NewInitialsUnique : Type 0
+NewInitialsUnique = UniqueAnswer new_initials.Kinds.ps new_initials.Kinds.r new_initials.Reads.Pre new_initials.Reads.Post
 
 abbrev pub FindInitialUnique : Type 0
 FindInitialUnique = UniqueAnswer find_initial.Kinds.ps find_initial.Kinds.r find_initial.Reads.Pre find_initial.Reads.Post
 
 abbrev pub SpellUnique : Type 0
-SpellUnique = UniqueAnswer spell.Kinds.ps spell.Kinds.r spell.Reads.Pre spell.Reads.Post
+SpellUnique = UniqueBytes spell.Kinds.ps spell.Kinds.r spell.Reads.Pre spell.Reads.Post (λ κs u. u.now)
 
 -- TOKENS.
 abbrev pub WhiteSpaceUnique : Type 0
@@ -313,9 +323,6 @@ SameWordUnique = UniqueAnswer same_word.Kinds.ps same_word.Kinds.r same_word.Rea
 abbrev pub AxisOfUnique : Type 0
 AxisOfUnique = UniqueAnswer axis_of.Kinds.ps axis_of.Kinds.r axis_of.Reads.Pre axis_of.Reads.Post
 
-abbrev pub SortOfUnique : Type 0
-SortOfUnique = UniqueAnswer sort_of.Kinds.ps sort_of.Kinds.r sort_of.Reads.Pre sort_of.Reads.Post
-
 abbrev pub MarkUnique : Type 0
 MarkUnique = UniqueAnswer mark.Kinds.ps mark.Kinds.r mark.Reads.Pre mark.Reads.Post
 
@@ -366,13 +373,10 @@ ReadPathsUnique = UniqueAnswer read_paths.Kinds.ps read_paths.Kinds.r read_paths
 abbrev pub ReadPathsLeft : Type 0
 ReadPathsLeft =
     Unique read_paths.Kinds.ps read_paths.Kinds.r
-    (λ κs a. IsRead a.1.1.1.1.1.1.0 (look_of a.1.1.1.1.0 a.1.0.now) a.0.now (length a.1.1.1.1.1.0.now)) read_paths.Reads.Post
-    (λ κs x. x.1.1.1.1.1.0.now ∷ [])
+    (λ κs a. IsRead a.1.1.1.0 (look_of a.1.0) a.0.now (length a.1.1.0.now)) read_paths.Reads.Post
+    (λ κs x. x.1.1.0.now ∷ [])
 
 -- SHAPES.
-abbrev pub LargerUnique : Type 0
-LargerUnique = UniqueAnswer larger.Kinds.ps larger.Kinds.r larger.Reads.Pre larger.Reads.Post
-
 abbrev pub JoinedHeightUnique : Type 0
 JoinedHeightUnique = UniqueAnswer joined_height.Kinds.ps joined_height.Kinds.r joined_height.Reads.Pre joined_height.Reads.Post
 
@@ -418,8 +422,8 @@ PutAlongUnique = Unique put_along.Kinds.ps put_along.Kinds.r (λ κs a. IsAxis a
 
 abbrev pub PutHeadUnique : Type 0
 PutHeadUnique =
-    Unique put_head.Kinds.ps put_head.Kinds.r (λ κs a. IsAxis a.1.1.1.1.1.0 × IsTest a.1.1.1.1.1.1.0) put_head.Reads.Post
-    (λ κs x. x.1.1.1.0.now ∷ [])
+    Unique put_head.Kinds.ps put_head.Kinds.r (λ κs a. IsAxis a.1.1.1.0.axis × IsTest a.1.1.1.0.test) put_head.Reads.Post
+    (λ κs x. x.1.0.now ∷ [])
 
 abbrev pub DeepUnique : Type 0
 DeepUnique = UniqueAnswer deep.Kinds.ps deep.Kinds.r deep.Reads.Pre deep.Reads.Post
@@ -428,7 +432,7 @@ abbrev pub FirstUnknownUnique : Type 0
 FirstUnknownUnique = UniqueAnswer first_unknown.Kinds.ps first_unknown.Kinds.r first_unknown.Reads.Pre first_unknown.Reads.Post
 
 abbrev pub PutPathsUnique : Type 0
-PutPathsUnique = Unique put_paths.Kinds.ps put_paths.Kinds.r put_paths.Reads.Pre put_paths.Reads.Post (λ κs x. x.1.1.1.1.0.now ∷ [])
+PutPathsUnique = Unique put_paths.Kinds.ps put_paths.Kinds.r put_paths.Reads.Pre put_paths.Reads.Post (λ κs x. x.1.1.0.now ∷ [])
 
 -- LINES.
 abbrev pub LineEndUnique : Type 0
@@ -467,12 +471,17 @@ ReportTextsUnique = Unique report_texts.Kinds.ps report_texts.Kinds.r report_tex
 abbrev pub RunWholeUnique : Type 0
 RunWholeUnique = Unique run_whole.Kinds.ps run_whole.Kinds.r run_whole.Reads.Pre run_whole.Reads.Post (λ κs x. x.1.1.1.0.now ∷ x.1.1.1.1.0.now ∷ [])
 
+abbrev pub RunWithinUnique : Type 0
+RunWithinUnique =
+    (room : ℕ) (fits : Fits w64 room)
+    → Unique (run_within.Kinds.ps room fits) (run_within.Kinds.r room fits) (run_within.Reads.Pre room fits) (run_within.Reads.Post room fits) (λ κs x. x.1.1.1.0.now ∷ [])
+
 abbrev pub ShowRowsUnique : Type 0
 ShowRowsUnique = Unique show_rows.Kinds.ps show_rows.Kinds.r show_rows.Reads.Pre show_rows.Reads.Post (λ κs x. x.1.1.1.1.1.1.1.0.now ∷ [])
 
 -- TABLES.
-abbrev pub WideUnique : Type 0
-WideUnique = UniqueAnswer wide.Kinds.ps wide.Kinds.r wide.Reads.Pre wide.Reads.Post
+abbrev pub IsOverUnique : Type 0
+IsOverUnique = UniqueAnswer is_over.Kinds.ps is_over.Kinds.r is_over.Reads.Pre is_over.Reads.Post
 
 abbrev pub TableFaultUnique : Type 0
 TableFaultUnique = UniqueAnswer table_fault.Kinds.ps table_fault.Kinds.r table_fault.Reads.Pre table_fault.Reads.Post
@@ -595,9 +604,6 @@ abbrev pub PathAtUnique : Type 0
 PathAtUnique = UniqueAnswer path_at.Kinds.ps path_at.Kinds.r path_at.Reads.Pre path_at.Reads.Post
 
 -- NODE BY NODE.
-abbrev pub IsOverUnique : Type 0
-IsOverUnique = UniqueAnswer is_over.Kinds.ps is_over.Kinds.r is_over.Reads.Pre is_over.Reads.Post
-
 abbrev pub AxisLeadsUnique : Type 0
 AxisLeadsUnique = UniqueAnswer axis_leads.Kinds.ps axis_leads.Kinds.r (λ κs a. IsAxis a.1.0) axis_leads.Reads.Post
 
@@ -606,8 +612,8 @@ SpreadKinUnique =
     Unique spread_kin.Kinds.ps spread_kin.Kinds.r (λ κs a. IsSet (length a.0.now) a.1.1.1.0.now) spread_kin.Reads.Post
     (λ κs x. x.1.1.1.0.now ∷ [])
 
-abbrev pub ClearUnique : Type 0
-ClearUnique = Unique clear.Kinds.ps clear.Kinds.r clear.Reads.Pre clear.Reads.Post (λ κs x. x.0.now ∷ [])
+abbrev pub JudgeUnique : Type 0
+JudgeUnique = UniqueAnswer judge.Kinds.ps judge.Kinds.r judge.Reads.Pre judge.Reads.Post
 
 abbrev pub CandidateUnique : Type 0
 CandidateUnique =
@@ -661,9 +667,6 @@ ComposeByUnique = Unique compose_by.Kinds.ps compose_by.Kinds.r compose_by.Reads
 abbrev pub NarrowUnique : Type 0
 NarrowUnique = UniqueAnswer narrow.Kinds.ps narrow.Kinds.r narrow.Reads.Pre narrow.Reads.Post
 
-abbrev pub WideEntryUnique : Type 0
-WideEntryUnique = UniqueAnswer wide_entry.Kinds.ps wide_entry.Kinds.r wide_entry.Reads.Pre wide_entry.Reads.Post
-
 abbrev pub FindNameUnique : Type 0
 FindNameUnique = UniqueAnswer find_name.Kinds.ps find_name.Kinds.r find_name.Reads.Pre find_name.Reads.Post
 
@@ -679,7 +682,7 @@ AnswerUnique = UniqueAnswer answer.Kinds.ps answer.Kinds.r (λ κs a. IsJudged a
 abbrev pub FillListedUnique : Type 0
 FillListedUnique =
     Unique fill_listed.Kinds.ps fill_listed.Kinds.r fill_listed.Reads.Pre fill_listed.Reads.Post
-    (λ κs x. x.1.1.1.1.1.0.now ∷ x.1.1.1.1.1.1.0.now ∷ x.1.1.1.1.1.1.1.0.now ∷ x.1.1.1.1.1.1.1.1.0.now ∷ [])
+    (λ κs x. x.1.1.0.now ∷ x.1.1.1.0.now ∷ x.1.1.1.1.0.now ∷ x.1.1.1.1.1.0.now ∷ [])
 
 -- XML TEXT AGAINST COLUMNS.
 abbrev pub SaysUnique : Type 0
@@ -701,28 +704,43 @@ ReadsAsUnique = UniqueAnswer reads_as.Kinds.ps reads_as.Kinds.r reads_as.Reads.P
 abbrev pub PutTextUnique : Type 0
 PutTextUnique = Unique put_text.Kinds.ps put_text.Kinds.r put_text.Reads.Pre put_text.Reads.Post (λ κs x. x.0.now ∷ [])
 
+abbrev pub NewMarkedUnique : Type 0
+NewMarkedUnique = UniqueAnswer new_marked.Kinds.ps new_marked.Kinds.r new_marked.Reads.Pre new_marked.Reads.Post
+
+abbrev pub CountMarkedUnique : Type 0
+CountMarkedUnique = UniqueAnswer count_marked.Kinds.ps count_marked.Kinds.r count_marked.Reads.Pre count_marked.Reads.Post
+
+abbrev pub TextOfUnique : Type 0
+TextOfUnique = UniqueBytes text_of.Kinds.ps text_of.Kinds.r text_of.Reads.Pre text_of.Reads.Post (λ κs u. u.now)
+
+abbrev pub MarkOfUnique : Type 0
+MarkOfUnique = UniqueAnswer mark_of.Kinds.ps mark_of.Kinds.r mark_of.Reads.Pre mark_of.Reads.Post
+
+abbrev pub LineOfUnique : Type 0
+LineOfUnique = UniqueAnswer line_of.Kinds.ps line_of.Kinds.r line_of.Reads.Pre line_of.Reads.Post
+
 abbrev pub CloseUnique : Type 0
-CloseUnique = Unique close.Kinds.ps close.Kinds.r close.Reads.Pre close.Reads.Post (λ κs x. x.1.1.1.0.now ∷ [])
+CloseUnique = Unique close.Kinds.ps close.Kinds.r close.Reads.Pre close.Reads.Post (λ κs x. x.1.0.now ∷ [])
 
 abbrev pub StartAtUnique : Type 0
 StartAtUnique = Unique start_at.Kinds.ps start_at.Kinds.r start_at.Reads.Pre start_at.Reads.Post (λ κs x. x.1.1.0.now ∷ [])
 
 abbrev pub PutNodeUnique : Type 0
-PutNodeUnique = Unique put_node.Kinds.ps put_node.Kinds.r put_node.Reads.Pre put_node.Reads.Post (λ κs x. x.1.1.1.1.1.0.now ∷ [])
+PutNodeUnique = Unique put_node.Kinds.ps put_node.Kinds.r put_node.Reads.Pre put_node.Reads.Post (λ κs x. x.1.0.now ∷ [])
 
 abbrev pub PutKeptUnique : Type 0
-PutKeptUnique = Unique put_kept.Kinds.ps put_kept.Kinds.r put_kept.Reads.Pre put_kept.Reads.Post (λ κs x. x.1.1.1.1.1.1.0.now ∷ [])
+PutKeptUnique = Unique put_kept.Kinds.ps put_kept.Kinds.r put_kept.Reads.Pre put_kept.Reads.Post (λ κs x. x.1.0.now ∷ [])
 
 abbrev pub WriteKeptUnique : Type 0
-WriteKeptUnique = Unique write_kept.Kinds.ps write_kept.Kinds.r write_kept.Reads.Pre write_kept.Reads.Post (λ κs x. x.1.1.1.1.1.1.0.now ∷ [])
+WriteKeptUnique = Unique write_kept.Kinds.ps write_kept.Kinds.r write_kept.Reads.Pre write_kept.Reads.Post (λ κs x. x.1.0.now ∷ [])
 
 -- THE FILE.
 abbrev pub ElementMarkedUnique : Type 0
 ElementMarkedUnique = UniqueAnswer element_marked.Kinds.ps element_marked.Kinds.r element_marked.Reads.Pre element_marked.Reads.Post
 
 abbrev pub FileUnique : Type 0
-FileUnique = Unique file.Kinds.ps file.Kinds.r file.Reads.Pre file.Reads.Post (λ κs x. x.1.1.1.1.1.1.0.now ∷ [])
+FileUnique = Unique file.Kinds.ps file.Kinds.r file.Reads.Pre file.Reads.Post (λ κs x. x.1.0.now ∷ [])
 
 abbrev pub JudgeListedUnique : Type 0
 JudgeListedUnique =
-    Unique judge_listed.Kinds.ps judge_listed.Kinds.r judge_listed.Reads.Pre judge_listed.Reads.Post (λ κs x. x.1.1.1.1.1.1.1.1.1.1.0.now ∷ [])
+    Unique judge_listed.Kinds.ps judge_listed.Kinds.r judge_listed.Reads.Pre judge_listed.Reads.Post (λ κs x. x.1.1.1.1.1.1.1.0.now ∷ [])

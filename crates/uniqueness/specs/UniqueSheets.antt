@@ -17,7 +17,7 @@ abbrev pub PutDecimalUnique : Type 0
 PutDecimalUnique = Unique put_decimal.Kinds.ps put_decimal.Kinds.r put_decimal.Reads.Pre put_decimal.Reads.Post (λ κs x. x.0.now ∷ [])
 
 abbrev pub PutNameUnique : Type 0
-PutNameUnique = Unique put_name.Kinds.ps put_name.Kinds.r put_name.Reads.Pre put_name.Reads.Post (λ κs x. x.1.1.1.0.now ∷ [])
+PutNameUnique = Unique put_name.Kinds.ps put_name.Kinds.r put_name.Reads.Pre put_name.Reads.Post (λ κs x. x.1.0.now ∷ [])
 
 abbrev pub IsCountedUnique : Type 0
 IsCountedUnique = UniqueAnswer is_counted.Kinds.ps is_counted.Kinds.r is_counted.Reads.Pre is_counted.Reads.Post

@@ -1,11 +1,11 @@
 // The first item of a query that names what a list has no name for.
 #![tactic(auto)]
 
-ghost use Rattle.std.specs.Prelude.{◌≡◌, ◌≤◌, ltb, length};
-ghost use Rattle.paper.specs.Tools.{when};
+ghost use Rattle.std.specs.Prelude.{◌≡◌, ◌≤◌, ◌<◌, IfSome, length};
 ghost use Rattle.paper.specs.Limits.{names_limit};
 ghost use Rattle.paper.specs.Items.{step_at};
 ghost use Rattle.paper.specs.Answers.{unknown_item, unknown_from};
+ghost use Rattle.paper.specs.Told.{found};
 
 use item::Item;
 
@@ -22,18 +22,16 @@ fn unknown(w: u32, count: usize) -> bool
     (test < item::ANY_ELEMENT as usize) & (count + item::NAMED as usize <= test)
 }
 
-// The index of the first such item, or the number of items.
-pub fn first_unknown(items: &[u32], count: usize) -> usize
+// The index of the first such item, if there is one.
+pub fn first_unknown(items: &[u32], count: usize) -> Option<usize>
     requires { count ≤ names_limit }
-    ensures value { unknown_from count 0 items.now ≡ when (ltb result (length items.now)) result }
-    ensures upper_bound { result ≤ length items.now }
+    ensures told { found result ≡ unknown_from count 0 items.now }
+    ensures within { IfSome result (λ at. at < length items.now) }
 {
-    let mut at = 0;
-    while at < items.len() {
-        if unknown(items[at], count) {
-            return at;
+    for (at, &item) in items.iter().enumerate() {
+        if unknown(item, count) {
+            return Some(at);
         }
-        at += 1;
     }
-    at
+    None
 }

@@ -12,9 +12,7 @@ pub fn children(parent: &[u16], set: &mut [u8])
     requires { (length parent.now ≡ length set.old) × ((kinds : List ℕ) → Tree (table_of parent.now kinds)) }
     ensures { (kinds : List ℕ) (f : ℕ → Bool) → set.old ≡ bits (length set.old) f → set.new ≡ bits (length set.old) (image (table_of parent.now kinds) child f) }
 {
-    let mut taker = set.len();
-    while taker > 1 {
-        taker -= 1;
+    for taker in (1..set.len()).rev() {
         set[taker] = set[parent[taker] as usize];
     }
     set[0] = 0;
@@ -26,13 +24,11 @@ pub fn parents(parent: &[u16], set: &mut [u8])
     ensures { (kinds : List ℕ) (f : ℕ → Bool) → set.old ≡ bits (length set.old) f → set.new ≡ bits (length set.old) (image (table_of parent.now kinds) Axis.parent f) }
 {
     set[0] = 0;
-    let mut i = 1;
-    while i < set.len() {
+    for i in 1..set.len() {
         let member = set[i];
         let up = parent[i] as usize;
         set[i] = 0;
         set[up] = set[up] | member;
-        i += 1;
     }
 }
 
@@ -41,10 +37,8 @@ pub fn below(parent: &[u16], set: &mut [u8])
     requires { (length parent.now ≡ length set.old) × ((kinds : List ℕ) → Tree (table_of parent.now kinds)) }
     ensures { (kinds : List ℕ) (f : ℕ → Bool) → set.old ≡ bits (length set.old) f → set.new ≡ bits (length set.old) (image (table_of parent.now kinds) descendant_or_self f) }
 {
-    let mut i = 1;
-    while i < set.len() {
+    for i in 1..set.len() {
         set[i] = set[i] | set[parent[i] as usize];
-        i += 1;
     }
 }
 
@@ -53,9 +47,7 @@ pub fn above(parent: &[u16], set: &mut [u8])
     requires { (length parent.now ≡ length set.old) × ((kinds : List ℕ) → Tree (table_of parent.now kinds)) }
     ensures { (kinds : List ℕ) (f : ℕ → Bool) → set.old ≡ bits (length set.old) f → set.new ≡ bits (length set.old) (image (table_of parent.now kinds) ancestor_or_self f) }
 {
-    let mut giver = set.len();
-    while giver > 1 {
-        giver -= 1;
+    for giver in (1..set.len()).rev() {
         let up = parent[giver] as usize;
         set[up] = set[up] | set[giver];
     }

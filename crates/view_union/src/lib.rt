@@ -8,17 +8,10 @@ ghost use Rattle.paper.specs.Told.{told};
 ghost use Rattle.paper.specs.Roles.{union_answer};
 ghost use Rattle.view_union.specs.Gathering.{Joins, Gathers, union_out};
 
-use paper::Answer;
+use paper::{Answer, Refusal};
 
 // The version of XPath that views and queries are read by.
 pub const VERSION: u32 = 1;
-
-// What gathering the views of a role comes to: the number of items of their union, or the first view that can't be read.
-#[derive(Clone, Copy)]
-pub enum Gathered {
-    Items(usize),
-    Unread(usize),
-}
 
 // A view's items go behind those of the union, where the lowest bit of the mask names it; they are counted where there is no room for them.
 fn join(items: &[u32], mask: u32, union: &mut [u32], size: usize) -> usize
@@ -36,8 +29,8 @@ fn join(items: &[u32], mask: u32, union: &mut [u32], size: usize) -> usize
     end
 }
 
-// The union of the views that a mask names, one after the other; every view is read, into the spare room.
-fn gather(views: &[u8], list: &[u8], mask: u32, spare: &mut [u32], union: &mut [u32]) -> Gathered
+// The union of the views that a mask names, one after the other, and the number of its items; every view is read, into the spare room.
+fn gather(views: &[u8], list: &[u8], mask: u32, spare: &mut [u32], union: &mut [u32]) -> Answer
     requires { (length views.now ≤ text_limit) × (length spare.old ≡ item_limit) × (length union.old ≡ item_limit) }
     ensures { Gathers views.now list.now mask spare.new union.new result }
 {
@@ -48,16 +41,15 @@ fn gather(views: &[u8], list: &[u8], mask: u32, spare: &mut [u32], union: &mut [
     while at < views.len() {
         let rest = &views[at..];
         let end = lines::line_end(rest);
-        let answer = read::read(&rest[..end], VERSION, list, spare);
-        let Answer::Value(count) = answer else {
-            return Gathered::Unread(view);
+        let Ok(count) = read::read(&rest[..end], VERSION, list, spare) else {
+            return Err(Refusal::UnreadView(view));
         };
         size = join(&spare[..count], left, union, size);
         left = left / 2;
         view += 1;
         at += end + 1;
     }
-    Gathered::Items(size)
+    Ok(size)
 }
 
 // The query composed with the union of the views that a mask names.
@@ -68,18 +60,10 @@ pub fn compose_union(views: &[u8], list: &[u8], mask: u32, text: &[u8], out: &mu
 {
     let mut room = [0u32; paper::ITEM_LIMIT];
     let mut union = [0u32; paper::ITEM_LIMIT];
-    let gathered = gather(views, list, mask, &mut room, &mut union);
-    match gathered {
-        Gathered::Unread(view) => Answer::UnreadView(view),
-        Gathered::Items(size) => {
-            let answer = read::read(text, VERSION, list, &mut room);
-            let Answer::Value(count) = answer else {
-                return answer;
-            };
-            if paper::ITEM_LIMIT < size {
-                return Answer::Short(size);
-            }
-            compose::compose(&room[..count], &union[..size], out)
-        }
+    let size = gather(views, list, mask, &mut room, &mut union)?;
+    let count = read::read(text, VERSION, list, &mut room)?;
+    if paper::ITEM_LIMIT < size {
+        return Err(Refusal::Short(size));
     }
+    compose::compose(&room[..count], &union[..size], out)
 }

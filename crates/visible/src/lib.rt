@@ -13,11 +13,7 @@ fn copy(out: &mut [u32], at: usize, from: usize, count: usize)
     requires { (at ≤ from) × (from + count ≤ length out.old) }
     ensures { out.new ≡ placed (take count (drop from out.old)) at out.old }
 {
-    let mut done = 0;
-    while done < count {
-        out[at + done] = out[from + done];
-        done += 1;
-    }
+    out.copy_within(from..from + count, at);
 }
 
 // `axis::node()[S]`, with S copied from further on.

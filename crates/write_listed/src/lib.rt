@@ -7,20 +7,18 @@ ghost use Rattle.paper.specs.Names.{names_fault};
 ghost use Rattle.paper.specs.Document.{table_of};
 ghost use Rattle.paper.specs.Answers.{write_xml_answer, write_xml_out};
 ghost use Rattle.paper.specs.Told.{told};
-ghost use Rattle.xml_lines.specs.Open.{Looks};
 ghost use Rattle.write_listed.specs.Lengths.{Lengths};
 
+use initials::Initials;
 use kept_file::{element_marked, file};
-use paper::Answer;
-use table::{Fault, marks_fault, table_fault};
+use paper::{Answer, Refusal};
+use put_tags::Marked;
+use table::{marks_fault, table_fault};
 
 // The lines behind the list of names: the table, the marks, and whether the text is what the columns say.
 pub fn judge(
     text: &[u8],
-    list: &[u8],
-    starts: &[u16; names::STARTS],
-    count: usize,
-    chains: &[u16; initials::CHAINS],
+    names: &Initials,
     parent: &[u16],
     kind: &[u16],
     begin: &[u16],
@@ -28,22 +26,23 @@ pub fn judge(
     marks: &[u8],
     out: &mut [u8],
 ) -> Answer
-    requires looks { Looks list.now starts.now count chains.now × (names_fault list.now ≡ none) }
-    requires lengths { Lengths text.now list.now parent.now kind.now begin.now end.now marks.now }
-    ensures result_value { told result ≡ write_xml_answer text.now list.now (table_of parent.now kind.now) begin.now end.now marks.now (length out.old) }
-    ensures out_after { out.new ≡ write_xml_out text.now list.now (table_of parent.now kind.now) begin.now end.now marks.now out.old }
+    requires good { names_fault names.now ≡ none }
+    requires lengths { Lengths text.now names.now parent.now kind.now begin.now end.now marks.now }
+    ensures result_value { told result ≡ write_xml_answer text.now names.now (table_of parent.now kind.now) begin.now end.now marks.now (length out.old) }
+    ensures out_after { out.new ≡ write_xml_out text.now names.now (table_of parent.now kind.now) begin.now end.now marks.now out.old }
 {
-    if let Fault::At(i) = table_fault(parent, kind) {
-        return Answer::BadTable(i);
+    if let Some(i) = table_fault(parent, kind) {
+        return Err(Refusal::BadTable(i));
     }
-    if let Fault::At(i) = marks_fault(parent, marks) {
-        return Answer::BadMarks(i);
+    if let Some(i) = marks_fault(parent, marks) {
+        return Err(Refusal::BadMarks(i));
     }
     if !element_marked(kind, marks) {
-        return Answer::NoElement;
+        return Err(Refusal::NoElement);
     }
-    if !match_xml::reads_as(text, list, starts, count, chains, parent, kind, begin, end) {
-        return Answer::OtherText;
+    if !match_xml::reads_as(text, names, parent, kind, begin, end) {
+        return Err(Refusal::OtherText);
     }
-    file(text, parent, kind, begin, end, marks, out)
+    let kept = Marked::new(text, parent, kind, begin, end, marks);
+    file(&kept, out)
 }

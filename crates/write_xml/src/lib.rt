@@ -6,8 +6,9 @@ ghost use Rattle.paper.specs.Document.{table_of};
 ghost use Rattle.paper.specs.Answers.{write_xml_answer, write_xml_out};
 ghost use Rattle.paper.specs.Told.{told};
 
-use names::Listed;
-use paper::Answer;
+use initials::Initials;
+use names::Names;
+use paper::{Answer, Refusal};
 use write_listed::judge;
 
 // Writes the kept part of a text as XML and answers the number of its bytes, or refuses and writes nothing.
@@ -33,17 +34,8 @@ pub fn write_xml(
         | (end.len() != nodes)
         | (marks.len() != nodes)
     {
-        return Answer::TooLong;
+        return Err(Refusal::TooLong);
     }
-    let mut starts = [0u16; names::STARTS];
-    match names::index(list, &mut starts) {
-        Listed::Bad(start) => Answer::BadName(start),
-        Listed::Good(count) => {
-            let mut chains = [0u16; initials::CHAINS];
-            initials::link(list, &starts, count, &mut chains);
-            judge(
-                text, list, &starts, count, &chains, parent, kind, begin, end, marks, out,
-            )
-        }
-    }
+    let names = Initials::new(Names::new(list)?);
+    judge(text, &names, parent, kind, begin, end, marks, out)
 }

@@ -7,7 +7,9 @@ use mathlib.Core.Path.{◌≡◌, refl, sym, ◌∙◌, ap, subst}
 use mathlib.Core.Bool.{Bool, true, false, not, ◌&&◌, ◌||◌, cond}
 use mathlib.Core.List.{List, [], ◌∷◌, ◌++◌, append_assoc, append-nil}
 use mathlib.Core.Logic.{⊎_elim}
-use types.Run.{miss}
+use Rattle.std.specs.Prelude.{Ok, Err}
+use Rattle.paper.specs.declared.Refusal.{Refusal}
+use Rattle.paper.specs.declared.Refusal.TheVariants.{LeftOut}
 use mathlib.Core.Option.{Option, none, some}
 use lib.Dec.{eqb, ltb}
 use lib.ListN.{length, get_or, take, drop}
@@ -19,19 +21,15 @@ use Rattle.paper.specs.Xml.{nothing, element, xml_start, xml_part, Frame, State,
 use Rattle.paper.proofs.Axes.{same_turned}
 use Rattle.paper.proofs.Tests.{decide}
 use Rattle.paper.proofs.Lexing.{run_more}
-use Rattle.xml_bytes.specs.Seeking.{stops, settled, seek}
-use Rattle.xml_bytes.specs.Promised.{state, seek_at, reached, refusal_at, calm, Reads}
+use Rattle.xml_bytes.specs.Seeking.{stops, settled, seek, refusing}
+use Rattle.xml_bytes.specs.Promised.{Reach, state, seek_at, reached, refusal_at, calm, Reads}
 use Rattle.end_tags.specs.Renaming.{name_at, added}
-use Rattle.xml.specs.Pieces.{opened, tag_mode, foreign_in, Past, refused_piece, tag_took, TagBounds, TagEnds, EmptyEnds, HasName, Tags}
-use Rattle.xml_bytes.specs.declared.Reach.{Reach}
-use Rattle.xml_bytes.specs.declared.Reach.TheVariants.{At, Wrong, LeftOut}
-use Rattle.xml.specs.declared.Piece.{Piece}
+use Rattle.xml.specs.Pieces.{opened, tag_mode, foreign_in, Past, Taken, tag_took, TagBounds, TagEnds, EmptyEnds, HasName, Tags}
 use Rattle.xml.specs.declared.Piece.TheVariants.{Start, Empty, End, Text}
-use Rattle.xml.specs.declared.Piece.TheVariants as piece
 use Rattle.end_tags.proofs.Ending.{added_stops, add_added}
-use Rattle.xml_bytes.proofs.Steps.{Calm, is_calm, Waits, calm_opens, text_ends, opens_here, steps_on, refused_here, opens_not}
-use Rattle.xml_bytes.proofs.Rows.{Refused, reads_bounds, wait_read, byte_calm}
-use Rattle.xml_bytes.proofs.Signs.{part_calm, calm_part, start_part, white_calm}
+use Rattle.xml_bytes.proofs.Steps.{Calm, is_calm, Waits, calm_opens, opens_here, steps_on, refused_here, opens_not}
+use Rattle.xml_bytes.proofs.Rows.{reads_bounds, wait_read, byte_calm}
+use Rattle.xml_bytes.proofs.Signs.{part_calm, start_part, white_calm}
 
 -- Between two pieces inside an element reading stops.
 pub content_stops : (at : ℕ) (frames : List Frame) (bs : List ℕ) → seek at (state content frames) bs ≡ stops at (state content frames)
@@ -158,7 +156,7 @@ module _ (text : List ℕ) (name_end at : ℕ) (inside : at < length text) (past
       go false = p
 
   -- `>` opens the element.
-  pub tag_closes : (to : ℕ) → get_or text at 0 ≡ 62 → to ≡ at + 1 → TagEnds text name_end at (Start name_end (record { at = to }))
+  pub tag_closes : (to : ℕ) → get_or text at 0 ≡ 62 → to ≡ at + 1 → TagEnds text name_end at (Ok (Start name_end (record { at = to })))
   tag_closes to e f =
       let next : suc at ≡ to = omega arith in
       record {
@@ -168,7 +166,7 @@ module _ (text : List ℕ) (name_end at : ℕ) (inside : at < length text) (past
       }
 
   -- `/` goes on with the end of an empty element.
-  pub tag_empties : (r : Piece) → get_or text at 0 ≡ 47 → EmptyEnds text name_end (at + 1) r → TagEnds text name_end at r
+  pub tag_empties : (r : Taken) → get_or text at 0 ≡ 47 → EmptyEnds text name_end (at + 1) r → TagEnds text name_end at r
   tag_empties r e h =
       let next : suc at ≡ at + 1 = omega arith in
       record {
@@ -178,7 +176,7 @@ module _ (text : List ℕ) (name_end at : ℕ) (inside : at < length text) (past
       }
 
   -- A name of XML 1.0 opens what is left out.
-  pub tag_foreign : foreign_in (ltb name_end at) (get_or text at 0) ≡ true → TagEnds text name_end at (piece.LeftOut at)
+  pub tag_foreign : foreign_in (ltb name_end at) (get_or text at 0) ≡ true → TagEnds text name_end at (Err (LeftOut at))
   tag_foreign f =
       record {
         goes = λ begin name frames. opens_here text at (state (tag_mode (ltb name_end at) begin name) frames) inside
@@ -191,15 +189,15 @@ module _ (text : List ℕ) (name_end at : ℕ) (inside : at < length text) (past
       or_last false = refl
 
   -- No tag goes on with any other byte.
-  pub tag_refused : (r : Piece) → foreign_in (ltb name_end at) (get_or text at 0) ≡ false → (get_or text at 0 ≡ 62 → ⊥) → (get_or text at 0 ≡ 47 → ⊥)
-      → r ≡ refused_piece (refusal_at (left_out_anywhere (drop at text)) at) → TagEnds text name_end at r
-  tag_refused r f no_end no_slash e =
+  pub tag_refused : (why : Refusal) → foreign_in (ltb name_end at) (get_or text at 0) ≡ false → (get_or text at 0 ≡ 62 → ⊥) → (get_or text at 0 ≡ 47 → ⊥)
+      → why ≡ refusal_at (left_out_anywhere (drop at text)) at → TagEnds text name_end at (Err why)
+  tag_refused why f no_end no_slash e =
       record {
         goes = λ begin name frames. refused_here text at (state (tag_mode (ltb name_end at) begin name) frames) inside
             (tag_unsettled (ltb name_end at) begin at (get_or text at 0) name [] frames not_part (drop at text)) (state content [])
             (opens_by begin name frames ∙ rw f (or_false' (left_out_anywhere (drop at text))))
             (tag_step (ltb name_end at) begin at (get_or text at 0) name [] frames not_part ∙ rw (past.no_space, ne_eqb (get_or text at 0) 47 no_slash, ne_eqb (get_or text at 0) 62 no_end))
-            ∙ as_piece begin name frames (left_out_anywhere (drop at text)) ∙ ap (tag_took begin name frames) (sym e);
+            ∙ ap refusing (sym e);
         bounds = rw e (within (left_out_anywhere (drop at text)));
       }
     where
@@ -207,22 +205,9 @@ module _ (text : List ℕ) (name_end at : ℕ) (inside : at < length text) (past
       or_false' true = refl
       or_false' false = refl
 
-      as_piece : (begin : ℕ) (name : List ℕ) (frames : List Frame) (t : Bool) → reached text (state content []) (refusal_at t at) ≡ tag_took begin name frames (refused_piece (refusal_at t at))
-      as_piece begin name frames true = refl
-      as_piece begin name frames false = refl
-
-      within : (t : Bool) → TagBounds name_end (length text) (refused_piece (refusal_at t at))
+      within : (t : Bool) → TagBounds name_end (length text) (Err (refusal_at t at))
       within true = omega arith
       within false = omega arith
-
--- The text ends in a start tag.
-pub tag_cut : (text : List ℕ) (name_end at : ℕ) → length text ≤ at → at ≤ length text → TagEnds text name_end at (piece.Wrong at)
-tag_cut text name_end at l m =
-    record { goes = λ begin name frames. text_ends text at (state (tag_mode (ltb name_end at) begin name) frames) l (go begin name frames (ltb name_end at)); bounds = m }
-  where
-    go : (begin : ℕ) (name : List ℕ) (frames : List Frame) (t : Bool) → settled (tag_mode t begin name) at frames [] ≡ none
-    go begin name frames true = refl
-    go begin name frames false = refl
 
 -- The `>` of an empty element.
 module _ (text : List ℕ) (name_end at : ℕ) where
@@ -230,32 +215,24 @@ module _ (text : List ℕ) (name_end at : ℕ) where
       → seek_at text at (state (emptied begin name) frames) ≡ reached text (added (element name begin (suc at) nothing nothing) frames) r
   empty_goes r h begin name frames = wait_read text at (eqb 62) (state (emptied begin name) frames) (added (element name begin (suc at) nothing nothing) frames) r (wait_empty begin at name frames) (byte_calm 62 refl) h
 
-  pub empty_read : (to : ℕ) → name_end < at → at ≤ length text → Reads text at (eqb 62 ∷ []) (At to) → EmptyEnds text name_end at (Empty name_end (record { at = to }))
+  pub empty_read : (to : ℕ) → name_end < at → at ≤ length text → Reads text at (eqb 62 ∷ []) (Ok to) → EmptyEnds text name_end at (Ok (Empty name_end (record { at = to })))
   empty_read to l m h =
-      let end = reads_bounds text at (eqb 62 ∷ []) (At to) m h in
+      let end = reads_bounds text at (eqb 62 ∷ []) (Ok to) m h in
       let e : suc at ≡ to = omega (arith, end.0) in
       record {
-        goes = λ begin name frames. empty_goes (At to) h begin name frames ∙ added_stops to (element name begin (suc at) nothing nothing) frames (drop to text)
+        goes = λ begin name frames. empty_goes (Ok to) h begin name frames ∙ added_stops to (element name begin (suc at) nothing nothing) frames (drop to text)
             ∙ ap (λ n. stops to (added (element name begin n nothing nothing) frames)) e;
         bounds = (refl, omega arith, end.1);
       }
 
-  pub empty_refused : (r : Reach) (q : Piece) → Refused r → at ≤ length text → Reads text at (eqb 62 ∷ []) r → q ≡ refused_piece r → EmptyEnds text name_end at q
-  empty_refused (At to) q stuck m h e = absurd (miss (1 ∷ 2 ∷ []) 0 tt stuck)
-  empty_refused (Wrong place) q stuck m h e =
-      record { goes = λ begin name frames. empty_goes (Wrong place) h begin name frames ∙ ap (tag_took begin name frames) (sym e); bounds = rw e (reads_bounds text at (eqb 62 ∷ []) (Wrong place) m h) }
-  empty_refused (LeftOut place) q stuck m h e =
-      record { goes = λ begin name frames. empty_goes (LeftOut place) h begin name frames ∙ ap (tag_took begin name frames) (sym e); bounds = rw e (reads_bounds text at (eqb 62 ∷ []) (LeftOut place) m h) }
+  pub empty_refused : (why : Refusal) → at ≤ length text → Reads text at (eqb 62 ∷ []) (Err why) → EmptyEnds text name_end at (Err why)
+  empty_refused why m h = record { goes = λ begin name frames. empty_goes (Err why) h begin name frames; bounds = reads_bounds text at (eqb 62 ∷ []) (Err why) m h }
 
 -- A START TAG, PAST ITS `<`.
 module _ (text : List ℕ) (at : ℕ) where
-  -- The text ends.
-  pub start_cut : length text ≤ at → at ≤ length text → Tags text at (piece.Wrong at)
-  start_cut l m = record { goes = λ begin frames s. text_ends text at (state (opening begin) frames) l refl; bounds = m; named = tt }
-
   module _ (inside : at < length text) where
     -- The byte begins no name of ours.
-    pub start_foreign : name_start (get_or text at 0) ≡ false → xml_start (get_or text at 0) ≡ true → Tags text at (piece.LeftOut at)
+    pub start_foreign : name_start (get_or text at 0) ≡ false → xml_start (get_or text at 0) ≡ true → Tags text at (Err (LeftOut at))
     unfolding left_out
     start_foreign n x =
         record {
@@ -268,21 +245,17 @@ module _ (text : List ℕ) (at : ℕ) where
         or_last true = refl
         or_last false = refl
 
-    pub start_refused : (r : Piece) → name_start (get_or text at 0) ≡ false → xml_start (get_or text at 0) ≡ false → r ≡ refused_piece (refusal_at (left_out_anywhere (drop at text)) at) → Tags text at r
+    pub start_refused : (why : Refusal) → name_start (get_or text at 0) ≡ false → xml_start (get_or text at 0) ≡ false → why ≡ refusal_at (left_out_anywhere (drop at text)) at → Tags text at (Err why)
     unfolding left_out
-    start_refused r n x e =
+    start_refused why n x e =
         record {
           goes = λ begin frames s. refused_here text at (state (opening begin) frames) inside refl (state content [])
               (rw (drop-cons text at 0 inside, x) (or_none (left_out_anywhere (get_or text at 0 ∷ drop (suc at) text)))) (no_tag begin frames s)
-              ∙ as_piece begin frames (left_out_anywhere (drop at text)) ∙ ap (tag_took begin (name_at text at) frames) (sym e);
+              ∙ ap refusing (sym e);
           bounds = rw e (within (left_out_anywhere (drop at text)));
-          named = rw e (no_name_owed (left_out_anywhere (drop at text)));
+          named = tt;
         }
       where
-        no_name_owed : (t : Bool) → HasName text at (refused_piece (refusal_at t at))
-        no_name_owed true = tt
-        no_name_owed false = tt
-
         or_none : (t : Bool) → (t || false) ≡ t
         or_none true = refl
         or_none false = refl
@@ -290,16 +263,12 @@ module _ (text : List ℕ) (at : ℕ) where
         no_tag : (begin : ℕ) (frames : List Frame) → (get_or text at 0 ≡ 47 → frames ≡ []) → step_mode (opening begin) at frames (get_or text at 0) ≡ none
         no_tag begin frames s = rw n (⊎_elim (λ (h : eqb (get_or text at 0) 47 ≡ true). rw (h, s (eqb-true (get_or text at 0) 47 h))) (λ (h : eqb (get_or text at 0) 47 ≡ false). rw h) (decide (eqb (get_or text at 0) 47)))
 
-        as_piece : (begin : ℕ) (frames : List Frame) (t : Bool) → reached text (state content []) (refusal_at t at) ≡ tag_took begin (name_at text at) frames (refused_piece (refusal_at t at))
-        as_piece begin frames true = refl
-        as_piece begin frames false = refl
-
-        within : (t : Bool) → TagBounds (at + run_of name_part (drop at text)) (length text) (refused_piece (refusal_at t at))
+        within : (t : Bool) → TagBounds (at + run_of name_part (drop at text)) (length text) (Err (refusal_at t at))
         within true = omega arith
         within false = omega arith
 
     -- It begins a name: then the tag goes on past the name and the white space behind it.
-    pub start_names : (name_end to : ℕ) (r : Piece) → name_start (get_or text at 0) ≡ true → name_end ≡ at + 1 + run_of name_part (drop (at + 1) text)
+    pub start_names : (name_end to : ℕ) (r : Taken) → name_start (get_or text at 0) ≡ true → name_end ≡ at + 1 + run_of name_part (drop (at + 1) text)
         → to ≡ name_end + run_of white (drop name_end text) → TagEnds text name_end to r → Tags text at r
     unfolding left_out
     start_names name_end to r n e f h =
@@ -338,10 +307,9 @@ module _ (text : List ℕ) (at : ℕ) where
         reaches : name_end ≡ at + run_of name_part (drop at text)
         reaches = let m : run_of name_part (drop at text) ≡ suc long = run_more text at inside name_part part in omega (arith, ends, m)
 
-        has-name : (q : Piece) → HasName text at q
-        has-name (Start end next) = rw (run_more text at inside name_part part) (omega arith)
-        has-name (Empty end next) = rw (run_more text at inside name_part part) (omega arith)
-        has-name (End next) = tt
-        has-name (Text next) = tt
-        has-name (piece.Wrong place) = tt
-        has-name (piece.LeftOut place) = tt
+        has-name : (q : Taken) → HasName text at q
+        has-name (Ok (Start end next)) = rw (run_more text at inside name_part part) (omega arith)
+        has-name (Ok (Empty end next)) = rw (run_more text at inside name_part part) (omega arith)
+        has-name (Ok (End next)) = tt
+        has-name (Ok (Text next)) = tt
+        has-name (Err why) = tt

@@ -1,17 +1,19 @@
 -- What taking a piece promises: where the paper's reading stands past it.
-use Rattle.std.specs.Prelude.{ℕ, suc, ◌+◌, ◌≤◌, ◌<◌, ◌≡◌, Bool, true, false, List, [], ◌∷◌, ltb, length, get_or, drop}
+use Rattle.std.specs.Prelude.{ℕ, Result, Ok, Err, suc, ◌+◌, ◌≤◌, ◌<◌, ◌≡◌, Bool, true, false, List, [], ◌∷◌, ltb, length, get_or, drop}
 use Rattle.paper.specs.Tools.{run_of}
 use Rattle.paper.specs.Names.{name_part}
 use Rattle.paper.specs.Tokens.{white}
 use Rattle.paper.specs.Xml.{Nodes, nothing, element, chars, xml_start, xml_part, Frame, Mode, with, opening, in_name, in_tag, emptied, content, ended, ahead, Judged, wanted, unwanted, judge}
-use Rattle.xml_bytes.specs.Seeking.{Sought, stops, refused, seek_next}
-use Rattle.xml_bytes.specs.Promised.{state, seek_at}
-use Rattle.xml_bytes.specs.declared.Reach.{Reach}
-use Rattle.xml_bytes.specs.declared.Reach.TheVariants.{At, Wrong, LeftOut}
+use Rattle.paper.specs.declared.Refusal.{Refusal}
+use Rattle.xml_bytes.specs.Seeking.{Sought, stops, refused, refusing, refusal_number, refusal_place, seek_next}
+use Rattle.xml_bytes.specs.Promised.{Reach, state, seek_at}
 pub use Rattle.end_tags.specs.Renaming.{name_at, added, Named}
 use Rattle.xml.specs.declared.Piece.{Piece}
 use Rattle.xml.specs.declared.Piece.TheVariants.{Start, Empty, End, Text}
-use Rattle.xml.specs.declared.Piece.TheVariants as piece
+
+-- What taking a piece comes to: the piece, or a refusal.
+abbrev pub Taken : Type 0
+Taken = Result Piece Refusal
 
 -- A frame for an element that opens.
 abbrev pub opened : List ℕ → ℕ → Frame
@@ -23,19 +25,12 @@ tag_mode true begin name = in_tag begin name
 tag_mode false begin name = in_name begin name
 
 -- Where a start tag ends, its element is open, or read if it is empty.
-abbrev pub tag_took : ℕ → List ℕ → List Frame → Piece → Sought
-tag_took begin name frames (Start name_end next) = stops next.at (state content (opened name begin ∷ frames))
-tag_took begin name frames (Empty name_end next) = stops next.at (added (element name begin next.at nothing nothing) frames)
-tag_took begin name frames (End next) = refused 11 begin
-tag_took begin name frames (Text next) = refused 11 begin
-tag_took begin name frames (piece.Wrong place) = refused 11 place
-tag_took begin name frames (piece.LeftOut place) = refused 12 place
-
--- A refusal as a piece.
-abbrev pub refused_piece : Reach → Piece
-refused_piece (At place) = piece.Wrong place
-refused_piece (Wrong place) = piece.Wrong place
-refused_piece (LeftOut place) = piece.LeftOut place
+abbrev pub tag_took : ℕ → List ℕ → List Frame → Taken → Sought
+tag_took begin name frames (Ok (Start name_end next)) = stops next.at (state content (opened name begin ∷ frames))
+tag_took begin name frames (Ok (Empty name_end next)) = stops next.at (added (element name begin next.at nothing nothing) frames)
+tag_took begin name frames (Ok (End next)) = refused 11 begin
+tag_took begin name frames (Ok (Text next)) = refused 11 begin
+tag_took begin name frames (Err why) = refusing why
 
 -- A byte of a name of XML 1.0, which begins behind white space and goes on elsewhere.
 abbrev pub foreign_in : Bool → ℕ → Bool
@@ -48,73 +43,67 @@ pub record Past (text : List ℕ) (name_end at : ℕ) : Type 0 where
   pub no_part : name_end ≡ at → name_part (get_or text at 0) ≡ false
 
 -- A start tag says where its name ends; the place past a tag lies behind it.
-abbrev pub TagBounds : ℕ → ℕ → Piece → Type 0
-TagBounds name_end most (Start end next) = (end ≡ name_end) × (name_end < next.at) × (next.at ≤ most)
-TagBounds name_end most (Empty end next) = (end ≡ name_end) × (name_end < next.at) × (next.at ≤ most)
-TagBounds name_end most (End next) = ⊥
-TagBounds name_end most (Text next) = ⊥
-TagBounds name_end most (piece.Wrong place) = place ≤ most
-TagBounds name_end most (piece.LeftOut place) = place ≤ most
+abbrev pub TagBounds : ℕ → ℕ → Taken → Type 0
+TagBounds name_end most (Ok (Start end next)) = (end ≡ name_end) × (name_end < next.at) × (next.at ≤ most)
+TagBounds name_end most (Ok (Empty end next)) = (end ≡ name_end) × (name_end < next.at) × (next.at ≤ most)
+TagBounds name_end most (Ok (End next)) = ⊥
+TagBounds name_end most (Ok (Text next)) = ⊥
+TagBounds name_end most (Err why) = refusal_place why ≤ most
 
-pub record TagEnds (text : List ℕ) (name_end at : ℕ) (r : Piece) : Type 0 where
+pub record TagEnds (text : List ℕ) (name_end at : ℕ) (r : Taken) : Type 0 where
   pub goes : (begin : ℕ) (name : List ℕ) (frames : List Frame) → seek_at text at (state (tag_mode (ltb name_end at) begin name) frames) ≡ tag_took begin name frames r
   pub bounds : TagBounds name_end (length text) r
 
-pub record EmptyEnds (text : List ℕ) (name_end at : ℕ) (r : Piece) : Type 0 where
+pub record EmptyEnds (text : List ℕ) (name_end at : ℕ) (r : Taken) : Type 0 where
   pub goes : (begin : ℕ) (name : List ℕ) (frames : List Frame) → seek_at text at (state (emptied begin name) frames) ≡ tag_took begin name frames r
   pub bounds : TagBounds name_end (length text) r
 
 -- A tag that is read has a name of at least one byte.
-abbrev pub HasName : List ℕ → ℕ → Piece → Type 0
-HasName text at (Start end next) = 0 < run_of name_part (drop at text)
-HasName text at (Empty end next) = 0 < run_of name_part (drop at text)
-HasName text at (End next) = Unit {0}
-HasName text at (Text next) = Unit {0}
-HasName text at (piece.Wrong place) = Unit {0}
-HasName text at (piece.LeftOut place) = Unit {0}
+abbrev pub HasName : List ℕ → ℕ → Taken → Type 0
+HasName text at (Ok (Start end next)) = 0 < run_of name_part (drop at text)
+HasName text at (Ok (Empty end next)) = 0 < run_of name_part (drop at text)
+HasName text at (Ok (End next)) = Unit {0}
+HasName text at (Ok (Text next)) = Unit {0}
+HasName text at (Err why) = Unit {0}
 
-pub record Tags (text : List ℕ) (at : ℕ) (r : Piece) : Type 0 where
+pub record Tags (text : List ℕ) (at : ℕ) (r : Taken) : Type 0 where
   pub goes : (begin : ℕ) (frames : List Frame) → (get_or text at 0 ≡ 47 → frames ≡ []) → seek_at text at (state (opening begin) frames) ≡ tag_took begin (name_at text at) frames r
   pub bounds : TagBounds (at + run_of name_part (drop at text)) (length text) r
   pub named : HasName text at r
 
 -- PIECES. Where a piece that begins at `at` inside the element f ends.
-abbrev pub took : List ℕ → ℕ → Frame → List Frame → Piece → Sought
-took text at f fs (Start name_end next) = stops next.at (state content (opened (name_at text (suc at)) at ∷ f ∷ fs))
-took text at f fs (Empty name_end next) = stops next.at (state content (with f (element (name_at text (suc at)) at next.at nothing nothing) ∷ fs))
-took text at f fs (End next) = stops next.at (added (element f.name f.begin next.at f.inside nothing) fs)
-took text at f fs (Text next) = stops next.at (state content (with f (chars at next.at nothing) ∷ fs))
-took text at f fs (piece.Wrong place) = refused 11 place
-took text at f fs (piece.LeftOut place) = refused 12 place
+abbrev pub took : List ℕ → ℕ → Frame → List Frame → Taken → Sought
+took text at f fs (Ok (Start name_end next)) = stops next.at (state content (opened (name_at text (suc at)) at ∷ f ∷ fs))
+took text at f fs (Ok (Empty name_end next)) = stops next.at (state content (with f (element (name_at text (suc at)) at next.at nothing nothing) ∷ fs))
+took text at f fs (Ok (End next)) = stops next.at (added (element f.name f.begin next.at f.inside nothing) fs)
+took text at f fs (Ok (Text next)) = stops next.at (state content (with f (chars at next.at nothing) ∷ fs))
+took text at f fs (Err why) = refusing why
 
-abbrev pub TookBounds : List ℕ → ℕ → Piece → Type 0
-TookBounds text at (Start end next) = (end ≡ suc at + run_of name_part (drop (suc at) text)) × (suc at < end) × (end < next.at) × (next.at ≤ length text)
-TookBounds text at (Empty end next) = (end ≡ suc at + run_of name_part (drop (suc at) text)) × (suc at < end) × (end < next.at) × (next.at ≤ length text)
-TookBounds text at (End next) = (suc (suc at) < next.at) × (next.at ≤ length text)
-TookBounds text at (Text next) = (at < next.at) × (next.at ≤ length text)
-TookBounds text at (piece.Wrong place) = place ≤ length text
-TookBounds text at (piece.LeftOut place) = place ≤ length text
+abbrev pub TookBounds : List ℕ → ℕ → Taken → Type 0
+TookBounds text at (Ok (Start end next)) = (end ≡ suc at + run_of name_part (drop (suc at) text)) × (suc at < end) × (end < next.at) × (next.at ≤ length text)
+TookBounds text at (Ok (Empty end next)) = (end ≡ suc at + run_of name_part (drop (suc at) text)) × (suc at < end) × (end < next.at) × (next.at ≤ length text)
+TookBounds text at (Ok (End next)) = (suc (suc at) < next.at) × (next.at ≤ length text)
+TookBounds text at (Ok (Text next)) = (at < next.at) × (next.at ≤ length text)
+TookBounds text at (Err why) = refusal_place why ≤ length text
 
-pub record Takes (text : List ℕ) (at inner : ℕ) (r : Piece) : Type 0 where
+pub record Takes (text : List ℕ) (at inner : ℕ) (r : Taken) : Type 0 where
   pub goes : (f : Frame) (fs : List Frame) → f.name ≡ name_at text (suc inner) → seek_next at (state content (f ∷ fs)) (drop at text) ≡ took text at f fs r
   pub bounds : TookBounds text at r
 
 -- THE ONE ELEMENT. Its start tag, before which reading stands with no element open.
-pub record Roots (text : List ℕ) (at : ℕ) (r : Piece) : Type 0 where
+pub record Roots (text : List ℕ) (at : ℕ) (r : Taken) : Type 0 where
   pub goes : seek_at text at (state ahead []) ≡ tag_took at (name_at text (suc at)) [] r
   pub bounds : TagBounds (suc at + run_of name_part (drop (suc at) text)) (length text) r
   pub named : HasName text (suc at) r
 
 -- Past it the text ends, or no wanted text goes on.
 abbrev pub finished : Nodes → Reach → Judged
-finished tree (At end) = wanted tree
-finished tree (Wrong place) = unwanted 11 place
-finished tree (LeftOut place) = unwanted 12 place
+finished tree (Ok end) = wanted tree
+finished tree (Err why) = unwanted (refusal_number why) (refusal_place why)
 
 abbrev pub FinishBounds : ℕ → Reach → Type 0
-FinishBounds most (At end) = end ≡ most
-FinishBounds most (Wrong place) = place ≤ most
-FinishBounds most (LeftOut place) = place ≤ most
+FinishBounds most (Ok end) = end ≡ most
+FinishBounds most (Err why) = refusal_place why ≤ most
 
 pub record Finishes (text : List ℕ) (at : ℕ) (r : Reach) : Type 0 where
   pub goes : (tree : Nodes) → judge at (state (ended tree) []) (drop at text) ≡ finished tree r

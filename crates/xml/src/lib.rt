@@ -4,10 +4,11 @@
 ghost use Rattle.std.specs.Prelude.{ℕ, suc, ◌≤◌, ◌<◌, ◌≡◌, false, length, get_or, drop};
 ghost use Rattle.paper.specs.Xml.{xml_start, xml_part, left_out_anywhere};
 ghost use Rattle.end_tags.specs.Renaming.{Named};
-ghost use Rattle.xml.specs.Pieces.{refused_piece, foreign_in, EmptyEnds, Past, TagEnds, Tags, Takes, Roots, Finishes};
+ghost use Rattle.xml.specs.Pieces.{foreign_in, EmptyEnds, Past, TagEnds, Tags, Takes, Roots, Finishes};
 
 use end_tags::end_tag;
 use good_names::{name_part, name_start};
+use paper::Refusal;
 use token::{run_end, skip};
 use xml_bytes::{Reach, byte, markup, refuse};
 use xml_runs::run;
@@ -25,8 +26,6 @@ pub enum Piece {
     Empty { name_end: usize, next: Cursor },
     End(Cursor),
     Text(Cursor),
-    Wrong(usize),
-    LeftOut(usize),
 }
 
 // May a name of XML 1.0 begin with this byte?
@@ -49,30 +48,16 @@ fn xml_part(b: u8) -> bool
 
 // TAGS.
 
-// A refusal as a piece.
-fn refused(reach: Reach) -> Piece
-    ensures { result ≡ refused_piece reach }
-{
-    match reach {
-        Reach::At(place) => Piece::Wrong(place),
-        Reach::Wrong(place) => Piece::Wrong(place),
-        Reach::LeftOut(place) => Piece::LeftOut(place),
-    }
-}
-
 // The `>` of an empty element, past its `/`.
-fn empty_end(text: &[u8], name_end: usize, at: usize) -> Piece
+fn empty_end(text: &[u8], name_end: usize, at: usize) -> Result<Piece, Refusal>
     requires { (at ≤ length text.now) × (name_end < at) }
     ensures { EmptyEnds text.now name_end at result }
 {
-    let closed = byte(text, at, b'>');
-    let Reach::At(next) = closed else {
-        return refused(closed);
-    };
-    Piece::Empty {
+    let next = byte(text, at, b'>')?;
+    Ok(Piece::Empty {
         name_end,
         next: Cursor { at: next },
-    }
+    })
 }
 
 // Does a name of XML 1.0 go on or begin here that is left out, by whether white space stands before?
@@ -87,43 +72,43 @@ fn foreign(b: u8, behind_space: bool) -> bool
 }
 
 // The end of a start tag, past white space behind its name.
-fn tag_end(text: &[u8], name_end: usize, at: usize) -> Piece
+fn tag_end(text: &[u8], name_end: usize, at: usize) -> Result<Piece, Refusal>
     requires { (at ≤ length text.now) × (name_end ≤ at) × (at < length text.now → Past text.now name_end at) }
     ensures { TagEnds text.now name_end at result }
 {
     if text.len() <= at {
-        return Piece::Wrong(at);
+        return Err(Refusal::NoXml(at));
     }
     let b = text[at];
     if b == b'>' {
-        return Piece::Start {
+        return Ok(Piece::Start {
             name_end,
             next: Cursor { at: at + 1 },
-        };
+        });
     }
     if b == b'/' {
         return empty_end(text, name_end, at + 1);
     }
     if foreign(b, name_end < at) {
-        return Piece::LeftOut(at);
+        return Err(Refusal::LeftOut(at));
     }
-    refused(refuse(text, at))
+    Err(refuse(text, at))
 }
 
 // A start tag, past the `<`.
-fn start_tag(text: &[u8], at: usize) -> Piece
+fn start_tag(text: &[u8], at: usize) -> Result<Piece, Refusal>
     requires { at ≤ length text.now }
     ensures { Tags text.now at result }
 {
     if text.len() <= at {
-        return Piece::Wrong(at);
+        return Err(Refusal::NoXml(at));
     }
     let b = text[at];
     if !name_start(b) {
         if xml_start(b) {
-            return Piece::LeftOut(at);
+            return Err(Refusal::LeftOut(at));
         }
-        return refused(refuse(text, at));
+        return Err(refuse(text, at));
     }
     let name_end = run_end(text, at + 1);
     tag_end(text, name_end, skip(text, name_end))
@@ -132,48 +117,42 @@ fn start_tag(text: &[u8], at: usize) -> Piece
 // PIECES.
 
 // A run of characters as a piece.
-fn text_piece(text: &[u8], at: usize) -> Piece
+fn text_piece(text: &[u8], at: usize) -> Result<Piece, Refusal>
     requires { (at < length text.now) × (get_or text.now at 0 ≡ 60 → ⊥) }
     ensures { (inner : ℕ) → Takes text.now at inner result }
 {
-    let ended = run(text, at);
-    let Reach::At(next) = ended else {
-        return refused(ended);
-    };
-    Piece::Text(Cursor { at: next })
+    let next = run(text, at)?;
+    Ok(Piece::Text(Cursor { at: next }))
 }
 
 // An end tag as a piece.
-fn end_piece(text: &[u8], at: usize, inner: usize) -> Piece
+fn end_piece(text: &[u8], at: usize, inner: usize) -> Result<Piece, Refusal>
     requires { (suc at < length text.now) × (get_or text.now at 0 ≡ 60) × (get_or text.now (suc at) 0 ≡ 47) × Named text.now inner × (left_out_anywhere (drop at text.now) ≡ false) }
     ensures { Takes text.now at inner result }
 {
-    let ended = end_tag(text, at + 2, inner);
-    let Reach::At(next) = ended else {
-        return refused(ended);
-    };
-    Piece::End(Cursor { at: next })
+    let next = end_tag(text, at + 2, inner)?;
+    Ok(Piece::End(Cursor { at: next }))
 }
 
 impl Cursor {
     // The next piece inside the element that begins at `inner`.
-    pub fn take(self, text: &[u8], inner: usize) -> Piece
+    pub fn take(self, text: &[u8], inner: usize) -> Result<Piece, Refusal>
         requires { (self.at ≤ length text.now) × Named text.now inner }
         ensures { Takes text.now self.at inner result }
     {
         let at = self.at;
         if text.len() <= at {
-            return Piece::Wrong(at);
+            return Err(Refusal::NoXml(at));
         }
         if text[at] != b'<' {
             return text_piece(text, at);
         }
         if markup(text, at) {
-            return Piece::LeftOut(at);
+            return Err(Refusal::LeftOut(at));
         }
         let next = at + 1;
         if text.len() <= next {
-            return Piece::Wrong(next);
+            return Err(Refusal::NoXml(next));
         }
         if text[next] == b'/' {
             return end_piece(text, at, inner);
@@ -182,7 +161,7 @@ impl Cursor {
     }
 
     // The start tag of the one element, whose `<` stands at the cursor.
-    pub fn root(self, text: &[u8]) -> Piece
+    pub fn root(self, text: &[u8]) -> Result<Piece, Refusal>
         requires { (self.at < length text.now) × (get_or text.now self.at 0 ≡ 60) × (left_out_anywhere (drop self.at text.now) ≡ false) }
         ensures { Roots text.now self.at result }
     {
@@ -197,8 +176,8 @@ pub fn finish(text: &[u8], at: usize) -> Reach
 {
     let end = skip(text, at);
     if end < text.len() {
-        refuse(text, end)
+        Err(refuse(text, end))
     } else {
-        Reach::At(end)
+        Ok(end)
     }
 }

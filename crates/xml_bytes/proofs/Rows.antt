@@ -2,50 +2,35 @@
 use Prim.Native.Nat.{ℕ, zero, suc, ◌+◌, ◌≤◌, ◌<◌}
 use native.Mathlib.Omega.{arith}
 use mathlib.Core.Path.{◌≡◌, refl, sym, ◌∙◌, ap, subst}
-use mathlib.Core.Bool.{Bool, true, false, false≢true}
+use mathlib.Core.Bool.{Bool, true, false}
 use mathlib.Core.List.{List, [], ◌∷◌}
 use mathlib.Core.Logic.{⊎_elim}
-use denote.Enum.Declared.{tag_of}
-use types.Run.{OneOf, miss}
+use Rattle.std.specs.Prelude.{Ok, Err}
 use lib.Dec.{eqb, leb}
 use lib.ListN.{length, get_or, drop, drop_of_length-le}
 use lib.Seq.{drop-cons}
 use borrow.Author.Tests.{eqb-true, leb-true}
 use Rattle.paper.specs.Xml.{from, Pattern, one, say, State, left_out_anywhere}
 use Rattle.paper.proofs.Tests.{and_true, decide}
-use Rattle.xml_bytes.specs.Seeking.{Sought, refused}
-use Rattle.xml_bytes.specs.Promised.{seek_at, reached, Between, refusal_at, row_of, Reads, calm, all_calm, spelling, tailing}
-use Rattle.xml_bytes.specs.declared.Reach.{Reach}
-use Rattle.xml_bytes.specs.declared.Reach.TheVariants.{At, Wrong, LeftOut}
-use Rattle.xml_bytes.specs.contracts.Reach.{the_type}
+use Rattle.paper.specs.declared.Refusal.{Refusal}
+use Rattle.paper.specs.declared.Refusal.TheVariants.{NoXml}
+use Rattle.xml_bytes.specs.Seeking.{Sought, refused, refusing, refusal_place}
+use Rattle.xml_bytes.specs.Promised.{Reach, seek_at, reached, Between, refusal_at, row_of, Reads, calm, all_calm, spelling, tailing}
 use Rattle.xml_bytes.proofs.Steps.{Calm, is_calm, in_or_out, Waits, wait_ends, wait_over, wait_refused}
 
--- A refusal, as a branch on the case of an answer says it.
-abbrev pub Refused : Reach → Type 0
-Refused r = OneOf (1 ∷ 2 ∷ []) (tag_of the_type r)
+-- A place is no refusal, and one place.
+no_refusal : (to : ℕ) (why : Refusal) → ◌≡◌ {A = Reach} (Ok to) (Err why) → ⊥
+no_refusal to why h = cc
 
--- An answer that is a place is no refusal.
-abbrev is_place : Reach → Bool
-is_place (At to) = true
-is_place (Wrong place) = false
-is_place (LeftOut place) = false
-
-abbrev place_of : Reach → ℕ
-place_of (At to) = to
-place_of (Wrong place) = place
-place_of (LeftOut place) = place
-
-not_refused : (opens : Bool) (to at : ℕ) → At to ≡ refusal_at opens at → ⊥
-not_refused true to at h = false≢true (sym (ap is_place h))
-not_refused false to at h = false≢true (sym (ap is_place h))
+same_place : (to place : ℕ) → ◌≡◌ {A = Reach} (Ok to) (Ok place) → to ≡ place
+same_place to place h = cc
 
 -- The place past a part is this one.
 abbrev pub Exactly : ℕ → ℕ → Reach → Type 0
-Exactly end most (At to) = (to ≡ end) × (to ≤ most)
-Exactly end most (Wrong place) = place ≤ most
-Exactly end most (LeftOut place) = place ≤ most
+Exactly end most (Ok to) = (to ≡ end) × (to ≤ most)
+Exactly end most (Err why) = refusal_place why ≤ most
 
-refusal_within : (opens : Bool) (at end most : ℕ) → at ≤ most → Exactly end most (refusal_at opens at)
+refusal_within : (opens : Bool) (at end most : ℕ) → at ≤ most → Exactly end most (Err (refusal_at opens at))
 refusal_within true at end most l = l
 refusal_within false at end most l = l
 
@@ -56,35 +41,35 @@ module _ (text : List ℕ) (at : ℕ) (set : ℕ → Bool) where
   by_byte ends takes other = in_or_out at (length text) (λ inside. ⊎_elim (takes inside) (other inside) (decide (set (get_or text at 0)))) ends
 
   module _ (sets : List (ℕ → Bool)) where
-    row_ends : length text ≤ at → row_of at (set ∷ sets) (drop at text) ≡ Wrong at
+    row_ends : length text ≤ at → row_of at (set ∷ sets) (drop at text) ≡ Err (NoXml at)
     row_ends l = rw (drop_of_length-le text l)
 
     row_takes : at < length text → set (get_or text at 0) ≡ true → row_of at (set ∷ sets) (drop at text) ≡ row_of (suc at) sets (drop (suc at) text)
     row_takes inside h = rw (drop-cons text at 0 inside, h)
 
-    row_other : at < length text → set (get_or text at 0) ≡ false → row_of at (set ∷ sets) (drop at text) ≡ refusal_at (left_out_anywhere (drop at text)) at
+    row_other : at < length text → set (get_or text at 0) ≡ false → row_of at (set ∷ sets) (drop at text) ≡ Err (refusal_at (left_out_anywhere (drop at text)) at)
     row_other inside h = rw (drop-cons text at 0 inside, h)
 
-  pub reads_end : length text ≤ at → Reads text at (set ∷ []) (Wrong at)
+  pub reads_end : length text ≤ at → Reads text at (set ∷ []) (Err (NoXml at))
   reads_end l = record { comes = sym (row_ends [] l) }
 
-  pub reads_taken : (to : ℕ) → at < length text → set (get_or text at 0) ≡ true → to ≡ at + 1 → Reads text at (set ∷ []) (At to)
-  reads_taken to inside h e = let next : to ≡ suc at = omega arith in record { comes = ap At next ∙ sym (row_takes [] inside h) }
+  pub reads_taken : (to : ℕ) → at < length text → set (get_or text at 0) ≡ true → to ≡ at + 1 → Reads text at (set ∷ []) (Ok to)
+  reads_taken to inside h e = let next : to ≡ suc at = omega arith in record { comes = ap Ok next ∙ sym (row_takes [] inside h) }
 
-  pub reads_other : (r : Reach) → at < length text → set (get_or text at 0) ≡ false → r ≡ refusal_at (left_out_anywhere (drop at text)) at → Reads text at (set ∷ []) r
-  reads_other r inside h e = record { comes = e ∙ sym (row_other [] inside h) }
+  pub reads_other : (why : Refusal) → at < length text → set (get_or text at 0) ≡ false → why ≡ refusal_at (left_out_anywhere (drop at text)) at → Reads text at (set ∷ []) (Err why)
+  reads_other why inside h e = record { comes = ap Err e ∙ sym (row_other [] inside h) }
 
   -- It is passed, and the rest of the row must come; or it is refused, and the row with it.
-  pub row_next : (to : ℕ) → Reads text at (set ∷ []) (At to) → (sets : List (ℕ → Bool)) → row_of at (set ∷ sets) (drop at text) ≡ row_of to sets (drop to text)
+  pub row_next : (to : ℕ) → Reads text at (set ∷ []) (Ok to) → (sets : List (ℕ → Bool)) → row_of at (set ∷ sets) (drop at text) ≡ row_of to sets (drop to text)
   row_next to h sets =
-      by_byte (λ l. absurd (not_refused false to at (h.comes ∙ row_ends [] l)))
-      (λ inside t. row_takes sets inside t ∙ ap (λ n. row_of n sets (drop n text)) (sym (ap place_of (h.comes ∙ row_takes [] inside t))))
-      (λ inside t. absurd (not_refused (left_out_anywhere (drop at text)) to at (h.comes ∙ row_other [] inside t)))
+      by_byte (λ l. absurd (no_refusal to _ (h.comes ∙ row_ends [] l)))
+      (λ inside t. row_takes sets inside t ∙ ap (λ n. row_of n sets (drop n text)) (same_place _ _ (sym (h.comes ∙ row_takes [] inside t))))
+      (λ inside t. absurd (no_refusal to _ (h.comes ∙ row_other [] inside t)))
 
-  pub row_stuck : (r : Reach) → Refused r → Reads text at (set ∷ []) r → (sets : List (ℕ → Bool)) → Reads text at (set ∷ sets) r
-  row_stuck r stuck h sets =
+  pub row_stuck : (why : Refusal) → Reads text at (set ∷ []) (Err why) → (sets : List (ℕ → Bool)) → Reads text at (set ∷ sets) (Err why)
+  row_stuck why h sets =
       record {
-        comes = by_byte (λ l. h.comes ∙ row_ends [] l ∙ sym (row_ends sets l)) (λ inside t. absurd (miss (1 ∷ 2 ∷ []) 0 tt (subst Refused (h.comes ∙ row_takes [] inside t) stuck)))
+        comes = by_byte (λ l. h.comes ∙ row_ends [] l ∙ sym (row_ends sets l)) (λ inside t. absurd (no_refusal _ why (sym (h.comes ∙ row_takes [] inside t))))
             (λ inside t. h.comes ∙ row_other [] inside t ∙ sym (row_other sets inside t));
       }
 
@@ -103,26 +88,24 @@ pub reads_bounds : (text : List ℕ) (at : ℕ) (sets : List (ℕ → Bool)) (r 
 reads_bounds text at sets r l h = subst (Exactly (at + length sets) (length text)) (sym h.comes) (row_bounds text at sets l)
 
 pub exactly_between : (end least most : ℕ) (r : Reach) → least ≤ end → Exactly end most r → Between least most r
-exactly_between end least most (At to) l h = (omega (arith, h.0), h.1)
-exactly_between end least most (Wrong place) l h = h
-exactly_between end least most (LeftOut place) l h = h
+exactly_between end least most (Ok to) l h = (omega (arith, h.0), h.1)
+exactly_between end least most (Err why) l h = h
 
 -- A ROW READ BYTE BY BYTE. What is left of it from a place on comes to the same.
 module _ (text : List ℕ) (at : ℕ) (sets : List (ℕ → Bool)) where
   abbrev pub Passed : ℕ → List (ℕ → Bool) → Type 0
   Passed place rest = row_of at sets (drop at text) ≡ row_of place rest (drop place text)
 
-  pub passed_on : (place to : ℕ) (set : ℕ → Bool) (rest : List (ℕ → Bool)) → Passed place (set ∷ rest) → Reads text place (set ∷ []) (At to) → Passed to rest
+  pub passed_on : (place to : ℕ) (set : ℕ → Bool) (rest : List (ℕ → Bool)) → Passed place (set ∷ rest) → Reads text place (set ∷ []) (Ok to) → Passed to rest
   passed_on place to set rest p h = p ∙ row_next text place set to h rest
 
-  pub passed_stuck : (place : ℕ) (set : ℕ → Bool) (rest : List (ℕ → Bool)) (r : Reach) → Passed place (set ∷ rest) → Refused r → Reads text place (set ∷ []) r → Reads text at sets r
-  passed_stuck place set rest r p stuck h = record { comes = (row_stuck text place set r stuck h rest).comes ∙ sym p }
+  pub passed_stuck : (place : ℕ) (set : ℕ → Bool) (rest : List (ℕ → Bool)) (why : Refusal) → Passed place (set ∷ rest) → Reads text place (set ∷ []) (Err why) → Reads text at sets (Err why)
+  passed_stuck place set rest why p h = record { comes = (row_stuck text place set why h rest).comes ∙ sym p }
 
 -- HOW READING GOES THROUGH A ROW of calm bytes, whatever it comes to behind it.
 abbrev pub landed : (ℕ → Sought) → Reach → Sought
-landed f (At to) = f to
-landed f (Wrong place) = refused 11 place
-landed f (LeftOut place) = refused 12 place
+landed f (Ok to) = f to
+landed f (Err why) = refusing why
 
 abbrev pub CalmSet : (ℕ → Bool) → Type 0
 CalmSet set = (b : ℕ) → set b ≡ true → Calm b
@@ -135,7 +118,7 @@ module _ (text : List ℕ) (f : ℕ → List (ℕ → Bool) → Sought)
     (ends : (at : ℕ) (set : ℕ → Bool) (sets : List (ℕ → Bool)) → length text ≤ at → f at (set ∷ sets) ≡ refused 11 at)
     (takes : (at : ℕ) (set : ℕ → Bool) (sets : List (ℕ → Bool)) → at < length text → set (get_or text at 0) ≡ true → Calm (get_or text at 0) → f at (set ∷ sets) ≡ f (suc at) sets)
     (other : (at : ℕ) (set : ℕ → Bool) (sets : List (ℕ → Bool)) → at < length text → set (get_or text at 0) ≡ false
-    → f at (set ∷ sets) ≡ landed (λ to. f to []) (refusal_at (left_out_anywhere (drop at text)) at)) where
+    → f at (set ∷ sets) ≡ landed (λ to. f to []) (Err (refusal_at (left_out_anywhere (drop at text)) at))) where
   pub row_goes : (at : ℕ) (sets : List (ℕ → Bool)) → CalmSets sets → f at sets ≡ landed (λ to. f to []) (row_of at sets (drop at text))
   row_goes at [] calm = refl
   row_goes at (set ∷ sets) calm =

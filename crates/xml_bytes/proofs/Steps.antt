@@ -3,11 +3,12 @@ use Prim.Native.Nat.{ℕ, suc, ◌+◌, ◌≤◌, ◌<◌}
 use native.Mathlib.Omega.{arith}
 use borrow.Author.Tests.{ne_eqb, eq-eqb, leb-true, leb-false}
 use mathlib.Core.Path.{◌≡◌, refl, sym, ◌∙◌, ap}
-use mathlib.Core.Bool.{Bool, true, false, ◌&&◌, cond, false≢true}
+use mathlib.Core.Bool.{Bool, true, false, cond, false≢true}
 use mathlib.Core.List.{List, [], ◌∷◌}
 use mathlib.Core.Logic.{⊎_elim}
 use mathlib.Core.Option.{none, some}
 use lib.Dec.{leb}
+use Rattle.std.specs.Prelude.{Err}
 use lib.ListN.{length, get_or, drop, drop_of_length-le, length-drop}
 use lib.Seq.{drop-cons, get_or-drop}
 use Rattle.paper.specs.Tools.{run_of}
@@ -31,14 +32,6 @@ is_calm b h = record { no_tag = λ e. false≢true (sym (rw (eq-eqb b 60 e)) ∙
 
 pub calm_opens : (b : ℕ) (bs : List ℕ) → Calm b → left_out_anywhere (b ∷ bs) ≡ false
 calm_opens b bs c = rw (ne_eqb b 60 c.no_tag, ne_eqb b 38 c.no-reference)
-
--- One byte opens nothing.
-pub alone_opens : (b : ℕ) → left_out_anywhere (b ∷ []) ≡ false
-alone_opens b = simp and_zero
-  where
-    and_zero : (x : Bool) → (x && false) ≡ false
-    and_zero true = refl
-    and_zero false = refl
 
 -- What stands at a place decides.
 pub in_or_out : (at long : ℕ) {C : Type 0} → (at < long → C) → (long ≤ at → C) → C
@@ -82,10 +75,10 @@ module _ (text : List ℕ) (at : ℕ) (s : State) where
 
     -- So it is refused, by what opens there.
     pub refused_here : (u : State) → left_out s.mode (drop at text) ≡ left_out_anywhere (drop at text) → step at s (get_or text at 0) ≡ none
-        → seek_at text at s ≡ reached text u (refusal_at (left_out_anywhere (drop at text)) at)
+        → seek_at text at s ≡ reached text u (Err (refusal_at (left_out_anywhere (drop at text)) at))
     refused_here u o e = go (left_out_anywhere (drop at text)) refl
       where
-        go : (b : Bool) → left_out_anywhere (drop at text) ≡ b → seek_at text at s ≡ reached text u (refusal_at b at)
+        go : (b : Bool) → left_out_anywhere (drop at text) ≡ b → seek_at text at s ≡ reached text u (Err (refusal_at b at))
         go true p = opens_here (o ∙ p)
         go false p = no_step (o ∙ p) e
 
@@ -104,7 +97,7 @@ module _ (text : List ℕ) (at : ℕ) (set : ℕ → Bool) (s t : State) (w : Wa
       let o : left_out_anywhere (drop at text) ≡ false = ap left_out_anywhere (drop-cons text at 0 inside) ∙ calm_opens (get_or text at 0) (drop (suc at) text) c in
       steps_on text at s inside (w.unsettled (drop at text)) t (w.opens (drop at text) ∙ o) (w.goes (get_or text at 0) ∙ rw h)
 
-  pub wait_refused : (u : State) → at < length text → set (get_or text at 0) ≡ false → seek_at text at s ≡ reached text u (refusal_at (left_out_anywhere (drop at text)) at)
+  pub wait_refused : (u : State) → at < length text → set (get_or text at 0) ≡ false → seek_at text at s ≡ reached text u (Err (refusal_at (left_out_anywhere (drop at text)) at))
   wait_refused u inside h = refused_here text at s inside (w.unsettled (drop at text)) u (w.opens (drop at text)) (w.goes (get_or text at 0) ∙ rw h)
 
 -- A calm byte opens nothing where it stands.

@@ -1,9 +1,13 @@
 -- Bytes that must come, and what reading them says of the paper's reading.
-use Rattle.std.specs.Prelude.{ℕ, zero, suc, ◌≤◌, ◌≡◌, Bool, true, false, not, ◌&&◌, ◌||◌, cond, List, [], ◌∷◌, eqb, drop}
+use Rattle.std.specs.Prelude.{ℕ, Result, Ok, Err, zero, suc, ◌≤◌, ◌≡◌, Bool, true, false, not, ◌&&◌, ◌||◌, cond, List, [], ◌∷◌, eqb, drop}
 use Rattle.paper.specs.Xml.{from, Frame, Mode, State, left_out_anywhere}
-use Rattle.xml_bytes.specs.Seeking.{Sought, refused, seek}
-use Rattle.xml_bytes.specs.declared.Reach.{Reach}
-use Rattle.xml_bytes.specs.declared.Reach.TheVariants.{At, Wrong, LeftOut}
+use Rattle.paper.specs.declared.Refusal.{Refusal}
+use Rattle.paper.specs.declared.Refusal.TheVariants.{NoXml, LeftOut}
+use Rattle.xml_bytes.specs.Seeking.{Sought, refusing, refusal_place, seek}
+
+-- What reading a part comes to: the place past it, or a refusal.
+abbrev pub Reach : Type 0
+Reach = Result ℕ Refusal
 
 abbrev pub state : Mode → List Frame → State
 state mode frames = record { mode = mode; frames = frames }
@@ -14,26 +18,24 @@ seek_at text at s = seek at s (drop at text)
 
 -- What is left to read where a part was read: from the place past it, in this state; a refusal is one of the whole.
 abbrev pub reached : List ℕ → State → Reach → Sought
-reached text s (At to) = seek_at text to s
-reached text s (Wrong place) = refused 11 place
-reached text s (LeftOut place) = refused 12 place
+reached text s (Ok to) = seek_at text to s
+reached text s (Err why) = refusing why
 
 -- The place past a part lies within these bounds, and a refusal within the text.
 abbrev pub Between : ℕ → ℕ → Reach → Type 0
-Between least most (At to) = (least ≤ to) × (to ≤ most)
-Between least most (Wrong place) = place ≤ most
-Between least most (LeftOut place) = place ≤ most
+Between least most (Ok to) = (least ≤ to) × (to ≤ most)
+Between least most (Err why) = refusal_place why ≤ most
 
 -- Refusal 12 or 11 at a place.
-abbrev pub refusal_at : Bool → ℕ → Reach
+abbrev pub refusal_at : Bool → ℕ → Refusal
 refusal_at true at = LeftOut at
-refusal_at false at = Wrong at
+refusal_at false at = NoXml at
 
 -- Bytes from a place on, each of its set: the place past them, or where the first other one stands.
 abbrev pub row_of : ℕ → List (ℕ → Bool) → List ℕ → Reach
-row_of at [] bs = At at
-row_of at (set ∷ sets) [] = Wrong at
-row_of at (set ∷ sets) (b ∷ bs) = cond (set b) (row_of (suc at) sets bs) (refusal_at (left_out_anywhere (b ∷ bs)) at)
+row_of at [] bs = Ok at
+row_of at (set ∷ sets) [] = Err (NoXml at)
+row_of at (set ∷ sets) (b ∷ bs) = cond (set b) (row_of (suc at) sets bs) (Err (refusal_at (left_out_anywhere (b ∷ bs)) at))
 
 -- What reading such bytes from a place of the text on comes to.
 pub record Reads (text : List ℕ) (at : ℕ) (sets : List (ℕ → Bool)) (r : Reach) : Type 0 where

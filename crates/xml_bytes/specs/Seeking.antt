@@ -2,12 +2,34 @@
 use Rattle.std.specs.Prelude.{ℕ, suc, cond, List, [], ◌∷◌}
 use Rattle.std.proofs.Math.Option.{Option, none, some}
 use Rattle.paper.specs.Tools.{begins}
+use Rattle.paper.specs.Answers.{Answer, value, refusal}
+use Rattle.paper.specs.Told.{told_refusal}
+use Rattle.paper.specs.declared.Refusal.{Refusal}
 use Rattle.paper.specs.Xml.{nothing, chars, Frame, Mode, start, first, heading, ahead, opening, in_name, in_tag, emptied, content, run, partly, closing, ended, State, stands, with, step, left_out}
 
 -- Where the piece ends and how reading then stands, or a refusal number with a place.
 pub data Sought : Type 0 where
   stops : ℕ → State → Sought
   refused : ℕ → ℕ → Sought
+
+-- The number and the place that a refusal tells.
+abbrev pub number_told : Answer → ℕ
+number_told (value n) = 0
+number_told (refusal number place) = number
+
+abbrev pub place_told : Answer → ℕ
+place_told (value n) = 0
+place_told (refusal number place) = place
+
+abbrev pub refusal_number : Refusal → ℕ
+refusal_number why = number_told (told_refusal why)
+
+abbrev pub refusal_place : Refusal → ℕ
+refusal_place why = place_told (told_refusal why)
+
+-- A refusal of the code, as reading says it.
+abbrev pub refusing : Refusal → Sought
+refusing why = refused (refusal_number why) (refusal_place why)
 
 -- A run of characters ends before a `<`.
 abbrev pub run_stops : ℕ → ℕ → List Frame → List ℕ → Option State

@@ -6,13 +6,10 @@ ghost use Rattle.paper.specs.Xml.{left_out_anywhere};
 ghost use Rattle.xml_bytes.specs.Blocks.{block, Sooner};
 ghost use Rattle.xml_bytes.specs.Promised.{refusal_at, Reads, spelling};
 
+use paper::Refusal;
+
 // What reading a part comes to: the place past it; or where no wanted text goes on, or where a thing that is left out opens.
-#[derive(Clone, Copy)]
-pub enum Reach {
-    At(usize),
-    Wrong(usize),
-    LeftOut(usize),
-}
+pub type Reach = Result<usize, Refusal>;
 
 // Is this `<!`, `<?` or `&#`?
 fn opens(a: u8, b: u8) -> bool
@@ -26,25 +23,21 @@ pub fn markup(text: &[u8], at: usize) -> bool
     requires { at ≤ length text.now }
     ensures { result ≡ left_out_anywhere (drop at text.now) }
 {
-    if text.len() <= at {
-        return false;
+    match &text[at..] {
+        [a, b, ..] => opens(*a, *b),
+        _ => false,
     }
-    let next = at + 1;
-    if text.len() <= next {
-        return false;
-    }
-    opens(text[at], text[next])
 }
 
-// Where no wanted text goes on.
-pub fn refuse(text: &[u8], at: usize) -> Reach
+// Why no wanted text goes on.
+pub fn refuse(text: &[u8], at: usize) -> Refusal
     requires { at ≤ length text.now }
     ensures { result ≡ refusal_at (left_out_anywhere (drop at text.now)) at }
 {
     if markup(text, at) {
-        Reach::LeftOut(at)
+        Refusal::LeftOut(at)
     } else {
-        Reach::Wrong(at)
+        Refusal::NoXml(at)
     }
 }
 
@@ -53,13 +46,9 @@ pub fn byte(text: &[u8], at: usize, wanted: u8) -> Reach
     requires { at ≤ length text.now }
     ensures { Reads text.now at (eqb wanted ∷ []) result }
 {
-    if text.len() <= at {
-        return Reach::Wrong(at);
-    }
-    if wanted == text[at] {
-        Reach::At(at + 1)
-    } else {
-        refuse(text, at)
+    match text.get(at) {
+        Some(&b) if b == wanted => Ok(at + 1),
+        _ => Err(refuse(text, at)),
     }
 }
 
@@ -68,15 +57,11 @@ pub fn say(text: &[u8], at: usize, word: &[u8]) -> Reach
     requires { at ≤ length text.now }
     ensures { Reads text.now at (spelling word.now) result }
 {
-    let mut done = 0;
-    while done < word.len() {
-        let one = byte(text, at + done, word[done]);
-        let Reach::At(_) = one else {
-            return one;
-        };
-        done += 1;
+    let mut next = at;
+    for &wanted in word {
+        next = byte(text, next, wanted)?;
     }
-    Reach::At(at + done)
+    Ok(next)
 }
 
 // So many bytes are looked at together.
@@ -87,6 +72,6 @@ pub fn sooner(stop: u8, i: u8, fit: bool) -> u8
     requires { i < block }
     ensures { Sooner stop i fit result }
 {
-    let here = (fit as u8) * BLOCK + i;
+    let here = u8::from(fit) * BLOCK + i;
     if here < stop { here } else { stop }
 }

@@ -1,56 +1,37 @@
 -- The lines of reading XML in their order, and what each answer leaves in the columns. Assumes nothing.
-use Prim.Native.Nat.{ℕ, suc, ◌≤◌, ◌<◌}
+use Prim.Native.Nat.{ℕ, ◌≤◌}
 use native.Mathlib.Omega.{arith}
 use borrow.Author.Tests.{ltb-false, eqb-true, not-false}
 use mathlib.Core.Path.{◌≡◌, refl, sym, ◌∙◌, ap, subst}
 use mathlib.Core.Bool.{Bool, true, false, not, ◌||◌}
 use mathlib.Core.List.{List, map}
-use mathlib.Core.Option.{Option, none, some}
+use mathlib.Core.Option.{none, some}
 use lib.Dec.{eqb, ltb}
 use lib.ListN.{length, take}
 use Rattle.paper.specs.Tools.{when, written}
 use Rattle.paper.specs.Limits.{text_limit, list_limit, node_limit}
 use Rattle.paper.specs.Names.{names_fault, names_of, number_of}
-use Rattle.paper.specs.Xml.{Nodes, Judged, wanted, unwanted, read_xml, table, unnamed, count}
-use Rattle.paper.specs.Answers.{value, refusal, line, too_long, at_exit, line_xml, short_of_nodes, rows_got, read_xml_last, read_xml_answer, read_xml_column, parent_field, kind_field, begin_field, end_field}
+use Rattle.paper.specs.Xml.{read_xml, table, unnamed}
+use Rattle.paper.specs.Answers.{value, refusal, line, too_long, line_xml, short_of_nodes, rows_got, read_xml_last, read_xml_answer, read_xml_column, parent_field, kind_field, begin_field, end_field}
 use Rattle.paper.specs.Answers.{Answer as Told}
-use Rattle.paper.specs.Told.{told}
-use Rattle.paper.specs.declared.Answer.{Answer}
-use Rattle.paper.proofs.Refusing.{line_value, when_none, or_none, Refuses, refused_keeps}
+use Rattle.paper.specs.Told.{told_refusal}
+use Rattle.paper.specs.declared.Refusal.{Refusal}
+use Rattle.paper.proofs.Refusing.{line_value, when_none, or_none, refusal_told, refused_keeps}
+use Rattle.xml_bytes.specs.Seeking.{refusal_number, refusal_place}
 use Rattle.xml_lines.specs.Kept.{Columns, columns, Filled, xml_answer, exit_columns}
-use Rattle.xml_lines.specs.Judges.{Wanted, Judges}
+use Rattle.xml_lines.specs.Judges.{Refuses, Judges}
 use Rattle.xml_lines.specs.declared.Progress.{Progress}
-use Rattle.xml_lines.specs.declared.Step.{Step}
-use Rattle.xml_lines.specs.declared.Step.TheVariants.{On, Wrong, LeftOut}
-use Rattle.xml_lines.proofs.Lacking.{none_lacking, some_lacking}
+use Rattle.std.specs.Prelude.{Result, Ok, Err}
 use Rattle.xml_lines.proofs.Filling.{copied_room, copied}
+
+-- A refusal is told by its number and its place.
+as_told : (why : Refusal) → told_refusal why ≡ refusal (refusal_number why) (refusal_place why)
+as_told why = let t = refusal_told why in rw t.2
 
 module _ (text list : List ℕ) (room : ℕ) where
   -- 12 and 11.
-  pub refused_text : (number place : ℕ) → read_xml text ≡ unwanted number place → refusal number place ≡ xml_answer text list room
-  refused_text number place e = sym (ap (λ j. line_xml j (λ tree. read_xml_last list room (table (length text) tree))) e)
-
-  -- 5 and 10 of a wanted text.
-  module _ (cols : Columns) (p : Progress) (h : Wanted text list cols p) where
-    wanted_answer : read_xml_last list room (table (length text) h.tree) ≡ xml_answer text list room
-    wanted_answer = sym (ap (λ j. line_xml j (λ tree. read_xml_last list room (table (length text) tree))) h.is)
-
-    pub name_lacking : (p.unnamed ≡ 0 → ⊥) → refusal 5 p.unnamed ≡ xml_answer text list room
-    name_lacking some-place =
-        let e = some_lacking (number_of (names_of list)) (table (length text) h.tree) p.unnamed h.counted.lacking some-place in
-        sym (ap (λ o. line 5 o (line 10 (short_of_nodes room (length (table (length text) h.tree))) (value (length (table (length text) h.tree))))) e) ∙ wanted_answer
-
-    all_named : p.unnamed ≡ 0 → line 10 (short_of_nodes room p.nodes) (value p.nodes) ≡ xml_answer text list room
-    all_named zero =
-        let e = none_lacking (number_of (names_of list)) (table (length text) h.tree) (sym zero ∙ h.counted.lacking) in
-        ap (λ n. line 10 (short_of_nodes room n) (value n)) h.counted.nodes
-        ∙ sym (ap (λ o. line 5 o (line 10 (short_of_nodes room (length (table (length text) h.tree))) (value (length (table (length text) h.tree))))) e) ∙ wanted_answer
-
-    pub too_short : p.unnamed ≡ 0 → (ltb room p.nodes || ltb node_limit p.nodes) ≡ true → refusal 10 p.nodes ≡ xml_answer text list room
-    too_short zero e = sym (ap (λ b. line 10 (when b p.nodes) (value p.nodes)) e) ∙ all_named zero
-
-    pub enough : p.unnamed ≡ 0 → (ltb room p.nodes || ltb node_limit p.nodes) ≡ false → value p.nodes ≡ xml_answer text list room
-    enough zero e = sym (ap (λ b. line 10 (when b p.nodes) (value p.nodes)) e) ∙ all_named zero
+  pub refused_text : (why : Refusal) → Refuses text why → told_refusal why ≡ xml_answer text list room
+  refused_text why h = as_told why ∙ sym (ap (λ j. line_xml j (λ tree. read_xml_last list room (table (length text) tree))) h)
 
 -- What was kept of an accepted text.
 pub record Accepted (text list : List ℕ) (cols : Columns) (room n : ℕ) : Type 0 where
@@ -65,10 +46,9 @@ refused_value number place n e = let z : ◌≡◌ {A = ℕ} 0 1 = cc in absurd 
 value_same : (m n : ℕ) → ◌≡◌ {A = Told} (value m) (value n) → n ≡ m
 value_same m n e = cc
 
-pub accepted : (text list : List ℕ) (cols : Columns) (room n : ℕ) (judged : Step) → Judges text list cols judged → xml_answer text list room ≡ value n → Accepted text list cols room n
-accepted text list cols room n (Wrong place) h a = absurd (refused_value 11 place n (refused_text text list room 11 place h ∙ a))
-accepted text list cols room n (LeftOut place) h a = absurd (refused_value 12 place n (refused_text text list room 12 place h ∙ a))
-accepted text list cols room n (On p) h a =
+pub accepted : (text list : List ℕ) (cols : Columns) (room n : ℕ) (judged : Result Progress Refusal) → Judges text list cols judged → xml_answer text list room ≡ value n → Accepted text list cols room n
+accepted text list cols room n (Err why) h a = absurd (refused_value (refusal_number why) (refusal_place why) n (sym (as_told why) ∙ refused_text text list room why h ∙ a))
+accepted text list cols room n (Ok p) h a =
     let lines = table (length text) h.tree in
     let e : read_xml_last list room lines ≡ value n = sym (ap (λ j. line_xml j (λ tree. read_xml_last list room (table (length text) tree))) h.is) ∙ a in
     let last = (line_value 5 n (unnamed (number_of (names_of list)) lines) _ e).1 in
@@ -111,15 +91,15 @@ copied_exit text list cols old room n parents kinds begins ends h p k b e =
     )
     refl
 
-pub refused_exit : (text list : List ℕ) (old : Columns) (a : Answer) → Refuses a → columns old.parents old.kinds old.begins old.ends ≡ exit_columns text list (told a) old
+pub refused_exit : (text list : List ℕ) (old : Columns) (why : Refusal) → columns old.parents old.kinds old.begins old.ends ≡ exit_columns text list (told_refusal why) old
 unfolding read_xml_column
-refused_exit text list old a h =
+refused_exit text list old why =
     let rows = rows_got (length text) (read_xml text) in
     rw (
-      refused_keeps a (map parent_field rows) old.parents h,
-      refused_keeps a (map (kind_field list) rows) old.kinds h,
-      refused_keeps a (map begin_field rows) old.begins h,
-      refused_keeps a (map end_field rows) old.ends h,
+      refused_keeps why (map parent_field rows) old.parents,
+      refused_keeps why (map (kind_field list) rows) old.kinds,
+      refused_keeps why (map begin_field rows) old.begins,
+      refused_keeps why (map end_field rows) old.ends,
     )
     refl
 

@@ -1,13 +1,13 @@
 -- What a line more and an end more do to the kept columns, and what is copied of them. Assumes nothing.
 use Prim.Native.Nat.{ℕ, suc, ◌+◌, ◌≤◌, ◌<◌}
 use native.Mathlib.Omega.{arith}
-use mathlib.Core.Path.{◌≡◌, refl, sym, ◌∙◌, ap, subst}
+use mathlib.Core.Path.{◌≡◌, refl, sym, ◌∙◌, ap}
 use mathlib.Core.List.{List, [], ◌∷◌, ◌++◌, map, append_assoc}
-use lib.ListN.{length, get_or, set, take, drop, replicate, length-append, length-map, length-replicate}
+use lib.ListN.{length, get_or, set, take, drop, length-append, length-map, length-replicate}
 use lib.Seq.{set_at, get_or_at, take-append_seam, take-suc, length-take-le}
 use Rattle.paper.specs.Tools.{written}
 use Rattle.paper.specs.Limits.{node_limit}
-use Rattle.paper.specs.Xml.{Frame, What, named, Row, row, rows}
+use Rattle.paper.specs.Xml.{Frame, named, Row, row, rows}
 use Rattle.paper.specs.Answers.{parent_field, kind_field, begin_field, end_field}
 use Rattle.paper.proofs.Extracting.{write_next}
 use Rattle.xml_lines.specs.Open.{begun, innermost, lines}

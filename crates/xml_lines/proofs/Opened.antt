@@ -2,12 +2,12 @@
 -- Assumes nothing.
 use Prim.Native.Nat.{ℕ, suc, ◌+◌}
 use native.Mathlib.Omega.{arith}
-use mathlib.Core.Path.{◌≡◌, refl, sym, ◌∙◌, ap, ap₂}
+use mathlib.Core.Path.{◌≡◌, refl, sym, ◌∙◌, ap}
 use mathlib.Core.List.{List, [], ◌∷◌, ◌++◌, append_assoc, append-nil}
 use lib.ListN.{length, length-append}
 use Rattle.paper.specs.Xml.{Nodes, nothing, element, chars, beside, Frame, with, count, named, Row, row, rows, table}
 use Rattle.xml.specs.Pieces.{added}
-use Rattle.xml_lines.specs.Open.{begun, innermost, lines, Stand, within, past, state_of, open_in, so_far, joined}
+use Rattle.xml_lines.specs.Open.{begun, innermost, lines, state_of, so_far, joined}
 
 -- Two rows of nodes beside each other.
 pub count_beside : (a b : Nodes) → count (beside a b) ≡ count a + count b

@@ -1,24 +1,20 @@
 -- What reading keeps of the text so far, and what it promises.
-use Rattle.std.specs.Prelude.{ℕ, suc, ◌+◌, ◌*◌, ◌≤◌, ◌<◌, ◌≡◌, List, [], ◌∷◌, length, get_or}
-use Rattle.std.proofs.Math.Option.{Option, none, some}
+use Rattle.std.specs.Prelude.{ℕ, suc, ◌*◌, ◌≤◌, ◌<◌, ◌≡◌, List, [], ◌∷◌, Result, Ok, Err, length, get_or}
+use Rattle.std.proofs.Math.Option.{Option}
 use Rattle.paper.specs.Limits.{node_limit}
 use Rattle.paper.specs.Names.{names_of, number_of}
-use Rattle.paper.specs.Xml.{Nodes, Frame, Judged, wanted, unwanted, read_xml, Row, table, unnamed}
+use Rattle.paper.specs.Told.{found}
+use Rattle.paper.specs.declared.Refusal.{Refusal}
+use Rattle.paper.specs.Xml.{Nodes, Frame, wanted, unwanted, read_xml, Row, table, unnamed}
+use Rattle.xml_bytes.specs.Seeking.{refusal_number, refusal_place}
 use Rattle.xml.specs.declared.Piece.{Piece}
 use Rattle.xml_lines.specs.Open.{innermost, lines, Stand, past, open_in, so_far, Stands, Moves}
 use Rattle.xml_lines.specs.Kept.{Columns, Filled}
 use Rattle.xml_lines.specs.declared.Progress.{Progress}
-use Rattle.xml_lines.specs.declared.Step.{Step}
-use Rattle.xml_lines.specs.declared.Step.TheVariants.{On, Wrong, LeftOut}
 
 -- How many elements can be open at once in a text within the limit.
 abbrev pub open_limit : ℕ
 open_limit = 10922
-
--- A place, 0 where there is none.
-abbrev pub place_of : Option ℕ → ℕ
-place_of none = 0
-place_of (some place) = place
 
 -- The places where the open elements begin are kept, the outermost first.
 abbrev pub Kept : List ℕ → List Frame → Type 0
@@ -31,7 +27,7 @@ pub record Counts (look : List ℕ → Option ℕ) (begins : List ℕ) (frames :
   pub depth : p.depth ≡ length frames
   pub kept : Kept begins frames
   pub nodes : p.nodes ≡ length rows
-  pub lacking : p.unnamed ≡ place_of (unnamed look rows)
+  pub lacking : found p.unnamed ≡ unnamed look rows
   pub room : 3 * length frames ≤ p.at
   pub few : length rows ≤ suc p.at
 
@@ -54,22 +50,24 @@ pub record Facing (text list begins : List ℕ) (cols : Columns) (piece : Piece)
   pub counts : Counts (number_of (names_of list)) begins frames (lines (length text) frames) p
   pub lined : Lined list (lines (length text) frames) (innermost frames) cols p.inner
 
+-- The text is refused.
+abbrev pub Refuses : List ℕ → Refusal → Type 0
+Refuses text why = read_xml text ≡ unwanted (refusal_number why) (refusal_place why)
+
 -- It has come further, or the text is refused.
-abbrev pub Comes : List ℕ → List ℕ → List ℕ → Columns → Step → Type 0
-Comes text list begins cols (On p) = Standing text list begins cols p
-Comes text list begins cols (Wrong place) = read_xml text ≡ unwanted 11 place
-Comes text list begins cols (LeftOut place) = read_xml text ≡ unwanted 12 place
+abbrev pub Comes : List ℕ → List ℕ → List ℕ → Columns → Result Progress Refusal → Type 0
+Comes text list begins cols (Ok p) = Standing text list begins cols p
+Comes text list begins cols (Err why) = Refuses text why
 
 -- Further than before.
-abbrev pub Rises : ℕ → Step → Type 0
-Rises at (On p) = at < p.at
-Rises at (Wrong place) = Unit
-Rises at (LeftOut place) = Unit
+abbrev pub Rises : ℕ → Result Progress Refusal → Type 0
+Rises at (Ok p) = at < p.at
+Rises at (Err why) = Unit
 
 -- What was read is a tree: its lines are counted, and kept where a table may have so many.
 pub record Counted (text list : List ℕ) (cols : Columns) (p : Progress) (tree : Nodes) : Type 0 where
   pub nodes : p.nodes ≡ length (table (length text) tree)
-  pub lacking : p.unnamed ≡ place_of (unnamed (number_of (names_of list)) (table (length text) tree))
+  pub lacking : found p.unnamed ≡ unnamed (number_of (names_of list)) (table (length text) tree)
   pub filled : length (table (length text) tree) ≤ node_limit → Filled list (table (length text) tree) cols
 
 -- Up to the end of the one element.
@@ -78,16 +76,14 @@ pub record Element (text list : List ℕ) (cols : Columns) (p : Progress) : Type
   pub stands : Stands text p.at (past tree)
   pub counted : Counted text list cols p tree
 
-abbrev pub Ends : List ℕ → List ℕ → Columns → Step → Type 0
-Ends text list cols (On p) = Element text list cols p
-Ends text list cols (Wrong place) = read_xml text ≡ unwanted 11 place
-Ends text list cols (LeftOut place) = read_xml text ≡ unwanted 12 place
+abbrev pub Ends : List ℕ → List ℕ → Columns → Result Progress Refusal → Type 0
+Ends text list cols (Ok p) = Element text list cols p
+Ends text list cols (Err why) = Refuses text why
 
 -- Within the text.
-abbrev pub Inside : List ℕ → Step → Type 0
-Inside text (On p) = p.at ≤ length text
-Inside text (Wrong place) = Unit
-Inside text (LeftOut place) = Unit
+abbrev pub Inside : List ℕ → Result Progress Refusal → Type 0
+Inside text (Ok p) = p.at ≤ length text
+Inside text (Err why) = Unit
 
 -- The whole text is judged.
 pub record Wanted (text list : List ℕ) (cols : Columns) (p : Progress) : Type 0 where
@@ -95,7 +91,6 @@ pub record Wanted (text list : List ℕ) (cols : Columns) (p : Progress) : Type 
   pub is : read_xml text ≡ wanted tree
   pub counted : Counted text list cols p tree
 
-abbrev pub Judges : List ℕ → List ℕ → Columns → Step → Type 0
-Judges text list cols (On p) = Wanted text list cols p
-Judges text list cols (Wrong place) = read_xml text ≡ unwanted 11 place
-Judges text list cols (LeftOut place) = read_xml text ≡ unwanted 12 place
+abbrev pub Judges : List ℕ → List ℕ → Columns → Result Progress Refusal → Type 0
+Judges text list cols (Ok p) = Wanted text list cols p
+Judges text list cols (Err why) = Refuses text why

@@ -1,20 +1,12 @@
 -- The elements that are open between two pieces, the lines of the table so far, and what a piece does to them.
 use Rattle.std.specs.Prelude.{ℕ, suc, ◌+◌, ◌≤◌, ◌<◌, ◌≡◌, List, [], ◌∷◌, ◌++◌, length, drop}
-use Rattle.std.proofs.Math.Option.{Option, none, some}
 use Rattle.paper.specs.Tools.{run_of}
 use Rattle.paper.specs.Names.{name_part}
-use Rattle.paper.specs.Xml.{Nodes, nothing, element, chars, Frame, State, with, content, ended, Judged, unwanted, judge, read_xml, count, What, root, named, Row, row, rows, table}
-use Rattle.names.specs.Listing.{Indexed}
-use Rattle.initials.specs.Chains.{Chained}
+use Rattle.paper.specs.Xml.{Nodes, nothing, element, chars, Frame, State, with, content, ended, judge, read_xml, count, root, named, Row, row, rows, table}
 use Rattle.xml_bytes.specs.Promised.{state}
 use Rattle.xml.specs.Pieces.{name_at, opened, Named}
 use Rattle.xml.specs.declared.Piece.{Piece}
-use Rattle.xml.specs.declared.Piece.TheVariants.{Start, Empty, End, Text, Wrong, LeftOut}
-
--- NAMES. Where the names of the list stand, and which begin alike.
-pub record Looks (list starts : List ℕ) (count : ℕ) (chains : List ℕ) : Type 0 where
-  pub indexed : Indexed list starts count
-  pub chained : Chained list starts count chains
+use Rattle.xml.specs.declared.Piece.TheVariants.{Start, Empty, End, Text}
 
 -- LINES. How many nodes there are where these elements are open, the root among them.
 abbrev pub begun : List Frame → ℕ
@@ -89,5 +81,3 @@ Moves text at frames (Empty name_end next) =
     Stands text next.at (joined (element (name_at text (suc at)) at next.at nothing nothing) frames) × Tagged text at name_end next.at
 Moves text at frames (End next) = Closes text at frames next.at
 Moves text at frames (Text next) = Extends text at frames next.at
-Moves text at frames (Wrong place) = read_xml text ≡ unwanted 11 place
-Moves text at frames (LeftOut place) = read_xml text ≡ unwanted 12 place

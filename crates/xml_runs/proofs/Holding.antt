@@ -12,12 +12,13 @@ use lib.ListN.{length, get_or, drop}
 use lib.Seq.{drop-cons}
 use Rattle.paper.specs.Xml.{Pattern, done, one, is_done, after, say, Frame, Mode, State, stands, run, partly, goes_on, step_mode, left_out, left_out_anywhere}
 use Rattle.xml_bytes.specs.Seeking.{Sought, settled}
-use Rattle.xml_bytes.specs.Promised.{state, seek_at, reached, Between, refusal_at, row_of, Reads, calm, all_calm, spelling}
+use Rattle.std.specs.Prelude.{Ok, Err}
+use Rattle.paper.specs.declared.Refusal.{Refusal}
+use Rattle.paper.specs.declared.Refusal.TheVariants.{NoXml, LeftOut}
+use Rattle.xml_bytes.specs.Promised.{Reach, state, seek_at, reached, Between, refusal_at, row_of, Reads, calm, all_calm, spelling}
 use Rattle.xml_runs.specs.Runs.{Crosses}
-use Rattle.xml_bytes.specs.declared.Reach.{Reach}
-use Rattle.xml_bytes.specs.declared.Reach.TheVariants.{At, Wrong, LeftOut}
 use Rattle.xml_bytes.proofs.Rows.{CalmSet, CalmSets, landed, row_goes, reads_bounds, exactly_between, word_calm, ones, say_ones}
-use Rattle.xml_bytes.proofs.Steps.{opens_not, Calm, is_calm, Waits, text_ends, opens_here, steps_on, no_step, refused_here, wait_ends, wait_over, wait_refused}
+use Rattle.xml_bytes.proofs.Steps.{opens_not, Calm, is_calm, Waits, opens_here, steps_on, no_step, refused_here, wait_ends, wait_over, wait_refused}
 
 -- The state of a run that waits for a pattern; where nothing must come, the run goes on.
 abbrev pub held : ℕ → List Frame → Pattern → State
@@ -50,7 +51,7 @@ module _ (text : List ℕ) (at : ℕ) where
             (λ n x rest m. wait_ends text n x (waiting_for begin frames (x ∷ rest)) (waiting_for begin frames rest) (wait_one begin n frames x (ones rest done)) m)
             (λ n x rest inside t c. wait_over text n x (waiting_for begin frames (x ∷ rest)) (waiting_for begin frames rest) (wait_one begin n frames x (ones rest done)) inside t c)
             (λ n x rest inside t. wait_refused text n x (waiting_for begin frames (x ∷ rest)) (waiting_for begin frames rest) (wait_one begin n frames x (ones rest done)) (waiting_for begin frames []) inside t
-            ∙ as_reached begin frames (refusal_at (left_out_anywhere (drop n text)) n))
+            ∙ as_reached begin frames (Err (refusal_at (left_out_anywhere (drop n text)) n)))
             at (set ∷ sets) (first, calm)
             ∙ sym (as_reached begin frames (row_of at (set ∷ sets) (drop at text))) ∙ ap (reached text (waiting_for begin frames [])) (sym h.comes);
         bounds = exactly_between (at + suc (length sets)) (suc at) (length text) r (omega arith) (reads_bounds text at (set ∷ sets) r l h);
@@ -63,13 +64,8 @@ module _ (text : List ℕ) (at : ℕ) where
       waiting begin frames n rest = seek_at text n (waiting_for begin frames rest)
 
       as_reached : (begin : ℕ) (frames : List Frame) (q : Reach) → reached text (waiting_for begin frames []) q ≡ landed (λ to. waiting begin frames to []) q
-      as_reached begin frames (At to) = refl
-      as_reached begin frames (Wrong place) = refl
-      as_reached begin frames (LeftOut place) = refl
-
-  -- The text ends where a pattern must go on.
-  pub cross_ends : (p : Pattern) (after : ℕ → Mode) → length text ≤ at → at ≤ length text → Crosses text at (λ begin. partly begin p) after (Wrong at)
-  cross_ends p after l m = record { goes = λ begin frames. text_ends text at (state (partly begin p) frames) l refl; bounds = m }
+      as_reached begin frames (Ok to) = refl
+      as_reached begin frames (Err why) = refl
 
   module _ (inside : at < length text) where
     -- The first byte leads to a state from which the rest crosses.
@@ -86,9 +82,8 @@ module _ (text : List ℕ) (at : ℕ) where
         }
       where
         wider : (r : Reach) → Between (suc (at + 1)) (length text) r → Between (suc at) (length text) r
-        wider (At to) b = (omega (arith, b.0), b.1)
-        wider (Wrong place) b = b
-        wider (LeftOut place) b = b
+        wider (Ok to) b = (omega (arith, b.0), b.1)
+        wider (Err why) b = b
 
     pub pattern_on : (p q : Pattern) (r : Reach) → Calm (get_or text at 0) → after p (get_or text at 0) ≡ some q → is_done q ≡ false
         → Crosses text (at + 1) (λ begin. partly begin q) (λ begin. run begin 0) r → Crosses text at (λ begin. partly begin p) (λ begin. run begin 0) r
@@ -112,7 +107,7 @@ module _ (text : List ℕ) (at : ℕ) where
 
     -- In a run the byte is a character.
     pub run_by : (k k' to : ℕ) → Calm (get_or text at 0) → to ≡ at + 1 → ((begin : ℕ) (frames : List Frame) → step_mode (run begin k) at frames (get_or text at 0) ≡ stands (run begin k') frames)
-        → Crosses text at (λ begin. run begin k) (λ begin. run begin k') (At to)
+        → Crosses text at (λ begin. run begin k) (λ begin. run begin k') (Ok to)
     unfolding left_out
     run_by k k' to calm e goes =
         let next : suc at ≡ to = omega arith in
@@ -124,7 +119,7 @@ module _ (text : List ℕ) (at : ℕ) where
 
     -- In a run no wanted text goes on with the byte, or a reference opens that is left out.
     pub run_stuck : (k : ℕ) (behind : ℕ → Mode) → Calm (get_or text at 0) → ((begin : ℕ) (frames : List Frame) → step_mode (run begin k) at frames (get_or text at 0) ≡ none)
-        → Crosses text at (λ begin. run begin k) behind (Wrong at)
+        → Crosses text at (λ begin. run begin k) behind (Err (NoXml at))
     unfolding left_out
     run_stuck k behind calm goes =
         record {
@@ -132,7 +127,7 @@ module _ (text : List ℕ) (at : ℕ) where
           bounds = omega arith;
         }
 
-    pub run_left_out : (k : ℕ) (behind : ℕ → Mode) → (get_or text at 0 ≡ 60 → ⊥) → left_out_anywhere (drop at text) ≡ true → Crosses text at (λ begin. run begin k) behind (LeftOut at)
+    pub run_left_out : (k : ℕ) (behind : ℕ → Mode) → (get_or text at 0 ≡ 60 → ⊥) → left_out_anywhere (drop at text) ≡ true → Crosses text at (λ begin. run begin k) behind (Err (LeftOut at))
     unfolding left_out
     run_left_out k behind other opens =
         record {
@@ -141,17 +136,17 @@ module _ (text : List ℕ) (at : ℕ) where
         }
 
     -- No pattern goes on with the byte.
-    pub pattern_refused : (p : Pattern) (behind : ℕ → Mode) (r : Reach) → after p (get_or text at 0) ≡ none → r ≡ refusal_at (left_out_anywhere (drop at text)) at
-        → Crosses text at (λ begin. partly begin p) behind r
+    pub pattern_refused : (p : Pattern) (behind : ℕ → Mode) (why : Refusal) → after p (get_or text at 0) ≡ none → why ≡ refusal_at (left_out_anywhere (drop at text)) at
+        → Crosses text at (λ begin. partly begin p) behind (Err why)
     unfolding left_out
-    pattern_refused p behind r e s =
+    pattern_refused p behind why e s =
         record {
           goes = λ begin frames. refused_here text at (state (partly begin p) frames) inside refl (state (behind begin) frames) refl (ap (goes_on begin frames) e)
-              ∙ ap (reached text (state (behind begin) frames)) (sym s);
+              ∙ ap (λ (r : Refusal). reached text (state (behind begin) frames) (Err r)) (sym s);
           bounds = rw s (go (left_out_anywhere (drop at text)));
         }
       where
-        go : (opens : Bool) → Between (suc at) (length text) (refusal_at opens at)
+        go : (opens : Bool) → Between (suc at) (length text) (Err (refusal_at opens at))
         go true = omega arith
         go false = omega arith
 

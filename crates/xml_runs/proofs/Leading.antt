@@ -12,8 +12,9 @@ use lib.Dec.{eqb, leb}
 use lib.ListN.{length, get_or}
 use Rattle.paper.specs.Xml.{from, plain, Pattern, done, tail, wide, is_done, after, reference, squares, Frame, stands, run, partly, goes_on, step_mode}
 use Rattle.xml_runs.specs.Runs.{Crosses, squares_after}
-use Rattle.xml_bytes.specs.declared.Reach.{Reach}
-use Rattle.xml_bytes.specs.declared.Reach.TheVariants.{Wrong}
+use Rattle.std.specs.Prelude.{Err}
+use Rattle.paper.specs.declared.Refusal.TheVariants.{NoXml}
+use Rattle.xml_bytes.specs.Promised.{Reach}
 use Rattle.xml_bytes.proofs.Steps.{Calm}
 use Rattle.xml_bytes.proofs.Steps.{opens_not}
 use Rattle.xml_runs.proofs.Holding.{run_on, run_stuck}
@@ -144,6 +145,6 @@ module _ (text : List ℕ) (at : ℕ) (inside : at < length text) (high : 128 �
       run_on text at inside k q r high_calm.no_tag (opens_not text at inside high_calm)
       (λ begin frames. high_step begin k at (get_or text at 0) frames high ∙ ap (goes_on begin frames) e ∙ rw more) h
 
-  pub high_wrong : after wide (get_or text at 0) ≡ none → (k : ℕ) → Crosses text at (λ begin. run begin k) (λ begin. run begin 0) (Wrong at)
+  pub high_wrong : after wide (get_or text at 0) ≡ none → (k : ℕ) → Crosses text at (λ begin. run begin k) (λ begin. run begin 0) (Err (NoXml at))
   high_wrong e k =
       run_stuck text at inside k (λ begin. run begin 0) high_calm (λ begin frames. high_step begin k at (get_or text at 0) frames high ∙ ap (goes_on begin frames) e)

@@ -6,14 +6,14 @@ use native.Mathlib.Decide.{dec_lt}
 use mathlib.Core.Logic.{by_cases}
 use borrow.Author.Tests.{ne_eqb, eq-eqb, not-true}
 use mathlib.Core.Path.{◌≡◌, refl, sym, ◌∙◌, subst}
-use mathlib.Core.Bool.{true, false, false≢true, not, ◌&&◌}
+use mathlib.Core.Bool.{true, false≢true, not, ◌&&◌}
 use mathlib.Core.List.{List}
 use lib.Dec.{eqb}
 use lib.ListN.{length, get_or}
 use Rattle.paper.specs.Xml.{plain, run}
 use Rattle.paper.proofs.Tests.{and_true}
 use Rattle.xml_runs.specs.Runs.{Crosses, squares_after, is_ordinary, ordinary_from, OrdinaryEnds, SquaresPast}
-use Rattle.xml_bytes.specs.declared.Reach.TheVariants.{At}
+use Rattle.std.specs.Prelude.{Ok}
 use Rattle.xml_runs.proofs.Holding.{run_by}
 use Rattle.xml_runs.proofs.Leading.{plain_step}
 use Rattle.xml_runs.proofs.Running.{Running, run_more}
@@ -21,9 +21,6 @@ use Rattle.xml_bytes.specs.Blocks.{block, AllFit}
 
 -- ORDINARY BYTES.
 module _ (text : List ℕ) (begin : ℕ) where
-  pub ends_none : begin ≤ length text → OrdinaryEnds text begin begin
-  ends_none l = record { least = omega arith; most = l; all = λ at m n. absurd (omega arith) }
-
   pub ends_more : (at n : ℕ) → at + block ≤ length text → n ≤ block → OrdinaryEnds text begin at → AllFit (ordinary_from text at) n → OrdinaryEnds text begin (at + n)
   ends_more at n l m h more =
       record {
@@ -63,7 +60,7 @@ module _ (text : List ℕ) (begin : ℕ) where
       let b = get_or text at 0 in
       let o = is-ordinary b h in
       let none : squares_after b k ≡ 0 = rw (ne_eqb b 93 o.no_square) in
-      let crossed : Crosses text at (λ s. run s k) (λ s. run s (squares_after b k)) (At (at + 1)) =
+      let crossed : Crosses text at (λ s. run s k) (λ s. run s (squares_after b k)) (Ok (at + 1)) =
       run_by text at inside k (squares_after b k) (at + 1) (record { no_tag = o.no_tag; no-reference = o.no-reference }) refl
       (λ s frames. plain_step s k at b frames o.no_tag o.no-reference (rw (ne_eqb b 62 o.no_mark)) o.is_plain) in
       subst (Running text begin (at + 1)) none (run_more text begin at k (squares_after b k) (at + 1) so_far crossed)

@@ -1,11 +1,9 @@
 -- Runs of characters: how reading goes from one state of a run to another, past ordinary bytes, and where a run ends.
-use Rattle.std.specs.Prelude.{ℕ, suc, ◌≤◌, ◌+◌, ◌<◌, ◌≡◌, Bool, true, not, ◌&&◌, cond, List, ◌∷◌, eqb, length, drop, get_or}
+use Rattle.std.specs.Prelude.{ℕ, Ok, Err, suc, ◌≤◌, ◌+◌, ◌<◌, ◌≡◌, Bool, true, not, ◌&&◌, cond, List, ◌∷◌, eqb, length, drop, get_or}
 use Rattle.paper.specs.Tools.{ascii}
 use Rattle.paper.specs.Xml.{from, Pattern, done, one, fork, tail, say, squares, Frame, Mode, plain, nothing, chars, with, content}
-use Rattle.xml_bytes.specs.Seeking.{Sought, refused, stops, seek_next}
-use Rattle.xml_bytes.specs.declared.Reach.{Reach}
-use Rattle.xml_bytes.specs.declared.Reach.TheVariants.{At, Wrong, LeftOut}
-use Rattle.xml_bytes.specs.Promised.{state, seek_at, reached, Between}
+use Rattle.xml_bytes.specs.Seeking.{Sought, refusing, stops, seek_next}
+use Rattle.xml_bytes.specs.Promised.{Reach, state, seek_at, reached, Between}
 
 -- From one state of a run to another, past at least one byte.
 pub record Crosses (text : List ℕ) (at : ℕ) (before after : ℕ → Mode) (r : Reach) : Type 0 where
@@ -44,9 +42,8 @@ pub record SquaresPast (at past k r : ℕ) : Type 0 where
 
 -- RUNS. Where a run of characters ends, reading stands inside the same element with a text node more.
 abbrev pub ran : ℕ → Frame → List Frame → Reach → Sought
-ran begin f fs (At to) = stops to (state content (with f (chars begin to nothing) ∷ fs))
-ran begin f fs (Wrong place) = refused 11 place
-ran begin f fs (LeftOut place) = refused 12 place
+ran begin f fs (Ok to) = stops to (state content (with f (chars begin to nothing) ∷ fs))
+ran begin f fs (Err why) = refusing why
 
 pub record Runs (text : List ℕ) (begin : ℕ) (r : Reach) : Type 0 where
   pub goes : (f : Frame) (fs : List Frame) → seek_next begin (state content (f ∷ fs)) (drop begin text) ≡ ran begin f fs r

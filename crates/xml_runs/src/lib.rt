@@ -8,7 +8,8 @@ ghost use Rattle.xml_bytes.specs.Blocks.{block, AllFit};
 ghost use Rattle.xml_bytes.specs.Promised.{Reads, tailing};
 ghost use Rattle.xml_runs.specs.Runs.{Crosses, past_ef, past_a, squares_after, is_ordinary, ordinary_from, OrdinaryEnds, SquaresPast, Runs};
 
-use xml_bytes::{Reach, markup, refuse, say, sooner};
+use paper::Refusal;
+use xml_bytes::{BLOCK, Reach, markup, refuse, say, sooner};
 
 // A character of one byte?
 fn plain(b: u8) -> bool
@@ -22,14 +23,9 @@ fn within(text: &[u8], at: usize, low: u8, high: u8) -> Reach
     requires { at ≤ length text.now }
     ensures { Reads text.now at (from low high ∷ []) result }
 {
-    if text.len() <= at {
-        return Reach::Wrong(at);
-    }
-    let b = text[at];
-    if (low <= b) & (b <= high) {
-        Reach::At(at + 1)
-    } else {
-        refuse(text, at)
+    match text.get(at) {
+        Some(&b) if (low <= b) & (b <= high) => Ok(at + 1),
+        _ => Err(refuse(text, at)),
     }
 }
 
@@ -38,15 +34,11 @@ fn tails(text: &[u8], at: usize, count: usize) -> Reach
     requires { at ≤ length text.now }
     ensures { Reads text.now at (tailing count) result }
 {
-    let mut done = 0;
-    while done < count {
-        let one = within(text, at + done, 128, 191);
-        let Reach::At(_) = one else {
-            return one;
-        };
-        done += 1;
+    let mut next = at;
+    for _ in 0..count {
+        next = within(text, next, 128, 191)?;
     }
-    Reach::At(at + done)
+    Ok(next)
 }
 
 // A byte of a range, and then so many that go on with a character.
@@ -54,10 +46,7 @@ fn narrow(text: &[u8], at: usize, low: u8, high: u8, count: usize) -> Reach
     requires { at ≤ length text.now }
     ensures { Reads text.now at (from low high ∷ tailing count) result }
 {
-    let one = within(text, at, low, high);
-    let Reach::At(next) = one else {
-        return one;
-    };
+    let next = within(text, at, low, high)?;
     tails(text, next, count)
 }
 
@@ -67,7 +56,7 @@ fn past_ef(text: &[u8], at: usize) -> Reach
     ensures { Crosses text.now at (λ begin. partly begin past_ef) (λ begin. run begin 0) result }
 {
     if text.len() <= at {
-        return Reach::Wrong(at);
+        return Err(Refusal::NoXml(at));
     }
     if text[at] == 191 {
         return within(text, at + 1, 128, 189);
@@ -92,7 +81,7 @@ fn wide(text: &[u8], at: usize) -> Reach
         240 => narrow(text, next, 144, 191, 2),
         241..=243 => tails(text, next, 3),
         244 => narrow(text, next, 128, 143, 2),
-        _ => Reach::Wrong(at),
+        _ => Err(Refusal::NoXml(at)),
     }
 }
 
@@ -102,14 +91,14 @@ fn past_a(text: &[u8], at: usize) -> Reach
     ensures { Crosses text.now at (λ begin. partly begin past_a) (λ begin. run begin 0) result }
 {
     if text.len() <= at {
-        return Reach::Wrong(at);
+        return Err(Refusal::NoXml(at));
     }
     let b = text[at];
     let next = at + 1;
     match b {
         b'm' => say(text, next, b"p;"),
         b'p' => say(text, next, b"os;"),
-        _ => refuse(text, at),
+        _ => Err(refuse(text, at)),
     }
 }
 
@@ -119,7 +108,7 @@ fn named_character(text: &[u8], at: usize) -> Reach
     ensures { Crosses text.now at (λ begin. partly begin reference) (λ begin. run begin 0) result }
 {
     if text.len() <= at {
-        return Reach::Wrong(at);
+        return Err(Refusal::NoXml(at));
     }
     let b = text[at];
     let next = at + 1;
@@ -128,7 +117,7 @@ fn named_character(text: &[u8], at: usize) -> Reach
         b'g' => say(text, next, b"t;"),
         b'a' => past_a(text, next),
         b'q' => say(text, next, b"uot;"),
-        _ => refuse(text, at),
+        _ => Err(refuse(text, at)),
     }
 }
 
@@ -140,7 +129,7 @@ fn character(text: &[u8], at: usize, squares: usize) -> Reach
     let b = text[at];
     if b == b'&' {
         if markup(text, at) {
-            return Reach::LeftOut(at);
+            return Err(Refusal::LeftOut(at));
         }
         return named_character(text, at + 1);
     }
@@ -148,12 +137,12 @@ fn character(text: &[u8], at: usize, squares: usize) -> Reach
         return wide(text, at);
     }
     if (b == b'>') & (squares == 2) {
-        return Reach::Wrong(at);
+        return Err(Refusal::NoXml(at));
     }
     if plain(b) {
-        Reach::At(at + 1)
+        Ok(at + 1)
     } else {
-        Reach::Wrong(at)
+        Err(Refusal::NoXml(at))
     }
 }
 
@@ -179,13 +168,11 @@ fn ordinary_block(text: &[u8], at: usize) -> usize
     requires { at + block ≤ length text.now }
     ensures { (result ≤ block) × AllFit (ordinary_from text.now at) result }
 {
-    let mut stop = xml_bytes::BLOCK;
-    let mut i: u8 = 0;
-    while i < xml_bytes::BLOCK {
-        stop = sooner(stop, i, ordinary(text[at + i as usize]));
-        i += 1;
+    let mut stop = BLOCK;
+    for i in 0..BLOCK {
+        stop = sooner(stop, i, ordinary(text[at + usize::from(i)]));
     }
-    stop as usize
+    usize::from(stop)
 }
 
 // A place up to which all bytes are ordinary.
@@ -197,10 +184,10 @@ fn ordinary_end(text: &[u8], from: usize) -> usize
         return from;
     }
     let mut at = from;
-    while at + xml_bytes::BLOCK as usize <= text.len() {
+    while at + usize::from(BLOCK) <= text.len() {
         let count = ordinary_block(text, at);
         at += count;
-        if count < xml_bytes::BLOCK as usize {
+        if count < usize::from(BLOCK) {
             return at;
         }
     }
@@ -225,18 +212,14 @@ pub fn run(text: &[u8], begin: usize) -> Reach
         let past = ordinary_end(text, at);
         squares = squares_past(at, past, squares);
         if text.len() <= past {
-            return Reach::Wrong(past);
+            return Err(Refusal::NoXml(past));
         }
         let b = text[past];
         if b == b'<' {
-            return Reach::At(past);
+            return Ok(past);
         }
-        let one = character(text, past, squares);
-        let Reach::At(next) = one else {
-            return one;
-        };
+        at = character(text, past, squares)?;
         squares = squares_after(b, squares);
-        at = next;
     }
-    Reach::Wrong(at)
+    Err(Refusal::NoXml(at))
 }

@@ -4,4 +4,4 @@ use Rattle.sheet.specs.Sheets.{head_room}
 use Rattle.sheet_main.proofs.add_all.Given as goal
 
 abbrev pub invariant-loop : goal.invariant-loop
-invariant-loop l = (l.at ≤ l.end) × (l.end ≤ head_room)
+invariant-loop l = (l.left.at ≤ l.left.end) × (l.left.end ≤ head_room)

@@ -5,4 +5,4 @@ use Rattle.sheet_main.proofs.next_name.Given as goal
 abbrev pub invariant-loop : goal.invariant-loop
 invariant-loop l =
     (length l.chunk ≡ length l.initial.chunk) × (length l.path ≡ length l.initial.path)
-    × (l.place ≤ l.last) × (l.last ≤ length l.chunk) × (l.len ≤ length l.path)
+    × (l.left.at ≤ l.left.end) × (l.left.end ≤ length l.chunk) × (l.len ≤ length l.path)

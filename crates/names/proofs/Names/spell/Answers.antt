@@ -1,0 +1,32 @@
+-- `spell` meets its contract: what line v says stands at v among the names.
+use Rattle.std.proofs.Common.{◌∙◌, ap, sym, length, get_or, [], arith}
+use Rattle.paper.specs.Names.{names_of}
+use Rattle.names.proofs.Parts.{counted, spelled, name_sized}
+use Rattle.names.proofs.Names.spell.Goals as goal
+
+pub line-requires-clause-v_lt_names_limit : goal.line-requires-clause-v_lt_names_limit
+line-requires-clause-v_lt_names_limit c =
+    let count = ap (λ list. length (names_of list)) (sym c.self.view_is) ∙ counted c.self.invariant in
+    omega (arith, count, c.self.invariant.rising.few)
+
+pub line-requires-clause-v_bound : goal.line-requires-clause-v_bound
+line-requires-clause-v_bound c =
+    let count = ap (λ list. length (names_of list)) (sym c.self.view_is) ∙ counted c.self.invariant in
+    c.self.invariant.rising.rises c.args.v (omega (arith, count))
+
+pub line-requires-clause-within : goal.line-requires-clause-within
+line-requires-clause-within c =
+    let count = ap (λ list. length (names_of list)) (sym c.self.view_is) ∙ counted c.self.invariant in
+    c.self.invariant.rising.within c.args.v (omega (arith, count))
+
+pub returns-clause-says : goal.returns-clause-says
+returns-clause-says c =
+    let count = ap (λ list. length (names_of list)) (sym c.self.view_is) ∙ counted c.self.invariant in
+    c.line.ensures ∙ spelled c.self.invariant c.args.v (omega (arith, count)) ∙ ap (λ list. get_or (names_of list) c.args.v []) c.self.view_is
+
+pub returns-clause-long : goal.returns-clause-long
+returns-clause-long c =
+    let count = ap (λ list. length (names_of list)) (sym c.self.view_is) ∙ counted c.self.invariant in
+    let says = c.line.ensures ∙ spelled c.self.invariant c.args.v (omega (arith, count)) in
+    let sized = name_sized c.self.inside.list.now c.args.v c.self.invariant.sound (omega (arith, count, counted c.self.invariant)) in
+    rw says sized
