@@ -211,4 +211,7 @@ step 'manual pages without warnings' without_warnings
 step 'manual pages by name' found_by_name
 step "the header's words in the manual" manual_says_it
 
+# Its links would stop a later rt ci in this checkout, which takes none.
+rm -rf "$prefix" "$staging"
+
 tell_counts
