@@ -192,7 +192,9 @@ pub fn put_items(items: &[u32], out: &mut [u32], at: usize)
     requires { at + length items.now ≤ length out.old }
     ensures { out.new ≡ placed items.now at out.old }
 {
-    out[at..at + items.len()].copy_from_slice(items);
+    for done in 0..items.len() {
+        out[at + done] = items[done];
+    }
 }
 
 // Writes one item at so many places from `at` on.

@@ -72,7 +72,9 @@ fn copy_set(sets: &mut [u8], from: usize, to: usize, n: usize)
     requires { (from + n ≤ length sets.old) × (to + n ≤ length sets.old) × ((from + n ≤ to) ⊎ (to + n ≤ from)) }
     ensures { Copied from to n sets.old sets.new }
 {
-    sets.copy_within(from..from + n, to);
+    for i in 0..n {
+        sets[to + i] = sets[from + i];
+    }
 }
 
 // Do so many equal items stand at both places?
@@ -80,7 +82,14 @@ fn same(items: &[u32], a: usize, b: usize, count: usize) -> bool
     requires { (a + count ≤ length items.now) × (b + count ≤ length items.now) }
     ensures { result ≡ true → take count (drop a items.now) ≡ take count (drop b items.now) }
 {
-    items[a..a + count] == items[b..b + count]
+    for i in 0..count {
+        let x = items[a + i];
+        let y = items[b + i];
+        if x != y {
+            return false;
+        }
+    }
+    true
 }
 
 // The number of the entry whose items stand at the place too, if there is one.
@@ -247,7 +256,7 @@ fn path(
     let mut left = count;
     while 0 < left {
         left -= 1;
-        places = look(items, at, Some(places), left, depth);
+        places = look(items, at, Some(&places), left, depth);
         let place = places.place;
         let step = step_at(items, place);
         restrict(kind, given, step.test, &mut sets[..n]);

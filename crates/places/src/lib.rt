@@ -2,6 +2,7 @@
 #![tactic(auto)]
 
 ghost use Rattle.std.specs.Prelude.{suc, ◌-◌, ◌%◌, ◌≤◌, ◌<◌, ◌≡◌, Some, length, get_or, drop};
+ghost use Rattle.std.specs.Borrow.{Bor};
 ghost use Rattle.std.proofs.Math.Option.{some};
 ghost use Rattle.paper.specs.Limits.{bracket_limit};
 ghost use Rattle.paper.specs.Items.{path_at, take_steps, take_within};
@@ -30,8 +31,8 @@ pub struct Places {
 }
 
 // Where the last multiple of 256 steps ends: the place known, where it is not passed, else found anew.
-fn far_end(items: &[u32], at: usize, known: Option<Places>, to: usize, depth: usize) -> usize
-    requires at_in_bounds { (at ≤ length items.now) × (depth ≤ bracket_limit) × ((places : Places) → known ≡ Some places → Known items.now at depth (suc to) places) }
+fn far_end(items: &[u32], at: usize, known: Option<&Places>, to: usize, depth: usize) -> usize
+    requires at_in_bounds { (at ≤ length items.now) × (depth ≤ bracket_limit) × ((places : Bor Places) → known ≡ Some places → Known items.now at depth (suc to) places.now) }
     requires readable { Readable (take_steps (take_within depth) to (drop at items.now)) }
     ensures { Ends items.now at (take_steps (take_within depth) (to - to % 256) (drop at items.now)) result }
 {
@@ -46,11 +47,11 @@ fn near_end(
     items: &[u32],
     at: usize,
     far: usize,
-    known: Option<Places>,
+    known: Option<&Places>,
     to: usize,
     depth: usize,
 ) -> usize
-    requires at_in_bounds { (at ≤ length items.now) × (depth ≤ bracket_limit) × ((places : Places) → known ≡ Some places → Known items.now at depth (suc to) places) }
+    requires at_in_bounds { (at ≤ length items.now) × (depth ≤ bracket_limit) × ((places : Bor Places) → known ≡ Some places → Known items.now at depth (suc to) places.now) }
     requires readable { Readable (take_steps (take_within depth) to (drop at items.now)) }
     requires far { Ends items.now at (take_steps (take_within depth) (to - to % 256) (drop at items.now)) far }
     ensures { Ends items.now at (take_steps (take_within depth) (to - to % 16) (drop at items.now)) result }
@@ -62,8 +63,8 @@ fn near_end(
 }
 
 // Looks for the step after so many others: from where the one after it was looked for last, if it was, else anew.
-pub fn look(items: &[u32], at: usize, known: Option<Places>, to: usize, depth: usize) -> Places
-    requires at_in_bounds { (at ≤ length items.now) × (depth ≤ bracket_limit) × ((places : Places) → known ≡ Some places → Known items.now at depth (suc to) places) }
+pub fn look(items: &[u32], at: usize, known: Option<&Places>, to: usize, depth: usize) -> Places
+    requires at_in_bounds { (at ≤ length items.now) × (depth ≤ bracket_limit) × ((places : Bor Places) → known ≡ Some places → Known items.now at depth (suc to) places.now) }
     requires readable { Readable (take_steps (take_within depth) to (drop at items.now)) }
     ensures { (Known items.now at depth to result) × (Ends items.now at (take_steps (take_within depth) to (drop at items.now)) result.place) }
 {

@@ -30,7 +30,9 @@ pub fn copy(from: &[u8], set: &mut [u8])
     requires { length from.now ≡ length set.old }
     ensures { set.new ≡ from.now }
 {
-    set.copy_from_slice(from);
+    for i in 0..set.len() {
+        set[i] = from[i];
+    }
 }
 
 // Keeps of the set what is in the other.

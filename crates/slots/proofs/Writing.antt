@@ -3,10 +3,9 @@ use Prim.Native.Nat.{ℕ, suc, ◌+◌, ◌-◌, ◌≤◌, ◌<◌}
 use native.Mathlib.Omega.{arith}
 use mathlib.Core.Path.{◌≡◌, refl, sym, ◌∙◌, ap, ap₂, subst}
 use mathlib.Core.Bool.{Bool, true, false}
-use mathlib.Core.List.{List, [], ◌∷◌, ◌++◌, append_assoc}
-use lib.ListN.{length, set, take, drop, replicate, length-append, length-drop, take-append-drop, length-replicate}
-use lib.Seq.{length-take-le, take_at, drop_at, set_at}
-use Rattle.std.specs.List.{copy_within}
+use mathlib.Core.List.{List, [], ◌∷◌, ◌++◌, append_assoc, append-nil}
+use lib.ListN.{length, get_or, set, take, drop, replicate, length-append, length-drop, take-append-drop, length-replicate}
+use lib.Seq.{length-take-le, take-suc, take_all, set_at, get_or_at}
 use Rattle.paper.specs.Items.{count_bound}
 use Rattle.paper.specs.Limits.{item_limit}
 use Rattle.item.specs.Placed.{placed}
@@ -34,6 +33,22 @@ cut l m n e =
 nil : (l : List ℕ) → length l ≡ 0 → l ≡ []
 nil [] e = refl
 nil (x ∷ xs) e = absurd (omega arith)
+
+-- Its last element.
+record Last (l : List ℕ) (n : ℕ) : Type 0 where
+  pub init : List ℕ
+  pub last : ℕ
+  pub is : l ≡ init ++ (last ∷ [])
+  pub long : length init ≡ n
+
+last_of : (l : List ℕ) (n : ℕ) → length l ≡ suc n → Last l n
+last_of l n e =
+    record {
+      init = take n l;
+      last = get_or l n 0;
+      is = sym (take_all (suc n) l (omega arith)) ∙ take-suc l n 0 (omega arith);
+      long = length-take-le n l (omega arith);
+    }
 
 -- WRITING.
 pub wrote_nothing : (old : List ℕ) (slot : ℕ) → Wrote old old slot []
@@ -97,26 +112,72 @@ long_enough old front gone back h = omega (arith, ap length h, length-append fro
 pub put_past : (old : List ℕ) (slot item : ℕ) → length old ≤ slot → Wrote old old slot (item ∷ [])
 put_past old slot item l = record { puts = λ front gone back h lf lg small. absurd (omega (arith, long_enough old front gone back h)) }
 
--- MOVING.
-pub moved_up : (old new : List ℕ) (slot end count : ℕ) → new ≡ copy_within old slot end (slot + count) → Moved old new slot end count
-moved_up old new slot end count is =
+-- MOVING, from the end back: what is left to move, and what has moved past the gap.
+pub record Half (out front raw back : List ℕ) (slot count i : ℕ) : Type 0 where
+  pub still : List ℕ
+  pub gap : List ℕ
+  pub moved : List ℕ
+  pub both : raw ≡ still ++ moved
+  pub is : out ≡ front ++ (still ++ (gap ++ (moved ++ back)))
+  pub from : slot + length still ≡ i
+  pub wide : length gap ≡ count
+
+pub record Moving (old out : List ℕ) (slot end count i : ℕ) : Type 0 where
+  pub puts : (front raw gone back : List ℕ) → old ≡ front ++ (raw ++ (gone ++ back)) → length front ≡ slot → slot + length raw ≡ end → length gone ≡ count
+      → Half out front raw back slot count i
+
+pub moving_starts : (old : List ℕ) (slot end count : ℕ) → Moving old old slot end count end
+moving_starts old slot end count =
+    record {
+      puts =
+          λ front raw gone back h lf lr lg. record { still = raw; gap = gone; moved = []; both = sym (append-nil raw); is = h; from = lr; wide = lg };
+    }
+
+pub moving_more : (old out new : List ℕ) (slot end count i : ℕ) → slot < i → 0 < count → Moving old out slot end count i → new ≡ set out (i - 1 + count) (get_or out (i - 1) 0)
+    → Moving old new slot end count (i - 1)
+moving_more old out new slot end count i l z m is =
     record {
       puts =
           λ front raw gone back h lf lr lg.
-          let rest = gone ++ back in
-          let long : length (raw ++ rest) ≡ length raw + (length gone + length back) = length-append raw rest ∙ ap (λ n. length raw + n) (length-append gone back) in
-          let run : drop slot old ≡ raw ++ rest = ap (drop slot) h ∙ drop_at front (raw ++ rest) slot lf in
-          let width : end - slot ≡ length raw = omega arith in
-          let moved : take (end - slot) (drop slot old) ≡ raw = ap (take (end - slot)) run ∙ take_at raw rest (end - slot) (sym width) in
-          let gap = take count (raw ++ rest) in
-          let few : length gap ≡ count = length-take-le count (raw ++ rest) (omega arith) in
-          let first : take (slot + count) old ≡ front ++ gap =
-          ap (take (slot + count)) (h ∙ ap (λ t. front ++ t) (sym (take-append-drop count (raw ++ rest))) ∙ sym (append_assoc front gap (drop count (raw ++ rest))))
-          ∙ take_at (front ++ gap) (drop count (raw ++ rest)) (slot + count) (omega (arith, length-append front gap)) in
-          let last : drop (slot + count + (end - slot)) old ≡ back =
-          ap (drop (slot + count + (end - slot))) (h ∙ ap (λ t. front ++ t) (sym (append_assoc raw gone back)) ∙ sym (append_assoc front (raw ++ gone) back))
-          ∙ drop_at (front ++ (raw ++ gone)) back (slot + count + (end - slot)) (omega (arith, length-append front (raw ++ gone), length-append raw gone)) in
-          record { gap = gap; is = is ∙ ap₂ (λ x y. x ++ y) (ap₂ (λ x y. x ++ y) first moved) last ∙ append_assoc (front ++ gap) raw back ∙ append_assoc front gap (raw ++ back); wide = few };
+          let p = m.puts front raw gone back h lf lr lg in
+          let s = last_of p.still (i - 1 - slot) (omega (arith, p.from)) in
+          let g = last_of p.gap (count - 1) (omega (arith, p.wide)) in
+          let tail = p.moved ++ back in
+          let cell : List ℕ = s.last ∷ [] in
+          let before = front ++ s.init in
+          let out-is : out ≡ before ++ s.last ∷ (p.gap ++ tail) =
+          p.is ∙ ap (λ t. front ++ (t ++ (p.gap ++ tail))) s.is ∙ ap (λ t. front ++ t) (append_assoc s.init cell (p.gap ++ tail)) ∙ sym (append_assoc front s.init (cell ++ (p.gap ++ tail))) in
+          let there : length before ≡ i - 1 = length-append front s.init ∙ (omega (arith, s.long)) in
+          let read : get_or out (i - 1) 0 ≡ s.last = ap (λ o. get_or o (i - 1) 0) out-is ∙ get_or_at before s.last (p.gap ++ tail) 0 (i - 1) there in
+          let upto = before ++ s.last ∷ g.init in
+          let out-as : out ≡ upto ++ g.last ∷ tail =
+          out-is ∙ ap (λ t. before ++ s.last ∷ (t ++ tail)) g.is ∙ ap (λ t. before ++ s.last ∷ t) (append_assoc g.init (g.last ∷ []) tail) ∙ sym (append_assoc before (s.last ∷ g.init) (g.last ∷ tail)) in
+          let far : length upto ≡ i - 1 + count = length-append before (s.last ∷ g.init) ∙ (omega (arith, there, g.long)) in
+          let new_is : new ≡ upto ++ s.last ∷ tail =
+          is ∙ ap₂ (λ o x. set o (i - 1 + count) x) out-as read ∙ set_at upto g.last tail s.last (i - 1 + count) far in
+          record {
+            still = s.init;
+            gap = s.last ∷ g.init;
+            moved = s.last ∷ p.moved;
+            both = p.both ∙ ap (λ t. t ++ p.moved) s.is ∙ append_assoc s.init cell p.moved;
+            is = new_is ∙ append_assoc before (s.last ∷ g.init) (s.last ∷ tail) ∙ append_assoc front s.init ((s.last ∷ g.init) ++ s.last ∷ tail);
+            from = omega (arith, s.long);
+            wide = omega (arith, g.long);
+          };
+    }
+
+pub moving_ends : (old out : List ℕ) (slot end count i : ℕ) → i ≤ slot → Moving old out slot end count i → Moved old out slot end count
+moving_ends old out slot end count i l m =
+    record {
+      puts =
+          λ front raw gone back h lf lr lg.
+          let p = m.puts front raw gone back h lf lr lg in
+          let none : p.still ≡ [] = nil p.still (omega (arith, p.from)) in
+          record {
+            gap = p.gap;
+            is = p.is ∙ ap (λ t. front ++ (t ++ (p.gap ++ (p.moved ++ back)))) none ∙ ap (λ t. front ++ (p.gap ++ (t ++ back))) (sym (p.both ∙ ap (λ t. t ++ p.moved) none));
+            wide = p.wide;
+          };
     }
 
 -- GROUPING.

@@ -58,12 +58,14 @@ pub fn item_of_step(axis: u32, test: u32, count: usize) -> u32
     }
 }
 
-// Moves what stands from `slot` to `end` up by `count`.
+// Moves what stands from `slot` to `end` up by `count`, its end first.
 fn move_up(out: &mut [u32], slot: usize, end: usize, count: usize)
     requires { (slot ≤ end) × (end + count ≤ length out.old) × (0 < count) }
     ensures { Moved out.old out.new slot end count }
 {
-    out.copy_within(slot..end, slot + count);
+    for i in (slot..end).rev() {
+        out[i + count] = out[i];
+    }
 }
 
 // Puts so many of an operator's items before what stands from `slot` to `end`, where there is room for them.

@@ -13,7 +13,9 @@ fn copy(out: &mut [u32], at: usize, from: usize, count: usize)
     requires { (at ≤ from) × (from + count ≤ length out.old) }
     ensures { out.new ≡ placed (take count (drop from out.old)) at out.old }
 {
-    out.copy_within(from..from + count, at);
+    for done in 0..count {
+        out[at + done] = out[from + done];
+    }
 }
 
 // `axis::node()[S]`, with S copied from further on.

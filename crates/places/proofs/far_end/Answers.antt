@@ -13,4 +13,4 @@ past_steps-requires c =
 pub returns-in-Some : goal.returns-in-Some
 returns-in-Some c =
     let a = c.args in
-    known_far a.items.now a.at a.depth a.to c.in-Some.places (c.requires.at_in_bounds.2 c.in-Some.places c.in-Some.is) c.if-to-ne255.true
+    known_far a.items.now a.at a.depth a.to c.in-Some.places.now (c.requires.at_in_bounds.2 c.in-Some.places c.in-Some.is) c.if-to-ne255.true

@@ -14,7 +14,7 @@ past_steps-requires c =
 pub returns-in-Some : goal.returns-in-Some
 returns-in-Some c =
     let a = c.args in
-    known_near a.items.now a.at a.depth a.to c.in-Some.places (c.requires.at_in_bounds.2 c.in-Some.places c.in-Some.is) c.if-to-ne15.true
+    known_near a.items.now a.at a.depth a.to c.in-Some.places.now (c.requires.at_in_bounds.2 c.in-Some.places c.in-Some.is) c.if-to-ne15.true
 
 pub returns-in_default : goal.returns-in_default
 returns-in_default c =
