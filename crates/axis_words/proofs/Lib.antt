@@ -1,2 +1,2 @@
--- A word that is none of the words of axes: `none_named`.
+-- The axis of a word among some, compared in turn: `among`, `among_from`; of all axes, `Left`, `all_left`, `passed`, `named_so`, `none_left`.
 pub mod Words

@@ -1,52 +1,44 @@
--- The words that name axes, compared in turn. Assumes nothing.
-use Prim.Native.Nat.{ℕ, ◌+◌}
+-- The words of the axes compared in turn, in the order of the numbers. Assumes nothing.
+use Prim.Native.Nat.{ℕ, zero, suc, ◌<◌}
+use native.Mathlib.Omega.{arith}
 use mathlib.Core.Path.{◌≡◌, refl, sym, ◌∙◌, ap}
-use mathlib.Core.Bool.{Bool, true, false, cond}
+use mathlib.Core.Bool.{true, false, cond}
 use mathlib.Core.List.{List, [], ◌∷◌, map}
-use mathlib.Core.Option.{none, some}
-use mathlib.Core.Option.{Option as Choice}
-use lib.Dec.{eqb, ltb}
-use lib.ListN.{length}
-use lib.Pointwise.{pointwise}
-use Rattle.std.proofs.Common.{Bor, Option, Some, None}
-use Rattle.std.specs.List.{position_or_len, position_from}
-use Rattle.std.proofs.lemmas.Iterator.Adapters.{position_from-zero}
+use mathlib.Core.Option.{Option, none, some}
+use lib.ListN.{length, get_or, drop}
 use Rattle.paper.specs.Tools.{same}
-use Rattle.paper.specs.Query.{Axis, self, child, parent, descendant_or_self, ancestor_or_self, descendant, ancestor, following_sibling, preceding_sibling, following, preceding}
+use Rattle.paper.specs.Query.{Axis, self}
+use Rattle.paper.specs.Items.{axis_number}
 use Rattle.paper.specs.Printing.{axis_text}
 use Rattle.paper.specs.Reading.{axis_named}
-use Rattle.paper.proofs.Same.{same_turned, same_pointwise}
-use Rattle.axis_words.specs.AxisWords.{axis_code}
+use Rattle.paper.proofs.Same.{same_turned}
+use Rattle.axis_words.specs.AxisWords.{axis_code, in_order}
 
--- THE WORDS OF THE AXES, in the order of their numbers, in which they are compared.
-abbrev pub in_order : List Axis
-in_order = self ∷ child ∷ parent ∷ descendant_or_self ∷ ancestor_or_self ∷ descendant ∷ ancestor ∷ following_sibling ∷ preceding_sibling ∷ following ∷ preceding ∷ []
+-- The axis of a word among these.
+abbrev pub among : List ℕ → List Axis → Option Axis
+among w [] = none
+among w (a ∷ later) = cond (same w (axis_text a)) (some a) (among w later)
 
--- A search that finds nothing passes over what stands next.
-passed_over : (b : Bool) (at : ℕ) (later : Option ℕ) → cond b (Some at) later ≡ None → (b ≡ false) × (later ≡ None)
-passed_over true at later h = cc
-passed_over false at later h = (refl, h)
+-- It is the first of them, or among those behind it.
+pub among_from : (w : List ℕ) (xs : List Axis) (n : ℕ) → n < length xs
+    → among w (drop n xs) ≡ cond (same w (get_or (map axis_text xs) n [])) (some (get_or xs n self)) (among w (drop (suc n) xs))
+among_from w [] n l = absurd (omega arith)
+among_from w (a ∷ xs) zero l = refl
+among_from w (a ∷ xs) (suc n) l = among_from w xs n (omega arith)
 
 module _ (w : List ℕ) where
-  -- The axis of the word among these.
-  abbrev among : List Axis → Choice Axis
-  among [] = none
-  among (a ∷ later) = cond (same w (axis_text a)) (some a) (among later)
+  -- The word names one of those that are left, if any.
+  abbrev pub Left : List Axis → Type 0
+  Left later = axis_named w ≡ among w later
 
-  abbrev says : Bor (List ℕ) → Bool
-  says name = pointwise eqb name.now w
+  pub all_left : Left in_order
+  all_left = refl
 
-  none_among : (axes : List Axis) (names : List (Bor (List ℕ))) (at : ℕ) → map (λ name. name.now) names ≡ map axis_text axes → position_from says at names ≡ None → among axes ≡ none
-  none_among [] names at h e = refl
-  none_among (a ∷ axes) [] at h e = cc
-  none_among (a ∷ axes) (name ∷ names) at h e =
-      let here : name.now ≡ axis_text a = cc in
-      let later : map (λ n. n.now) names ≡ map axis_text axes = cc in
-      let (other, rest) = passed_over (says name) at (position_from says (at + 1) names) e in
-      let differs : same w (axis_text a) ≡ false = same_turned w (axis_text a) ∙ ap (λ text. same text w) (sym here) ∙ sym (same_pointwise name.now w) ∙ other in
-      rw differs (none_among axes names (at + 1) later rest)
+  pub passed : (a : Axis) (later : List Axis) → Left (a ∷ later) → same (axis_text a) w ≡ false → Left later
+  passed a later l h = l ∙ ap (λ b. cond b (some a) (among w later)) (same_turned w (axis_text a) ∙ h)
 
-  -- A word that is none of them names no axis.
-  pub none_named : (names : List (Bor (List ℕ))) → map (λ name. name.now) names ≡ map axis_text in_order
-      → cond (ltb (position_or_len says names) (length names)) (Some (position_or_len says names)) None ≡ None → none ≡ axis_code (axis_named w)
-  none_named names h e = sym (ap axis_code (none_among in_order names 0 h (sym (position_from-zero says names) ∙ e)))
+  pub named_so : (a : Axis) (later : List Axis) → Left (a ∷ later) → same (axis_text a) w ≡ true → some (axis_number a) ≡ axis_code (axis_named w)
+  named_so a later l h = sym (ap axis_code (l ∙ ap (λ b. cond b (some a) (among w later)) (same_turned w (axis_text a) ∙ h)))
+
+  pub none_left : Left [] → none ≡ axis_code (axis_named w)
+  none_left l = sym (ap axis_code l)

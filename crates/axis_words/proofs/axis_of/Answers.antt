@@ -1,15 +1,16 @@
--- `axis_of` meets its contract where no word of the table is the word; the check finds the rest.
-use Rattle.std.proofs.Common.{rules, tests, eqb, sym, ◌∙◌, ap, refl}
-use lib.Pointwise.{pointwise}
-use mathlib.Core.List.{map}
-use Rattle.paper.specs.Told.{found}
-use Rattle.std.proofs.lemmas.Iterator.{YieldsList-from_slice}
-use Rattle.std.proofs.lemmas.Iterator.Search.{position_from_yields_List}
-use Rattle.axis_words.proofs.Words.{none_named}
+-- `axis_of` meets its contract: a word that is not the one of an axis names one behind it, or none.
+use Rattle.std.proofs.Common.{◌≡◌, ◌∙◌, ap, sym, suc, false, arith, add-one, drop}
+use Rattle.paper.specs.Tools.{same}
+use Rattle.paper.proofs.Same.{same_turned, same_pointwise}
+use Rattle.axis_words.specs.AxisWords.{in_order, word_at}
+use Rattle.axis_words.proofs.Words.{among, among_from}
 use Rattle.axis_words.proofs.axis_of.Goals as goal
 
-pub returns-in_err-axis : goal.returns-in_err-axis
-returns-in_err-axis c =
-    let word = c.args.word.now in
-    let first = position_from_yields_List (λ name. pointwise eqb name.now word) _ _ c.position.result c.position.ensures.ran (YieldsList-from_slice c.iter.result.rest.now refl) (λ x b q k. search (rules, tests)) in
-    ap found c.from_residual.ensures ∙ none_named word c.iter.result.rest.now (ap (λ names. map (λ name. name.now) names) c.iter.ensures.rest) (sym first ∙ c.in_err-axis.was)
+pub loop-axis-preserved : goal.loop-axis-preserved
+loop-axis-preserved c =
+    let w = c.args.word.now in
+    let n = c.loop-axis.axis in
+    let differs : same w (word_at n) ≡ false =
+    same_turned w (word_at n) ∙ ap (λ text. same text w) (sym c.word_of.ensures) ∙ sym (same_pointwise c.word_of.result.now w) ∙ sym c.eq.ensures ∙ c.if-eq.false in
+    let later : among w (drop n in_order) ≡ among w (drop (suc n) in_order) = rw (among_from w in_order n (omega arith), differs) in
+    c.loop-axis.invariant ∙ later ∙ ap (λ m. among w (drop m in_order)) (sym (add-one n))
