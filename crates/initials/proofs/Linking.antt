@@ -3,21 +3,25 @@ use Prim.Native.Nat.{ℕ, zero, suc, ◌+◌, ◌-◌, ◌≤◌, ◌<◌}
 use native.Mathlib.Omega.{arith}
 use native.Mathlib.Nat.{add-zero, zero-add}
 use mathlib.Core.Path.{◌≡◌, refl, sym, ◌∙◌, ap, subst}
-use mathlib.Core.Bool.{true, false, false≢true}
+use mathlib.Core.Bool.{Bool, true, false, false≢true}
 use mathlib.Core.List.{List, [], ◌∷◌}
 use mathlib.Core.Logic.{⊎_elim, by_cases}
 use mathlib.Core.Option.{Option, none, some}
 use native.Mathlib.Decide.{ℕ_discrete, dec_lt}
 use borrow.Author.Tests.{eq-eqb, eqb-true}
 use lib.Dec.{eqb}
-use lib.ListN.{length, get_or, set, replicate, length-set, length-replicate, get_or-replicate}
-use lib.Seq.{get_or-set_same, get_or-set_other}
+use lib.ListN.{length, get_or, set, replicate, take, drop, length-set, length-replicate, get_or-replicate}
+use lib.Seq.{get_or-set_same, get_or-set_other, ext_get_or, get_or-take, get_or-drop}
 use Rattle.paper.specs.Tools.{same, first_from}
 use Rattle.paper.specs.Limits.{names_limit}
 use Rattle.paper.specs.Names.{number_from, number_of}
 use Rattle.paper.proofs.Tests.{decide}
 use Rattle.paper.proofs.Searches.{first_none}
-use Rattle.paper.proofs.Same.{not_same}
+use Rattle.paper.proofs.Same.{same_refl, not_same, part_length}
+use Rattle.name_lines.specs.declared.Part.{Part}
+use Rattle.name_lines.specs.Lines.{said, part_of}
+use Rattle.names.specs.Listing.{Indexed}
+use Rattle.name_lines.proofs.Parts.{part_room}
 use Rattle.name_lines.proofs.Firsts.{first_some}
 use Rattle.initials.specs.Chains.{bytes_count, chains_count, link_of, first_byte, next_of, Chained}
 
@@ -162,3 +166,36 @@ pub left_less : (count at next : ℕ) → 0 < at → at ≤ count → (0 < next 
 left_less count zero next l m h = absurd (omega arith)
 left_less count (suc v) zero l m h = omega arith
 left_less count (suc v) (suc w) l m h = let f = h (omega arith) in omega arith
+
+-- TWO LISTS OF BYTES.
+pub whole_same : (line word : List ℕ) → length line ≡ length word → ((k : ℕ) → k < length line → get_or line k 0 ≡ get_or word k 0) → same line word ≡ true
+whole_same line word e h = rw (ext_get_or 0 line word e h) (same_refl word)
+
+pub whole_length_differs : (line word : List ℕ) → (length line ≡ length word → ⊥) → same line word ≡ false
+whole_length_differs line word h = not_same line word (λ e. h (ap length e))
+
+pub whole_differs : (line word : List ℕ) (k : ℕ) → k < length line → (get_or line k 0 ≡ get_or word k 0 → ⊥) → same line word ≡ false
+whole_differs line word k l h = not_same line word (λ e. h (ap (λ w. get_or w k 0) e))
+
+-- A WORD of a text that is not empty.
+pub word_long : (text : List ℕ) (start len : ℕ) → 0 < len → start + len ≤ length text → 0 < length (take len (drop start text))
+word_long text start len l h = omega (arith, part_length text [] start len h)
+
+pub word_first : (text : List ℕ) (start len : ℕ) → 0 < len → start + len ≤ length text → get_or text start 0 ≡ get_or (take len (drop start text)) 0 0
+word_first text start len l h =
+    let e : start ≡ start + 0 = omega arith in ap (λ k. get_or text k 0) e ∙ sym (get_or-take len (drop start text) 0 0 l ∙ get_or-drop start text 0 0)
+
+-- WHERE A NAME STANDS.
+-- A name starts within the list.
+pub start_inside : (list starts : List ℕ) {count : ℕ} → Indexed list starts count → (v : ℕ) (p : Part) → v < count → p ≡ part_of starts v → p.start < length list
+start_inside list starts known v p l e = rw e (omega (arith, known.rising.rises v l, known.rising.within v l))
+
+-- What a name says.
+pub spelled_inside : (list starts : List ℕ) {count : ℕ} → Indexed list starts count → (v : ℕ) (p : Part) → v < count → p ≡ part_of starts v → p.start + p.len ≤ length list
+spelled_inside list starts known v p l e = part_room known.rising v l p e
+
+pub spelled_same : (list starts word : List ℕ) (v end : ℕ) (p : Part) (b : Bool) → p ≡ part_of starts v → end ≡ p.start + p.len → same (take (end - p.start) (drop p.start list)) word ≡ b
+    → same (said list starts v) word ≡ b
+spelled_same list starts word v end p b e f h =
+    let n : end - p.start ≡ p.len = omega arith in
+    subst (λ q. same (take q.len (drop q.start list)) word ≡ b) e (subst (λ m. same (take m (drop p.start list)) word ≡ b) n h)

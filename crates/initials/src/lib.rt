@@ -1,11 +1,11 @@
 // The names of a list by their first byte: a word is compared only with the names that begin as it does.
 #![tactic(auto)]
 
-ghost use Rattle.std.specs.Prelude.{ℕ, ◌<◌, ◌≡◌, List, IfSome, length};
+ghost use Rattle.std.specs.Prelude.{ℕ, ◌<◌, ◌≡◌, List, IfSome, length, get_or, replicate};
 ghost use Rattle.paper.specs.Limits.{names_limit};
 ghost use Rattle.paper.specs.Names.{names_of, number_of};
 ghost use Rattle.paper.specs.Told.{found};
-ghost use Rattle.initials.specs.Chains.{Chained};
+ghost use Rattle.initials.specs.Chains.{bytes_count, chains_count, Chained};
 
 use names::Names;
 use std::marker::Model;
@@ -14,9 +14,28 @@ use std::marker::Model;
 const BYTES: usize = 256;
 
 // For each byte the first name that begins with it, and then for each name the next that begins alike: v + 1 for name v, 0 for none.
-const CHAINS: usize = BYTES + names::STARTS;
+pub const CHAINS: usize = BYTES + names::STARTS;
 
-// A list of names that has no fault, with the names that begin alike linked.
+// The first byte of a name, and 0 where it has none.
+fn first_byte(name: &[u8]) -> usize
+    ensures { (result ≡ get_or name.now 0 0) × (result < bytes_count) }
+{
+    name.first().map_or(0, |&b| usize::from(b))
+}
+
+// Links the names that begin alike.
+pub fn link(names: &Names, chains: &mut [u16; CHAINS])
+    requires { chains.old ≡ replicate chains_count 0 }
+    ensures { Chained (names_of names.now) chains.new }
+{
+    for v in (0..names.count()).rev() {
+        let first = first_byte(names.spell(v));
+        chains[BYTES + v] = chains[first];
+        chains[first] = v as u16 + 1;
+    }
+}
+
+// A list of names, with the names that begin alike linked.
 #[derive(Drop)]
 pub struct Initials<'a> {
     names: Names<'a>,
@@ -37,11 +56,7 @@ impl<'a> Initials<'a> {
         ensures { result ≡ names.entry }
     {
         let mut chains = [0u16; CHAINS];
-        for v in (0..names.count()).rev() {
-            let first = usize::from(names.spell(v)[0]);
-            chains[BYTES + v] = chains[first];
-            chains[first] = v as u16 + 1;
-        }
+        link(&names, &mut chains);
         Initials { names, chains }
     }
 
@@ -54,7 +69,8 @@ impl<'a> Initials<'a> {
         let mut at = usize::from(self.chains[usize::from(word[0])]);
         while 0 < at {
             let v = at - 1;
-            if self.names.spell(v) == word {
+            let name = self.names.spell(v);
+            if name == word {
                 return Some(v);
             }
             at = usize::from(self.chains[BYTES + v]);

@@ -1,24 +1,26 @@
 -- What checking the list line by line has settled when it stands at the start of a line: what is left to check gives the answer of the whole. Assumes nothing.
 use Prim.Native.Nat.{ℕ, zero, suc, ◌+◌, ◌-◌, ◌≤◌, ◌<◌}
 use native.Mathlib.Omega.{arith}
+use native.Mathlib.Numerals.{add-one}
 use native.Mathlib.Nat.{add-zero, zero-add}
 use native.Mathlib.Decide.{dec_lt, ℕ_discrete}
 use mathlib.Core.Path.{◌≡◌, refl, sym, ◌∙◌, ap, ap₂, subst}
 use mathlib.Core.Bool.{true, false, false≢true}
 use mathlib.Core.Logic.{⊎_elim, by_cases}
 use mathlib.Core.List.{List, [], ◌∷◌, ◌++◌, map, append-nil}
-use mathlib.Core.Option.{some}
 use borrow.Author.Tests.{ltb-true, eq-eqb, eqb-true}
 use lib.Dec.{ltb}
-use lib.ListN.{length, get_or, set, take, drop, drop_of_length-le, length-set, length-drop}
-use lib.Seq.{get_or-set_same, get_or-set_other, get_or-drop, take_all, append_snoc}
-use Rattle.paper.specs.Tools.{column, column_from}
-use Rattle.paper.specs.Limits.{name_limit, names_limit, list_limit}
+use lib.ListN.{length, get_or, set, take, drop, drop_of_length-le, length-set, length-drop, take-append-drop}
+use lib.Seq.{get_or-set_same, get_or-set_other, get_or-drop, take_all, append_snoc, take-suc, take-set-le, drop-set-lt, drop-drop, length-take-le}
+use Rattle.std.specs.Prelude.{Ok, Err}
+use Rattle.paper.specs.Tools.{column, column_from, written}
+use Rattle.paper.specs.Limits.{name_limit, names_limit}
 use Rattle.paper.specs.Names.{lines_from, first_bad, bad_line, is_name, names_fault, names_of}
 use Rattle.paper.proofs.Searches.{column_same}
 use Rattle.paper.proofs.Lines.{first-line, bad_name, bad_long, bad_open, bad_many}
 use Rattle.paper.proofs.Tests.{decide}
-use Rattle.names.specs.Listing.{Ends, Indexed, line_to}
+use Rattle.paper.specs.declared.Refusal.TheVariants.{BadName}
+use Rattle.names.specs.Listing.{Ends, Checked, line_to, opened}
 use Rattle.name_lines.specs.Lines.{Rising, said, starts_count}
 use Rattle.name_keys.specs.Keys.{Keyed, key_of, earlier}
 use Rattle.name_keys.proofs.Earlier.{earlier_length}
@@ -46,38 +48,63 @@ ends_at list start len inside ends =
       stops = λ l. sym (get_or-drop start list len 0) ∙ eqb-true (get_or (drop start list) len 0) 10 (e.stops (omega arith));
     }
 
-pub record Upto (list starts : List ℕ) (count start : ℕ) : Type 0 where
-  pub short : length list ≤ list_limit
+pub record Upto (list old starts : List ℕ) (count start : ℕ) : Type 0 where
   pub rising : Rising list starts count
   pub here : get_or starts count 0 ≡ start
   pub most : start ≤ length list
   pub fault : names_fault list ≡ first_bad (earlier list starts count) (lines_from start (drop start list))
   pub names : names_of list ≡ column count (said list starts) ++ map (λ l. l.says) (lines_from start (drop start list))
+  pub kept : opened (length list) [] (lines_from 0 list) ≡ take count starts ++ opened (length list) (earlier list starts count) (lines_from start (drop start list))
+  pub rest : drop (suc count) starts ≡ drop (suc count) old
   pub size : length starts ≡ starts_count
 
 -- At first nothing is settled.
-pub at_first : (list starts : List ℕ) → length list ≤ list_limit → get_or starts 0 0 ≡ 0 → length starts ≡ starts_count → Upto list starts 0 0
+pub at_first : (list starts : List ℕ) → get_or starts 0 0 ≡ 0 → length starts ≡ starts_count → Upto list starts starts 0 0
 unfolding names_fault names_of
-at_first list starts short h size =
+at_first list starts h size =
     record {
-      short = short;
       rising = record { few = omega arith; rises = λ v l. absurd (omega arith); within = λ v l. absurd (omega arith) };
       here = h;
       most = omega arith;
       fault = refl;
       names = refl;
+      kept = refl;
+      rest = refl;
       size = size;
     }
 
--- At the end of the list all is settled.
-pub at_last : {list starts : List ℕ} {count start : ℕ} → Upto list starts count start → length list ≤ start → Indexed list starts count
-at_last {list} {starts} {count} {start} u l =
-    let none : drop start list ≡ [] = drop_of_length-le list l in
+-- The first start may have been written before.
+pub since_entry : {list starts : List ℕ} (old : List ℕ) {count start : ℕ} → Upto list (set old 0 0) starts count start → Upto list old starts count start
+since_entry old {count} u =
     record {
-      short = u.short;
-      sound = u.fault ∙ rw none;
       rising = u.rising;
-      names = u.names ∙ rw none (append-nil (column count (said list starts)));
+      here = u.here;
+      most = u.most;
+      fault = u.fault;
+      names = u.names;
+      kept = u.kept;
+      rest = u.rest ∙ drop-set-lt (suc count) old 0 0 (omega arith);
+      size = u.size;
+    }
+
+-- Where the start of this line is the last to keep, the kept starts stand first, and the rest is untouched.
+all_kept : (list old starts : List ℕ) (count start : ℕ) → Upto list old starts count start
+    → opened (length list) (earlier list starts count) (lines_from start (drop start list)) ≡ start ∷ [] → starts ≡ written (opened (length list) [] (lines_from 0 list)) old
+all_kept list old starts count start u last =
+    let whole : opened (length list) [] (lines_from 0 list) ≡ take (suc count) starts =
+    u.kept ∙ ap (λ l. take count starts ++ l) (last ∙ ap (λ n. n ∷ []) (sym u.here)) ∙ sym (take-suc starts count 0 (omega (arith, u.size, u.rising.few))) in
+    let long : length (take (suc count) starts) ≡ suc count = length-take-le (suc count) starts (omega (arith, u.size, u.rising.few)) in
+    sym (take-append-drop (suc count) starts) ∙ ap (λ l. take (suc count) starts ++ l) u.rest ∙ rw (whole, long)
+
+-- At the end of the list all is settled.
+pub at_last : {list old starts : List ℕ} {count start : ℕ} → Upto list old starts count start → length list ≤ start → Checked list old starts (Ok count)
+at_last {list} {old} {starts} {count} {start} u l =
+    let none : drop start list ≡ [] = drop_of_length-le list l in
+    let end : length list ≡ start = omega (arith, u.most) in
+    record {
+      good = (record { rising = u.rising; names = u.names ∙ rw none (append-nil (column count (said list starts))) }, u.fault ∙ rw none);
+      bad = tt;
+      kept = all_kept list old starts count start u (rw none (ap (λ n. n ∷ []) end));
     }
 
 -- The line that stands next.
@@ -90,11 +117,15 @@ next_line list start end inside e =
     (first-line (end - start) start list inside (rw whole e.most) (λ k a b. e.before k a (rw whole at b)) (rw whole e.stops))
 
 -- A bad line is the first.
-pub at_fault : {list starts : List ℕ} {count start : ℕ} (end : ℕ) → Upto list starts count start → start < length list → EndsAt list start end
-    → bad_line (earlier list starts count) (line_to list start end) ≡ true → names_fault list ≡ some start
-at_fault {list} {starts} {count} {start} end u inside e bad =
+pub at_fault : {list old starts : List ℕ} {count start : ℕ} (end : ℕ) → Upto list old starts count start → start < length list → EndsAt list start end
+    → bad_line (earlier list starts count) (line_to list start end) ≡ true → Checked list old starts (Err (BadName start))
+at_fault {list} {old} {starts} {count} {start} end u inside e bad =
     let lines = next_line list start end inside e in
-    u.fault ∙ rw (lines, bad)
+    record {
+      good = tt;
+      bad = record { start = start; refused = refl; fault = u.fault ∙ rw (lines, bad) };
+      kept = all_kept list old starts count start u (rw (lines, bad));
+    }
 
 -- A column of one more.
 column_more : {A : Type 0} (n at : ℕ) (f : ℕ → A) → column_from (suc n) at f ≡ column_from n at f ++ (f (at + n) ∷ [])
@@ -104,7 +135,7 @@ column_more (suc n) at f =
     ap (◌∷◌ (f at)) (column_more n (suc at) f ∙ ap (λ m. column_from n (suc at) f ++ (f m ∷ [])) e)
 
 -- A good line is settled with those before it.
-module _ {list starts : List ℕ} {count start : ℕ} (end : ℕ) (u : Upto list starts count start) (inside : start < length list) (e : EndsAt list start end)
+module _ {list old starts : List ℕ} {count start : ℕ} (end : ℕ) (u : Upto list old starts count start) (inside : start < length list) (e : EndsAt list start end)
     (good : bad_line (earlier list starts count) (line_to list start end) ≡ false) where
   -- An LF ends it.
   ended : end < length list
@@ -154,15 +185,17 @@ module _ {list starts : List ℕ} {count start : ℕ} (end : ℕ) (u : Upto list
   last_line : {P : ℕ → Type 0} → P count → ((v : ℕ) → v < count → P v) → (v : ℕ) → v < suc count → P v
   last_line {P} here before v l = by_cases (ℕ_discrete v count) (λ h. subst P (sym h) here) (λ h. before v (omega arith))
 
-  pub at_next : Upto list after (suc count) (suc end)
+  pub at_next : Upto list old after (suc count) (suc end)
   at_next =
       let lines = next_line list start end inside e in
+      let front : take (suc count) after ≡ take count starts ++ (start ∷ []) =
+      take-set-le (suc count) starts (suc count) (suc end) (omega arith) ∙ take-suc starts count 0 (omega (arith, room, u.size)) ∙ ap (λ n. take count starts ++ (n ∷ [])) u.here in
+      let one_more : (l : List ℕ) → drop (suc (suc count)) l ≡ drop 1 (drop (suc count) l) = λ l. sym (drop-drop 1 (suc count) l ∙ ap (λ n. drop n l) (add-one (suc count))) in
       let later = map (λ l. l.says) (lines_from (suc end) (drop (suc end) list)) in
       let more : column (suc count) (said list after) ≡ column count (said list starts) ++ (word ∷ []) =
       column_more count 0 (said list after)
       ∙ ap₂ (λ xs x. xs ++ (x ∷ [])) (column_same count 0 (said list after) (said list starts) (λ i a l. said_old i (omega arith))) (ap (said list after) (zero-add count) ∙ said_new) in
       record {
-        short = u.short;
         rising =
             record {
               few = room;
@@ -179,6 +212,8 @@ module _ {list starts : List ℕ} {count start : ℕ} (end : ℕ) (u : Upto list
         names =
             u.names ∙ ap (λ ls. column count (said list starts) ++ map (λ l. l.says) ls) lines ∙ sym (append_snoc (column count (said list starts)) word later)
             ∙ ap (λ xs. xs ++ later) (sym more);
+        kept = u.kept ∙ rw (lines, good, said_new, earlier_old count (omega arith), front) (sym (append_snoc (take count starts) start _));
+        rest = drop-set-lt (suc (suc count)) starts (suc count) (suc end) (omega arith) ∙ one_more starts ∙ ap (drop 1) u.rest ∙ sym (one_more old);
         size = length-set starts (suc count) (suc end) ∙ u.size;
       }
 

@@ -1,9 +1,8 @@
--- What checking a list of names keeps, and where it fails.
-use Rattle.std.specs.Prelude.{ℕ, ◌-◌, ◌≤◌, ◌<◌, ◌≡◌, true, false, List, eqb, ltb, length, get_or, take, drop}
+-- What checking a list of names promises: what is kept, and where it fails.
+use Rattle.std.specs.Prelude.{ℕ, ◌-◌, ◌≤◌, ◌<◌, ◌≡◌, true, false, cond, List, [], ◌∷◌, Result, IfOk, IfErr, eqb, ltb, length, get_or, take, drop}
 use Rattle.std.proofs.Math.Option.{none, some}
-use Rattle.paper.specs.Tools.{column}
-use Rattle.paper.specs.Limits.{list_limit}
-use Rattle.paper.specs.Names.{Line, names_fault, names_of}
+use Rattle.paper.specs.Tools.{column, written}
+use Rattle.paper.specs.Names.{Line, lines_from, bad_line, names_fault, names_of}
 use Rattle.paper.specs.declared.Refusal.{Refusal}
 use Rattle.paper.specs.declared.Refusal.TheVariants.{BadName}
 use Rattle.name_lines.specs.Lines.{said, Rising}
@@ -18,10 +17,8 @@ pub record Ends (bytes : List ℕ) (len : ℕ) : Type 0 where
   pub before : (k : ℕ) → k < len → eqb (get_or bytes k 0) 10 ≡ false
   pub stops : len < length bytes → eqb (get_or bytes len 0) 10 ≡ true
 
--- The list has no fault, and the starts say its names.
+-- The starts say the names of the list.
 pub record Indexed (list starts : List ℕ) (count : ℕ) : Type 0 where
-  pub short : length list ≤ list_limit
-  pub sound : names_fault list ≡ none
   pub rising : Rising list starts count
   pub names : names_of list ≡ column count (said list starts)
 
@@ -30,3 +27,15 @@ pub record BadAt (list : List ℕ) (why : Refusal) : Type 0 where
   pub start : ℕ
   pub refused : why ≡ BadName start
   pub fault : names_fault list ≡ some start
+
+-- The starts of the lines up to the first bad one, after these; where there is none, the end of the list as well.
+abbrev pub opened : ℕ → List (List ℕ) → List Line → List ℕ
+opened end before [] = end ∷ []
+opened end before (l ∷ ls) =
+    let later = opened end (l.says ∷ before) ls in l.start ∷ cond (bad_line before l) [] later
+
+-- The fault is the paper's; where there is none, the starts say the names. What is kept stands first, and the rest is untouched.
+pub record Checked (list old new : List ℕ) (r : Result ℕ Refusal) : Type 0 where
+  pub good : IfOk r (λ count. Indexed list new count × (names_fault list ≡ none))
+  pub bad : IfErr r (λ why. BadAt list why)
+  pub kept : new ≡ written (opened (length list) [] (lines_from 0 list)) old

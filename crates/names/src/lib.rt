@@ -6,8 +6,8 @@ ghost use Rattle.paper.specs.Limits.{list_limit, name_limit, names_limit};
 ghost use Rattle.paper.specs.Names.{number_of, names_of, names_fault, bad_line};
 ghost use Rattle.paper.specs.Told.{found};
 ghost use Rattle.std.proofs.Math.Option.{none};
-ghost use Rattle.name_lines.specs.Lines.{Rising};
-ghost use Rattle.names.specs.Listing.{Ends, Indexed, BadAt, line_to};
+ghost use Rattle.name_lines.specs.Lines.{starts_count, Rising};
+ghost use Rattle.names.specs.Listing.{Ends, Checked, Indexed, BadAt, line_to};
 ghost use Rattle.name_keys.specs.Keys.{Keyed, earlier};
 
 use paper::{NAME_LIMIT, NAMES_LIMIT, Refusal};
@@ -56,7 +56,30 @@ fn bad_line(
     name_keys::repeats(list, starts, keys, count, word)
 }
 
-// A list of names that has no fault, and where each of its lines starts; past the last line stands the length of the list.
+// Checks the list, and keeps where each line starts; past the last line stands the length of the list. Answers how many lines there are.
+pub fn index(list: &[u8], starts: &mut [u16; STARTS]) -> Result<usize, Refusal>
+    requires list_len_bound { length list.now ≤ list_limit }
+    requires starts_len { length starts.old ≡ starts_count }
+    ensures { Checked list.now starts.old starts.new result }
+{
+    let mut keys = [0u16; STARTS];
+    let mut start: usize = 0;
+    let mut count: usize = 0;
+    starts[0] = 0;
+    while start < list.len() {
+        let end = start + line_len(&list[start..]);
+        if bad_line(list, starts, &keys, count, start, end) {
+            return Err(Refusal::BadName(start));
+        }
+        keys[count] = name_keys::key(&list[start..end]);
+        start = end + 1;
+        count += 1;
+        starts[count] = start as u16;
+    }
+    Ok(count)
+}
+
+// A list of names, and where each of its lines starts; past the last line stands where another would start.
 #[derive(Drop)]
 pub struct Names<'a> {
     list: &'a [u8],
@@ -80,24 +103,24 @@ impl<'a> Names<'a> {
         ensures bad { IfErr result (λ why. BadAt list.now why) }
     {
         let mut starts = [0u16; STARTS];
-        let mut keys = [0u16; STARTS];
-        let mut start: usize = 0;
-        let mut count: usize = 0;
-        while start < list.len() {
-            let end = start + line_len(&list[start..]);
-            if bad_line(list, &starts, &keys, count, start, end) {
-                return Err(Refusal::BadName(start));
-            }
-            keys[count] = name_keys::key(&list[start..end]);
-            start = end + 1;
-            count += 1;
-            starts[count] = start as u16;
-        }
+        let count = index(list, &mut starts)?;
         Ok(Names {
             list,
             starts,
             count,
         })
+    }
+
+    // A list of which it is known where its lines start.
+    pub fn by_starts(list: &'a [u8], starts: &[u16; STARTS], count: usize) -> Names<'a>
+        requires { Indexed list.now starts.now count }
+        ensures { result ≡ list.now }
+    {
+        Names {
+            list,
+            starts: *starts,
+            count,
+        }
     }
 
     // How many names there are.
@@ -113,14 +136,16 @@ impl<'a> Names<'a> {
         ensures numbered { found result ≡ number_of (names_of self.now) word.now }
         ensures few { IfSome result (λ v. v < names_limit) }
     {
-        name_lines::first_same(self.list, &self.starts, self.count, word)
+        let v = name_lines::first_same(self.list, &self.starts, self.count, word)?;
+        Some(v)
     }
 
     // What name v says.
     pub fn spell(&self, v: usize) -> &[u8]
         requires { v < length (names_of self.now) }
         ensures says { result.now ≡ get_or (names_of self.now) v [] }
-        ensures long { (0 < length result.now) × (length result.now ≤ name_limit) }
+        ensures within { length result.now ≤ length self.now }
+        ensures long { names_fault self.now ≡ none → (0 < length result.now) × (length result.now ≤ name_limit) }
     {
         name_lines::line(self.list, &self.starts, v)
     }

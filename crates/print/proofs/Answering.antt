@@ -17,6 +17,9 @@ use Rattle.paper.specs.Answers.{value, refusal, unknown_from, print_answer, text
 use Rattle.shape.specs.Walks.{shape_of}
 use Rattle.shape.specs.declared.Shape.{Shape}
 use Rattle.std.proofs.Common.{Some, None}
+use Rattle.put_query.specs.Writing.{Named}
+use Rattle.put_query.specs.Writing.{Query as IsPrintable}
+use Rattle.unknown_names.proofs.Unknowns.{all_known}
 
 -- What the shape of items says of the query that they are.
 pub shape_none : (o : Option Query) → None ≡ shape_of o → o ≡ none
@@ -70,6 +73,13 @@ module _ (brief : Bool) (query list old : List ℕ) where
     pub unknown_name : (place : ℕ) → unknown_from (length (names_of list)) 0 query ≡ some place → print_answer brief query list (length old) ≡ refusal 5 place
     unfolding print_answer
     unknown_name place u = rw (le-ltb item_limit (length query) r.few_items, le-ltb list_limit (length list) r.few_bytes, r.no_fault, r.decoded, u)
+
+    -- What printing asks.
+    pub can_print : unknown_from (length (names_of list)) 0 query ≡ none → Named list query × IsPrintable query
+    can_print u = (
+      record { few = r.few_bytes; known = all_known (length (names_of list)) query u },
+      record { query = r.is; decoded = r.decoded; few_items = r.few_items },
+    )
 
     module _ (u : unknown_from (length (names_of list)) 0 query ≡ none) (needed : ℕ) (e : needed ≡ 0 + length (text_got brief (names_of list) (decode query))) where
       counted : length (printed brief (names_of list) r.is) ≡ needed

@@ -4,13 +4,14 @@
 ghost use Rattle.std.specs.Prelude.{◌^◌, ◌<◌};
 ghost use Rattle.paper.specs.WriteXml.{kept_xml};
 ghost use Rattle.pen.specs.Putting.{Puts};
+ghost use Rattle.put_tags.specs.Lending.{IsLent};
 
 use put_node::{Walk, put_node};
 use put_tags::Marked;
 
 // Puts the kept part of a text: each marked node in turn, and in the end the end tags of all that is open.
 pub fn put_kept(kept: &Marked, out: &mut [u8], pen: usize) -> usize
-    requires { pen < 2 ^ 32 }
+    requires { IsLent kept.now × (pen < 2 ^ 32) }
     ensures { Puts (kept_xml kept.now.text kept.now.marks) pen out.old out.new result }
 {
     let mut at = pen;

@@ -13,7 +13,19 @@ use Rattle.put_tags.specs.Lending.{MarkedText}
 use Rattle.put_tags.specs.Tags.{name_at, Says}
 use Rattle.put_node.specs.Placing.{past_tags, piece_of, piece_squares, inner_by, PutsPiece, PutsNode}
 
--- CHOICES by a kind.
+-- CHOICES by a kind and by places.
+pub same_top : (k top up : ℕ) → top ≡ up → k ≡ past_tags k top up
+same_top k top up e = let same : eqb top up ≡ true = eq-eqb top up e in rw same
+
+pub other_top : (k top up : ℕ) → (top ≡ up → ⊥) → 0 ≡ past_tags k top up
+other_top k top up n = let other : eqb top up ≡ false = ne_eqb top up n in rw other
+
+pub text_inner : (kind up node : ℕ) → kind ≡ 1 → up ≡ inner_by kind up node
+text_inner kind up node e = let same : eqb kind 1 ≡ true = eq-eqb kind 1 e in rw same
+
+pub element_inner : (kind up node : ℕ) → (kind ≡ 1 → ⊥) → node ≡ inner_by kind up node
+element_inner kind up node n = let other : eqb kind 1 ≡ false = ne_eqb kind 1 n in rw other
+
 pub text-piece : (text : List ℕ) (kind begin end k : ℕ) → kind ≡ 1 → escaped k (bytes_at text begin end) ≡ piece_of text kind begin end k
 text-piece text kind begin end k e = let same : eqb kind 1 ≡ true = eq-eqb kind 1 e in rw same
 

@@ -1,7 +1,8 @@
 -- What printing asks and promises: the items are those of a query whose names the list has, and the text of what is taken from them is put.
 use Rattle.std.specs.Prelude.{ℕ, ◌+◌, ◌*◌, ◌≤◌, ◌≡◌, Bool, false, ◌||◌, List, length, get_or, drop}
 use Rattle.std.proofs.Math.Option.{some}
-use Rattle.paper.specs.Limits.{item_limit}
+use Rattle.paper.specs.Limits.{list_limit, item_limit}
+use Rattle.paper.specs.Names.{names_of}
 use Rattle.paper.specs.Query.{Expr}
 use Rattle.paper.specs.Query.{Query as Queried}
 use Rattle.paper.specs.Items.{step_at, Taken, decode}
@@ -18,9 +19,10 @@ term_pieces brief e = grouped (is_or e) (expr_pieces brief e)
 abbrev pub operand_pieces : Bool → Expr → List Piece
 operand_pieces brief e = grouped (is_or e || is_and e) (expr_pieces brief e)
 
--- There is a name for each that the items have.
-pub record Named (names : List (List ℕ)) (items : List ℕ) : Type 0 where
-  pub known : (i : ℕ) → unknown_item (length names) (step_at (get_or items i 0)) ≡ false
+-- The list is no longer than it may be, and has a name for each that the items have.
+pub record Named (list items : List ℕ) : Type 0 where
+  pub few : length list ≤ list_limit
+  pub known : (i : ℕ) → unknown_item (length (names_of list)) (step_at (get_or items i 0)) ≡ false
 
 -- Something is taken: the items are what they are printed as.
 pub record Some {A : Type 0} (taken : Taken A) : Type 0 where

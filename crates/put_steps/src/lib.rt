@@ -2,31 +2,34 @@
 #![tactic(auto)]
 
 ghost use Rattle.std.specs.Prelude.{◌≡◌, true, ◌+◌, ◌^◌, ◌≤◌, ◌<◌, length};
-ghost use Rattle.paper.specs.Limits.{name_limit};
+ghost use Rattle.std.proofs.Math.Option.{none};
+ghost use Rattle.paper.specs.Limits.{name_limit, list_limit};
 ghost use Rattle.paper.specs.Query.{Axis, Test};
-ghost use Rattle.paper.specs.Names.{names_of};
+ghost use Rattle.paper.specs.Names.{names_of, names_fault};
 ghost use Rattle.paper.specs.Items.{axis_number, test_number, good_test};
 ghost use Rattle.paper.specs.Printing.{test_text, head_pieces, text_of};
 ghost use Rattle.pen.specs.Putting.{Puts};
-ghost use Rattle.put_steps.specs.Heads.{head_room, Known};
+ghost use Rattle.put_steps.specs.Heads.{head_room, sound_room, Known};
 
 use item::Step;
 use names::Names;
 
 // Puts name v as its line of the list spells it.
 pub fn put_name(names: &Names, out: &mut [u8], pen: usize, v: usize) -> usize
-    requires v_lt_count { (v < length (names_of names.now)) × (pen < 2 ^ 39) }
+    requires v_lt_count { (v < length (names_of names.now)) × (length names.now ≤ list_limit) × (pen < 2 ^ 39) }
     ensures puts { Puts (test_text (names_of names.now) (Test.named v)) pen out.old out.new result }
-    ensures upper_bound { result ≤ pen + name_limit }
+    ensures upper_bound { result ≤ pen + list_limit }
+    ensures sound_bound { names_fault names.now ≡ none → result ≤ pen + name_limit }
 {
     pen::put(out, pen, names.spell(v))
 }
 
 // Puts a test: `node()`, `text()`, `*` or a name.
 fn put_test(names: &Names, out: &mut [u8], pen: usize, test: u32) -> usize
-    requires known { Known (length (names_of names.now)) test × (pen < 2 ^ 39) }
+    requires known { Known (length (names_of names.now)) test × (length names.now ≤ list_limit) × (pen < 2 ^ 39) }
     ensures puts { (t : Test) → test ≡ test_number t → good_test t ≡ true → Puts (test_text (names_of names.now) t) pen out.old out.new result }
-    ensures upper_bound { result ≤ pen + name_limit }
+    ensures upper_bound { result ≤ pen + list_limit }
+    ensures sound_bound { names_fault names.now ≡ none → result ≤ pen + name_limit }
 {
     match test {
         item::ANY_NODE => pen::put(out, pen, b"node()"),
@@ -38,9 +41,10 @@ fn put_test(names: &Names, out: &mut [u8], pen: usize, test: u32) -> usize
 
 // Puts a step without the predicates that it has: axis, `::` and test, and in the short form `.` or `..` for self or parent with `node()` and no predicate.
 pub fn put_head(names: &Names, out: &mut [u8], pen: usize, step: Step, brief: bool) -> usize
-    requires known { Known (length (names_of names.now)) step.test × (pen < 2 ^ 38) }
+    requires known { Known (length (names_of names.now)) step.test × (length names.now ≤ list_limit) × (pen < 2 ^ 38) }
     ensures puts { (a : Axis) (t : Test) → step.axis ≡ axis_number a → step.test ≡ test_number t → good_test t ≡ true → Puts (text_of (names_of names.now) (head_pieces brief a t step.count)) pen out.old out.new result }
     ensures upper_bound { result ≤ pen + head_room }
+    ensures sound_bound { names_fault names.now ≡ none → result ≤ pen + sound_room }
 {
     let dot = brief
         & ((step.axis == item::SELF) & (step.test == item::ANY_NODE) & (step.count == 0));

@@ -5,7 +5,7 @@ use mathlib.Core.Path.{◌≡◌, refl, sym, ◌∙◌, ap}
 use mathlib.Core.List.{List, [], ◌∷◌, ◌++◌, append_assoc, append-nil}
 use lib.ListN.{length, get_or, length-append}
 use Rattle.pen.specs.Putting.{Puts}
-use Rattle.pen.proofs.Putting.{puts_both, puts_as}
+use Rattle.pen.proofs.Putting.{puts_none, puts_both, puts_as}
 use Rattle.put_tags.specs.Tags.{name_at, Open, none_open, one_open}
 
 -- What is put, and what is still to be put.
@@ -17,6 +17,9 @@ pub record Closing (text parents begins bytes : List ℕ) (pen : ℕ) (old out :
   pub puts : Puts done pen old out at
 
 module _ (text parents begins : List ℕ) where
+  pub closing_start : {bytes : List ℕ} {top up : ℕ} (pen : ℕ) (old : List ℕ) → Open text parents begins top up bytes → Closing text parents begins bytes pen old old pen top up
+  closing_start {bytes} pen old c = record { done = []; rest = bytes; split = refl; left = c; puts = puts_none pen old }
+
   -- What is known of an open element: where it stands, and its end tag.
   pub record Known (inner up : ℕ) (bytes : List ℕ) : Type 0 where
     pub in_parents : inner < length parents

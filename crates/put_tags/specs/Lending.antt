@@ -20,7 +20,7 @@ abbrev pub marked_text : List ℕ → List ℕ → List ℕ → List ℕ → Lis
 marked_text text parents kinds begins ends marks =
     record { text = text; parents = parents; kinds = kinds; begins = begins; ends = ends; marks = marks }
 
--- The columns are those of the tree that the text is, and the marks have no fault.
+-- What putting the kept part asks: the columns are those of the tree that the text is, and the marks have no fault.
 pub record Lent (text parents kinds begins ends marks : List ℕ) : Type 0 where
   pub list : List ℕ
   pub tree : Nodes

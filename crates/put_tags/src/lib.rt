@@ -3,7 +3,7 @@
 
 ghost use Rattle.std.specs.Prelude.{List, [], ◌∷◌, ◌++◌, ℕ, ◌≡◌, ◌+◌, ◌^◌, ◌≤◌, ◌<◌, length, get_or};
 ghost use Rattle.pen.specs.Putting.{Puts};
-ghost use Rattle.put_tags.specs.Lending.{MarkedText, marked_text, Lent, IsLent};
+ghost use Rattle.put_tags.specs.Lending.{MarkedText, marked_text};
 ghost use Rattle.put_tags.specs.Tags.{name_at, Open, Closable, Says};
 
 use std::marker::Model;
@@ -60,12 +60,10 @@ impl<'a> Model for Marked<'a> {
     ghost Value = { MarkedText };
 
     ghost view = { λ m. marked_text m.text.now m.parents.now m.kinds.now m.begins.now m.ends.now m.marks.now };
-
-    ghost invariant = { λ m. Lent m.text.now m.parents.now m.kinds.now m.begins.now m.ends.now m.marks.now };
 }
 
 impl<'a> Marked<'a> {
-    // All that is lent, where it was judged.
+    // All that is lent.
     pub fn new(
         text: &'a [u8],
         parents: &'a [u16],
@@ -74,7 +72,6 @@ impl<'a> Marked<'a> {
         ends: &'a [u16],
         marks: &'a [u8],
     ) -> Marked<'a>
-        requires { Lent text.now parents.now kinds.now begins.now ends.now marks.now }
         ensures { result ≡ marked_text text.now parents.now kinds.now begins.now ends.now marks.now }
     {
         Marked {
@@ -89,8 +86,7 @@ impl<'a> Marked<'a> {
 
     // How many nodes there are.
     pub fn nodes(&self) -> usize
-        ensures counted { result ≡ length self.now.parents }
-        ensures lent { IsLent self.now }
+        ensures { result ≡ length self.now.parents }
     {
         self.parents.len()
     }

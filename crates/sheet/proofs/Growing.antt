@@ -14,6 +14,10 @@ use Rattle.paper.specs.Program.{decimal}
 use Rattle.paper.specs.Sheet.{sheet_line, name_lines}
 use Rattle.lines.specs.Lines.{line_room}
 use Rattle.sheet.specs.Sheets.{counts_text}
+use Rattle.paper.proofs.Same.{part_length}
+use Rattle.paper.proofs.Searches.{length_column, column_at}
+use Rattle.names.specs.Listing.{Indexed}
+use Rattle.name_lines.specs.Lines.{said}
 
 gather : (n a b c d e f g : List ℕ) → n ++ (a ++ b ++ c ++ d ++ e ++ f ++ g) ≡ n ++ a ++ b ++ c ++ d ++ e ++ f ++ g
 gather n a b c d e f g =
@@ -97,3 +101,17 @@ reach_more names v pen next l p n =
 -- No line of names goes past this.
 pub reach_most : (list : List ℕ) (v : ℕ) → reach (names_of list) v ≤ length list + v * line_room
 reach_most list v = omega (arith, bytes_first (names_of list) v, names_bytes list)
+
+-- The names of a list that was judged.
+module _ (list starts : List ℕ) (count : ℕ) (known : Indexed list starts count) where
+  -- The names are as many as their lines.
+  pub names_count : length (names_of list) ≡ count
+  names_count = ap length known.names ∙ length_column count 0 (said list starts)
+
+  -- A name has the length of its line.
+  pub name_long : (v : ℕ) → v < count → length (get_or (names_of list) v []) ≡ get_or starts (suc v) 0 - 1 - get_or starts v 0
+  name_long v l =
+      let is : get_or (names_of list) v [] ≡ said list starts v = rw known.names (column_at count (said list starts) [] v l) in
+      let inside : get_or starts v 0 + (get_or starts (suc v) 0 - 1 - get_or starts v 0) ≤ length list =
+      omega (arith, known.rising.rises v l, known.rising.within v l) in
+      ap length is ∙ part_length list [] (get_or starts v 0) (get_or starts (suc v) 0 - 1 - get_or starts v 0) inside

@@ -16,6 +16,8 @@ use Rattle.paper.specs.Names.{names_fault}
 use Rattle.paper.specs.declared.Refusal.{Refusal}
 use Rattle.names.specs.Listing.{BadAt}
 use Rattle.names.proofs.Unique.{refused_unique}
+use Rattle.names.proofs.Unique as names
+use Rattle.initials.proofs.Unique.{chained_unique}
 use Rattle.name_lines.proofs.Unique.{found_unique}
 use Rattle.token.proofs.Unique as token
 use Rattle.xml_runs.proofs.Unique as runs
@@ -36,7 +38,7 @@ use Rattle.shape.specs.declared.Walked.{Walked}
 use Rattle.shape.specs.Walks.{Walks}
 use Rattle.pen.specs.Putting.{Puts}
 use Rattle.uniqueness.specs.UniqueParts.{UnpackUnique, PackPathUnique, PackStepUnique, TurnUnique, GuardedUnique, PutItemsUnique, PutSameUnique}
-use Rattle.uniqueness.specs.UniqueParts.{NameStartUnique, NamePartUnique, NewNamesUnique, CountNamesUnique, FindUnique, NewInitialsUnique, FindInitialUnique, SpellUnique, WhiteSpaceUnique, TakeUnique}
+use Rattle.uniqueness.specs.UniqueParts.{NameStartUnique, NamePartUnique, LinePartUnique, IndexUnique, NewNamesUnique, ByStartsUnique, LinkUnique, CountNamesUnique, FindUnique, NewInitialsUnique, FindInitialUnique, SpellUnique, WhiteSpaceUnique, TakeUnique}
 use Rattle.uniqueness.specs.UniqueParts.{SkipSpaceUnique, RunEndUnique, MarkupUnique, RefuseUnique, ByteUnique, SayUnique, SoonerUnique, RunPieceUnique, TakePieceUnique, RootPieceUnique, FinishUnique, LeadUnique}
 use Rattle.uniqueness.specs.UniqueParts.{MarkUnique, WordAheadUnique, JoinedUnique, PathLeadUnique, OpeningUnique, AxisAheadUnique, TestCallUnique}
 use Rattle.uniqueness.specs.UniqueParts.{RunOfUnique, StepsUnique, MeasureUnique, TableFaultUnique, MarksFaultUnique, CountUnique}
@@ -96,6 +98,9 @@ name_part_unique κs a u v x y g p q = same p q
 pub is_name_unique : IsNameUnique
 is_name_unique κs a u v x y g p q = same p q
 
+pub line_part_unique : LinePartUnique
+line_part_unique κs a u v x y g p q = same p q
+
 pub name_line_unique : NameLineUnique
 name_line_unique κs a u v x y g p q = same p q
 
@@ -107,6 +112,11 @@ key_unique κs a u v x y g p q = same p q
 
 pub repeats_unique : RepeatsUnique
 repeats_unique κs a u v x y g p q = same p q
+
+pub index_unique : IndexUnique
+index_unique κs a u v x y g p q =
+    let both = names.index_unique a.0.now a.1.0.now x.1.0.now y.1.0.now u v p q in
+    (both.0, same_slice both.1 refl)
 
 -- A list is good or bad, and bad in one way.
 checked_unique : (list : List ℕ) (r s : Result (List ℕ) Refusal)
@@ -120,11 +130,17 @@ checked_unique list (Err why) (Err other) p f q g = ap (λ w. Err w) (refused_un
 pub new_names_unique : NewNamesUnique
 new_names_unique κs a u v x y g p q = checked_unique a.0.now u v p.0 p.1 q.0 q.1
 
+pub by_starts_unique : ByStartsUnique
+by_starts_unique κs a u v x y g p q = same p q
+
 pub count_names_unique : CountNamesUnique
 count_names_unique κs a u v x y g p q = same p.0 q.0
 
 pub find_unique : FindUnique
 find_unique κs a u v x y g p q = found_unique u v (same p.0 q.0)
+
+pub link_unique : LinkUnique
+link_unique κs a u v x y g p q = (refl, ap (λ l. l ∷ []) (chained_unique _ _ _ p q))
 
 pub new_initials_unique : NewInitialsUnique
 new_initials_unique κs a u v x y g p q = same p q
@@ -589,7 +605,7 @@ pub new_marked_unique : NewMarkedUnique
 new_marked_unique κs a u v x y g p q = same p q
 
 pub count_marked_unique : CountMarkedUnique
-count_marked_unique κs a u v x y g p q = same p.0 q.0
+count_marked_unique κs a u v x y g p q = same p q
 
 pub text_of_unique : TextOfUnique
 text_of_unique κs a u v x y g p q = same p q

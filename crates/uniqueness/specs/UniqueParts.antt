@@ -28,14 +28,18 @@ use Rattle.item.proofs.put_same
 use Rattle.good_names.proofs.name_start
 use Rattle.good_names.proofs.name_part
 use Rattle.good_names.proofs.is_name
+use Rattle.name_lines.proofs.line_part
 use Rattle.name_lines.proofs.line as name_line
 use Rattle.name_lines.proofs.first_same
 use Rattle.name_keys.proofs.key
 use Rattle.name_keys.proofs.repeats
+use Rattle.names.proofs.index
 use Rattle.names.proofs.Names.new as new_names
+use Rattle.names.proofs.Names.by_starts
 use Rattle.names.proofs.Names.count as count_names
 use Rattle.names.proofs.Names.find
 use Rattle.names.proofs.Names.spell
+use Rattle.initials.proofs.link
 use Rattle.initials.proofs.Initials.new as new_initials
 use Rattle.initials.proofs.Initials.find as find_initial
 use Rattle.xml_lines.proofs.narrow
@@ -239,6 +243,9 @@ NamePartUnique = UniqueAnswer name_part.Kinds.ps name_part.Kinds.r name_part.Rea
 abbrev pub IsNameUnique : Type 0
 IsNameUnique = UniqueAnswer is_name.Kinds.ps is_name.Kinds.r is_name.Reads.Pre is_name.Reads.Post
 
+abbrev pub LinePartUnique : Type 0
+LinePartUnique = UniqueAnswer line_part.Kinds.ps line_part.Kinds.r line_part.Reads.Pre line_part.Reads.Post
+
 abbrev pub NameLineUnique : Type 0
 NameLineUnique = UniqueBytes name_line.Kinds.ps name_line.Kinds.r name_line.Reads.Pre name_line.Reads.Post (λ κs u. u.now)
 
@@ -251,14 +258,23 @@ KeyUnique = UniqueAnswer key.Kinds.ps key.Kinds.r key.Reads.Pre key.Reads.Post
 abbrev pub RepeatsUnique : Type 0
 RepeatsUnique = UniqueAnswer repeats.Kinds.ps repeats.Kinds.r repeats.Reads.Pre repeats.Reads.Post
 
+abbrev pub IndexUnique : Type 0
+IndexUnique = Unique index.Kinds.ps index.Kinds.r index.Reads.Pre index.Reads.Post (λ κs x. x.1.0.now ∷ [])
+
 abbrev pub NewNamesUnique : Type 0
 NewNamesUnique = UniqueAnswer new_names.Kinds.ps new_names.Kinds.r new_names.Reads.Pre new_names.Reads.Post
+
+abbrev pub ByStartsUnique : Type 0
+ByStartsUnique = UniqueAnswer by_starts.Kinds.ps by_starts.Kinds.r by_starts.Reads.Pre by_starts.Reads.Post
 
 abbrev pub CountNamesUnique : Type 0
 CountNamesUnique = UniqueAnswer count_names.Kinds.ps count_names.Kinds.r count_names.Reads.Pre count_names.Reads.Post
 
 abbrev pub FindUnique : Type 0
 FindUnique = UniqueAnswer find.Kinds.ps find.Kinds.r find.Reads.Pre find.Reads.Post
+
+abbrev pub LinkUnique : Type 0
+LinkUnique = Unique link.Kinds.ps link.Kinds.r link.Reads.Pre link.Reads.Post (λ κs x. x.1.0.now ∷ [])
 
 abbrev pub NewInitialsUnique : Type 0
 NewInitialsUnique = UniqueAnswer new_initials.Kinds.ps new_initials.Kinds.r new_initials.Reads.Pre new_initials.Reads.Post

@@ -148,7 +148,7 @@ steps-put_head-headed-requires t c =
     let count = length (names_of a.source.now.names.now) in
     let unknown : unknown_test count s.0.test ≡ false = rw s.1 at (c.requires.names.known l.place) in
     let there = step_there a.depth items l.place l.owed (l.invariant.rest, l.invariant.left) c.loop-owed-test.true l.invariant.takes in
-    record { known = (rw (ap (λ x. x.test) s.2) (known_test count s.0.test (step_found w s.0 s.1).1 unknown), omega (arith, l.invariant.low, there, c.requires.at_in_bounds.1)) }
+    record { known = (rw (ap (λ x. x.test) s.2) (known_test count s.0.test (step_found w s.0 s.1).1 unknown), c.requires.names.few, omega (arith, l.invariant.low, there, c.requires.at_in_bounds.1)) }
 
 pub steps-predicates-more-requires : goal.steps-predicates-more-requires
 steps-predicates-more-requires t c =

@@ -19,7 +19,7 @@ returns-then-eq-clause-numbered c =
     let at = c.loop-at.at in
     let word = c.args.word.now in
     let says : same (get_or names (at - 1) []) word ≡ true =
-    ap (λ name. same name word) (sym c.spell.ensures.says) ∙ sym (same_pointwise c.spell.result.now word) ∙ sym c.eq.ensures ∙ c.if-eq.true in
+    ap (λ name. same name word) (sym c.spell-name.ensures.says) ∙ sym (same_pointwise c.spell-name.result.now word) ∙ sym c.eq.ensures ∙ c.if-eq.true in
     found_first names word at c.loop-at.invariant c.loop-at-test.true says ∙ ap (λ list. number_of (names_of list) word) c.self.view_is
 
 pub loop-at-smaller : goal.loop-at-smaller
@@ -28,7 +28,7 @@ loop-at-smaller c =
     let at = c.loop-at.at in
     let word = c.args.word.now in
     let says : same (get_or names (at - 1) []) word ≡ false =
-    ap (λ name. same name word) (sym c.spell.ensures.says) ∙ sym (same_pointwise c.spell.result.now word) ∙ sym c.eq.ensures ∙ c.if-eq.false in
+    ap (λ name. same name word) (sym c.spell-name.ensures.says) ∙ sym (same_pointwise c.spell-name.result.now word) ∙ sym c.eq.ensures ∙ c.if-eq.false in
     let next = get_or c.self.inside.chains (bytes_count + (at - 1)) 0 in
     let onward = seek-next names word c.self.inside.chains c.self.invariant at c.loop-at.invariant c.loop-at-test.true says in
     let less = left_less (length names) at next c.loop-at-test.true c.loop-at.invariant.few onward.1 in
@@ -40,7 +40,7 @@ loop-at-preserved c =
     let at = c.loop-at.at in
     let word = c.args.word.now in
     let says : same (get_or names (at - 1) []) word ≡ false =
-    ap (λ name. same name word) (sym c.spell.ensures.says) ∙ sym (same_pointwise c.spell.result.now word) ∙ sym c.eq.ensures ∙ c.if-eq.false in
+    ap (λ name. same name word) (sym c.spell-name.ensures.says) ∙ sym (same_pointwise c.spell-name.result.now word) ∙ sym c.eq.ensures ∙ c.if-eq.false in
     let onward = seek-next names word c.self.inside.chains c.self.invariant at c.loop-at.invariant c.loop-at-test.true says in
     subst (Seeks names word) (sym c.from-at-in-loop-at.ensures) onward.0
 

@@ -1,7 +1,7 @@
--- The loop of `new`: the names from `v` on are linked.
+-- The loop of `link`: the names from `v` on are linked.
 use Rattle.paper.specs.Names.{names_of}
 use Rattle.initials.proofs.Linking.{Upto}
-use Rattle.initials.proofs.Initials.new.Given as goal
+use Rattle.initials.proofs.link.Given as goal
 
 abbrev pub invariant-loop-v : goal.invariant-loop-v
 invariant-loop-v l = Upto (names_of l.names) l.chains l.v
