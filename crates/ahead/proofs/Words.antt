@@ -1,5 +1,5 @@
--- The axis that is written: a word that names one, and `::`. Assumes nothing.
-use Prim.Native.Nat.{ℕ}
+-- The words that call tests, and the axis that is written: a word that names one, and `::`. Assumes nothing.
+use Prim.Native.Nat.{ℕ, ◌<◌}
 use native.Mathlib.Omega.{arith}
 use mathlib.Core.Path.{◌≡◌, refl, sym, ◌∙◌, ap}
 use mathlib.Core.Bool.{Bool, true, false, cond}
@@ -7,14 +7,36 @@ use mathlib.Core.List.{List, []}
 use mathlib.Core.Option.{Option, none, some}
 use lib.ListN.{drop}
 use lib.Seq.{drop-drop}
+use Rattle.std.specs.Prelude.{Some, None}
+use Rattle.paper.specs.Tools.{ascii, same}
 use Rattle.paper.specs.Tokens as paper
 use Rattle.paper.specs.Tokens.{letters}
-use Rattle.paper.specs.Query.{Axis}
+use Rattle.paper.specs.Query.{Axis, any_node, text_node}
+use Rattle.paper.specs.Items.{named_from, test_number}
 use Rattle.paper.specs.Reading.{next, sees, axis_named, axis_ahead}
 use Rattle.paper.proofs.Tests.{none-some, some_inj}
 use Rattle.marks.specs.Marks.{tokens_at, end_of, Past}
-use Rattle.ahead.specs.Looking.{AxisWritten}
+use Rattle.ahead.specs.Looking.{AxisWritten, call_code}
 use Rattle.axis_words.specs.AxisWords.{axis_code}
+
+-- THE WORDS OF THE TESTS.
+small_code : (a b : Bool) (test : ℕ) → cond a (Some (test_number any_node)) (cond b (Some (test_number text_node)) None) ≡ Some test → test < named_from
+small_code true b test e = let same : test_number any_node ≡ test = cc in omega (arith, same)
+small_code false true test e = let same : test_number text_node ≡ test = cc in omega (arith, same)
+small_code false false test e = absurd (let z : ◌≡◌ {A = ℕ} 0 1 = cc in omega arith)
+
+module _ (w : List ℕ) where
+  pub node_word : same (ascii "node") w ≡ true → Some (test_number any_node) ≡ call_code w
+  node_word a = rw a
+
+  pub text_word : same (ascii "node") w ≡ false → same (ascii "text") w ≡ true → Some (test_number text_node) ≡ call_code w
+  text_word a b = rw (a, b)
+
+  pub no_call_word : same (ascii "node") w ≡ false → same (ascii "text") w ≡ false → None ≡ call_code w
+  no_call_word a b = rw (a, b)
+
+  pub call_small : (test : ℕ) → call_code w ≡ Some test → test < named_from
+  call_small test e = small_code (same (ascii "node") w) (same (ascii "text") w) test e
 
 -- THE AXIS THAT IS WRITTEN.
 no_axis : (o : Option Axis) → axis_code o ≡ none → o ≡ none

@@ -1,8 +1,8 @@
 -- Where a step may lead at all: along self and parent to one node; and the best candidate below a bound from what was looked at. Assumes nothing.
 use Rattle.std.specs.Prelude.{Option, Some, None}
-use Prim.Native.Nat.{ℕ}
+use Prim.Native.Nat.{ℕ, ◌<◌}
 use native.Mathlib.Omega.{arith}
-use native.Mathlib.Decide.{dec_lt}
+use native.Mathlib.Decide.{ℕ_discrete, dec_lt}
 use mathlib.Core.Path.{◌≡◌, refl, sym, ◌∙◌, ap}
 use mathlib.Core.Bool.{Bool, true, false, false≢true, not, ◌&&◌}
 use mathlib.Core.List.{List}
@@ -56,6 +56,16 @@ module _ (t : Table) (marks : List ℕ) where
       (not_led Axis.parent x i k (and_none (not (eqb i 0)) (ne_eqb (parent_of t i) k (λ q. d (sym q ∙ sym p)))))
 
 module _ (test : ℕ → Bool) where
+  pub best_none : (bound : ℕ) → ((k : ℕ) → k < bound → test k ≡ false) → Best test bound None
+  best_none bound h = h
+
+  pub best_here : (bound j : ℕ) → j < bound → ((k : ℕ) → j < k → k < bound → test k ≡ false) → test j ≡ true → Best test bound (Some j)
+  best_here bound j l h p = record { within = l; here = p; later = h }
+
+  -- The only candidate, where the test fails for all others.
+  pub only : (bound j : ℕ) → ((k : ℕ) → (k ≡ j → ⊥) → test k ≡ false) → test j ≡ false → Best test bound None
+  only bound j h p = best_none bound (λ k b. by_cases (ℕ_discrete k j) (λ e. ap test e ∙ p) (λ e. h k e))
+
   -- There is one best candidate.
   pub best_unique : (bound : ℕ) (r s : Option ℕ) → Best test bound r → Best test bound s → r ≡ s
   best_unique bound None None p q = refl

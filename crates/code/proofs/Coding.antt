@@ -34,6 +34,13 @@ number_small (Err (NoView place)) = omega arith
 number_small (Err (UnreadView place)) = omega arith
 number_small (Err Unreadable) = omega arith
 
+-- The number of an answer that tells a refusal, and its place.
+pub number_is : {t : Told} {number place : ℕ} → t ≡ refusal number place → number ≡ number_told t
+number_is e = sym (ap number_told e)
+
+pub place_is : {t : Told} {number place : ℕ} → t ≡ refusal number place → place ≡ place_told t
+place_is e = sym (ap place_told e)
+
 -- What `code` promises of an answer that tells this.
 abbrev pub Codes : Told → ℕ → Type 0
 Codes t r = (Small t → r ≡ code_of t) × (r ≡ cut_code t)
@@ -45,10 +52,10 @@ pub refusal_code : (why : Refusal) (number place r : ℕ) → number ≡ number_
     → (place < high → r ≡ number * high + place) × (r ≡ number * high + place % high) → Codes (told_refusal why) r
 refusal_code why number place r n p e =
     let (k, l, t) = refusal_told why in
-    let number_is : number ≡ k = n ∙ ap number_told t in
+    let number_same : number ≡ k = n ∙ ap number_told t in
     let place_same : place ≡ l = p ∙ ap place_told t in (
-      λ s. e.0 (subst (λ x. x < high) (sym place_same) (subst Small t s)) ∙ ap₂ (λ x y. x * high + y) number_is place_same ∙ ap code_of (sym t),
-      e.1 ∙ ap₂ (λ x y. x * high + y % high) number_is place_same ∙ ap cut_code (sym t),
+      λ s. e.0 (subst (λ x. x < high) (sym place_same) (subst Small t s)) ∙ ap₂ (λ x y. x * high + y) number_same place_same ∙ ap code_of (sym t),
+      e.1 ∙ ap₂ (λ x y. x * high + y % high) number_same place_same ∙ ap cut_code (sym t),
     )
 
 -- The code of an answer that tells what a call owes, where that is small.

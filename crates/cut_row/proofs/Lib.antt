@@ -1,2 +1,2 @@
--- A row of a cut as the code asks of it: `asked`, `leaf_decides`; a test that cannot hold: `fails`.
+-- A row of a cut as the code asks of it: `within`, `outside`, `asked`, `leaf_decides`; a test that cannot hold: `fails`.
 pub mod Asking

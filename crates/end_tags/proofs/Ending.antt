@@ -58,9 +58,12 @@ pub wait_letter : (at x : ℕ) (xs : List ℕ) (frames : List Frame) → Waits (
 unfolding left_out
 wait_letter at x xs frames = record { unsettled = λ bs. refl; goes = λ b. rw (same_turned b x); opens = λ bs. refl }
 
--- A name that goes on at a place has this letter first.
+-- A name that goes on at a place has this letter first; one that ends there is empty.
 name_letter : (text : List ℕ) (at : ℕ) → at < length text → name_part (get_or text at 0) ≡ true → name_at text at ≡ get_or text at 0 ∷ name_at text (suc at)
 name_letter text at inside h = rw (drop-cons text at 0 inside, h)
+
+name_over : (text : List ℕ) (at : ℕ) → at < length text → name_part (get_or text at 0) ≡ false → name_at text at ≡ []
+name_over text at inside h = rw (drop-cons text at 0 inside, h)
 
 module _ (text : List ℕ) (at inner : ℕ) where
   -- What is read so far: the letters before `letter` have come again.
@@ -107,6 +110,13 @@ module _ (text : List ℕ) (at inner : ℕ) where
       pub renaming_refused : (why : Refusal) → Reads text place (eqb (get_or text letter 0) ∷ []) (Err why) → Renames text at inner (Err why)
       renaming_refused why h = record { goes = λ frames. letter_goes (Err why) h frames; bounds = reads_bounds text place (eqb (get_or text letter 0) ∷ []) (Err why) so_far.most h }
 
+    pub renaming_done : name_part (get_or text letter 0) ≡ false → Renames text at inner (Ok place)
+    renaming_done over =
+        record {
+          goes = λ frames. so_far.goes frames ∙ ap (λ (w : List ℕ). seek_at text place (state (closing w) frames)) (name_over text letter letter_inside over);
+          bounds = (so_far.least, so_far.most);
+        }
+
   -- PAST THE NAME.
   module _ (name_end place : ℕ) (named : Renames text at inner (Ok name_end)) (e : place ≡ name_end + run_of white (drop name_end text)) where
     pub place_within : place ≤ length text
@@ -118,14 +128,14 @@ module _ (text : List ℕ) (at inner : ℕ) where
         ∙ ap (λ (l : List ℕ). seek (name_end + run_of white (drop name_end text)) (state (closing []) (f ∷ fs)) l) (drop-drop (run_of white (drop name_end text)) name_end text)
         ∙ ap (λ m. seek_at text m (state (closing []) (f ∷ fs))) (sym e)
 
-    end_cut : length text ≤ place → Ends text at inner (Err (NoXml place))
+    pub end_cut : length text ≤ place → Ends text at inner (Err (NoXml place))
     end_cut l = record { goes = λ f fs n. to_place f fs n ∙ text_ends text place (state (closing []) (f ∷ fs)) l refl; bounds = place_within }
 
     module _ (inside : place < length text) where
       no_space : white (get_or text place 0) ≡ false
       no_space = stops_run white text name_end place e inside
 
-      end_closes : (to : ℕ) → get_or text place 0 ≡ 62 → to ≡ place + 1 → Ends text at inner (Ok to)
+      pub end_closes : (to : ℕ) → get_or text place 0 ≡ 62 → to ≡ place + 1 → Ends text at inner (Ok to)
       unfolding left_out
       end_closes to mark f =
           let next : suc place ≡ to = omega arith in
@@ -138,7 +148,7 @@ module _ (text : List ℕ) (at inner : ℕ) where
             bounds = (omega (arith, named.bounds.0), omega arith);
           }
 
-      end_refused : (why : Refusal) → (get_or text place 0 ≡ 62 → ⊥) → why ≡ refusal_at (left_out_anywhere (drop place text)) place → Ends text at inner (Err why)
+      pub end_refused : (why : Refusal) → (get_or text place 0 ≡ 62 → ⊥) → why ≡ refusal_at (left_out_anywhere (drop place text)) place → Ends text at inner (Err why)
       unfolding left_out
       end_refused why other f =
           record {
@@ -164,6 +174,11 @@ module _ (text : List ℕ) (at inner : ℕ) where
       where
         same : {q : Reach} → Reads text place (eqb 62 ∷ []) q → r ≡ q
         same k = h.comes ∙ sym k.comes
+
+  -- A refusal of the name is one of the tag.
+  pub end_stuck : (why : Refusal) → Renames text at inner (Err why) → Ends text at inner (Err why)
+  end_stuck why h =
+      record { goes = λ f fs n. ap (λ (w : List ℕ). seek_at text at (state (closing w) (f ∷ fs))) n ∙ h.goes (f ∷ fs); bounds = h.bounds }
 
 -- LETTERS of a name that stand at another place too are read again there.
 module _ (text : List ℕ) (at inner letter : ℕ) where

@@ -186,6 +186,12 @@ heads_from newer look text from mid o p (Err why) e l f h = λ within.
     let r = h within in
     record { number = r.number; place = r.place; told = r.told; is = e within ∙ r.is }
 
+pub dotted_on : (newer : Bool) (axis : ℕ) (past : Cursor) → newer ≡ true → Tested axis (test_number any_node) past ≡ dotted_head newer axis past
+dotted_on newer axis past n = rw n
+
+pub dotted_off : (newer : Bool) (axis : ℕ) (past : Cursor) → newer ≡ false → Plain axis past ≡ dotted_head newer axis past
+dotted_off newer axis past n = rw n
+
 -- `.` and `..`, of which the reader knows the axis a: by version 2 their predicates follow, by version 1 none.
 dotted-head : (newer : Bool) (look : List ℕ → Option ℕ) (text : List ℕ) (from axis : ℕ) (a : Axis) (past : Cursor) (o : Outcome) → axis ≡ axis_number a
     → ((within : ℕ → List Placed → Got Expr) → o within ≡ read_dot newer look within a (tokens_at text past.at)) → Past text from past.at

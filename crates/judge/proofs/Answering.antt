@@ -1,10 +1,10 @@
 -- The lines of a run, in their order: what refuses it, and what is known where nothing does. Assumes nothing.
-use Prim.Native.Nat.{ℕ, ◌+◌, ◌-◌, ◌*◌, ◌≤◌, ◌<◌}
+use Prim.Native.Nat.{ℕ, ◌+◌, ◌*◌, ◌≤◌, ◌<◌}
 use native.Mathlib.Omega.{arith}
 use native.Mathlib.Nat.{mul-le-mul, le_trans}
 use mathlib.Core.Path.{◌≡◌, refl, sym, ◌∙◌, ap}
 use mathlib.Core.Bool.{Bool, true, false, not, ◌||◌}
-use mathlib.Core.List.{List, [], ◌++◌, append-nil}
+use mathlib.Core.List.{List, [], append-nil}
 use mathlib.Core.Option.{Option, none, some}
 use lib.Dec.{eqb, ltb}
 use lib.ListN.{length, drop, drop_of_length-le}
@@ -19,7 +19,7 @@ use Rattle.paper.specs.Items.{decode}
 use Rattle.paper.specs.Measures.{height}
 use Rattle.paper.specs.Document.{Table, nodes, table_fault, marks_fault}
 use Rattle.paper.specs.Selection.{kept}
-use Rattle.paper.specs.Answers.{value, refusal, line, line_query, too_long, short, scratch_of, marked_count, run_answer, run_marks, kept_got}
+use Rattle.paper.specs.Answers.{value, refusal, line, line_query, too_long, scratch_of, marked_count, run_answer, run_marks, kept_got}
 use Rattle.paper.specs.Told.{told_refusal}
 use Rattle.paper.specs.declared.Refusal.{Refusal}
 use Rattle.paper.proofs.Tests.{or_left, or_right}
@@ -85,7 +85,8 @@ module _ (query : List ℕ) (t : Table) (given : List ℕ) (marks_room : ℕ) wh
   marks_other h =
       judged_long (or_right (too_long query item_limit || ltb node_limit (nodes t) || not (eqb (length t.kinds) (nodes t)) || not (eqb (length given) (nodes t))) (ap not (ne_eqb marks_room (nodes t) h)))
 
-  judged_agrees : Agree → judged query t given marks_room ≡ line_query 6 0 (decode query) (λ q. line 7 (table_fault t) (line 8 (marks_fault t given) (value (height q))))
+  -- Where the lengths are right, the later lines decide.
+  pub judged_agrees : Agree → judged query t given marks_room ≡ line_query 6 0 (decode query) (λ q. line 7 (table_fault t) (line 8 (marks_fault t given) (value (height q))))
   unfolding judged
   judged_agrees a =
       rw (le-ltb item_limit (length query) a.items_few, le-ltb node_limit (nodes t) a.nodes_few, eq-eqb (length t.kinds) (nodes t) a.kinds_all, eq-eqb (length given) (nodes t) a.given_all, eq-eqb marks_room (nodes t) a.marks_all)

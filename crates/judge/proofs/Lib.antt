@@ -1,2 +1,2 @@
--- The lines of a run in their order, and what is known where none holds: `Long`, `Agree`, `Accepted`, `accepted`, `runs`, `short_of`, `refused_answer`, `refused_marks`, `run-marks`.
+-- The lines of a run in their order, and what is known where none holds: `Long`, `Agree`, `judged_agrees`, `Accepted`, `accepted`, `runs`, `short_of`, `refused_answer`, `marks_stay`, `run-marks`.
 pub mod Answering

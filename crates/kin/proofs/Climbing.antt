@@ -8,6 +8,14 @@ use Rattle.paper.proofs.Trees.{Tree}
 use Rattle.table.specs.Climbs.{Falls}
 use Rattle.kin.specs.Nearness.{near}
 
+pub falls_near : (parents : List ℕ) → near parents → Falls parents (length parents)
+falls_near parents w =
+    record {
+      within = omega arith;
+      root = λ z. (w []).root;
+      falls = λ k z l. (w []).falls k z l;
+    }
+
 pub falls_up : (parents : List ℕ) (from : ℕ) → near parents → from < length parents → Falls parents (from + 1)
 falls_up parents from w l =
     record {

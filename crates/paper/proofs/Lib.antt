@@ -20,7 +20,7 @@ pub mod Abbreviating
 pub mod Sizes
 -- New numbers and what is written by them: `rank_less`, `rank-back`, `pick_at`, `write_next`, `over_last`, `extracted_good`, `extracted_whole`.
 pub mod Extracting
--- Answers line by line: `line_value`, `when_none`, `Refuses`, `refused_keeps`.
+-- Answers line by line: `line_value`, `when_none`, `refused_keeps`.
 pub mod Refusing
 -- What an accepted call writes, and that it stands at the start: `read_gives`, `compose_gives`, `print_gives`.
 pub mod Giving

@@ -2,7 +2,7 @@
 pub mod Heading
 -- The declaration, part by part: `equals_read`, `quote_taken`, `name_quote`, `given_then`, `number_read`, `is_yes`, `is_no`, `alone_on`, `alone_off`, `coded_on`, `coded_off`, `encoding_other`, `encoding_none`.
 pub mod Declaring
--- How the text begins: the name of an encoding, `other_is`, `named_same`, a word, `starts_same`, and a declaration, `declares_by`.
+-- How the text begins: the name of an encoding, `other_is`, `named_other`, `named_five`, `named_same`, a word, `starts_same`, `starts_all`, `starts_cut`, `starts_differs`, `starts_more`, and a declaration, `declares_by`.
 pub mod Beginnings
 -- Where the one element begins: past white space, `land_here`, `land_other`, `land_left_out`; from the beginning of the text, `lead_declared`, `lead_plain`, `lead_mark`, `lead_stuck`; `seek` and `seek_head` go on alike before it: `goes_ahead`, `goes_heading`.
 pub mod Landing

@@ -16,7 +16,7 @@ use Rattle.paper.specs.Query.{Query}
 use Rattle.paper.specs.Items.{encode}
 use Rattle.paper.specs.Measures.{size}
 use Rattle.paper.specs.Reading.{Got, got, refused, read_text}
-use Rattle.paper.specs.Answers.{value, line, line_got, is_newer, no_version, any_name, short_of_items, read_last, read_answer, items_got, read_items, read_out, at_exit}
+use Rattle.paper.specs.Answers.{value, refusal, line, line_got, is_newer, no_version, any_name, short_of_items, read_last, read_answer, items_got, read_items, read_out, at_exit}
 use Rattle.paper.specs.Answers.{Answer as Told}
 use Rattle.std.specs.Prelude.{Result, Ok, Err}
 use Rattle.paper.specs.Told.{told, told_refusal}
@@ -30,11 +30,17 @@ use Rattle.item.proofs.Placing.{placed_first}
 use Rattle.read_paths.specs.declared.Part.{Part}
 use Rattle.heads.specs.Heads.{Refused}
 use Rattle.read_paths.specs.Parts.{ReadsAll, Whole}
-use Rattle.read.specs.Parts.{Sized, Kept}
+use Rattle.read.specs.Parts.{Sized, Measures, Kept}
 
 -- MEASURING: size is the number of items.
 pub whole_sized : (old new : List ℕ) (o : Got Query) (end : ℕ) → Whole old new o end → Sized o end
 whole_sized old new o end w = record { what = w.what; left = w.left; reads = w.reads; ends = w.ends ∙ size_items w.what }
+
+pub measured : (old new : List ℕ) (o : Got Query) (part : Part) → ReadsAll old new o (Ok part) → Measures o (Ok part.end)
+measured old new o part w = whole_sized old new o part.end w
+
+pub measured_refusal : (old new : List ℕ) (o : Got Query) (why : Refusal) → ReadsAll old new o (Err why) → Measures o (Err why)
+measured_refusal old new o why w = w
 
 -- THE ANSWER.
 pub refused_told : (o : Got Query) (why : Refusal) (later : Query → Told) → Refused o why → told_refusal why ≡ line_got o later
@@ -89,6 +95,10 @@ module _ (text : List ℕ) (version : ℕ) (list : List ℕ) (room : ℕ) where
 pub kept : (text : List ℕ) (version : ℕ) (list old : List ℕ) (why : Refusal) → told (Err why) ≡ read_answer text version list (length old) → old ≡ read_out text version list old
 unfolding read_out
 kept text version list old why h = sym (ap (λ x. at_exit x (read_items text version list) old) (sym h) ∙ refused_keeps why (read_items text version list) old)
+
+pub kept_refusal : (text : List ℕ) (version : ℕ) (list old : List ℕ) (number place : ℕ) → refusal number place ≡ read_answer text version list (length old) → old ≡ read_out text version list old
+unfolding read_out
+kept_refusal text version list old number place h = ap (λ x. at_exit x (read_items text version list) old) h
 
 -- A query was read that fits.
 record Fits (o : Got Query) (room : ℕ) : Type 0 where

@@ -1,2 +1,2 @@
--- The answers, and what was kept while measuring: `kept_few`, `copied`, `reread`.
+-- The answers, and what was kept while measuring: `measured`, `kept_few`, `copied`, `reread`; what a refusal leaves: `kept`, `kept_refusal`.
 pub mod Answering

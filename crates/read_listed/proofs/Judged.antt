@@ -1,5 +1,5 @@
 -- Reading from piece to piece: inside an element the next piece is taken, and where no element is open the one element is read. Assumes nothing.
-use Rattle.std.specs.Prelude.{None, Ok, Err}
+use Rattle.std.specs.Prelude.{Result, None, Ok, Err}
 use Prim.Native.Nat.{ℕ, ◌-◌, ◌≤◌, ◌<◌}
 use native.Mathlib.Omega.{arith}
 use mathlib.Core.Path.{◌≡◌, refl, sym, ◌∙◌, ap, subst}
@@ -14,7 +14,7 @@ use Rattle.prolog.specs.Heading.{Leads}
 use Rattle.xml.specs.declared.Piece.{Piece}
 use Rattle.xml_lines.specs.Open.{innermost, lines, Stand, within, past, open_in, so_far, Stands}
 use Rattle.xml_lines.specs.Kept.{Columns, blank, line_set, Filled}
-use Rattle.xml_lines.specs.Judges.{open_limit, Counts, Lined, Standing, Facing, Refuses, Element, Wanted}
+use Rattle.xml_lines.specs.Judges.{open_limit, Counts, Lined, Standing, Facing, Refuses, Comes, Element, Ends, Inside, Wanted, Judges}
 use Rattle.xml_lines.specs.declared.Progress.{Progress}
 use Rattle.read_listed.proofs.Moved.{take_moves, take_refused, root_moves, root_refused, lead_on}
 use Rattle.xml_lines.proofs.Filling.{filled_more}
@@ -92,6 +92,17 @@ module _ (text list : List ℕ) where
 
   pub root_stops : (at : ℕ) (why : Refusal) → Leads text (Ok at) → Roots text at (Err why) → Refuses text why
   root_stops at why h t = root_refused text at why (lead_on text at h) t
+
+  -- A refusal is one of the whole.
+  pub comes_ends : (begins : List ℕ) (cols : Columns) (why : Refusal) → Comes text list begins cols (Err why) → Ends text list cols (Err why)
+  comes_ends begins cols why h = h
+
+  pub ends_judges : (cols : Columns) (why : Refusal) → Ends text list cols (Err why) → Judges text list cols (Err why)
+  ends_judges cols why h = h
+
+  pub ends_inside : (cols : Columns) (r : Result Progress Refusal) → Ends text list cols r → Inside text r
+  ends_inside cols (Ok p) h = h.stands.inside
+  ends_inside cols (Err why) h = tt
 
   -- Behind the one element the text ends, or is refused.
   pub ends_wanted : (cols : Columns) (p : Progress) (end : ℕ) → Element text list cols p → Finishes text p.at (Ok end) → Wanted text list cols p

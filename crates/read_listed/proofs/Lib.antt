@@ -2,5 +2,5 @@
 pub mod Moved
 -- What is counted and kept past each piece: `start_comes`, `empty_comes`, `end_comes`, `text_comes`.
 pub mod Counted
--- Reading from piece to piece: `deep`, `takes`, `root_faces`, `element_read`, `ends_wanted`.
+-- Reading from piece to piece: `deep`, `takes`, `root_faces`, `element_read`, `comes_ends`, `ends_judges`, `ends_inside`, `ends_wanted`.
 pub mod Judged

@@ -1,6 +1,6 @@
 -- Brackets, `not`, single steps.
 pub mod Operands
--- Paths to the end of the text.
+-- Paths to the end of the text: `leads_past`, a refusal passed upward, `all_refused`, `stops_not`.
 pub mod Queries
 -- Predicates and steps in a row: `PredRow`, `StepRow`.
 pub mod Rows

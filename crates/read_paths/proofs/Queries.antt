@@ -16,15 +16,16 @@ use Rattle.token.specs.declared.Cursor.{Cursor}
 use Rattle.std.specs.Prelude.{Result, Ok, Err}
 use Rattle.paper.specs.declared.Refusal.{Refusal}
 use Rattle.paper.specs.declared.Refusal.TheVariants.{NoQuery}
+use Rattle.ahead.specs.declared.Joint.{Joint}
 use Rattle.ahead.specs.declared.Lead.TheVariants.{Alone, Before}
 use Rattle.marks.specs.Marks.{tokens_at, Past}
 use Rattle.ahead.specs.Looking.{NoSlash, Leads}
 use Rattle.read_paths.specs.declared.Part.{Part}
 use Rattle.heads.specs.Heads.{Refused}
 use Rattle.slots.specs.Slots.{Wrote}
-use Rattle.read_paths.specs.Parts.{Gives, Reads, deep_if, path_items, Finishes, ReadsAll}
+use Rattle.read_paths.specs.Parts.{Gives, Reads, deep_if, path_items, Finishes, Stops, ReadsAll}
 use Rattle.slots.proofs.Writing.{wrote_nothing, wrote_more}
-use Rattle.read_paths.proofs.Runs.{some_token, some-fuel}
+use Rattle.read_paths.proofs.Runs.{some_token, some-fuel, passed_on}
 use Rattle.read_paths.proofs.Rows.{then_then, then_got}
 use Rattle.read_paths.proofs.Operands.{reads_from}
 
@@ -63,6 +64,9 @@ module _ (newer : Bool) (look : List ℕ → Option ℕ) (within : ℕ → List 
   pub path_none : (place : ℕ) → NoSlash text from place → Refused (read_path newer look within (tokens_at text from)) (NoQuery place)
   unfolding read_path
   path_none place l = record { number = 3; place = place; told = refl; is = rw (l.0, l.1, ← l.2) }
+
+pub leads_past : (text : List ℕ) (from : ℕ) (joint : Joint) → Leads text from (Ok (Before joint)) → Past text from joint.next.at
+leads_past text from joint l = l.0.passed
 
 -- ABSOLUTE PATHS, one after the other.
 pub record PathRow (newer : Bool) (look : List ℕ → Option ℕ) (within : ℕ → List Placed → Got Expr) (text old out : List ℕ) (all : Got Query) (here filled : ℕ) : Type 0 where
@@ -158,3 +162,10 @@ module _ (newer : Bool) (look : List ℕ → Option ℕ) (within : ℕ → List 
     paths_done (Err why) s h =
         some-fuel l.fuel (omega (arith, l.enough, some_token text here))
         (λ f z. record { number = 3; place = at (tokens_at text past); told = rw h.1; is = after f z ∙ rw (s, h.0) })
+
+-- A refused path, passed upward.
+pub all_refused : {A : Type 0} (old new : List ℕ) (o : Got A) (o' : Got Query) (why : Refusal) → Refused o why → ((n place : ℕ) → o ≡ refused n place → o' ≡ refused n place) → ReadsAll old new o' (Err why)
+all_refused old new o o' why r k = passed_on o o' why r k
+
+pub stops_not : (text : List ℕ) (why : Refusal) → Stops text (Err why)
+stops_not text why = tt

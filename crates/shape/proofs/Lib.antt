@@ -1,4 +1,4 @@
--- A run of one item, counted.
+-- A run of one item, counted: `run_within`, `run_found`; from a place on, `run_more`, `run_other`, `run_end`.
 pub mod Runs
 -- `and` and `or` by one record: `Run`, `each`, `operators_run`.
 pub mod Operators

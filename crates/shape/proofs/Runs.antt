@@ -3,8 +3,11 @@ use Rattle.std.proofs.Common.{ℕ, suc, ◌+◌, ◌≤◌, ◌≡◌, refl, Lis
 use Rattle.std.specs.List.{position_or_len}
 use Rattle.std.specs.Option.{unwrap_or}
 use Rattle.std.proofs.lemmas.List.Recursion.{is_position_or_len}
+use Rattle.std.proofs.Common.{get_or, drop, ◌<◌}
+use lib.ListN.{drop_of_length-le}
+use lib.Seq.{drop-cons}
 use lib.Dec.{eqb, ltb}
-use borrow.Author.Tests.{ltb-false}
+use borrow.Author.Tests.{ltb-false, eq-eqb, ne_eqb}
 use Rattle.paper.specs.Items.{leading}
 
 -- Is an item another one?
@@ -33,3 +36,15 @@ run_found w ws r e = rw (e, ← run_is_first w ws) (go (ltb (leading w ws) (leng
     go : (b : Bool) → ltb (leading w ws) (length ws) ≡ b → unwrap_or (cond b (Some (leading w ws)) None) (length ws) ≡ leading w ws
     go true h = refl
     go false h = omega (arith, ltb-false _ _ h, run_within w ws)
+
+-- From a place on: this item,
+pub run_more : (items : List ℕ) (i w : ℕ) → i < length items → get_or items i 0 ≡ w → leading w (drop i items) ≡ suc (leading w (drop (suc i) items))
+run_more items i w l e = rw (drop-cons items i 0 l, eq-eqb (get_or items i 0) w e)
+
+-- another item,
+pub run_other : (items : List ℕ) (i w : ℕ) → i < length items → (get_or items i 0 ≡ w → ⊥) → leading w (drop i items) ≡ 0
+run_other items i w l e = rw (drop-cons items i 0 l, ne_eqb (get_or items i 0) w e)
+
+-- or the end of the items.
+pub run_end : (items : List ℕ) (i w : ℕ) → length items ≤ i → leading w (drop i items) ≡ 0
+run_end items i w l = rw (drop_of_length-le items l)

@@ -1,4 +1,4 @@
--- Tests that the list has no name for, and what the search for an item whose name it does not have says where it finds none. Assumes nothing.
+-- Tests that the list has no name for, and the first item whose name it does not have: how the search goes on from item to item, and what it says where it finds none. Assumes nothing.
 use Prim.Native.Nat.{ℕ, zero, suc, ◌+◌, ◌≤◌, ◌<◌}
 use native.Mathlib.Omega.{arith}
 use mathlib.Core.Path.{◌≡◌, refl, sym}
@@ -6,7 +6,8 @@ use mathlib.Core.Bool.{Bool, true, false, ◌&&◌, cond}
 use mathlib.Core.List.{List, [], ◌∷◌}
 use mathlib.Core.Option.{none, some}
 use lib.Dec.{leb, ltb}
-use lib.ListN.{get_or}
+use lib.ListN.{length, get_or, drop, drop_of_length-le}
+use lib.Seq.{drop-cons}
 use borrow.Author.Tests.{lt-ltb, le-leb, lt-leb, leb-true, ltb-true}
 use Rattle.paper.specs.Limits.{names_limit}
 use Rattle.paper.specs.Query.{Test, any_node, text_node, named, any_element}
@@ -26,7 +27,19 @@ unknown-test count (named v) g =
     (λ h. let l : count ≤ v = leb-true count v h in le-leb (count + named_from) (named_from + v) (omega arith)))
 unknown-test count any_element g = refl
 
--- Where the search finds none, every item is known.
+module _ (count : ℕ) (items : List ℕ) (at : ℕ) where
+  -- It is this item, or one of those after it, or there is none.
+  pub unknown_here : at < length items → unknown_item count (step_at (get_or items at 0)) ≡ true → unknown_from count at (drop at items) ≡ some at
+  unknown_here l h = rw (drop-cons items at 0 l, h)
+
+  pub unknown_later : at < length items → unknown_item count (step_at (get_or items at 0)) ≡ false
+      → unknown_from count at (drop at items) ≡ unknown_from count (suc at) (drop (suc at) items)
+  unknown_later l h = rw (drop-cons items at 0 l, h)
+
+  pub unknown_past : length items ≤ at → unknown_from count at (drop at items) ≡ none
+  unknown_past l = rw (drop_of_length-le items l)
+
+-- Where it finds none, every item is known.
 known_from : (count at : ℕ) (items : List ℕ) → unknown_from count at items ≡ none → (i : ℕ) → unknown_item count (step_at (get_or items i 0)) ≡ false
 unfolding step_at
 known_from count at [] h i = refl

@@ -1,6 +1,6 @@
--- How reading goes through a start tag: `name_run`, `tag_gap`, `tag_closes`, `tag_empties`, `tag_foreign`, `tag_refused`, `empty_read`, `start_names`.
+-- How reading goes through a start tag: `name_run`, `tag_gap`, `tag_closes`, `tag_empties`, `tag_foreign`, `tag_refused`, `tag_cut`, `empty_read`, `start_cut`, `start_names`.
 pub mod Tagging
--- What stands at a place inside an element, as a piece: `takes_tag`, `takes_end`, `takes_left_out`.
+-- What stands at a place inside an element, as a piece: `takes_cut`, `takes_left_out`, `takes_text`, `text_refused`, `takes_tag`, `takes_end`.
 pub mod Taking
 -- The promises leave one answer: `take_unique`, `root_unique`, `finish_unique`.
 pub mod Unique

@@ -9,7 +9,7 @@ use mathlib.Core.List.{List, [], ◌∷◌, ◌++◌, append_assoc, append-nil}
 use mathlib.Core.Logic.{⊎_elim}
 use Rattle.std.specs.Prelude.{Ok, Err}
 use Rattle.paper.specs.declared.Refusal.{Refusal}
-use Rattle.paper.specs.declared.Refusal.TheVariants.{LeftOut}
+use Rattle.paper.specs.declared.Refusal.TheVariants.{NoXml, LeftOut}
 use mathlib.Core.Option.{Option, none, some}
 use lib.Dec.{eqb, ltb}
 use lib.ListN.{length, get_or, take, drop}
@@ -27,7 +27,7 @@ use Rattle.end_tags.specs.Renaming.{name_at, added}
 use Rattle.xml.specs.Pieces.{opened, tag_mode, foreign_in, Past, Taken, tag_took, TagBounds, TagEnds, EmptyEnds, HasName, Tags}
 use Rattle.xml.specs.declared.Piece.TheVariants.{Start, Empty, End, Text}
 use Rattle.end_tags.proofs.Ending.{added_stops, add_added}
-use Rattle.xml_bytes.proofs.Steps.{Calm, is_calm, Waits, calm_opens, opens_here, steps_on, refused_here, opens_not}
+use Rattle.xml_bytes.proofs.Steps.{Calm, is_calm, Waits, calm_opens, text_ends, opens_here, steps_on, refused_here, opens_not}
 use Rattle.xml_bytes.proofs.Rows.{reads_bounds, wait_read, byte_calm}
 use Rattle.xml_bytes.proofs.Signs.{part_calm, start_part, white_calm}
 
@@ -209,6 +209,15 @@ module _ (text : List ℕ) (name_end at : ℕ) (inside : at < length text) (past
       within true = omega arith
       within false = omega arith
 
+-- The text ends in a start tag.
+pub tag_cut : (text : List ℕ) (name_end at : ℕ) → length text ≤ at → at ≤ length text → TagEnds text name_end at (Err (NoXml at))
+tag_cut text name_end at l m =
+    record { goes = λ begin name frames. text_ends text at (state (tag_mode (ltb name_end at) begin name) frames) l (go begin name frames (ltb name_end at)); bounds = m }
+  where
+    go : (begin : ℕ) (name : List ℕ) (frames : List Frame) (t : Bool) → settled (tag_mode t begin name) at frames [] ≡ none
+    go begin name frames true = refl
+    go begin name frames false = refl
+
 -- The `>` of an empty element.
 module _ (text : List ℕ) (name_end at : ℕ) where
   empty_goes : (r : Reach) → Reads text at (eqb 62 ∷ []) r → (begin : ℕ) (name : List ℕ) (frames : List Frame)
@@ -230,6 +239,10 @@ module _ (text : List ℕ) (name_end at : ℕ) where
 
 -- A START TAG, PAST ITS `<`.
 module _ (text : List ℕ) (at : ℕ) where
+  -- The text ends.
+  pub start_cut : length text ≤ at → at ≤ length text → Tags text at (Err (NoXml at))
+  start_cut l m = record { goes = λ begin frames s. text_ends text at (state (opening begin) frames) l refl; bounds = m; named = tt }
+
   module _ (inside : at < length text) where
     -- The byte begins no name of ours.
     pub start_foreign : name_start (get_or text at 0) ≡ false → xml_start (get_or text at 0) ≡ true → Tags text at (Err (LeftOut at))

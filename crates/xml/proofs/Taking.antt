@@ -1,4 +1,4 @@
--- What stands at a place inside an element: an end tag or a start tag, as a piece. Assumes nothing.
+-- What stands at a place inside an element: a run of characters, an end tag or a start tag, as a piece. Assumes nothing.
 use Prim.Native.Nat.{ℕ, suc, ◌+◌, ◌≤◌, ◌<◌}
 use native.Mathlib.Omega.{arith}
 use borrow.Author.Tests.{eq-eqb}
@@ -14,16 +14,27 @@ use Rattle.paper.specs.Xml.{Frame, opening, content, closing, left_out, left_out
 use Rattle.xml_bytes.specs.Seeking.{seek_next}
 use Rattle.xml_bytes.specs.Promised.{state, seek_at}
 use Rattle.end_tags.specs.Renaming.{Ends}
+use Rattle.xml_runs.specs.Runs.{Runs}
 use Rattle.xml.specs.Pieces.{Taken, Tags, Takes}
 use Rattle.xml.specs.declared.Piece.TheVariants.{Start, Empty, End, Text}
 
 module _ (text : List ℕ) (at inner : ℕ) where
-  -- A thing that is left out opens.
+  -- The text ends, or a thing that is left out opens.
+  pub takes_cut : length text ≤ at → at ≤ length text → Takes text at inner (Err (NoXml at))
+  takes_cut l m = record { goes = λ f fs n. rw (drop_of_length-le text l); bounds = m }
+
   pub takes_left_out : at < length text → left_out_anywhere (drop at text) ≡ true → Takes text at inner (Err (LeftOut at))
   unfolding left_out
   takes_left_out inside o =
       let o' = rw (drop-cons text at 0 inside) at o in
       record { goes = λ f fs n. rw (drop-cons text at 0 inside, o'); bounds = omega arith }
+
+  -- A run of characters.
+  pub takes_text : (to : ℕ) → Runs text at (Ok to) → Takes text at inner (Ok (Text (record { at = to })))
+  takes_text to h = record { goes = λ f fs n. h.goes f fs; bounds = h.bounds }
+
+  pub text_refused : (why : Refusal) → Runs text at (Err why) → Takes text at inner (Err why)
+  text_refused why h = record { goes = λ f fs n. h.goes f fs; bounds = h.bounds }
 
   module _ (inside : at < length text) (tag : get_or text at 0 ≡ 60) (opens : left_out_anywhere (drop at text) ≡ false) where
     -- Past the `<` of a tag.

@@ -3,7 +3,7 @@ use Prim.Native.Nat.{ℕ, suc, ◌+◌, ◌≤◌, ◌<◌}
 use native.Mathlib.Omega.{arith}
 use borrow.Author.Tests.{ne_eqb, eq-eqb, leb-true, leb-false}
 use mathlib.Core.Path.{◌≡◌, refl, sym, ◌∙◌, ap}
-use mathlib.Core.Bool.{Bool, true, false, cond, false≢true}
+use mathlib.Core.Bool.{Bool, true, false, ◌&&◌, cond, false≢true}
 use mathlib.Core.List.{List, [], ◌∷◌}
 use mathlib.Core.Logic.{⊎_elim}
 use mathlib.Core.Option.{none, some}
@@ -32,6 +32,14 @@ is_calm b h = record { no_tag = λ e. false≢true (sym (rw (eq-eqb b 60 e)) ∙
 
 pub calm_opens : (b : ℕ) (bs : List ℕ) → Calm b → left_out_anywhere (b ∷ bs) ≡ false
 calm_opens b bs c = rw (ne_eqb b 60 c.no_tag, ne_eqb b 38 c.no-reference)
+
+-- One byte opens nothing.
+pub alone_opens : (b : ℕ) → left_out_anywhere (b ∷ []) ≡ false
+alone_opens b = simp and_zero
+  where
+    and_zero : (x : Bool) → (x && false) ≡ false
+    and_zero true = refl
+    and_zero false = refl
 
 -- What stands at a place decides.
 pub in_or_out : (at long : ℕ) {C : Type 0} → (at < long → C) → (long ≤ at → C) → C

@@ -5,7 +5,7 @@ use borrow.Author.Tests.{ltb-false, eqb-true, not-false}
 use mathlib.Core.Path.{◌≡◌, refl, sym, ◌∙◌, ap, subst}
 use mathlib.Core.Bool.{Bool, true, false, not, ◌||◌}
 use mathlib.Core.List.{List, map}
-use mathlib.Core.Option.{none, some}
+use mathlib.Core.Option.{Option, none, some}
 use lib.Dec.{eqb, ltb}
 use lib.ListN.{length, take}
 use Rattle.paper.specs.Tools.{when, written}
@@ -14,14 +14,14 @@ use Rattle.paper.specs.Names.{names_fault, names_of, number_of}
 use Rattle.paper.specs.Xml.{read_xml, table, unnamed}
 use Rattle.paper.specs.Answers.{value, refusal, line, too_long, line_xml, short_of_nodes, rows_got, read_xml_last, read_xml_answer, read_xml_column, parent_field, kind_field, begin_field, end_field}
 use Rattle.paper.specs.Answers.{Answer as Told}
-use Rattle.paper.specs.Told.{told_refusal}
+use Rattle.paper.specs.Told.{found, told_refusal}
 use Rattle.paper.specs.declared.Refusal.{Refusal}
 use Rattle.paper.proofs.Refusing.{line_value, when_none, or_none, refusal_told, refused_keeps}
 use Rattle.xml_bytes.specs.Seeking.{refusal_number, refusal_place}
 use Rattle.xml_lines.specs.Kept.{Columns, columns, Filled, xml_answer, exit_columns}
-use Rattle.xml_lines.specs.Judges.{Refuses, Judges}
+use Rattle.xml_lines.specs.Judges.{Refuses, Wanted, Judges}
 use Rattle.xml_lines.specs.declared.Progress.{Progress}
-use Rattle.std.specs.Prelude.{Result, Ok, Err}
+use Rattle.std.specs.Prelude.{Result, Some, None, Ok, Err}
 use Rattle.xml_lines.proofs.Filling.{copied_room, copied}
 
 -- A refusal is told by its number and its place.
@@ -32,6 +32,28 @@ module _ (text list : List ℕ) (room : ℕ) where
   -- 12 and 11.
   pub refused_text : (why : Refusal) → Refuses text why → told_refusal why ≡ xml_answer text list room
   refused_text why h = as_told why ∙ sym (ap (λ j. line_xml j (λ tree. read_xml_last list room (table (length text) tree))) h)
+
+  -- 5 and 10 of a wanted text.
+  module _ (cols : Columns) (p : Progress) (h : Wanted text list cols p) where
+    wanted_answer : read_xml_last list room (table (length text) h.tree) ≡ xml_answer text list room
+    wanted_answer = sym (ap (λ j. line_xml j (λ tree. read_xml_last list room (table (length text) tree))) h.is)
+
+    answer_by : (o : Option ℕ) → found p.unnamed ≡ o → line 5 o (line 10 (short_of_nodes room p.nodes) (value p.nodes)) ≡ xml_answer text list room
+    answer_by o e =
+        ap (λ n. line 5 o (line 10 (short_of_nodes room n) (value n))) h.counted.nodes
+        ∙ ap (λ u. line 5 u (line 10 (short_of_nodes room (length (table (length text) h.tree))) (value (length (table (length text) h.tree))))) (sym e ∙ h.counted.lacking) ∙ wanted_answer
+
+    pub name_lacking : (place : ℕ) → p.unnamed ≡ Some place → refusal 5 place ≡ xml_answer text list room
+    name_lacking place e = answer_by (some place) (ap found e)
+
+    all_named : p.unnamed ≡ None → line 10 (short_of_nodes room p.nodes) (value p.nodes) ≡ xml_answer text list room
+    all_named e = answer_by none (ap found e)
+
+    pub too_short : p.unnamed ≡ None → (ltb room p.nodes || ltb node_limit p.nodes) ≡ true → refusal 10 p.nodes ≡ xml_answer text list room
+    too_short named e = sym (ap (λ b. line 10 (when b p.nodes) (value p.nodes)) e) ∙ all_named named
+
+    pub enough : p.unnamed ≡ None → (ltb room p.nodes || ltb node_limit p.nodes) ≡ false → value p.nodes ≡ xml_answer text list room
+    enough named e = sym (ap (λ b. line 10 (when b p.nodes) (value p.nodes)) e) ∙ all_named named
 
 -- What was kept of an accepted text.
 pub record Accepted (text list : List ℕ) (cols : Columns) (room n : ℕ) : Type 0 where

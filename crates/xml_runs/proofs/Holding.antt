@@ -18,7 +18,7 @@ use Rattle.paper.specs.declared.Refusal.TheVariants.{NoXml, LeftOut}
 use Rattle.xml_bytes.specs.Promised.{Reach, state, seek_at, reached, Between, refusal_at, row_of, Reads, calm, all_calm, spelling}
 use Rattle.xml_runs.specs.Runs.{Crosses}
 use Rattle.xml_bytes.proofs.Rows.{CalmSet, CalmSets, landed, row_goes, reads_bounds, exactly_between, word_calm, ones, say_ones}
-use Rattle.xml_bytes.proofs.Steps.{opens_not, Calm, is_calm, Waits, opens_here, steps_on, no_step, refused_here, wait_ends, wait_over, wait_refused}
+use Rattle.xml_bytes.proofs.Steps.{opens_not, Calm, is_calm, Waits, text_ends, opens_here, steps_on, no_step, refused_here, wait_ends, wait_over, wait_refused}
 
 -- The state of a run that waits for a pattern; where nothing must come, the run goes on.
 abbrev pub held : ℕ → List Frame → Pattern → State
@@ -66,6 +66,10 @@ module _ (text : List ℕ) (at : ℕ) where
       as_reached : (begin : ℕ) (frames : List Frame) (q : Reach) → reached text (waiting_for begin frames []) q ≡ landed (λ to. waiting begin frames to []) q
       as_reached begin frames (Ok to) = refl
       as_reached begin frames (Err why) = refl
+
+  -- The text ends where a pattern must go on.
+  pub cross_ends : (p : Pattern) (after : ℕ → Mode) → length text ≤ at → at ≤ length text → Crosses text at (λ begin. partly begin p) after (Err (NoXml at))
+  cross_ends p after l m = record { goes = λ begin frames. text_ends text at (state (partly begin p) frames) l refl; bounds = m }
 
   module _ (inside : at < length text) where
     -- The first byte leads to a state from which the rest crosses.

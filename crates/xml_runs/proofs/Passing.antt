@@ -21,6 +21,9 @@ use Rattle.xml_bytes.specs.Blocks.{block, AllFit}
 
 -- ORDINARY BYTES.
 module _ (text : List ℕ) (begin : ℕ) where
+  pub ends_none : begin ≤ length text → OrdinaryEnds text begin begin
+  ends_none l = record { least = omega arith; most = l; all = λ at m n. absurd (omega arith) }
+
   pub ends_more : (at n : ℕ) → at + block ≤ length text → n ≤ block → OrdinaryEnds text begin at → AllFit (ordinary_from text at) n → OrdinaryEnds text begin (at + n)
   ends_more at n l m h more =
       record {

@@ -1,5 +1,5 @@
 -- `judge::judge`: its tests are the lines of a run, in their order.
-use Rattle.std.proofs.Common.{rules, ◌≡◌, ℕ, length, arith, sym, ap, ◌∙◌}
+use Rattle.std.proofs.Common.{rules, ◌≡◌, arith, sym, ap, ◌∙◌}
 use Rattle.std.specs.Prelude.{Err}
 use Rattle.paper.specs.declared.Refusal.TheVariants.{BadQuery}
 use Rattle.paper.specs.Items.{decode}
