@@ -13,7 +13,7 @@ ghost use Rattle.heads.specs.Heads.{look_of, dotted_head, Heads, tested_head, st
 
 use ahead::{AxisAhead, Call, axis_ahead, test_call};
 use marks::mark;
-use names::Names;
+use names::Listed;
 use paper::Refusal;
 use token::{Cursor, Mark, Taken, Token};
 
@@ -25,7 +25,7 @@ pub enum Head {
 }
 
 // The number of a name; any word is a name where none is looked up.
-fn number(names: Option<&Names>, word: &[u8]) -> Option<usize>
+fn number(names: Option<&Listed>, word: &[u8]) -> Option<usize>
     ensures numbered { found result ≡ look_of names.entry word.now }
     ensures few { IfSome result (λ v. v < names_limit) }
 {
@@ -36,7 +36,7 @@ fn number(names: Option<&Names>, word: &[u8]) -> Option<usize>
 }
 
 // The test of a step, after its axis: `*`, `node()`, `text()` or a name.
-fn tested(text: &[u8], names: Option<&Names>, cursor: Cursor, axis: u32) -> Result<Head, Refusal>
+fn tested(text: &[u8], names: Option<&Listed>, cursor: Cursor, axis: u32) -> Result<Head, Refusal>
     requires { cursor.at ≤ length text.now }
     ensures heads { (newer : Bool) (a : Axis) → axis ≡ axis_number a → Heads newer (look_of names.entry) text.now cursor.at (λ within. read_tested newer (look_of names.entry) within a (tokens_at text.now cursor.at)) result }
     ensures value { result ≡ tested_head (look_of names.entry) axis (tokens_at text.now cursor.at) }
@@ -87,7 +87,7 @@ fn dotted(axis: u32, next: Cursor, newer: bool) -> Head
 // The head of a step: `.`, `..`, or axis and test; no axis means child.
 pub fn step_head(
     text: &[u8],
-    names: Option<&Names>,
+    names: Option<&Listed>,
     cursor: Cursor,
     newer: bool,
 ) -> Result<Head, Refusal>

@@ -7,7 +7,7 @@ ghost use Rattle.paper.specs.Names.{names_of, number_of};
 ghost use Rattle.paper.specs.Told.{found};
 ghost use Rattle.initials.specs.Chains.{bytes_count, chains_count, Chained};
 
-use names::Names;
+use names::Listed;
 use std::marker::Model;
 
 // How many bytes there are.
@@ -24,7 +24,7 @@ fn first_byte(name: &[u8]) -> usize
 }
 
 // Links the names that begin alike.
-pub fn link(names: &Names, chains: &mut [u16; CHAINS])
+pub fn link(names: &Listed, chains: &mut [u16; CHAINS])
     requires { chains.old ≡ replicate chains_count 0 }
     ensures { Chained (names_of names.now) chains.new }
 {
@@ -38,7 +38,7 @@ pub fn link(names: &Names, chains: &mut [u16; CHAINS])
 // A list of names, with the names that begin alike linked.
 #[derive(Drop)]
 pub struct Initials<'a> {
-    names: Names<'a>,
+    names: Listed<'a>,
     chains: [u16; CHAINS],
 }
 
@@ -52,7 +52,7 @@ impl<'a> Model for Initials<'a> {
 
 impl<'a> Initials<'a> {
     // Links the names that begin alike.
-    pub fn new(names: Names<'a>) -> Initials<'a>
+    pub fn new(names: Listed<'a>) -> Initials<'a>
         ensures { result ≡ names.entry }
     {
         let mut chains = [0u16; CHAINS];

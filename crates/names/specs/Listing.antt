@@ -2,6 +2,7 @@
 use Rattle.std.specs.Prelude.{ℕ, ◌-◌, ◌≤◌, ◌<◌, ◌≡◌, true, false, cond, List, [], ◌∷◌, Result, IfOk, IfErr, eqb, ltb, length, get_or, take, drop}
 use Rattle.std.proofs.Math.Option.{none, some}
 use Rattle.paper.specs.Tools.{column, written}
+use Rattle.paper.specs.Limits.{list_limit}
 use Rattle.paper.specs.Names.{Line, lines_from, bad_line, names_fault, names_of}
 use Rattle.paper.specs.declared.Refusal.{Refusal}
 use Rattle.paper.specs.declared.Refusal.TheVariants.{BadName}
@@ -21,6 +22,11 @@ pub record Ends (bytes : List ℕ) (len : ℕ) : Type 0 where
 pub record Indexed (list starts : List ℕ) (count : ℕ) : Type 0 where
   pub rising : Rising list starts count
   pub names : names_of list ≡ column count (said list starts)
+
+-- The list is no longer than it may be, and has no fault.
+pub record Sound (list : List ℕ) : Type 0 where
+  pub short : length list ≤ list_limit
+  pub sound : names_fault list ≡ none
 
 -- The refusal of a list: where its first bad line starts.
 pub record BadAt (list : List ℕ) (why : Refusal) : Type 0 where

@@ -7,7 +7,7 @@ ghost use Rattle.paper.specs.Names.{number_of, names_of, names_fault, bad_line};
 ghost use Rattle.paper.specs.Told.{found};
 ghost use Rattle.std.proofs.Math.Option.{none};
 ghost use Rattle.name_lines.specs.Lines.{starts_count, Rising};
-ghost use Rattle.names.specs.Listing.{Ends, Checked, Indexed, BadAt, line_to};
+ghost use Rattle.names.specs.Listing.{Ends, Checked, Indexed, Sound, BadAt, line_to};
 ghost use Rattle.name_keys.specs.Keys.{Keyed, earlier};
 
 use paper::{NAME_LIMIT, NAMES_LIMIT, Refusal};
@@ -81,13 +81,13 @@ pub fn index(list: &[u8], starts: &mut [u16; STARTS]) -> Result<usize, Refusal>
 
 // A list of names, and where each of its lines starts; past the last line stands where another would start.
 #[derive(Drop)]
-pub struct Names<'a> {
+pub struct Listed<'a> {
     list: &'a [u8],
     starts: [u16; STARTS],
     count: usize,
 }
 
-impl<'a> Model for Names<'a> {
+impl<'a> Model for Listed<'a> {
     ghost Value = { List ℕ };
 
     ghost view = { λ n. n.list.now };
@@ -95,16 +95,16 @@ impl<'a> Model for Names<'a> {
     ghost invariant = { λ n. Indexed n.list.now n.starts n.count };
 }
 
-impl<'a> Names<'a> {
+impl<'a> Listed<'a> {
     // Checks the list, and keeps where each line starts.
-    pub fn new(list: &'a [u8]) -> Result<Names<'a>, Refusal>
+    pub fn new(list: &'a [u8]) -> Result<Listed<'a>, Refusal>
         requires { length list.now ≤ list_limit }
-        ensures good { IfOk result (λ names. (names ≡ list.now) × (names_fault list.now ≡ none)) }
+        ensures good { IfOk result (λ listed. (listed ≡ list.now) × (names_fault list.now ≡ none)) }
         ensures bad { IfErr result (λ why. BadAt list.now why) }
     {
         let mut starts = [0u16; STARTS];
         let count = index(list, &mut starts)?;
-        Ok(Names {
+        Ok(Listed {
             list,
             starts,
             count,
@@ -112,11 +112,11 @@ impl<'a> Names<'a> {
     }
 
     // A list of which it is known where its lines start.
-    pub fn by_starts(list: &'a [u8], starts: &[u16; STARTS], count: usize) -> Names<'a>
+    pub fn by_starts(list: &'a [u8], starts: &[u16; STARTS], count: usize) -> Listed<'a>
         requires { Indexed list.now starts.now count }
         ensures { result ≡ list.now }
     {
-        Names {
+        Listed {
             list,
             starts: *starts,
             count,
@@ -148,5 +148,89 @@ impl<'a> Names<'a> {
         ensures long { names_fault self.now ≡ none → (0 < length result.now) × (length result.now ≤ name_limit) }
     {
         name_lines::line(self.list, &self.starts, v)
+    }
+}
+
+// A list of names that has no fault.
+#[derive(Drop)]
+pub struct Names<'a> {
+    listed: Listed<'a>,
+}
+
+impl<'a> Model for Names<'a> {
+    ghost Value = { List ℕ };
+
+    ghost view = { λ n. n.listed };
+
+    ghost invariant = { λ n. Sound n.listed };
+}
+
+impl<'a> Names<'a> {
+    // Checks the list, and keeps where each line starts.
+    pub fn new(list: &'a [u8]) -> Result<Names<'a>, Refusal>
+        requires { length list.now ≤ list_limit }
+        ensures good { IfOk result (λ names. (names ≡ list.now) × (names_fault list.now ≡ none)) }
+        ensures bad { IfErr result (λ why. BadAt list.now why) }
+    {
+        let listed = Listed::new(list)?;
+        Ok(Names { listed })
+    }
+
+    // How many names there are.
+    pub fn count(&self) -> usize
+        ensures counted { result ≡ length (names_of self.now) }
+        ensures few { result ≤ names_limit }
+    {
+        self.listed.count()
+    }
+
+    // The number of a word among the names.
+    pub fn find(&self, word: &[u8]) -> Option<usize>
+        ensures numbered { found result ≡ number_of (names_of self.now) word.now }
+        ensures few { IfSome result (λ v. v < names_limit) }
+    {
+        self.listed.find(word)
+    }
+
+    // What name v says: from one byte to 64.
+    pub fn spell(&self, v: usize) -> &[u8]
+        requires { v < length (names_of self.now) }
+        ensures says { result.now ≡ get_or (names_of self.now) v [] }
+        ensures long { (0 < length result.now) × (length result.now ≤ name_limit) }
+    {
+        self.listed.spell(v)
+    }
+
+    // The list as one of which only the starts of its lines are known, and what more is known of it.
+    pub fn listed(&self) -> &Listed<'a>
+        ensures same { result.now ≡ self.now }
+        ensures sound { Sound self.now }
+    {
+        &self.listed
+    }
+
+    // The list, handed on.
+    pub fn into_listed(self) -> Listed<'a>
+        ensures { result ≡ self.entry }
+    {
+        self.listed
+    }
+}
+
+#[cfg(test)]
+mod tests {
+    use super::*;
+
+    #[test]
+    fn names_are_found_and_spelled(rt: HostRuntime) {
+        if let Ok(names) = Names::new(b"item\nprice\n") {
+            assert_eq!(rt; names.count(), 2);
+            assert_eq!(rt; names.find(b"price"), Some(1));
+            assert_eq!(rt; names.find(b"pric"), None);
+            assert_eq!(rt; names.spell(0), b"item".as_slice());
+            assert_eq!(rt; names.spell(1), b"price".as_slice());
+        } else {
+            assert!(rt; false, "the list has no fault");
+        }
     }
 }

@@ -17,7 +17,7 @@ use Rattle.paper.specs.Answers.{value, refusal, unknown_from, print_answer, text
 use Rattle.shape.specs.Walks.{shape_of}
 use Rattle.shape.specs.declared.Shape.{Shape}
 use Rattle.std.proofs.Common.{Some, None}
-use Rattle.put_query.specs.Writing.{Named}
+use Rattle.put_query.specs.Writing.{NamedBy}
 use Rattle.put_query.specs.Writing.{Query as IsPrintable}
 use Rattle.unknown_names.proofs.Unknowns.{all_known}
 
@@ -75,7 +75,7 @@ module _ (brief : Bool) (query list old : List ℕ) where
     unknown_name place u = rw (le-ltb item_limit (length query) r.few_items, le-ltb list_limit (length list) r.few_bytes, r.no_fault, r.decoded, u)
 
     -- What printing asks.
-    pub can_print : unknown_from (length (names_of list)) 0 query ≡ none → Named list query × IsPrintable query
+    pub can_print : unknown_from (length (names_of list)) 0 query ≡ none → NamedBy list query × IsPrintable query
     can_print u = (
       record { few = r.few_bytes; known = all_known (length (names_of list)) query u },
       record { query = r.is; decoded = r.decoded; few_items = r.few_items },

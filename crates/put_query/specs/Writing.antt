@@ -19,8 +19,12 @@ term_pieces brief e = grouped (is_or e) (expr_pieces brief e)
 abbrev pub operand_pieces : Bool → Expr → List Piece
 operand_pieces brief e = grouped (is_or e || is_and e) (expr_pieces brief e)
 
+-- There is a name for each that the items have.
+pub record Named (names : List (List ℕ)) (items : List ℕ) : Type 0 where
+  pub known : (i : ℕ) → unknown_item (length names) (step_at (get_or items i 0)) ≡ false
+
 -- The list is no longer than it may be, and has a name for each that the items have.
-pub record Named (list items : List ℕ) : Type 0 where
+pub record NamedBy (list items : List ℕ) : Type 0 where
   pub few : length list ≤ list_limit
   pub known : (i : ℕ) → unknown_item (length (names_of list)) (step_at (get_or items i 0)) ≡ false
 

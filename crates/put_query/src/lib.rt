@@ -11,16 +11,16 @@ ghost use Rattle.paper.specs.Printing.{expr_pieces, relative_pieces, preds_piece
 ghost use Rattle.paper.specs.Answers.{text_got};
 ghost use Rattle.shape.specs.Walks.{operators};
 ghost use Rattle.pen.specs.Putting.{Puts};
-ghost use Rattle.put_query.specs.Writing.{operand_pieces, Named, Some, Prints, Query, item_room, sign_room};
+ghost use Rattle.put_query.specs.Writing.{operand_pieces, Named, NamedBy, Some, Prints, Query, item_room, sign_room};
 
 use item::Item;
-use names::Names;
+use names::{Listed, Names};
 
 // What is printed: items, with the list that has their names, in the long form or in the short one.
 #[derive(Clone, Copy)]
 struct Source<'a> {
     items: &'a [u32],
-    names: &'a Names<'a>,
+    names: &'a Listed<'a>,
     brief: bool,
 }
 
@@ -45,7 +45,7 @@ fn closed(out: &mut [u8], reached: Reached) -> Reached
 // Its bytes are counted from its first operand on, so that the operators before it pay for a bracket around it.
 #[cycle(expression_operand_predicates_steps)]
 fn expression(source: &Source, out: &mut [u8], at: usize, pen: usize, depth: usize) -> Reached
-    requires names { Named source.now.names.now source.now.items.now }
+    requires names { NamedBy source.now.names.now source.now.items.now }
     requires at_in_bounds { (at ≤ length source.now.items.now) × (pen + item_room * length source.now.items.now ≤ 2 ^ 38 + item_room * (at + operators (drop at source.now.items.now))) }
     requires some { Some (take_expr (take_within depth) (drop at source.now.items.now)) }
     ensures { Prints (names_of source.now.names.now) source.now.items.now (at + operators (drop at source.now.items.now)) pen sign_room (take_expr (take_within depth) (drop at source.now.items.now)) (expr_pieces source.now.brief) out.old out.new result }
@@ -75,7 +75,7 @@ fn expression(source: &Source, out: &mut [u8], at: usize, pen: usize, depth: usi
 // Prints an operand of `and`: a path, or what stands in a bracket of `not`, `and` or `or`.
 #[cycle(expression_operand_predicates_steps)]
 fn operand(source: &Source, out: &mut [u8], at: usize, pen: usize, depth: usize) -> Reached
-    requires names { Named source.now.names.now source.now.items.now }
+    requires names { NamedBy source.now.names.now source.now.items.now }
     requires at_in_bounds { (at ≤ length source.now.items.now) × (pen + item_room * length source.now.items.now ≤ 2 ^ 38 + item_room * at) }
     requires some { Some (take_operand (take_within depth) (drop at source.now.items.now)) }
     ensures { Prints (names_of source.now.names.now) source.now.items.now at pen sign_room (take_operand (take_within depth) (drop at source.now.items.now)) (operand_pieces source.now.brief) out.old out.new result }
@@ -104,7 +104,7 @@ fn steps(
     number: usize,
     depth: usize,
 ) -> Reached
-    requires names { Named source.now.names.now source.now.items.now }
+    requires names { NamedBy source.now.names.now source.now.items.now }
     requires at_in_bounds { (at ≤ length source.now.items.now) × (pen + item_room * length source.now.items.now ≤ 2 ^ 38 + item_room * at) }
     requires some { Some (take_steps (take_within depth) number (drop at source.now.items.now)) }
     ensures { Prints (names_of source.now.names.now) source.now.items.now at pen 0 (take_steps (take_within depth) number (drop at source.now.items.now)) (relative_pieces source.now.brief) out.old out.new result }
@@ -117,7 +117,7 @@ fn steps(
         let Item::Step(step) = item else {
             return Reached { item: place, byte };
         };
-        let headed = put_steps::put_head(source.names, out, byte, step, source.brief);
+        let headed = put_steps::put_listed_head(source.names, out, byte, step, source.brief);
         let more = predicates(source, out, place + 1, headed, step.count, depth);
         place = more.item;
         owed -= 1;
@@ -140,7 +140,7 @@ fn predicates(
     number: usize,
     depth: usize,
 ) -> Reached
-    requires names { Named source.now.names.now source.now.items.now }
+    requires names { NamedBy source.now.names.now source.now.items.now }
     requires at_in_bounds { (at ≤ length source.now.items.now) × (pen + item_room * length source.now.items.now + sign_room ≤ 2 ^ 38 + item_room * at) }
     requires some { Some (take_preds (take_within depth) number (drop at source.now.items.now)) }
     ensures { Prints (names_of source.now.names.now) source.now.items.now at pen 0 (take_preds (take_within depth) number (drop at source.now.items.now)) (preds_pieces source.now.brief) out.old out.new result }
@@ -157,8 +157,8 @@ fn predicates(
 }
 
 // Prints a query, and tells how many bytes its text has.
-pub fn paths(items: &[u32], names: &Names, out: &mut [u8], brief: bool) -> usize
-    requires names { Named names.now items.now }
+pub fn listed_paths(items: &[u32], names: &Listed, out: &mut [u8], brief: bool) -> usize
+    requires names { NamedBy names.now items.now }
     requires query { Query items.now }
     ensures { Puts (text_got brief (names_of names.now) (decode items.now)) 0 out.old out.new result }
 {
@@ -189,4 +189,13 @@ pub fn paths(items: &[u32], names: &Names, out: &mut [u8], brief: bool) -> usize
         byte = pen::put_bar(out, more.byte, items.len() - place);
     }
     byte
+}
+
+// Prints a query with the names of a list that has no fault, and tells how many bytes its text has.
+pub fn paths(items: &[u32], names: &Names, out: &mut [u8], brief: bool) -> usize
+    requires names { Named (names_of names.now) items.now }
+    requires query { Query items.now }
+    ensures { Puts (text_got brief (names_of names.now) (decode items.now)) 0 out.old out.new result }
+{
+    listed_paths(items, names.listed(), out, brief)
 }

@@ -13,14 +13,14 @@ ghost use Rattle.heads.specs.Heads.{look_of};
 ghost use Rattle.read_paths.specs.Parts.{Ready};
 ghost use Rattle.read.specs.Parts.{Kept, Measures};
 
-use names::Names;
+use names::{Listed, Names};
 use paper::{Answer, Refusal};
 
 // How many items are kept while a text is measured.
 const FEW: usize = 64;
 
 // What the text is, measured: nothing is kept of what is written.
-fn measure(text: &[u8], names: Option<&Names>, newer: bool) -> Answer
+fn measure(text: &[u8], names: Option<&Listed>, newer: bool) -> Answer
     requires { Ready text.now 0 bracket_limit }
     ensures { Measures (read_text newer (look_of names.entry) text.now) result }
 {
@@ -31,7 +31,7 @@ fn measure(text: &[u8], names: Option<&Names>, newer: bool) -> Answer
 
 // What `read` answers to a text and a list that are good by themselves: 3 or 4 by place, then 5, then 10. Keeps the items in `few`, if they are few.
 // A text that is read with the list's names has no fault of syntax, so only one that is not is judged with any names.
-fn answer(text: &[u8], names: &Names, few: &mut [u32], room: usize, newer: bool) -> Answer
+fn answer(text: &[u8], names: &Listed, few: &mut [u32], room: usize, newer: bool) -> Answer
     requires { Ready text.now 0 bracket_limit }
     ensures answered { told result ≡ line_got (read_text newer any_name text.now) (λ q. read_last newer text.now names.now room) }
     ensures kept { IfOk result (λ n. (n ≤ room) × (Kept few.new (read_text newer (number_of (names_of names.now)) text.now) n)) }
@@ -53,7 +53,7 @@ fn answer(text: &[u8], names: &Names, few: &mut [u32], room: usize, newer: bool)
 }
 
 // Writes the items of a text that can be read: those kept, where all are there, else by reading again.
-fn write(text: &[u8], names: &Names, few: &[u32], end: usize, out: &mut [u32], newer: bool)
+fn write(text: &[u8], names: &Listed, few: &[u32], end: usize, out: &mut [u32], newer: bool)
     requires ready { Ready text.now 0 bracket_limit }
     requires kept { (end ≤ length out.old) × (Kept few.now (read_text newer (number_of (names_of names.now)) text.now) end) }
     ensures { out.new ≡ written (items_got (read_text newer (number_of (names_of names.now)) text.now)) out.old }
@@ -81,9 +81,10 @@ pub fn read(text: &[u8], version: u32, list: &[u8], out: &mut [u32]) -> Answer
         return Err(Refusal::TooLong);
     }
     let names = Names::new(list)?;
+    let listed = names.listed();
     let mut few = [0u32; FEW];
     let newer = version == 2;
-    let end = answer(text, &names, &mut few, out.len(), newer)?;
-    write(text, &names, &few, end, out, newer);
+    let end = answer(text, listed, &mut few, out.len(), newer)?;
+    write(text, listed, &few, end, out, newer);
     Ok(end)
 }

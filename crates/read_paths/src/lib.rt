@@ -17,7 +17,7 @@ ghost use Rattle.read_paths.specs.Parts.{deep_if, step_items, Reads, Ready, path
 use ahead::{Joint, Lead, Opens, joined, opening, path_lead, word_ahead};
 use heads::{Head, step_head};
 use marks::mark;
-use names::Names;
+use names::Listed;
 use paper::Refusal;
 use token::{Cursor, Mark, Taken, Token};
 
@@ -34,7 +34,7 @@ pub struct Part {
 #[cycle(bracketed_expression_operand_predicates_step_steps)]
 fn expression(
     text: &[u8],
-    names: Option<&Names>,
+    names: Option<&Listed>,
     cursor: Cursor,
     depth: usize,
     out: &mut [u32],
@@ -82,7 +82,7 @@ fn expression(
 #[cycle(bracketed_expression_operand_predicates_step_steps)]
 fn operand(
     text: &[u8],
-    names: Option<&Names>,
+    names: Option<&Listed>,
     cursor: Cursor,
     depth: usize,
     out: &mut [u32],
@@ -130,7 +130,7 @@ fn operand(
 #[cycle(bracketed_expression_operand_predicates_step_steps)]
 fn bracketed(
     text: &[u8],
-    names: Option<&Names>,
+    names: Option<&Listed>,
     cursor: Cursor,
     depth: usize,
     out: &mut [u32],
@@ -158,7 +158,7 @@ fn bracketed(
 #[cycle(bracketed_expression_operand_predicates_step_steps)]
 fn steps(
     text: &[u8],
-    names: Option<&Names>,
+    names: Option<&Listed>,
     cursor: Cursor,
     depth: usize,
     out: &mut [u32],
@@ -192,7 +192,7 @@ fn steps(
 #[cycle(bracketed_expression_operand_predicates_step_steps)]
 fn step(
     text: &[u8],
-    names: Option<&Names>,
+    names: Option<&Listed>,
     cursor: Cursor,
     depth: usize,
     out: &mut [u32],
@@ -222,7 +222,7 @@ fn step(
 #[cycle(bracketed_expression_operand_predicates_step_steps)]
 fn predicates(
     text: &[u8],
-    names: Option<&Names>,
+    names: Option<&Listed>,
     cursor: Cursor,
     depth: usize,
     out: &mut [u32],
@@ -269,7 +269,7 @@ fn predicates(
 // An absolute path.
 fn path(
     text: &[u8],
-    names: Option<&Names>,
+    names: Option<&Listed>,
     cursor: Cursor,
     out: &mut [u32],
     slot: usize,
@@ -320,7 +320,7 @@ fn finished(text: &[u8], cursor: Cursor, end: usize) -> Result<Part, Refusal>
 // Absolute paths, joined, to the end of the text.
 pub fn paths(
     text: &[u8],
-    names: Option<&Names>,
+    names: Option<&Listed>,
     out: &mut [u32],
     newer: bool,
 ) -> Result<Part, Refusal>

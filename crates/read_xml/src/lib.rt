@@ -34,6 +34,6 @@ pub fn read_xml(
     {
         return Err(Refusal::TooLong);
     }
-    let names = Initials::new(Names::new(list)?);
+    let names = Initials::new(Names::new(list)?.into_listed());
     fill(text, &names, parent, kind, begin, end)
 }

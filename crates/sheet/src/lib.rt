@@ -72,7 +72,7 @@ fn put_line(
     pen: usize,
     v: usize,
 ) -> usize
-    requires { (v < length (names_of names.now)) × (length names.now ≤ list_limit) × (pen < 2 ^ 36) }
+    requires { (v < length (names_of names.now)) × (pen < 2 ^ 36) }
     ensures puts { Puts (sheet_line (get_or (names_of names.now) v []) (at all.now v) (at kept.now v) (at hidden.now v)) pen out.old out.new result }
     ensures upper_bound { result ≤ pen + length (get_or (names_of names.now) v []) + line_room }
 {

@@ -38,11 +38,11 @@ use Rattle.shape.specs.declared.Walked.{Walked}
 use Rattle.shape.specs.Walks.{Walks}
 use Rattle.pen.specs.Putting.{Puts}
 use Rattle.uniqueness.specs.UniqueParts.{UnpackUnique, PackPathUnique, PackStepUnique, TurnUnique, GuardedUnique, PutItemsUnique, PutSameUnique}
-use Rattle.uniqueness.specs.UniqueParts.{NameStartUnique, NamePartUnique, LinePartUnique, IndexUnique, NewNamesUnique, ByStartsUnique, LinkUnique, CountNamesUnique, FindUnique, NewInitialsUnique, FindInitialUnique, SpellUnique, WhiteSpaceUnique, TakeUnique}
+use Rattle.uniqueness.specs.UniqueParts.{NameStartUnique, NamePartUnique, LinePartUnique, IndexUnique, NewListedUnique, ByStartsUnique, LinkUnique, CountListedUnique, FindListedUnique, SpellListedUnique, NewNamesUnique, ListedUnique, IntoListedUnique, CountNamesUnique, FindUnique, NewInitialsUnique, FindInitialUnique, SpellUnique, WhiteSpaceUnique, TakeUnique}
 use Rattle.uniqueness.specs.UniqueParts.{SkipSpaceUnique, RunEndUnique, MarkupUnique, RefuseUnique, ByteUnique, SayUnique, SoonerUnique, RunPieceUnique, TakePieceUnique, RootPieceUnique, FinishUnique, LeadUnique}
 use Rattle.uniqueness.specs.UniqueParts.{MarkUnique, WordAheadUnique, JoinedUnique, PathLeadUnique, OpeningUnique, AxisAheadUnique, TestCallUnique}
 use Rattle.uniqueness.specs.UniqueParts.{RunOfUnique, StepsUnique, MeasureUnique, TableFaultUnique, MarksFaultUnique, CountUnique}
-use Rattle.uniqueness.specs.UniqueParts.{PutByteUnique, PutUnique, PutSlashUnique, PutBarUnique, PutOpenUnique, PutOrUnique, PutAndUnique, PutNotUnique, PutHeadUnique}
+use Rattle.uniqueness.specs.UniqueParts.{PutByteUnique, PutUnique, PutSlashUnique, PutBarUnique, PutOpenUnique, PutOrUnique, PutAndUnique, PutNotUnique, PutListedHeadUnique, PutHeadUnique}
 use Rattle.uniqueness.specs.UniqueParts.{LineEndUnique, LineStartUnique, PutRefusalUnique, PutResultUnique}
 use Rattle.uniqueness.specs.UniqueParts.{NumberOfUnique, PlaceOfUnique, CodeUnique, ComposeUnionUnique, ReportQueriesUnique, ReportTextsUnique, RunWholeUnique, RunWithinUnique, ShowRowsUnique}
 use Rattle.uniqueness.specs.UniqueParts.{FillUnique, CopyUnique, KeepUnique, AddUnique, FlipUnique, KeepSecondUnique, AddSecondUnique, KeepMetUnique}
@@ -62,7 +62,7 @@ use Rattle.uniqueness.specs.UniqueParts.{SameWordUnique, AxisOfUnique}
 use Rattle.uniqueness.specs.UniqueParts.{JoinsAheadUnique, PutItemUnique, PutDeepUnique, ItemOfPathUnique, ItemOfStepUnique, GroupUnique, StepHeadUnique, ReadPathsUnique, ReadPathsLeft}
 use Rattle.uniqueness.specs.UniqueParts.{JoinedHeightUnique, OwnDepthUnique}
 use Rattle.uniqueness.specs.UniqueParts.{PutAlongUnique}
-use Rattle.uniqueness.specs.UniqueParts.{DeepUnique, FirstUnknownUnique, PutPathsUnique}
+use Rattle.uniqueness.specs.UniqueParts.{DeepUnique, FirstUnknownUnique, PutListedPathsUnique, PutPathsUnique}
 use Rattle.uniqueness.specs.UniqueParts.{PutVisibleUnique, PutLastUnique, CountGuardsUnique, GuardStepsUnique, PutComposedUnique, ComposedSizeUnique}
 use Rattle.call_promises.proofs.Telling.{same, same_told, same_slice, same_slices}
 
@@ -127,11 +127,29 @@ checked_unique list (Ok m) (Err why) p f q g = none-some (sym p.1 ∙ g.fault)
 checked_unique list (Err why) (Ok n) p f q g = none-some (sym q.1 ∙ f.fault)
 checked_unique list (Err why) (Err other) p f q g = ap (λ w. Err w) (refused_unique f g)
 
-pub new_names_unique : NewNamesUnique
-new_names_unique κs a u v x y g p q = checked_unique a.0.now u v p.0 p.1 q.0 q.1
+pub new_listed_unique : NewListedUnique
+new_listed_unique κs a u v x y g p q = checked_unique a.0.now u v p.0 p.1 q.0 q.1
 
 pub by_starts_unique : ByStartsUnique
 by_starts_unique κs a u v x y g p q = same p q
+
+pub count_listed_unique : CountListedUnique
+count_listed_unique κs a u v x y g p q = same p.0 q.0
+
+pub find_listed_unique : FindListedUnique
+find_listed_unique κs a u v x y g p q = found_unique u v (same p.0 q.0)
+
+pub spell_listed_unique : SpellListedUnique
+spell_listed_unique κs a u v x y g p q = same p.0 q.0
+
+pub new_names_unique : NewNamesUnique
+new_names_unique κs a u v x y g p q = checked_unique a.0.now u v p.0 p.1 q.0 q.1
+
+pub listed_unique : ListedUnique
+listed_unique κs a u v x y g p q = same p.0 q.0
+
+pub into_listed_unique : IntoListedUnique
+into_listed_unique κs a u v x y g p q = same p q
 
 pub count_names_unique : CountNamesUnique
 count_names_unique κs a u v x y g p q = same p.0 q.0
@@ -326,6 +344,11 @@ put_not_unique κs a u v x y g p q = both_put p q
 pub put_along_unique : PutAlongUnique
 put_along_unique κs a u v x y g p q = both_put (p.0 g.0 g.1) (q.0 g.0 g.1)
 
+pub put_listed_head_unique : PutListedHeadUnique
+put_listed_head_unique κs a u v x y g p q =
+    let b = g.0 in let t = g.1 in
+    both_put (p.0 b.0 t.0 b.1 t.1.1 t.1.0) (q.0 b.0 t.0 b.1 t.1.1 t.1.0)
+
 pub put_head_unique : PutHeadUnique
 put_head_unique κs a u v x y g p q =
     let b = g.0 in let t = g.1 in
@@ -336,6 +359,9 @@ deep_unique κs a u v x y g p q = same p q
 
 pub first_unknown_unique : FirstUnknownUnique
 first_unknown_unique κs a u v x y g p q = found_unique u v (same p.0 q.0)
+
+pub put_listed_paths_unique : PutListedPathsUnique
+put_listed_paths_unique κs a u v x y g p q = both_put p q
 
 pub put_paths_unique : PutPathsUnique
 put_paths_unique κs a u v x y g p q = both_put p q

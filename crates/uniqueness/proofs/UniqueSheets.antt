@@ -6,7 +6,7 @@ use lib.ListN.{length}
 use lib.Seq.{length-take-le}
 use Rattle.tally.proofs.Unique.{grows_unique}
 use Rattle.call_promises.proofs.Telling.{same}
-use Rattle.uniqueness.specs.UniqueSheets.{ListEndUnique, PutDecimalUnique, PutNameUnique, IsCountedUnique, AddNodesUnique, AddRefusalUnique, AddTextUnique, PutSheetUnique}
+use Rattle.uniqueness.specs.UniqueSheets.{ListEndUnique, PutDecimalUnique, PutListedNameUnique, PutNameUnique, IsCountedUnique, AddNodesUnique, AddRefusalUnique, AddTextUnique, PutSheetUnique}
 use Rattle.uniqueness.proofs.UniqueParts.{both_put}
 
 pub list_end_unique : ListEndUnique
@@ -15,6 +15,9 @@ list_end_unique κs a u v x y g p q =
 
 pub put_decimal_unique : PutDecimalUnique
 put_decimal_unique κs a u v x y g p q = both_put p.0 q.0
+
+pub put_listed_name_unique : PutListedNameUnique
+put_listed_name_unique κs a u v x y g p q = both_put p.0 q.0
 
 pub put_name_unique : PutNameUnique
 put_name_unique κs a u v x y g p q = both_put p.0 q.0

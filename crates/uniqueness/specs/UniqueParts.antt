@@ -1,5 +1,5 @@
 -- The contract of each public function below the entry points leaves one answer and one content of each slice.
--- Ten of the contracts speak of some arguments only: `turn`, `along`, `put_along` and `axis_leads` of the numbers of axes, `keep_met` and `restrict` of those of tests, `put_head` and `candidate` of both, `first_unnamed` of a name that was looked for behind lines, `answer` of a text that was judged; and `sets`, `vertical`, `sideways`, `axes`, `spread` and the `spread` of `kin` speak of bytes that are 0 or 1.
+-- Eleven of the contracts speak of some arguments only: `turn`, `along`, `put_along` and `axis_leads` of the numbers of axes, `keep_met` and `restrict` of those of tests, `put_listed_head`, `put_head` and `candidate` of both, `first_unnamed` of a name that was looked for behind lines, `answer` of a text that was judged; and `sets`, `vertical`, `sideways`, `axes`, `spread` and the `spread` of `kin` speak of bytes that are 0 or 1.
 -- The answer of `paths` of `read_paths` is one for every text, and so is what it leaves in the slice where the text is read and its items have room.
 use Rattle.std.specs.Prelude.{ℕ, ◌≤◌, ◌≡◌, Bool, true, List, [], ◌∷◌, length, take, drop}
 use Rattle.std.specs.Prelude.{Result}
@@ -34,11 +34,17 @@ use Rattle.name_lines.proofs.first_same
 use Rattle.name_keys.proofs.key
 use Rattle.name_keys.proofs.repeats
 use Rattle.names.proofs.index
+use Rattle.names.proofs.Listed.new as new_listed
+use Rattle.names.proofs.Listed.by_starts
+use Rattle.names.proofs.Listed.count as count_listed
+use Rattle.names.proofs.Listed.find as find_listed
+use Rattle.names.proofs.Listed.spell as spell_listed
 use Rattle.names.proofs.Names.new as new_names
-use Rattle.names.proofs.Names.by_starts
 use Rattle.names.proofs.Names.count as count_names
 use Rattle.names.proofs.Names.find
 use Rattle.names.proofs.Names.spell
+use Rattle.names.proofs.Names.listed
+use Rattle.names.proofs.Names.into_listed
 use Rattle.initials.proofs.link
 use Rattle.initials.proofs.Initials.new as new_initials
 use Rattle.initials.proofs.Initials.find as find_initial
@@ -113,9 +119,11 @@ use Rattle.pen.proofs.put_or
 use Rattle.pen.proofs.put_and
 use Rattle.pen.proofs.put_not
 use Rattle.put_axes.proofs.put_along
+use Rattle.put_steps.proofs.put_listed_head
 use Rattle.put_steps.proofs.put_head
 use Rattle.slashes.proofs.deep
 use Rattle.unknown_names.proofs.first_unknown
+use Rattle.put_query.proofs.listed_paths as put_listed_paths
 use Rattle.put_query.proofs.paths as put_paths
 use Rattle.code.proofs.number_of
 use Rattle.code.proofs.place_of
@@ -261,11 +269,29 @@ RepeatsUnique = UniqueAnswer repeats.Kinds.ps repeats.Kinds.r repeats.Reads.Pre 
 abbrev pub IndexUnique : Type 0
 IndexUnique = Unique index.Kinds.ps index.Kinds.r index.Reads.Pre index.Reads.Post (λ κs x. x.1.0.now ∷ [])
 
-abbrev pub NewNamesUnique : Type 0
-NewNamesUnique = UniqueAnswer new_names.Kinds.ps new_names.Kinds.r new_names.Reads.Pre new_names.Reads.Post
+abbrev pub NewListedUnique : Type 0
+NewListedUnique = UniqueAnswer new_listed.Kinds.ps new_listed.Kinds.r new_listed.Reads.Pre new_listed.Reads.Post
 
 abbrev pub ByStartsUnique : Type 0
 ByStartsUnique = UniqueAnswer by_starts.Kinds.ps by_starts.Kinds.r by_starts.Reads.Pre by_starts.Reads.Post
+
+abbrev pub CountListedUnique : Type 0
+CountListedUnique = UniqueAnswer count_listed.Kinds.ps count_listed.Kinds.r count_listed.Reads.Pre count_listed.Reads.Post
+
+abbrev pub FindListedUnique : Type 0
+FindListedUnique = UniqueAnswer find_listed.Kinds.ps find_listed.Kinds.r find_listed.Reads.Pre find_listed.Reads.Post
+
+abbrev pub SpellListedUnique : Type 0
+SpellListedUnique = UniqueBytes spell_listed.Kinds.ps spell_listed.Kinds.r spell_listed.Reads.Pre spell_listed.Reads.Post (λ κs u. u.now)
+
+abbrev pub NewNamesUnique : Type 0
+NewNamesUnique = UniqueAnswer new_names.Kinds.ps new_names.Kinds.r new_names.Reads.Pre new_names.Reads.Post
+
+abbrev pub ListedUnique : Type 0
+ListedUnique = UniqueBytes listed.Kinds.ps listed.Kinds.r listed.Reads.Pre listed.Reads.Post (λ κs u. u.now)
+
+abbrev pub IntoListedUnique : Type 0
+IntoListedUnique = UniqueAnswer into_listed.Kinds.ps into_listed.Kinds.r into_listed.Reads.Pre into_listed.Reads.Post
 
 abbrev pub CountNamesUnique : Type 0
 CountNamesUnique = UniqueAnswer count_names.Kinds.ps count_names.Kinds.r count_names.Reads.Pre count_names.Reads.Post
@@ -436,6 +462,11 @@ PutNotUnique = Unique put_not.Kinds.ps put_not.Kinds.r put_not.Reads.Pre put_not
 abbrev pub PutAlongUnique : Type 0
 PutAlongUnique = Unique put_along.Kinds.ps put_along.Kinds.r (λ κs a. IsAxis a.1.1.0) put_along.Reads.Post (λ κs x. x.0.now ∷ [])
 
+abbrev pub PutListedHeadUnique : Type 0
+PutListedHeadUnique =
+    Unique put_listed_head.Kinds.ps put_listed_head.Kinds.r (λ κs a. IsAxis a.1.1.1.0.axis × IsTest a.1.1.1.0.test) put_listed_head.Reads.Post
+    (λ κs x. x.1.0.now ∷ [])
+
 abbrev pub PutHeadUnique : Type 0
 PutHeadUnique =
     Unique put_head.Kinds.ps put_head.Kinds.r (λ κs a. IsAxis a.1.1.1.0.axis × IsTest a.1.1.1.0.test) put_head.Reads.Post
@@ -446,6 +477,9 @@ DeepUnique = UniqueAnswer deep.Kinds.ps deep.Kinds.r deep.Reads.Pre deep.Reads.P
 
 abbrev pub FirstUnknownUnique : Type 0
 FirstUnknownUnique = UniqueAnswer first_unknown.Kinds.ps first_unknown.Kinds.r first_unknown.Reads.Pre first_unknown.Reads.Post
+
+abbrev pub PutListedPathsUnique : Type 0
+PutListedPathsUnique = Unique put_listed_paths.Kinds.ps put_listed_paths.Kinds.r put_listed_paths.Reads.Pre put_listed_paths.Reads.Post (λ κs x. x.1.1.0.now ∷ [])
 
 abbrev pub PutPathsUnique : Type 0
 PutPathsUnique = Unique put_paths.Kinds.ps put_paths.Kinds.r put_paths.Reads.Pre put_paths.Reads.Post (λ κs x. x.1.1.0.now ∷ [])

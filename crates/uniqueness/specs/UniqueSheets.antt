@@ -2,6 +2,7 @@
 use Rattle.std.specs.Prelude.{[], ◌∷◌}
 use Rattle.lines.proofs.list_end
 use Rattle.lines.proofs.put_decimal
+use Rattle.put_steps.proofs.put_listed_name
 use Rattle.put_steps.proofs.put_name
 use Rattle.tally.proofs.is_counted
 use Rattle.tally.proofs.add_nodes
@@ -15,6 +16,9 @@ ListEndUnique = UniqueAnswer list_end.Kinds.ps list_end.Kinds.r list_end.Reads.P
 
 abbrev pub PutDecimalUnique : Type 0
 PutDecimalUnique = Unique put_decimal.Kinds.ps put_decimal.Kinds.r put_decimal.Reads.Pre put_decimal.Reads.Post (λ κs x. x.0.now ∷ [])
+
+abbrev pub PutListedNameUnique : Type 0
+PutListedNameUnique = Unique put_listed_name.Kinds.ps put_listed_name.Kinds.r put_listed_name.Reads.Pre put_listed_name.Reads.Post (λ κs x. x.1.0.now ∷ [])
 
 abbrev pub PutNameUnique : Type 0
 PutNameUnique = Unique put_name.Kinds.ps put_name.Kinds.r put_name.Reads.Pre put_name.Reads.Post (λ κs x. x.1.0.now ∷ [])

@@ -36,6 +36,6 @@ pub fn write_xml(
     {
         return Err(Refusal::TooLong);
     }
-    let names = Initials::new(Names::new(list)?);
+    let names = Initials::new(Names::new(list)?.into_listed());
     judge(text, &names, parent, kind, begin, end, marks, out)
 }

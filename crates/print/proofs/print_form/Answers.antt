@@ -63,7 +63,7 @@ paths-needed-requires-clause-names c =
     let good = c.in_ok-names.ensures.good in
     let count : c.count.result ≡ length (names_of a.list.now) = c.count.ensures.counted ∙ ap (λ list. length (names_of list)) good.0 in
     let known = ap (λ n. unknown_from n 0 a.query.now) (sym count) ∙ sym c.in_default.ensures.told in
-    subst (λ list. Named list a.query.now) (sym good.0) (record { few = c.if-list-gt-LIST_LIMIT.false; known = all_known (length (names_of a.list.now)) a.query.now known })
+    subst (λ list. Named (names_of list) a.query.now) (sym good.0) (record { known = all_known (length (names_of a.list.now)) a.query.now known })
 
 pub returns-then-out-needed : goal.returns-then-out-needed
 returns-then-out-needed c =
@@ -88,7 +88,7 @@ paths-requires-clause-names c =
     let good = c.in_ok-names.ensures.good in
     let count : c.count.result ≡ length (names_of a.list.now) = c.count.ensures.counted ∙ ap (λ list. length (names_of list)) good.0 in
     let known = ap (λ n. unknown_from n 0 a.query.now) (sym count) ∙ sym c.in_default.ensures.told in
-    subst (λ list. Named list a.query.now) (sym good.0) (record { few = c.if-list-gt-LIST_LIMIT.false; known = all_known (length (names_of a.list.now)) a.query.now known })
+    subst (λ list. Named (names_of list) a.query.now) (sym good.0) (record { known = all_known (length (names_of a.list.now)) a.query.now known })
 
 pub returns : goal.returns
 returns c =

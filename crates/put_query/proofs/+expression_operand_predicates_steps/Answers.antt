@@ -138,8 +138,8 @@ steps-returns-in_default t c =
     let h = step-head a.depth items l.place l.owed (l.invariant.rest, l.invariant.left) c.loop-owed-test.true l.invariant.takes in
     none-some (sym (no_step_said w u.result (said w u.result u.ensures) c.in_default.not-Step) ∙ h.1)
 
-pub steps-put_head-headed-requires : goal.steps-put_head-headed-requires
-steps-put_head-headed-requires t c =
+pub steps-put_listed_head-headed-requires : goal.steps-put_listed_head-headed-requires
+steps-put_listed_head-headed-requires t c =
     let a = c.args in
     let items = a.source.now.items.now in
     let l = c.loop-owed in
@@ -164,7 +164,7 @@ steps-predicates-more-requires t c =
       (
         c.requires.names,
         (
-          (omega (arith, there), omega (arith, l.invariant.low, c.put_head-headed.ensures.upper_bound, c.requires.at_in_bounds.1)),
+          (omega (arith, there), omega (arith, l.invariant.low, c.put_listed_head-headed.ensures.upper_bound, c.requires.at_in_bounds.1)),
           rw (ap (λ x. x.count) s.2, ← same) h.2,
         ),
       ),
@@ -190,7 +190,7 @@ steps-loop-owed-preserved t c =
     let w = get_or items l.place 0 in
     let s = said w _ (sym c.in-Step.is ∙ c.unpack-item.ensures) in
     let h = s.0 in
-    let p = c.put_head-headed.ensures in
+    let p = c.put_listed_head-headed.ensures in
     step-turn _ _ a.depth _ _ _ _ _ _ _ _ _ _ _ _ _ _ _ _ _ h _ c.loop-owed-test.true l.invariant s.1
     (head_counted names a.source.now.brief h.axis h.test h.count (ap (λ x. x.count) s.2) (p.puts h.axis h.test (ap (λ x. x.axis) s.2) (ap (λ x. x.test) s.2) (step_found w h s.1).1)) p.upper_bound
     (preds_counted a.depth (drop (l.place + 1) items) h.count (ap (λ x. x.count) s.2) c.predicates-more.ensures) c.put_slash-parted.ensures c.deep-skipped.ensures c.put_slash-byte.ensures

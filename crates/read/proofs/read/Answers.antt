@@ -64,7 +64,7 @@ returns-in_err-end-clause-result_value c =
     let known : no_version a.version ≡ false = search rules in
     let good = c.in_ok-names.ensures.good in
     let made : c.from_residual-in_err-end.result ≡ Err c.in_err-end.field-0.0 = search rules in
-    ap told made ∙ (rw good.0 at c.in_err-end.ensures.answered) ∙ good_list a.text.now a.version a.list.now (length a.out.now) c.if-text-gt-TEXT_LIMIT.false c.if-list-gt-LIST_LIMIT.false known good.1
+    ap told made ∙ (rw (c.listed-listed.ensures.same ∙ good.0) at c.in_err-end.ensures.answered) ∙ good_list a.text.now a.version a.list.now (length a.out.now) c.if-text-gt-TEXT_LIMIT.false c.if-list-gt-LIST_LIMIT.false known good.1
 
 pub returns-in_err-end-clause-out_after : goal.returns-in_err-end-clause-out_after
 returns-in_err-end-clause-out_after c =
@@ -72,19 +72,19 @@ returns-in_err-end-clause-out_after c =
     let known : no_version a.version ≡ false = search rules in
     let good = c.in_ok-names.ensures.good in
     kept a.text.now a.version a.list.now a.out.now c.in_err-end.field-0.0
-    ((rw good.0 at c.in_err-end.ensures.answered) ∙ good_list a.text.now a.version a.list.now (length a.out.now) c.if-text-gt-TEXT_LIMIT.false c.if-list-gt-LIST_LIMIT.false known good.1)
+    ((rw (c.listed-listed.ensures.same ∙ good.0) at c.in_err-end.ensures.answered) ∙ good_list a.text.now a.version a.list.now (length a.out.now) c.if-text-gt-TEXT_LIMIT.false c.if-list-gt-LIST_LIMIT.false known good.1)
 
 pub returns-clause-result_value : goal.returns-clause-result_value
 returns-clause-result_value c =
     let a = c.args in
     let known : no_version a.version ≡ false = search rules in
     let good = c.in_ok-names.ensures.good in
-    (rw good.0 at c.in_ok-end.ensures.answered) ∙ good_list a.text.now a.version a.list.now (length a.out.now) c.if-text-gt-TEXT_LIMIT.false c.if-list-gt-LIST_LIMIT.false known good.1
+    (rw (c.listed-listed.ensures.same ∙ good.0) at c.in_ok-end.ensures.answered) ∙ good_list a.text.now a.version a.list.now (length a.out.now) c.if-text-gt-TEXT_LIMIT.false c.if-list-gt-LIST_LIMIT.false known good.1
 
 pub returns-clause-out_after : goal.returns-clause-out_after
 returns-clause-out_after c =
     let a = c.args in
     let known : no_version a.version ≡ false = search rules in
     let good = c.in_ok-names.ensures.good in
-    let value = (rw good.0 at c.in_ok-end.ensures.answered) ∙ good_list a.text.now a.version a.list.now (length a.out.now) c.if-text-gt-TEXT_LIMIT.false c.if-list-gt-LIST_LIMIT.false known good.1 in
-    accepted a.text.now a.version a.list.now a.out.now _ _ (sym value) (rw good.0 at c.write.ensures)
+    let value = (rw (c.listed-listed.ensures.same ∙ good.0) at c.in_ok-end.ensures.answered) ∙ good_list a.text.now a.version a.list.now (length a.out.now) c.if-text-gt-TEXT_LIMIT.false c.if-list-gt-LIST_LIMIT.false known good.1 in
+    accepted a.text.now a.version a.list.now a.out.now _ _ (sym value) (rw (c.listed-listed.ensures.same ∙ good.0) at c.write.ensures)

@@ -47,6 +47,6 @@ returns-in_err-new-clause-end_after c =
 pub returns-clause-result_value : goal.returns-clause-result_value
 returns-clause-result_value c =
     let good = c.in_ok-new.ensures.good in
-    let same : c.new-names.result ≡ c.args.list.now = c.new-names.ensures ∙ good.0 in
+    let same : c.new-names.result ≡ c.args.list.now = c.new-names.ensures ∙ c.into_listed.ensures ∙ good.0 in
     c.fill.ensures.result_value ∙ ap (λ l. xml_answer c.args.text.now l (length c.args.parent.now)) same
     ∙ good_list c.args.text.now c.args.list.now (length c.args.parent.now) (length c.args.kind.now) (length c.args.begin.now) (length c.args.end.now) c.if-text-list.false (sym good.1)

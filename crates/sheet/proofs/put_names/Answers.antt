@@ -13,7 +13,7 @@ pub put_line-pen-requires : goal.put_line-pen-requires
 put_line-pen-requires c =
     let l = c.loop-v in
     let counted = c.count-v-end.ensures in
-    (omega (arith, c.loop-v-test.true, counted.counted), c.requires, omega (arith, l.invariant.1, reach_most c.args.names.now l.v, c.requires, c.loop-v-test.true, counted.few))
+    (omega (arith, c.loop-v-test.true, counted.counted), omega (arith, l.invariant.1, reach_most c.args.names.now l.v, c.requires, c.loop-v-test.true, counted.few))
 
 pub loop-v-preserved : goal.loop-v-preserved
 loop-v-preserved c =

@@ -2,7 +2,7 @@
 use Rattle.std.proofs.Common.{length, ◌-◌}
 use Rattle.paper.specs.Names.{names_of}
 use Rattle.put_query.proofs.Queries.{PathsRest}
-use Rattle.put_query.proofs.paths.Given as goal
+use Rattle.put_query.proofs.listed_paths.Given as goal
 
 abbrev pub invariant-loop-place : goal.invariant-loop-place
 invariant-loop-place l = PathsRest l.source.brief (names_of l.source.names.now) l.source.items.now l.fn.out l.out l.place l.byte

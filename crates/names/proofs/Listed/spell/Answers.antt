@@ -4,7 +4,7 @@ use lib.ListN.{length-drop}
 use lib.Seq.{length-take-le}
 use Rattle.paper.specs.Names.{names_of, names_fault}
 use Rattle.names.proofs.Parts.{counted, spelled, name_sized}
-use Rattle.names.proofs.Names.spell.Goals as goal
+use Rattle.names.proofs.Listed.spell.Goals as goal
 
 pub line-requires-clause-v_lt_names_limit : goal.line-requires-clause-v_lt_names_limit
 line-requires-clause-v_lt_names_limit c =

@@ -1,7 +1,7 @@
--- `put_head` meets its contract: `.` and `..` where the short form has them, and otherwise the axis and the test.
+-- `put_listed_head` meets its contract: `.` and `..` where the short form has them, and otherwise the axis and the test.
 use Rattle.pen.proofs.Putting.{puts_both, puts_as}
 use Rattle.put_steps.proofs.Words.{dot_text, dots_text, head_text}
-use Rattle.put_steps.proofs.put_head.Goals as goal
+use Rattle.put_steps.proofs.put_listed_head.Goals as goal
 
 pub returns-then-dot-clause-puts : goal.returns-then-dot-clause-puts
 returns-then-dot-clause-puts c =

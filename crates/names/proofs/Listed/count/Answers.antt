@@ -2,7 +2,7 @@
 use Rattle.std.proofs.Common.{◌∙◌, ap, sym, length}
 use Rattle.paper.specs.Names.{names_of}
 use Rattle.names.proofs.Parts.{counted}
-use Rattle.names.proofs.Names.count.Goals as goal
+use Rattle.names.proofs.Listed.count.Goals as goal
 
 pub returns-clause-counted : goal.returns-clause-counted
 returns-clause-counted c = sym (ap (λ list. length (names_of list)) (sym c.self.view_is) ∙ counted c.self.invariant)

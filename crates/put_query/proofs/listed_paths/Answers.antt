@@ -7,7 +7,7 @@ use Rattle.item.proofs.Saying.{Said, said}
 use Rattle.shape.proofs.Operands.{no_path_said}
 use Rattle.put_query.proofs.Rows.{between_brief}
 use Rattle.put_query.proofs.Queries.{paths_start, path_there, path_skips, path_steps, paths_more, paths_done}
-use Rattle.put_query.proofs.paths.Goals as goal
+use Rattle.put_query.proofs.listed_paths.Goals as goal
 
 pub loop-place-init : goal.loop-place-init
 loop-place-init c = paths_start _ _ _ _ c.requires.query

@@ -4,7 +4,7 @@ use Rattle.paper.specs.Limits.{names_limit}
 use Rattle.paper.specs.Names.{names_of, number_of}
 use Rattle.paper.specs.Told.{found}
 use Rattle.names.proofs.Parts.{number_first, number_few}
-use Rattle.names.proofs.Names.find.Goals as goal
+use Rattle.names.proofs.Listed.find.Goals as goal
 
 pub returns-clause-numbered : goal.returns-clause-numbered
 returns-clause-numbered c =
