@@ -215,3 +215,17 @@ impl<'a> Marked<'a> {
         &self.given
     }
 }
+
+#[cfg(test)]
+mod tests {
+    use super::Given;
+
+    // An element alone, with its columns and marks, is judged.
+    #[test]
+    fn judges(rt: HostRuntime) {
+        let given = Given::new(b"<a/>", &[0, 0], &[0, 2], &[0, 0], &[4, 4], &[1, 1]);
+        let marked = given.judged();
+        assert_eq!(rt; marked.nodes(), 2);
+        assert_eq!(rt; marked.mark(1), 1);
+    }
+}
