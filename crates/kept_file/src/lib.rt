@@ -6,7 +6,6 @@ ghost use Rattle.paper.specs.Document.{table_of};
 ghost use Rattle.paper.specs.WriteXml.{kept_xml};
 ghost use Rattle.paper.specs.Answers.{element_marked};
 ghost use Rattle.paper.specs.Told.{told};
-ghost use Rattle.put_tags.specs.Lending.{IsLent};
 ghost use Rattle.kept_file.specs.Filing.{Filed};
 
 use paper::{Answer, Refusal};
@@ -26,7 +25,6 @@ pub fn element_marked(kind: &[u16], marks: &[u8]) -> bool
 
 // Line 10, then the file: the bytes are counted before one is written.
 pub fn file(kept: &Marked, out: &mut [u8]) -> Answer
-    requires { IsLent kept.now }
     ensures { Filed (kept_xml kept.now.text kept.now.marks) out.old out.new (told result) }
 {
     let needed = put_xml::write_kept(kept, &mut out[..0]);

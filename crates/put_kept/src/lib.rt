@@ -4,14 +4,13 @@
 ghost use Rattle.std.specs.Prelude.{◌^◌, ◌<◌};
 ghost use Rattle.paper.specs.WriteXml.{kept_xml};
 ghost use Rattle.pen.specs.Putting.{Puts};
-ghost use Rattle.put_tags.specs.Lending.{IsLent};
 
 use put_node::{Walk, put_node};
 use put_tags::Marked;
 
 // Puts the kept part of a text: each marked node in turn, and in the end the end tags of all that is open.
 pub fn put_kept(kept: &Marked, out: &mut [u8], pen: usize) -> usize
-    requires { IsLent kept.now × (pen < 2 ^ 32) }
+    requires { pen < 2 ^ 32 }
     ensures { Puts (kept_xml kept.now.text kept.now.marks) pen out.old out.new result }
 {
     let mut at = pen;
@@ -21,7 +20,7 @@ pub fn put_kept(kept: &Marked, out: &mut [u8], pen: usize) -> usize
         let mark = kept.mark(i);
         if mark == 1 {
             let walk = Walk { at, squares, top };
-            let next = put_node(kept, out, walk, i);
+            let next = put_node(kept.given(), out, walk, i);
             at = next.at;
             squares = next.squares;
             top = next.top;

@@ -5,7 +5,7 @@ ghost use Rattle.std.specs.Prelude.{◌≡◌, List, ℕ, ◌^◌, ◌≤◌, �
 ghost use Rattle.put_tags.specs.Tags.{Open};
 ghost use Rattle.put_node.specs.Placing.{past_tags, PutsPiece, inner_by, PutsNode, Placeable};
 
-use put_tags::{Line, Marked, start_at};
+use put_tags::{Given, Line, start_at};
 use put_text::{Point, put_text};
 
 // How far a walk over the nodes has come: where the pen stands, and the innermost element that is open.
@@ -43,7 +43,7 @@ fn inner_by(kind: u16, up: usize, node: usize) -> usize
 }
 
 // Puts a node: the end tags up to its parent, then its own.
-pub fn put_node(kept: &Marked, out: &mut [u8], walk: Walk, node: usize) -> Walk
+pub fn put_node(kept: &Given, out: &mut [u8], walk: Walk, node: usize) -> Walk
     requires { Placeable kept.now walk.at walk.top node }
     ensures { (bytes : List ℕ) → Open kept.now.text kept.now.parents kept.now.begins walk.top (get_or kept.now.parents node 0) bytes → PutsNode kept.now bytes walk.at walk.squares walk.top node out.old out.new result.at result.squares result.top }
 {

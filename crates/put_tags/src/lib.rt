@@ -3,7 +3,7 @@
 
 ghost use Rattle.std.specs.Prelude.{List, [], ◌∷◌, ◌++◌, ℕ, ◌≡◌, ◌+◌, ◌^◌, ◌≤◌, ◌<◌, length, get_or};
 ghost use Rattle.pen.specs.Putting.{Puts};
-ghost use Rattle.put_tags.specs.Lending.{MarkedText, marked_text};
+ghost use Rattle.put_tags.specs.Lending.{MarkedText, marked_text, Lent, IsLent};
 ghost use Rattle.put_tags.specs.Tags.{name_at, Open, Closable, Says};
 
 use std::marker::Model;
@@ -45,9 +45,9 @@ pub struct Line {
     pub end: usize,
 }
 
-// A text, the columns of its nodes, and the marks of its kept part.
+// A text, the columns of its nodes, and marks, judged or not.
 #[derive(Drop)]
-pub struct Marked<'a> {
+pub struct Given<'a> {
     text: &'a [u8],
     parents: &'a [u16],
     kinds: &'a [u16],
@@ -56,13 +56,13 @@ pub struct Marked<'a> {
     marks: &'a [u8],
 }
 
-impl<'a> Model for Marked<'a> {
+impl<'a> Model for Given<'a> {
     ghost Value = { MarkedText };
 
     ghost view = { λ m. marked_text m.text.now m.parents.now m.kinds.now m.begins.now m.ends.now m.marks.now };
 }
 
-impl<'a> Marked<'a> {
+impl<'a> Given<'a> {
     // All that is lent.
     pub fn new(
         text: &'a [u8],
@@ -71,10 +71,10 @@ impl<'a> Marked<'a> {
         begins: &'a [u16],
         ends: &'a [u16],
         marks: &'a [u8],
-    ) -> Marked<'a>
+    ) -> Given<'a>
         ensures { result ≡ marked_text text.now parents.now kinds.now begins.now ends.now marks.now }
     {
-        Marked {
+        Given {
             text,
             parents,
             kinds,
@@ -132,5 +132,100 @@ impl<'a> Marked<'a> {
             inner = self.parents[inner] as usize;
         }
         at
+    }
+
+    // The same, where it was judged.
+    pub fn judged(&self) -> Marked<'a>
+        requires { IsLent self.now }
+        ensures { result ≡ self.now }
+    {
+        Marked {
+            given: Given {
+                text: self.text,
+                parents: self.parents,
+                kinds: self.kinds,
+                begins: self.begins,
+                ends: self.ends,
+                marks: self.marks,
+            },
+        }
+    }
+}
+
+// A text, the columns of its nodes, and the marks of its kept part.
+#[derive(Drop)]
+pub struct Marked<'a> {
+    given: Given<'a>,
+}
+
+impl<'a> Model for Marked<'a> {
+    ghost Value = { MarkedText };
+
+    ghost view = { λ m. m.given };
+
+    ghost invariant = { λ m. IsLent m.given };
+}
+
+impl<'a> Marked<'a> {
+    // All that is lent, where it was judged.
+    pub fn new(
+        text: &'a [u8],
+        parents: &'a [u16],
+        kinds: &'a [u16],
+        begins: &'a [u16],
+        ends: &'a [u16],
+        marks: &'a [u8],
+    ) -> Marked<'a>
+        requires { Lent text.now parents.now kinds.now begins.now ends.now marks.now }
+        ensures { result ≡ marked_text text.now parents.now kinds.now begins.now ends.now marks.now }
+    {
+        Marked {
+            given: Given::new(text, parents, kinds, begins, ends, marks),
+        }
+    }
+
+    // How many nodes there are.
+    pub fn nodes(&self) -> usize
+        ensures counted { result ≡ length self.now.parents }
+        ensures lent { IsLent self.now }
+    {
+        self.given.nodes()
+    }
+
+    // The mark of a node.
+    pub fn mark(&self, node: usize) -> u8
+        requires { node < length self.now.marks }
+        ensures { result ≡ get_or self.now.marks node 0 }
+    {
+        self.given.mark(node)
+    }
+
+    // Puts the end tags of the elements that are open, up to one that stays open.
+    pub fn close(&self, out: &mut [u8], pen: usize, top: usize, up: usize) -> usize
+        requires { Closable self.now.text self.now.parents self.now.begins pen top up }
+        ensures { (bytes : List ℕ) → Open self.now.text self.now.parents self.now.begins top up bytes → Puts bytes pen out.old out.new result }
+    {
+        self.given.close(out, pen, top, up)
+    }
+
+    // The same, as one that may be judged or not.
+    pub fn given(&self) -> &Given<'a>
+        ensures { result.now ≡ self.now }
+    {
+        &self.given
+    }
+}
+
+#[cfg(test)]
+mod tests {
+    use super::Given;
+
+    // An element alone, with its columns and marks, is judged.
+    #[test]
+    fn judges(rt: HostRuntime) {
+        let given = Given::new(b"<a/>", &[0, 0], &[0, 2], &[0, 0], &[4, 4], &[1, 1]);
+        let marked = given.judged();
+        assert_eq!(rt; marked.nodes(), 2);
+        assert_eq!(rt; marked.mark(1), 1);
     }
 }

@@ -4,7 +4,6 @@
 ghost use Rattle.std.specs.Prelude.{◌≡◌, ◌^◌, ◌<◌};
 ghost use Rattle.paper.specs.WriteXml.{kept_xml};
 ghost use Rattle.pen.specs.Putting.{Puts};
-ghost use Rattle.put_tags.specs.Lending.{IsLent};
 
 use put_kept::put_kept;
 use put_tags::Marked;
@@ -25,7 +24,7 @@ fn new<'a>(out: &'a mut [u8]) -> Pen<'a>
 
 // Puts the kept part of a text with a pen: the pen is taken apart.
 fn keep<'k, 'c, 'a>(kept: &'k Marked<'c>, pen: Pen<'a>) -> usize
-    requires { IsLent kept.now × (pen.at < 2 ^ 32) }
+    requires { pen.at < 2 ^ 32 }
     ensures { Puts (kept_xml kept.now.text kept.now.marks) pen.entry.at pen.entry.out.now pen.exit.0.now result }
 {
     let at = pen.at;
@@ -34,7 +33,6 @@ fn keep<'k, 'c, 'a>(kept: &'k Marked<'c>, pen: Pen<'a>) -> usize
 
 // Puts the kept part of a text from the first of the lent bytes on, with a pen of them.
 pub fn write_kept(kept: &Marked, out: &mut [u8]) -> usize
-    requires { IsLent kept.now }
     ensures { Puts (kept_xml kept.now.text kept.now.marks) 0 out.old out.new result }
 {
     let pen = new(out);

@@ -57,6 +57,7 @@ use Rattle.uniqueness.specs.UniqueParts.{RowStandsUnique, AllStandUnique, Elemen
 use Rattle.uniqueness.specs.UniqueParts.{PastStepsUnique, LookUnique, LookFirstUnique, StepAtUnique, PathAtUnique}
 use Rattle.uniqueness.specs.UniqueParts.{IsOverUnique, AxisLeadsUnique, SpreadKinUnique, JudgeUnique, CandidateUnique, MarkKeptUnique}
 use Rattle.uniqueness.specs.UniqueParts.{PutTextUnique, NewMarkedUnique, CountMarkedUnique, TextOfUnique, MarkOfUnique, LineOfUnique, CloseUnique, StartAtUnique, PutNodeUnique, PutKeptUnique}
+use Rattle.uniqueness.specs.UniqueParts.{NewGivenUnique, CountGivenUnique, MarkOfGivenUnique, CloseGivenUnique, GivenUnique, JudgedUnique}
 use Rattle.uniqueness.specs.UniqueParts.{IsNameUnique, NameLineUnique, FirstSameUnique, KeyUnique, RepeatsUnique}
 use Rattle.uniqueness.specs.UniqueParts.{SameWordUnique, AxisOfUnique}
 use Rattle.uniqueness.specs.UniqueParts.{JoinsAheadUnique, PutItemUnique, PutDeepUnique, ItemOfPathUnique, ItemOfStepUnique, GroupUnique, StepHeadUnique, ReadPathsUnique, ReadPathsLeft}
@@ -627,14 +628,23 @@ put_text_unique κs a u v x y g p q =
     let put = both_put p.puts q.puts in
     (ap₂ (λ at squares. record { at = at; squares = squares }) put.0 (same p.counts q.counts), put.1)
 
+pub new_given_unique : NewGivenUnique
+new_given_unique κs a u v x y g p q = same p q
+
 pub new_marked_unique : NewMarkedUnique
 new_marked_unique κs a u v x y g p q = same p q
 
+pub count_given_unique : CountGivenUnique
+count_given_unique κs a u v x y g p q = same p q
+
 pub count_marked_unique : CountMarkedUnique
-count_marked_unique κs a u v x y g p q = same p q
+count_marked_unique κs a u v x y g p q = same p.0 q.0
 
 pub text_of_unique : TextOfUnique
 text_of_unique κs a u v x y g p q = same p q
+
+pub mark_of_given_unique : MarkOfGivenUnique
+mark_of_given_unique κs a u v x y g p q = same p q
 
 pub mark_of_unique : MarkOfUnique
 mark_of_unique κs a u v x y g p q = same p q
@@ -645,8 +655,17 @@ line_of_unique κs a u v x y g p q =
     let place : ◌≡◌ {A = ℕ × ℕ} (u.begin, u.end) (v.begin, v.end) = ap₂ (λ begin end. (begin, end)) (same p.begin_is q.begin_is) (same p.end_is q.end_is) in
     ap₂ (λ (o : ℕ × ℕ) (w : ℕ × ℕ). record { up = o.0; kind = o.1; begin = w.0; end = w.1 }) of place
 
+pub close_given_unique : CloseGivenUnique
+close_given_unique κs a u v x y g p q = both_put (p g.bytes g.chain) (q g.bytes g.chain)
+
 pub close_unique : CloseUnique
 close_unique κs a u v x y g p q = both_put (p g.bytes g.chain) (q g.bytes g.chain)
+
+pub given_unique : GivenUnique
+given_unique κs a u v x y g p q = same p q
+
+pub judged_unique : JudgedUnique
+judged_unique κs a u v x y g p q = same p q
 
 pub start_at_unique : StartAtUnique
 start_at_unique κs a u v x y g p q = both_put p q

@@ -60,13 +60,20 @@ use Rattle.line_tests.proofs.begins_line
 use Rattle.match_lines.proofs.outcome
 use Rattle.match_xml.proofs.reads_as
 use Rattle.put_text.proofs.put_text
+use Rattle.put_tags.specs.Lending.{MarkedText}
 use Rattle.put_tags.proofs.start_at
+use Rattle.put_tags.proofs.Given.new as new_given
+use Rattle.put_tags.proofs.Given.nodes as count_given
+use Rattle.put_tags.proofs.Given.text as text_of
+use Rattle.put_tags.proofs.Given.mark as mark_of_given
+use Rattle.put_tags.proofs.Given.line as line_of
+use Rattle.put_tags.proofs.Given.close as close_given
+use Rattle.put_tags.proofs.Given.judged as judged_given
 use Rattle.put_tags.proofs.Marked.new as new_marked
 use Rattle.put_tags.proofs.Marked.nodes as count_marked
-use Rattle.put_tags.proofs.Marked.text as text_of
 use Rattle.put_tags.proofs.Marked.mark as mark_of
-use Rattle.put_tags.proofs.Marked.line as line_of
 use Rattle.put_tags.proofs.Marked.close
+use Rattle.put_tags.proofs.Marked.given as given_of
 use Rattle.put_node.proofs.put_node
 use Rattle.put_kept.proofs.put_kept
 use Rattle.put_xml.proofs.write_kept
@@ -191,7 +198,7 @@ use Rattle.composed.proofs.composed_size
 use Rattle.compose.proofs.compose_by
 use mir.Syntax.{w64}
 use mir.Val.{Fits}
-use Rattle.uniqueness.specs.Uniqueness.{Unique, UniqueAnswer, UniqueBytes}
+use Rattle.uniqueness.specs.Uniqueness.{Unique, UniqueAnswer, UniqueBytes, UniqueRead}
 
 -- The number is that of an axis.
 abbrev pub IsAxis : ℕ → Type 0
@@ -754,8 +761,14 @@ ReadsAsUnique = UniqueAnswer reads_as.Kinds.ps reads_as.Kinds.r reads_as.Reads.P
 abbrev pub PutTextUnique : Type 0
 PutTextUnique = Unique put_text.Kinds.ps put_text.Kinds.r put_text.Reads.Pre put_text.Reads.Post (λ κs x. x.0.now ∷ [])
 
+abbrev pub NewGivenUnique : Type 0
+NewGivenUnique = UniqueAnswer new_given.Kinds.ps new_given.Kinds.r new_given.Reads.Pre new_given.Reads.Post
+
 abbrev pub NewMarkedUnique : Type 0
 NewMarkedUnique = UniqueAnswer new_marked.Kinds.ps new_marked.Kinds.r new_marked.Reads.Pre new_marked.Reads.Post
+
+abbrev pub CountGivenUnique : Type 0
+CountGivenUnique = UniqueAnswer count_given.Kinds.ps count_given.Kinds.r count_given.Reads.Pre count_given.Reads.Post
 
 abbrev pub CountMarkedUnique : Type 0
 CountMarkedUnique = UniqueAnswer count_marked.Kinds.ps count_marked.Kinds.r count_marked.Reads.Pre count_marked.Reads.Post
@@ -763,14 +776,26 @@ CountMarkedUnique = UniqueAnswer count_marked.Kinds.ps count_marked.Kinds.r coun
 abbrev pub TextOfUnique : Type 0
 TextOfUnique = UniqueBytes text_of.Kinds.ps text_of.Kinds.r text_of.Reads.Pre text_of.Reads.Post (λ κs u. u.now)
 
+abbrev pub MarkOfGivenUnique : Type 0
+MarkOfGivenUnique = UniqueAnswer mark_of_given.Kinds.ps mark_of_given.Kinds.r mark_of_given.Reads.Pre mark_of_given.Reads.Post
+
 abbrev pub MarkOfUnique : Type 0
 MarkOfUnique = UniqueAnswer mark_of.Kinds.ps mark_of.Kinds.r mark_of.Reads.Pre mark_of.Reads.Post
 
 abbrev pub LineOfUnique : Type 0
 LineOfUnique = UniqueAnswer line_of.Kinds.ps line_of.Kinds.r line_of.Reads.Pre line_of.Reads.Post
 
+abbrev pub CloseGivenUnique : Type 0
+CloseGivenUnique = Unique close_given.Kinds.ps close_given.Kinds.r close_given.Reads.Pre close_given.Reads.Post (λ κs x. x.1.0.now ∷ [])
+
 abbrev pub CloseUnique : Type 0
 CloseUnique = Unique close.Kinds.ps close.Kinds.r close.Reads.Pre close.Reads.Post (λ κs x. x.1.0.now ∷ [])
+
+abbrev pub GivenUnique : Type 0
+GivenUnique = UniqueRead MarkedText given_of.Kinds.ps given_of.Kinds.r given_of.Reads.Pre given_of.Reads.Post (λ κs u. u.now)
+
+abbrev pub JudgedUnique : Type 0
+JudgedUnique = UniqueAnswer judged_given.Kinds.ps judged_given.Kinds.r judged_given.Reads.Pre judged_given.Reads.Post
 
 abbrev pub StartAtUnique : Type 0
 StartAtUnique = Unique start_at.Kinds.ps start_at.Kinds.r start_at.Reads.Pre start_at.Reads.Post (λ κs x. x.1.1.0.now ∷ [])

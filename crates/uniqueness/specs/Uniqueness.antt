@@ -21,6 +21,11 @@ abbrev pub UniqueBytes : {n : ℕ} (ps : List (ParamKind n)) (r : ResultKind n) 
 UniqueBytes {n} ps r given post bytes =
     (κs : Lfts n) (a : Dens κs ps) (u v : (res_t r κs).Denot) (x y : AtExit (ended_of n ps r) κs) → given κs a → post κs a u x → post κs a v y → bytes κs u ≡ bytes κs v
 
+-- The same of a function that answers with a reference to a value: the value is the same.
+abbrev pub UniqueRead : {n : ℕ} (V : Type 0) (ps : List (ParamKind n)) (r : ResultKind n) → In n ps → Out n ps r → ((κs : Lfts n) → (res_t r κs).Denot → V) → Type 0
+UniqueRead {n} V ps r given post value =
+    (κs : Lfts n) (a : Dens κs ps) (u v : (res_t r κs).Denot) (x y : AtExit (ended_of n ps r) κs) → given κs a → post κs a u x → post κs a v y → value κs u ≡ value κs v
+
 -- The same of a function that has no `requires` and of which the toolchain makes no `Kinds` and no `Reads`, over its signature and what its contract sees at exit (`ended`).
 abbrev pub UniqueSigned : (T : Ended)
     → ((κs : Lfts T.signature.lifetimes) → ArgsD T.signature κs → ResD T.signature κs → AtExit T κs → Type 0)

@@ -11,13 +11,13 @@ loop-i-init c g =
     walk_start a.kept.now g a.pen a.out.now
 
 pub mark-mark-requires : goal.mark-mark-requires
-mark-mark-requires c = omega (arith, c.requires.0.marks_long, c.nodes-i-end.ensures)
+mark-mark-requires c = omega (arith, c.nodes-i-end.ensures.lent.marks_long, c.nodes-i-end.ensures.counted)
 
 pub put_node-next-requires : goal.put_node-next-requires
 put_node-next-requires c =
     let a = c.args in
-    let g = c.requires.0 in
-    walk_placeable a.kept.now g (c.loop-i.invariant g) (omega arith) (eq-eqb _ 1 (sym c.mark-mark.ensures ∙ c.if-mark-eq1.true)) c.requires.1
+    let g = c.nodes-i-end.ensures.lent in
+    rw c.given.ensures (walk_placeable a.kept.now g (c.loop-i.invariant g) (omega arith) (eq-eqb _ 1 (sym c.mark-mark.ensures ∙ c.if-mark-eq1.true)) c.requires)
 
 pub loop-i-preserved : goal.loop-i-preserved
 loop-i-preserved c g =
@@ -26,7 +26,7 @@ loop-i-preserved c g =
     elim c.if-mark-eq1.branch [
       | then-mark-eq1 w ↦
           walking_as w.out-is w.at-is w.squares-is w.top-is
-          (walk_node a.kept.now g walked (omega arith) (eq-eqb _ 1 (sym c.mark-mark.ensures ∙ w.if-mark-eq1.true)) w.put_node-next.ensures)
+          (walk_node a.kept.now g walked (omega arith) (eq-eqb _ 1 (sym c.mark-mark.ensures ∙ w.if-mark-eq1.true)) (rw w.given.ensures at w.put_node-next.ensures))
       | else-mark-eq1 w ↦
           walking_as w.out-is w.at-is w.squares-is w.top-is
           (walk_pass a.kept.now g walked (omega arith) (ne_eqb _ 1 (λ e. w.if-mark-eq1.false (c.mark-mark.ensures ∙ e))))
@@ -35,11 +35,11 @@ loop-i-preserved c g =
 pub close-requires : goal.close-requires
 close-requires c =
     let a = c.args in
-    let g = c.requires.0 in
-    walk_closable a.kept.now g (c.loop-i.invariant g) (omega arith) c.requires.1
+    let g = c.nodes-i-end.ensures.lent in
+    walk_closable a.kept.now g (c.loop-i.invariant g) (omega arith) c.requires
 
 pub returns : goal.returns
 returns c =
     let a = c.args in
-    let g = c.requires.0 in
+    let g = c.nodes-i-end.ensures.lent in
     walk_done a.kept.now g (c.loop-i.invariant g) (omega arith) c.close.ensures

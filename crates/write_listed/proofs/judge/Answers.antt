@@ -1,8 +1,8 @@
 -- The tests are the lines 7, 8, 13 and 14 in their order, and `file` is line 10.
-use Rattle.std.proofs.Common.{sym, ◌∙◌, subst}
+use Rattle.std.proofs.Common.{sym, ◌∙◌}
 use Rattle.table.proofs.Nodes.{inside}
 use Rattle.file_theorems.proofs.Answered.{reads}
-use Rattle.put_tags.specs.Lending.{marked_text, IsLent}
+use Rattle.put_tags.specs.Lending.{marked_text}
 use Rattle.put_kept.proofs.Walking.{walk_lent}
 use Rattle.paper.specs.Document.{table_of}
 use Rattle.write_listed.proofs.Lines.{bad_table, bad_marks, no_element, other_text, filed}
@@ -36,14 +36,13 @@ returns-then-not-reads_as c =
     (sym c.if-not-element_marked.false ∙ marked) (sym c.if-not-reads_as.true ∙ c.reads_as.ensures) in
     record { result_value = h.0; out_after = h.1 }
 
-pub file-requires : goal.file-requires
-file-requires c =
+pub new-kept-requires : goal.new-kept-requires
+new-kept-requires c =
     let right = c.requires.lengths in
-    subst IsLent (sym c.new-kept.ensures)
-    (walk_lent (marked_text c.args.text.now c.args.parent.now c.args.kind.now c.args.begin.now c.args.end.now c.args.marks.now) c.args.names.now
+    walk_lent (marked_text c.args.text.now c.args.parent.now c.args.kind.now c.args.begin.now c.args.end.now c.args.marks.now) c.args.names.now
     (reads c.args.text.now c.args.names.now (table_of c.args.parent.now c.args.kind.now) c.args.begin.now c.args.end.now right.kinds_long right.begins_long right.ends_long
     (sym c.reads_as.ensures ∙ c.if-not-reads_as.false))
-    (sym (c.in_default-marks_fault.ensures c.args.kind.now)) right.marks_long right.text_short)
+    (sym (c.in_default-marks_fault.ensures c.args.kind.now)) right.marks_long right.text_short
 
 pub returns : goal.returns
 returns c =

@@ -3,7 +3,7 @@ use Rattle.std.proofs.Common.{sym, subst, arith}
 use Rattle.put_tags.specs.Lending.{MarkedText}
 use Rattle.put_tags.specs.Tags.{Open, Closable}
 use Rattle.put_tags.proofs.Closing.{known, closing_more, closing_done, closing_room}
-use Rattle.put_tags.proofs.Marked.close.Goals as goal
+use Rattle.put_tags.proofs.Given.close.Goals as goal
 
 pub tag_at-at-requires : goal.tag_at-at-requires
 tag_at-at-requires c =

@@ -2,7 +2,7 @@
 use Rattle.std.proofs.Common.{ℕ, List}
 use Rattle.put_tags.specs.Tags.{Open}
 use Rattle.put_tags.proofs.Closing.{Closing}
-use Rattle.put_tags.proofs.Marked.close.Given as goal
+use Rattle.put_tags.proofs.Given.close.Given as goal
 
 abbrev pub invariant-loop-inner : goal.invariant-loop-inner
 invariant-loop-inner l = (bytes : List ℕ) → Open l.self-inside.text.now l.self-inside.parents.now l.self-inside.begins.now l.top l.up bytes → Closing l.self-inside.text.now l.self-inside.parents.now l.self-inside.begins.now bytes l.pen l.fn.out l.out l.at l.inner l.up
