@@ -40,13 +40,7 @@ fn put_test(names: &Listed, out: &mut [u8], pen: usize, test: u32) -> usize
 }
 
 // Puts a step without the predicates that it has: axis, `::` and test, and in the short form `.` or `..` for self or parent with `node()` and no predicate.
-pub fn put_listed_head(
-    names: &Listed,
-    out: &mut [u8],
-    pen: usize,
-    step: Step,
-    brief: bool,
-) -> usize
+pub fn put_listed_head(names: &Listed, out: &mut [u8], pen: usize, step: Step, brief: bool) -> usize
     requires known { Known (length (names_of names.now)) step.test × (length names.now ≤ list_limit) × (pen < 2 ^ 38) }
     ensures puts { (a : Axis) (t : Test) → step.axis ≡ axis_number a → step.test ≡ test_number t → good_test t ≡ true → Puts (text_of (names_of names.now) (head_pieces brief a t step.count)) pen out.old out.new result }
     ensures upper_bound { result ≤ pen + head_room }
