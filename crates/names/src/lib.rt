@@ -196,6 +196,7 @@ impl<'a> Names<'a> {
     pub fn spell(&self, v: usize) -> &[u8]
         requires { v < length (names_of self.now) }
         ensures says { result.now ≡ get_or (names_of self.now) v [] }
+        ensures within { length result.now ≤ length self.now }
         ensures long { (0 < length result.now) × (length result.now ≤ name_limit) }
     {
         self.listed.spell(v)
