@@ -172,8 +172,15 @@ impl<'a> Names<'a> {
         ensures good { IfOk result (λ names. (names ≡ list.now) × (names_fault list.now ≡ none)) }
         ensures bad { IfErr result (λ why. BadAt list.now why) }
     {
-        let listed = Listed::new(list)?;
-        Ok(Names { listed })
+        let mut kept = [0u16; STARTS];
+        let count = index(list, &mut kept)?;
+        Ok(Names {
+            listed: Listed {
+                list,
+                starts: kept,
+                count,
+            },
+        })
     }
 
     // How many names there are.
